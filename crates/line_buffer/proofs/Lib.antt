@@ -1,0 +1,4 @@
+pub mod ChangeLemmas
+pub mod ClusterLemmas
+pub mod LineLemmas
+pub mod ListLemmas

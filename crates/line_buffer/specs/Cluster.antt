@@ -1,0 +1,29 @@
+-- The clusters beside the cursor, and the places so many of them away.
+use Rattle.std.specs.Prelude.{ℕ, ◌+◌, ◌-◌, ◌==◌, ◌||◌, nat_le, true, List, length, take, drop, Option, Some, None, if◌then◌else◌}
+use Rattle.std.specs.List.{concat}
+use Rattle.unicode_segmentation.specs.Grapheme.{graphemes}
+use Rattle.line_buffer.specs.Line.{Line, before, after}
+
+-- the extended grapheme clusters of a text, each as its bytes
+abbrev pub clusters : List ℕ → List (List ℕ)
+clusters text = graphemes true text
+
+-- the text behind its first n clusters
+abbrev pub behind_first : ℕ → List ℕ → List ℕ
+behind_first n text = concat (drop n (clusters text))
+
+-- the text before its last n clusters
+abbrev pub before_last : ℕ → List ℕ → List ℕ
+before_last n text = concat (take (length (clusters text) - n) (clusters text))
+
+-- the place n clusters on from the cursor, or as many as there are; none for n = 0 or at the text's end
+abbrev pub place_on : Line → ℕ → Option ℕ
+place_on l n =
+    if (n == 0) || nat_le (length l.text) l.cursor then None
+    else Some (l.cursor + length (concat (take n (clusters (after l)))))
+
+-- the place n clusters back from the cursor, or as many as there are; none for n = 0 or at the text's start
+abbrev pub place_back : Line → ℕ → Option ℕ
+place_back l n =
+    if (n == 0) || (l.cursor == 0) then None
+    else Some (length (before_last n (before l)))

@@ -1,0 +1,9 @@
+pub mod Acted
+pub mod Changes
+pub mod Character
+pub mod Cluster
+pub mod KillRing
+pub mod Line
+pub mod Movement
+pub mod Told
+pub use Rattle.unicode_segmentation.specs.Grapheme

@@ -1,0 +1,49 @@
+-- A line: a text and a cursor in it.
+use Rattle.std.specs.Prelude.{ℕ, ◌+◌, ◌-◌, ◌==◌, Bool, not, List, ◌++◌, length, take, drop, reverse, chars, IsCharBoundary, Option, Some, None, slice_range, MatchOption}
+use Rattle.std.specs.Char.{is_whitespace}
+use Rattle.std.specs.List.{list_all, prefix_len, suffix_len, remove_range}
+
+-- the bytes of the text, and the cursor's place among them
+pub record Line : Type 0 where
+  pub text : List ℕ
+  pub cursor : ℕ
+
+-- the text before the cursor, and the text from it on
+abbrev pub before : Line → List ℕ
+before l = take l.cursor l.text
+
+abbrev pub after : Line → List ℕ
+after l = drop l.cursor l.text
+
+-- the same text with the cursor at a place
+abbrev pub with_cursor : Line → ℕ → Line
+with_cursor l place = record { text = l.text; cursor = place }
+
+-- the cursor goes to the place, if there is one
+abbrev pub moved_to : Line → Option ℕ → Line
+moved_to l None = l
+moved_to l (Some place) = with_cursor l place
+
+-- a text comes in at the cursor, which goes behind it
+abbrev pub inserted_at_cursor : Line → List ℕ → Line
+inserted_at_cursor l t = record { text = before l ++ t ++ after l; cursor = l.cursor + length t }
+
+-- the bytes of a range go, and the cursor goes to where they were
+abbrev pub without : Line → Option (ℕ × ℕ) → Line
+without l None = l
+without l (Some r) = record { text = remove_range l.text r.0 r.1; cursor = r.0 }
+
+abbrev pub is_no_newline : ℕ → Bool
+is_no_newline b = not (b == 10)
+
+-- the end of the cursor's line: the first newline from the cursor on, else the text's end
+abbrev pub end_of_line : Line → ℕ
+end_of_line l = l.cursor + prefix_len is_no_newline (after l)
+
+-- the start of the cursor's line: behind the last newline before the cursor, else the text's start
+abbrev pub start_of_line : Line → ℕ
+start_of_line l = l.cursor - suffix_len is_no_newline (before l)
+
+-- only white space stands from the cursor on
+abbrev pub ends_in_white_space : Line → Bool
+ends_in_white_space l = list_all is_whitespace (chars (after l))

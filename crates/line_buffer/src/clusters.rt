@@ -1,0 +1,109 @@
+//! Clusters at the ends of a text, and kinds of characters.
+ghost use Rattle.std.specs.Prelude.{◌≡◌, ◌==◌, ◌-◌, length, take, IsCharBoundary};
+ghost use Rattle.std.specs.List.{concat, prefix_len, suffix_len};
+ghost use Rattle.line_buffer.specs.Character.{is_alphanumeric, is_alphanumeric_cluster, is_one_alphanumeric};
+ghost use Rattle.line_buffer.specs.Cluster.{behind_first, before_last, clusters};
+ghost use Rattle.line_buffer.specs.Line.{is_no_newline};
+
+use crate::keymap::RepeatCount;
+use unicode_segmentation::UnicodeSegmentation;
+
+/// The text behind its first `n` clusters.
+fn behind_first(text: &str, n: RepeatCount) -> &str
+    ensures { result.now ≡ behind_first n text.now }
+{
+    let mut rest = text.graphemes(true);
+    for _ in 0..n {
+        let Some(_) = rest.next() else {
+            return "";
+        };
+    }
+    rest.as_str()
+}
+
+/// The text before its last `n` clusters.
+fn before_last(text: &str, n: RepeatCount) -> &str
+    ensures { result.now ≡ before_last n text.now }
+{
+    let mut rest = text.graphemes(true);
+    for _ in 0..n {
+        let Some(_) = rest.next_back() else {
+            return "";
+        };
+    }
+    rest.as_str()
+}
+
+/// The length of the first `n` clusters of the text.
+pub(crate) fn first_len(text: &str, n: RepeatCount) -> usize
+    ensures len { result ≡ length (concat (take n (clusters text.now))) }
+    ensures boundary { IsCharBoundary text.now result }
+{
+    text.len() - behind_first(text, n).len()
+}
+
+/// Where the last `n` clusters of the text begin.
+pub(crate) fn last_start(text: &str, n: RepeatCount) -> usize
+    ensures place { result ≡ length (before_last n text.now) }
+    ensures boundary { IsCharBoundary text.now result }
+{
+    before_last(text, n).len()
+}
+
+/// The length of the text up to its first newline, or of all of it.
+pub(crate) fn first_line_len(text: &str) -> usize
+    ensures len { result ≡ prefix_len is_no_newline text.now }
+    ensures boundary { IsCharBoundary text.now result }
+{
+    match text.find('\n') {
+        Some(newline) => newline,
+        None => text.len(),
+    }
+}
+
+/// Where the text goes on behind its last newline, or its start.
+pub(crate) fn last_line_start(text: &str) -> usize
+    ensures place { result ≡ length text.now - suffix_len is_no_newline text.now }
+    ensures boundary { IsCharBoundary text.now result }
+{
+    match text.rfind('\n') {
+        Some(newline) => newline + 1,
+        None => 0,
+    }
+}
+
+/// Whether the character is a letter or a digit of ASCII, or past ASCII and no white space.
+pub(crate) fn is_alphanumeric(c: char) -> bool
+    ensures { result ≡ is_alphanumeric c }
+{
+    if c.is_ascii() {
+        c.is_ascii_alphanumeric()
+    } else {
+        !c.is_whitespace()
+    }
+}
+
+/// Whether all characters of the text are alphanumeric.
+pub(crate) fn is_alphanumeric_text(text: &str) -> bool
+    ensures { result ≡ is_alphanumeric_cluster text.now }
+{
+    text.chars().all(|c| is_alphanumeric(c))
+}
+
+/// Whether the text is one cluster.
+fn is_one_cluster(text: &str) -> bool
+    ensures { result ≡ (length (clusters text.now) == 1) }
+{
+    let mut left = text.graphemes(true);
+    let Some(_) = left.next() else {
+        return false;
+    };
+    left.next().is_none()
+}
+
+/// Whether the text is one cluster of alphanumeric characters.
+pub(crate) fn is_one_alphanumeric(text: &str) -> bool
+    ensures { result ≡ is_one_alphanumeric text.now }
+{
+    is_one_cluster(text) && is_alphanumeric_text(text)
+}

@@ -1,0 +1,296 @@
+ghost use Rattle.std.specs.Prelude.{◌≡◌, [], ◌==◌, length, not, is_some, IfOk, IfSome, IsCharBoundary};
+ghost use Rattle.line_buffer.specs.Cluster.{place_on, place_back};
+ghost use Rattle.line_buffer.specs.Line.{before, after, with_cursor, moved_to, start_of_line, end_of_line, ends_in_white_space};
+
+use crate::clusters::{first_len, first_line_len, last_line_start, last_start};
+use crate::keymap::RepeatCount;
+use std::alloc::{AllocError, AllocFailed, Global};
+use std::error::Error;
+use std::fmt::{self, Display, Formatter};
+use std::marker::Model;
+
+/// What is done to the letters of a word. Only ASCII letters change case.
+#[derive(Debug, Clone, Copy, PartialEq, Eq)]
+pub enum WordAction {
+    /// The first cluster to upper case, the rest to lower case.
+    Capitalize,
+    /// All to lower case.
+    Lowercase,
+    /// All to upper case.
+    Uppercase,
+}
+
+/// On which side of the cursor a text lay that was taken away.
+#[derive(Debug, Clone, Copy, PartialEq, Eq)]
+pub enum Direction {
+    /// After the cursor.
+    Forward,
+    /// Before the cursor.
+    Backward,
+}
+
+/// A growth was refused for want of memory.
+#[derive(Debug, Clone, Copy, PartialEq, Eq)]
+pub struct OutOfMemory;
+
+impl Display for OutOfMemory {
+    fn fmt<W: fmt::Write>(&self, f: &mut Formatter<W>) -> fmt::Result {
+        f.write_str("out of memory")
+    }
+}
+
+impl Error for OutOfMemory {}
+
+impl From<AllocError> for OutOfMemory {
+    ghost from_gives = { λ _ e. e ≡ record {} };
+
+    fn from(_error: AllocError) -> OutOfMemory {
+        OutOfMemory
+    }
+}
+
+impl<T: Drop> From<AllocFailed<T>> for OutOfMemory {
+    ghost from_gives = { λ _ e. e ≡ record {} };
+
+    fn from(_error: AllocFailed<T>) -> OutOfMemory {
+        OutOfMemory
+    }
+}
+
+/// A text with a cursor, which stands on a character boundary. Places are counted in bytes.
+#[derive(Debug, Drop)]
+pub struct LineBuffer {
+    buf: String,
+    pos: usize,
+}
+
+impl Model for LineBuffer {
+    ghost use Rattle.std.specs.Prelude.{IsCharBoundary};
+    ghost use Rattle.std.specs.String.{string_bytes};
+    ghost use Rattle.line_buffer.specs.Line.{Line};
+
+    ghost Value = { Line };
+
+    ghost view = { λ l. record { text = string_bytes l.buf; cursor = l.pos } };
+
+    ghost invariant = { λ l. IsCharBoundary (string_bytes l.buf) l.pos };
+}
+
+impl LineBuffer {
+    /// An empty line. It grows from `alloc`.
+    pub fn new(alloc: Global) -> LineBuffer
+        ensures { result ≡ record { text = []; cursor = 0 } }
+    {
+        LineBuffer {
+            buf: String::new(alloc),
+            pos: 0,
+        }
+    }
+
+    /// The line `text` with its cursor at byte `pos`, a character boundary. It grows from `alloc`.
+    /// `OutOfMemory` comes where the copy of the text is refused.
+    pub fn init(alloc: Global, text: &str, pos: usize) -> Result<LineBuffer, OutOfMemory>
+        requires { IsCharBoundary text.now pos }
+        ensures { IfOk result (λ l. l ≡ record { text = text.now; cursor = pos }) }
+    {
+        Ok(LineBuffer {
+            buf: String::from_str(alloc, text)?,
+            pos,
+        })
+    }
+
+    /// The whole text.
+    pub fn as_str(&self) -> &str
+        ensures value { result.now ≡ self.now.text }
+        ensures cursor { IsCharBoundary self.now.text self.now.cursor }
+    {
+        self.buf.as_str()
+    }
+
+    /// The cursor's place in bytes from the start of the text.
+    pub fn pos(&self) -> usize
+        ensures value { result ≡ self.now.cursor }
+        ensures boundary { IsCharBoundary self.now.text result }
+    {
+        self.pos
+    }
+
+    /// The length of the text in bytes.
+    pub fn len(&self) -> usize
+        ensures value { result ≡ length self.now.text }
+        ensures cursor { IsCharBoundary self.now.text self.now.cursor }
+    {
+        self.buf.len()
+    }
+
+    /// Whether the text has no character.
+    pub fn is_empty(&self) -> bool
+        ensures value { result ≡ (length self.now.text == 0) }
+        ensures cursor { IsCharBoundary self.now.text self.now.cursor }
+    {
+        self.buf.is_empty()
+    }
+
+    /// Puts the cursor at byte `pos`, a character boundary of the text.
+    pub fn set_pos(&mut self, pos: usize)
+        requires { IsCharBoundary self.old.text pos }
+        ensures line { self.new ≡ with_cursor self.old pos }
+    {
+        self.pos = pos;
+    }
+
+    /// Whether nothing stands from the cursor on.
+    pub fn is_cursor_at_end(&self) -> bool
+        ensures { result ≡ (self.now.cursor == length self.now.text) }
+    {
+        self.pos == self.buf.len()
+    }
+
+    /// Whether only white space stands from the cursor on.
+    pub fn is_end_of_input(&self) -> bool
+        ensures { result ≡ ends_in_white_space self.now }
+    {
+        self.after().chars().all(|c| c.is_whitespace())
+    }
+
+    /// The text before the cursor.
+    fn before(&self) -> &str
+        ensures text { result.now ≡ before self.now }
+        ensures len { length result.now ≡ self.now.cursor }
+        ensures cursor { IsCharBoundary self.now.text self.now.cursor }
+    {
+        &self.buf.as_str()[..self.pos]
+    }
+
+    /// The text from the cursor on.
+    fn after(&self) -> &str
+        ensures { result.now ≡ after self.now }
+    {
+        &self.buf.as_str()[self.pos..]
+    }
+
+    /// The place `n` clusters on from the cursor, or the text's end where there are fewer. `None` for
+    /// `n` = 0 and at the text's end.
+    pub fn next_pos(&self, n: RepeatCount) -> Option<usize>
+        ensures place { result ≡ place_on self.now n }
+        ensures boundary { IfSome result (λ place. IsCharBoundary self.now.text place) }
+    {
+        if n == 0 || self.pos == self.buf.len() {
+            return None;
+        }
+        Some(self.pos + first_len(self.after(), n))
+    }
+
+    /// The place `n` clusters back from the cursor, or the text's start where there are fewer. `None`
+    /// for `n` = 0 and at the text's start.
+    pub fn prev_pos(&self, n: RepeatCount) -> Option<usize>
+        ensures place { result ≡ place_back self.now n }
+        ensures boundary { IfSome result (λ place. IsCharBoundary self.now.text place) }
+    {
+        if n == 0 || self.pos == 0 {
+            return None;
+        }
+        Some(last_start(self.before(), n))
+    }
+
+    /// Moves the cursor `n` clusters on. Answers whether there is such a place; if not, the cursor stays.
+    pub fn move_forward(&mut self, n: RepeatCount) -> bool
+        ensures answer { result ≡ is_some (place_on self.old n) }
+        ensures line { self.new ≡ moved_to self.old (place_on self.old n) }
+        ensures cursor { IsCharBoundary self.new.text self.new.cursor }
+    {
+        self.move_to_place(self.next_pos(n))
+    }
+
+    /// Moves the cursor `n` clusters back. Answers whether there is such a place; if not, the cursor stays.
+    pub fn move_backward(&mut self, n: RepeatCount) -> bool
+        ensures answer { result ≡ is_some (place_back self.old n) }
+        ensures line { self.new ≡ moved_to self.old (place_back self.old n) }
+        ensures cursor { IsCharBoundary self.new.text self.new.cursor }
+    {
+        self.move_to_place(self.prev_pos(n))
+    }
+
+    /// Moves the cursor to the place, if there is one.
+    fn move_to_place(&mut self, place: Option<usize>) -> bool
+        requires { IfSome place (λ p. IsCharBoundary self.old.text p) }
+        ensures answer { result ≡ is_some place }
+        ensures line { self.new ≡ moved_to self.old place }
+        ensures cursor { IsCharBoundary self.new.text self.new.cursor }
+    {
+        match place {
+            Some(pos) => {
+                self.pos = pos;
+                true
+            }
+            None => false,
+        }
+    }
+
+    /// The start of the cursor's line.
+    fn start_of_line(&self) -> usize
+        ensures place { result ≡ start_of_line self.now }
+        ensures boundary { IsCharBoundary self.now.text result }
+    {
+        last_line_start(self.before())
+    }
+
+    /// The end of the cursor's line, before its newline.
+    fn end_of_line(&self) -> usize
+        ensures place { result ≡ end_of_line self.now }
+        ensures boundary { IsCharBoundary self.now.text result }
+    {
+        self.pos + first_line_len(self.after())
+    }
+
+    /// Moves the cursor to the start of its line. Answers whether it moved.
+    pub fn move_home(&mut self) -> bool
+        ensures answer { result ≡ not (start_of_line self.old == self.old.cursor) }
+        ensures line { self.new ≡ with_cursor self.old (start_of_line self.old) }
+        ensures cursor { IsCharBoundary self.new.text self.new.cursor }
+    {
+        self.move_cursor(self.start_of_line())
+    }
+
+    /// Moves the cursor to the end of its line, before the newline. Answers whether it moved.
+    pub fn move_end(&mut self) -> bool
+        ensures answer { result ≡ not (end_of_line self.old == self.old.cursor) }
+        ensures line { self.new ≡ with_cursor self.old (end_of_line self.old) }
+        ensures cursor { IsCharBoundary self.new.text self.new.cursor }
+    {
+        self.move_cursor(self.end_of_line())
+    }
+
+    /// Moves the cursor to the text's start. Answers whether it moved.
+    pub fn move_buffer_start(&mut self) -> bool
+        ensures answer { result ≡ not (self.old.cursor == 0) }
+        ensures line { self.new ≡ with_cursor self.old 0 }
+        ensures cursor { IsCharBoundary self.new.text self.new.cursor }
+    {
+        let moved = self.pos != 0;
+        self.pos = 0;
+        moved
+    }
+
+    /// Moves the cursor to the text's end. Answers whether it moved.
+    pub fn move_buffer_end(&mut self) -> bool
+        ensures answer { result ≡ not (length self.old.text == self.old.cursor) }
+        ensures line { self.new ≡ with_cursor self.old (length self.old.text) }
+        ensures cursor { IsCharBoundary self.new.text self.new.cursor }
+    {
+        let end = self.buf.len();
+        self.move_cursor(end)
+    }
+
+    /// Moves the cursor to byte `pos`, and answers whether it stood elsewhere.
+    fn move_cursor(&mut self, pos: usize) -> bool
+        requires { IsCharBoundary self.old.text pos }
+        ensures answer { result ≡ not (pos == self.old.cursor) }
+        ensures line { self.new ≡ with_cursor self.old pos }
+        ensures cursor { IsCharBoundary self.new.text self.new.cursor }
+    {
+        let moved = self.pos != pos;
+        self.pos = pos;
+        moved
+    }
+}

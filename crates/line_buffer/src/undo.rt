@@ -1,0 +1,293 @@
+ghost use Rattle.std.specs.Prelude.{◌≡◌, ◌+◌, ◌==◌, ◌++◌, ◌∷◌, length, replicate, not, IfOk, OnOk, OnErr};
+ghost use Rattle.line_buffer.specs.Changes.{ends, newest_begins, inserted, deleted, replaced, no_changes, with_entries, begun, ended, closed, adds_end, with_insert, with_joined_insert, with_joined_delete, with_delete, with_replace};
+
+use crate::clusters::{is_alphanumeric, is_one_alphanumeric};
+use crate::line_buffer::OutOfMemory;
+use std::alloc::Global;
+use std::marker::Model;
+
+#[derive(Debug, Drop)]
+pub(crate) enum Change {
+    Begin,
+    End,
+    Insert {
+        place: usize,
+        text: String,
+    },
+    Delete {
+        place: usize,
+        text: String,
+    },
+    Replace {
+        place: usize,
+        old: String,
+        new: String,
+    },
+}
+
+/// The changes of a line, by which it can be brought back, and how many groups of them are open.
+#[derive(Debug, Drop)]
+pub struct Changeset {
+    changes: Vec<Change>,
+    open_groups: usize,
+}
+
+impl Model for Changeset {
+    ghost use Rattle.line_buffer.specs.Changes.{Changes};
+
+    ghost Value = { Changes };
+
+    ghost use Rattle.line_buffer.specs.Told.{entries_of};
+
+    ghost view = { λ c. record { entries = entries_of c.changes.items; open_groups = c.open_groups } };
+}
+
+impl Changeset {
+    ghost use Rattle.line_buffer.specs.Told.{entry_of};
+
+    /// No change and no open group. The list grows from `alloc`.
+    pub fn new(alloc: Global) -> Changeset
+        ensures { result ≡ no_changes }
+    {
+        Changeset {
+            changes: Vec::new(alloc),
+            open_groups: 0,
+        }
+    }
+
+    /// How many entries the list has.
+    pub fn len(&self) -> usize
+        ensures { result ≡ length self.now.entries }
+    {
+        self.changes.len()
+    }
+
+    /// Whether the list has no entry.
+    pub fn is_empty(&self) -> bool
+        ensures { result ≡ (length self.now.entries == 0) }
+    {
+        self.changes.is_empty()
+    }
+
+    /// Opens a group. `OutOfMemory` comes where the list cannot grow; then it is empty, with no open
+    /// group.
+    pub fn begin(&mut self) -> Result<(), OutOfMemory>
+        ensures changes { OnOk result (self.new ≡ begun self.old) }
+        ensures err { OnErr result (self.new ≡ no_changes) }
+    {
+        self.open_groups = self.open_groups.saturating_add(1);
+        let outcome = self.add(Change::Begin);
+        self.settled(outcome)
+    }
+
+    /// Closes every open group, and answers whether an entry was added for it. `OutOfMemory` comes where
+    /// the list cannot grow; then it is empty, with no open group.
+    pub fn end(&mut self) -> Result<bool, OutOfMemory>
+        ensures answer { IfOk result (λ added. added ≡ adds_end self.old.open_groups self.old.entries) }
+        ensures changes { OnOk result (self.new ≡ ended self.old) }
+        ensures err { OnErr result (self.new ≡ no_changes) }
+    {
+        self.take_newest_begins();
+        let outcome = self.add_ends();
+        self.settled(outcome)
+    }
+
+    /// Takes newest begins away, each of an open group.
+    fn take_newest_begins(&mut self)
+        ensures closed { closed self.new.open_groups self.new.entries ≡ closed self.old.open_groups self.old.entries }
+        ensures adds { adds_end self.new.open_groups self.new.entries ≡ adds_end self.old.open_groups self.old.entries }
+        ensures done { closed self.new.open_groups self.new.entries ≡ replicate self.new.open_groups ends ++ self.new.entries }
+        ensures done_adds { adds_end self.new.open_groups self.new.entries ≡ not (self.new.open_groups == 0) }
+    {
+        while self.open_groups > 0 && self.newest_begins() {
+            let Some(_) = self.changes.pop() else {
+                return;
+            };
+            self.open_groups -= 1;
+        }
+    }
+
+    /// Whether the newest entry begins a group.
+    fn newest_begins(&self) -> bool
+        ensures { result ≡ newest_begins self.now.entries }
+    {
+        match self.changes.last() {
+            Some(Change::Begin) => true,
+            _ => false,
+        }
+    }
+
+    /// Adds an end for each open group, and answers whether there was one.
+    fn add_ends(&mut self) -> Result<bool, OutOfMemory>
+        ensures answer { IfOk result (λ added. added ≡ not (self.old.open_groups == 0)) }
+        ensures changes { OnOk result (self.new ≡ record { entries = replicate self.old.open_groups ends ++ self.old.entries; open_groups = 0 }) }
+    {
+        let added = self.open_groups > 0;
+        while self.open_groups > 0 {
+            self.changes.push(Change::End)?;
+            self.open_groups -= 1;
+        }
+        Ok(added)
+    }
+
+    /// Forgets every change and every open group.
+    pub(crate) fn clear(&mut self)
+        ensures { self.new ≡ no_changes }
+    {
+        self.changes.clear();
+        self.open_groups = 0;
+    }
+
+    /// Passes an outcome on, and forgets every change where it is an error.
+    pub(crate) fn settled<T>(&mut self, outcome: Result<T, OutOfMemory>) -> Result<T, OutOfMemory>
+        ensures same { result ≡ outcome }
+        ensures ok { OnOk result (self.new ≡ self.old) }
+        ensures err { OnErr result (self.new ≡ no_changes) }
+    {
+        match outcome {
+            Ok(value) => Ok(value),
+            Err(error) => {
+                self.clear();
+                Err(error)
+            }
+        }
+    }
+
+    fn add(&mut self, change: Change) -> Result<(), OutOfMemory>
+        ensures { OnOk result (self.new ≡ with_entries self.old (entry_of change ∷ self.old.entries)) }
+    {
+        self.changes.push(change)?;
+        Ok(())
+    }
+
+    /// Tells that `text` came in at `place`.
+    pub(crate) fn insert_str(&mut self, place: usize, text: &str) -> Result<(), OutOfMemory>
+        ensures { OnOk result (self.new ≡ with_entries self.old (with_insert place text.now self.old.entries)) }
+    {
+        if text.is_empty() {
+            return Ok(());
+        }
+        self.add_insert(place, text)
+    }
+
+    fn add_insert(&mut self, place: usize, text: &str) -> Result<(), OutOfMemory>
+        ensures { OnOk result (self.new ≡ with_entries self.old (inserted place text.now ∷ self.old.entries)) }
+    {
+        let alloc = *self.changes.allocator();
+        self.add(Change::Insert {
+            place,
+            text: String::from_str(alloc, text)?,
+        })
+    }
+
+    /// Tells that the alphanumeric character `text` came in at `place`: it joins a newest insert that ends
+    /// there.
+    pub(crate) fn insert_joined(&mut self, place: usize, text: &str) -> Result<(), OutOfMemory>
+        ensures { OnOk result (self.new ≡ with_entries self.old (with_joined_insert place text.now self.old.entries)) }
+    {
+        match self.changes.pop() {
+            Some(Change::Insert { place: at, text: mut old }) => {
+                if ends_at(at, &old, place) {
+                    old.push_str(text)?;
+                    return self.add(Change::Insert { place: at, text: old });
+                }
+                self.add(Change::Insert { place: at, text: old })?;
+                self.add_insert(place, text)
+            }
+            Some(other) => {
+                self.add(other)?;
+                self.add_insert(place, text)
+            }
+            None => self.add_insert(place, text),
+        }
+    }
+
+    /// Tells that `text` went from `place`.
+    pub(crate) fn delete(&mut self, place: usize, text: &str) -> Result<(), OutOfMemory>
+        ensures { OnOk result (self.new ≡ with_entries self.old (with_delete place text.now self.old.entries)) }
+    {
+        if text.is_empty() {
+            return Ok(());
+        }
+        if is_one_alphanumeric(text) {
+            return self.delete_joined(place, text);
+        }
+        self.add_delete(place, text)
+    }
+
+    fn add_delete(&mut self, place: usize, text: &str) -> Result<(), OutOfMemory>
+        ensures { OnOk result (self.new ≡ with_entries self.old (deleted place text.now ∷ self.old.entries)) }
+    {
+        let alloc = *self.changes.allocator();
+        self.add(Change::Delete {
+            place,
+            text: String::from_str(alloc, text)?,
+        })
+    }
+
+    /// Tells that one alphanumeric cluster went from `place`: it joins a newest delete at that place, or
+    /// one at which it ended.
+    fn delete_joined(&mut self, place: usize, text: &str) -> Result<(), OutOfMemory>
+        ensures { OnOk result (self.new ≡ with_entries self.old (with_joined_delete place text.now self.old.entries)) }
+    {
+        match self.changes.pop() {
+            Some(Change::Delete { place: at, text: mut old }) => {
+                if at == place {
+                    old.push_str(text)?;
+                    return self.add(Change::Delete { place: at, text: old });
+                }
+                if ends_at(place, text, at) {
+                    old.insert_str(0, text)?;
+                    return self.add(Change::Delete { place, text: old });
+                }
+                self.add(Change::Delete { place: at, text: old })?;
+                self.add_delete(place, text)
+            }
+            Some(other) => {
+                self.add(other)?;
+                self.add_delete(place, text)
+            }
+            None => self.add_delete(place, text),
+        }
+    }
+
+    /// Tells that `new` came for `old` at `place`.
+    pub(crate) fn replace(&mut self, place: usize, old: &str, new: &str) -> Result<(), OutOfMemory>
+        ensures { OnOk result (self.new ≡ with_entries self.old (with_replace place old.now new.now self.old.entries)) }
+    {
+        match self.changes.pop() {
+            Some(Change::Replace { place: at, old: mut before, new: mut after }) => {
+                if ends_at(at, &after, place) {
+                    before.push_str(old)?;
+                    after.push_str(new)?;
+                    return self.add(Change::Replace { place: at, old: before, new: after });
+                }
+                self.add(Change::Replace { place: at, old: before, new: after })?;
+                self.add_replace(place, old, new)
+            }
+            Some(other) => {
+                self.add(other)?;
+                self.add_replace(place, old, new)
+            }
+            None => self.add_replace(place, old, new),
+        }
+    }
+
+    fn add_replace(&mut self, place: usize, old: &str, new: &str) -> Result<(), OutOfMemory>
+        ensures { OnOk result (self.new ≡ with_entries self.old (replaced place old.now new.now ∷ self.old.entries)) }
+    {
+        let alloc = *self.changes.allocator();
+        self.add(Change::Replace {
+            place,
+            old: String::from_str(alloc, old)?,
+            new: String::from_str(alloc, new)?,
+        })
+    }
+}
+
+/// Whether the text that begins at `place` ends at `end`.
+fn ends_at(place: usize, text: &str, end: usize) -> bool
+    ensures { result ≡ (place + length text.now == end) }
+{
+    end.checked_sub(text.len()) == Some(place)
+}

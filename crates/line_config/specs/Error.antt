@@ -1,0 +1,56 @@
+use Rattle.std.specs.Prelude.{◌≡◌, ℕ, ◌+◌, ◌-◌, ◌<◌, ◌^◌, Bool, true, false, Result, Ok, Err}
+use Rattle.std.specs.IoError.{error_kind}
+use Rattle.std.specs.declared.io.ErrorKind.{ErrorKind}
+use Rattle.line_config.specs.declared.error.ReadlineError.{ReadlineError}
+use Rattle.line_config.specs.declared.error.ReadlineError.TheVariants.{Eof, Interrupted, Io, Memory}
+
+-- where a count stays
+abbrev pub greatest : ℕ
+greatest = 2 ^ 64 - 1
+
+-- a count rose, or was at its greatest value
+abbrev pub Rose : ℕ → ℕ → Type 0
+Rose old new = old < greatest → old < new
+
+-- a count rose by one, or was at its greatest value
+abbrev pub IsOneMore : ℕ → ℕ → Type 0
+IsOneMore old new = old < greatest → new ≡ old + 1
+
+-- whether an error is one of input or output
+abbrev pub is_io : ReadlineError → Bool
+is_io Eof = false
+is_io Interrupted = false
+is_io (Io _) = true
+is_io Memory = false
+
+-- whether an error is that memory ran out
+abbrev pub is_memory : ReadlineError → Bool
+is_memory Eof = false
+is_memory Interrupted = false
+is_memory (Io _) = false
+is_memory Memory = true
+
+-- an error of input or output comes only where P holds
+abbrev pub IoOnlyIf : {T : Type 0} → Result T ReadlineError → Type 0 → Type 0
+IoOnlyIf (Ok _) P = Unit {0}
+IoOnlyIf (Err e) P = is_io e ≡ true → P
+
+-- an error is one of input or output, or that memory ran out
+abbrev pub FaultsOnly : {T : Type 0} → Result T ReadlineError → Type 0
+FaultsOnly (Ok _) = Unit {0}
+FaultsOnly (Err Eof) = ⊥
+FaultsOnly (Err Interrupted) = ⊥
+FaultsOnly (Err (Io _)) = Unit {0}
+FaultsOnly (Err Memory) = Unit {0}
+
+-- the only error is that memory ran out
+abbrev pub MemoryOnly : {T : Type 0} → Result T ReadlineError → Type 0
+MemoryOnly (Ok _) = Unit {0}
+MemoryOnly (Err e) = is_memory e ≡ true
+
+-- an error is one of input or output, of this kind
+abbrev pub IsIoOfKind : ReadlineError → ErrorKind → Type 0
+IsIoOfKind Eof _ = ⊥
+IsIoOfKind Interrupted _ = ⊥
+IsIoOfKind (Io cause) kind = error_kind cause ≡ kind
+IsIoOfKind Memory _ = ⊥

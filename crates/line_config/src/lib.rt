@@ -1,0 +1,12 @@
+//! Settings, prompts, and the error that every crate of the line editor answers with.
+#![tactic(auto)]
+
+pub mod config;
+pub mod error;
+pub mod prompt;
+
+pub use config::{
+    Behavior, BellStyle, ColorMode, CompletionType, Config, Configurer, EditMode, HistoryDuplicates,
+};
+pub use error::{ReadlineError, Result};
+pub use prompt::Prompt;

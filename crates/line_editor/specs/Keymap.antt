@@ -1,0 +1,36 @@
+-- Which command a key has before the tables are asked.
+use Rattle.std.specs.Prelude.{◌≡◌, ℕ, List, [], ◌∷◌, Option, Some, None}
+use Rattle.line_keys.specs.Command.{Command, plain}
+use Rattle.line_keys.specs.Draft.{Draft}
+use Rattle.line_keys.specs.declared.command.Cmd.TheVariants.{EndOfFile}
+use Rattle.line_keys.specs.declared.keys.KeyEvent.{KeyEvent}
+use Rattle.line_keys.specs.declared.tables.Count.{Count}
+use Rattle.line_editor.specs.Input.{Input}
+
+-- what a binding is shown: the keys, the count, the draft and the input
+pub record Asked : Type 0 where
+  pub keys : List KeyEvent
+  pub count : Count
+  pub draft : Draft
+  pub input : Input
+
+-- what the bindings of the program answer, and what the reader gives each key by itself
+pub record Keymap : Type 0 where
+  pub bound : Asked → Option Command
+  pub own : KeyEvent → Option Command
+
+-- the end of the input counts on an empty line alone
+abbrev pub on_line : List ℕ → Option Command → Option Command
+on_line (_ ∷ _) (Some (plain EndOfFile)) = None
+on_line _ command = command
+
+-- the first answer there is
+abbrev pub first_of_two : Option Command → Option Command → Option Command
+first_of_two (Some command) _ = Some command
+first_of_two None other = other
+
+-- the command of a key by the bindings, or else by the reader
+abbrev pub bound_command : Keymap → Draft → Input → Count → KeyEvent → Option Command
+bound_command keymap draft input count key =
+    first_of_two (keymap.bound (record { keys = key ∷ []; count = count; draft = draft; input = input }))
+    (on_line draft.line.text (keymap.own key))

@@ -1,0 +1,14 @@
+pub mod Info
+pub mod Binding
+pub mod Fault
+pub mod Input
+pub mod InputState
+pub mod Keymap
+pub mod Phrase
+pub mod Printable
+pub mod Laws
+pub mod Party
+pub use Rattle.line_buffer.specs.Line
+pub use Rattle.line_keys.specs.Command
+pub use Rattle.line_keys.specs.Draft
+pub use Rattle.line_keys.specs.Item

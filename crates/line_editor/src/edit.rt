@@ -1,0 +1,402 @@
+//! The line while it is edited, and how it is drawn.
+ghost use Rattle.std.specs.Prelude.{◌≡◌, ℕ, ◌≤◌, ◌&&◌, Bool, true, false, List, [], Option, Some, None, option_map, is_some, length, IfOk, OnOk, OnErr, IsOk};
+ghost use Rattle.std.specs.Borrow.{GName};
+ghost use Rattle.line_buffer.specs.declared.layout.Position.{Position};
+ghost use Rattle.line_config.specs.Error.{FaultsOnly, IoOnlyIf, IsOneMore, Rose};
+ghost use Rattle.line_editor.specs.Party.{verdict_by, sure_by};
+ghost use Rattle.line_keys.specs.Display.{IsDrawn, IsFullRedraw, IsRight};
+ghost use Rattle.line_keys.specs.Draft.{KeepsText, hinted, unhinted, unless_empty};
+ghost use Rattle.line_keys.specs.Stays.{Stays};
+ghost use Rattle.line_buffer.specs.Line.{Line, moved_to, with_cursor, start_of_line, end_of_line};
+ghost use Rattle.line_buffer.specs.Cluster.{place_on, place_back};
+ghost use Rattle.line_editor.specs.Info.{shown_info};
+ghost use Rattle.line_parts.specs.Helped.{hint_by};
+
+use crate::tty::Renderer;
+use line_buffer::{Changeset, Layout, LineBuffer, Position, RepeatCount};
+use line_config::{Prompt, Result};
+use line_keys::keymap::Refresher;
+use line_parts::{CmdKind, Context, Helper, Highlighter, Hint, Hinter, History, Validator};
+use std::alloc::Global;
+
+/// The line while it is edited: its text and cursor, what was changed, the place in the history, the hint, and what is
+/// drawn of it all.
+pub struct State<'out, 'prompt, W: Renderer, H: Helper, P: Prompt, S: History> {
+    alloc: Global,
+    out: &'out mut W,
+    prompt: &'prompt P,
+    prompt_size: Position,
+    line: LineBuffer,
+    layout: Layout,
+    saved_line_for_history: LineBuffer,
+    changes: Changeset,
+    helper: Option<&'out mut H>,
+    ctx: Context<'out, S>,
+    hint: Option<H::Hint>,
+    highlight_char: bool,
+}
+
+impl<W: Renderer, H: Helper, P: Prompt, S: History> Drop for State<'_, '_, W, H, P, S> {
+    fn drop(self) {
+        let State {
+            alloc: _,
+            out: _,
+            prompt: _,
+            prompt_size: _,
+            line: _,
+            layout: _,
+            saved_line_for_history: _,
+            changes: _,
+            helper: _,
+            ctx: _,
+            hint: _,
+            highlight_char: _,
+        } = self;
+    }
+}
+
+// What is shown behind the line.
+#[derive(Clone, Copy)]
+enum Info<'m> {
+    Nothing,
+    Hint,
+    Message(Option<&'m str>),
+}
+
+fn info_text<'m, T: Hint>(info: Info<'m>, hint: &'m Option<T>) -> Option<&'m str>
+    ensures { option_map (λ s. s.now) result ≡ shown_info info.entry (option_map T.display_text hint.now) }
+{
+    match info {
+        Info::Nothing => None,
+        Info::Hint => match hint {
+            Some(h) => Some(h.display()),
+            None => None,
+        },
+        Info::Message(message) => message,
+    }
+}
+
+fn highlighter_of<'a, 'out, H: Highlighter>(
+    helper: &'a Option<&'out mut H>,
+    colors: bool,
+) -> Option<&'a H> {
+    match helper {
+        Some(h) if colors => Some(h),
+        _ => None,
+    }
+}
+
+#[tactic(auto, unfolding(crate::specs::Party::verdict_by, crate::specs::Party::sure_by, line_parts::specs::Helped::hint_by))]
+fn lights<'out, H: Helper>(
+    helper: &mut Option<&'out mut H>,
+    line: &LineBuffer,
+    kind: CmdKind,
+) -> bool
+    ensures hints { hint_by H.hint_at helper.new ≡ hint_by H.hint_at helper.old }
+    ensures verdicts { verdict_by H.verdict_at helper.new ≡ verdict_by H.verdict_at helper.old }
+    ensures sure { sure_by H.Hinter.sure H.Validator.sure helper.new ≡ sure_by H.Hinter.sure H.Validator.sure helper.old }
+{
+    match helper {
+        Some(h) => h.highlight_char(line.as_str(), line.pos(), kind),
+        None => false,
+    }
+}
+
+#[tactic(auto, unfolding(crate::specs::Party::sure_by, line_parts::specs::Helped::hint_by))]
+fn hint_of<'a, 'out, H: Helper, S: History>(
+    alloc: Global,
+    helper: &'a Option<&'out mut H>,
+    line: &LineBuffer,
+    ctx: &Context<'_, S>,
+) -> Result<Option<H::Hint>>
+    ensures answer { IfOk result (λ hint. option_map (λ h. record { display = H.Hint.display_text h; completion = H.Hint.completion_text h }) hint
+        ≡ hint_by H.hint_at helper.now (record { text = line.now.text; cursor = line.now.cursor; place = ctx.now.place; lines = S.lines ctx.now.history })) }
+    ensures io { IoOnlyIf result (sure_by H.Hinter.sure H.Validator.sure helper.now ≡ true → S.sure ctx.now.history ≡ true → ⊥) }
+    ensures faults { FaultsOnly result }
+{
+    match helper {
+        Some(h) => h.hint(alloc, line.as_str(), line.pos(), ctx),
+        None => Ok(None),
+    }
+}
+
+fn unless_shows_nothing<T: Hint + Drop>(hint: Option<T>) -> Option<T>
+    ensures { option_map (λ h. record { display = T.display_text h; completion = T.completion_text h }) result
+        ≡ unless_empty (option_map (λ h. record { display = T.display_text h; completion = T.completion_text h }) hint) }
+{
+    match hint {
+        Some(h) if h.display().is_empty() => None,
+        other => other,
+    }
+}
+
+impl<'out, 'prompt, W: Renderer, H: Helper, P: Prompt, S: History> State<
+    'out,
+    'prompt,
+    W,
+    H,
+    P,
+    S,
+> {
+    /// An empty line behind the prompt, with nothing drawn yet.
+    pub fn new(
+        alloc: Global,
+        out: &'out mut W,
+        prompt: &'prompt P,
+        helper: Option<&'out mut H>,
+        ctx: Context<'out, S>,
+    ) -> Result<Self> {
+        let prompt_size = out.calculate_position(prompt.raw(), Position { row: 0, col: 0 });
+        let mut layout = Layout::new(out.grapheme_cluster_mode());
+        layout.prompt_size = prompt_size;
+        Ok(State {
+            alloc,
+            out,
+            prompt,
+            prompt_size,
+            line: LineBuffer::new(alloc),
+            layout,
+            saved_line_for_history: LineBuffer::new(alloc),
+            changes: Changeset::new(alloc),
+            helper,
+            ctx,
+            hint: None,
+            highlight_char: false,
+        })
+    }
+
+    // Draws all again, and keeps the layout that is drawn.
+    fn redraw<Q: Prompt>(
+        &mut self,
+        prompt: &Q,
+        prompt_size: Position,
+        default_prompt: bool,
+        info: Info<'_>,
+    ) -> Result<()>
+        ensures layout { OnOk result (IsFullRedraw (W.surface self.old.out.now).measure prompt_size self.old.line
+            (shown_info info.entry (option_map H.Hint.display_text self.old.hint)) self.new.layout) }
+        ensures prompt { OnOk result (self.new.layout.default_prompt ≡ default_prompt) }
+        ensures screen { OnOk result (W.screen self.new.out.now
+            ≡ record { place = self.new.layout.cursor; text = self.old.line.text; origin = self.new.layout.prompt_size }) }
+        ensures redraws { OnOk result (IsOneMore (W.redraws self.old.out.now) (W.redraws self.new.out.now)) }
+        ensures surface { W.surface self.new.out.now ≡ W.surface self.old.out.now }
+        ensures io { IoOnlyIf result (Rose (W.failures self.old.out.now) (W.failures self.new.out.now)) }
+        ensures faults { FaultsOnly result }
+        ensures counts { W.failures self.old.out.now ≤ W.failures self.new.out.now }
+        ensures name { self.new.out.ghost_name ≡ self.old.out.ghost_name }
+        ensures prompt_size { self.new.prompt_size ≡ self.old.prompt_size }
+        ensures line { self.new.line ≡ self.old.line }
+        ensures saved { self.new.saved_line_for_history ≡ self.old.saved_line_for_history }
+        ensures changes { self.new.changes ≡ self.old.changes }
+        ensures helper { self.new.helper ≡ self.old.helper }
+        ensures ctx { self.new.ctx ≡ self.old.ctx }
+        ensures hint { self.new.hint ≡ self.old.hint }
+    {
+        let info = info_text(info, &self.hint);
+        let new_layout = self
+            .out
+            .compute_layout(prompt_size, default_prompt, &self.line, info);
+        let colors = self.out.colors_enabled();
+        let highlighter = highlighter_of(&self.helper, colors);
+        self.out.refresh_line(
+            prompt,
+            &self.line,
+            info,
+            Some(&self.layout),
+            &new_layout,
+            highlighter,
+        )?;
+        self.layout = new_layout;
+        Ok(())
+    }
+
+    /// Asks the helper for the hint of the line as it stands; one that shows nothing is none. Nothing is drawn.
+    pub fn hint(&mut self) -> Result<()>
+        ensures draft { OnOk result (⟦<State<'out, 'prompt, W, H, P, S> as Refresher>⟧.draft self.new ≡ hinted (⟦<State<'out, 'prompt, W, H, P, S> as Refresher>⟧.world self.old) (⟦<State<'out, 'prompt, W, H, P, S> as Refresher>⟧.draft self.old)) }
+        ensures err { OnErr result (⟦<State<'out, 'prompt, W, H, P, S> as Refresher>⟧.draft self.new ≡ ⟦<State<'out, 'prompt, W, H, P, S> as Refresher>⟧.draft self.old) }
+        ensures text { KeepsText (⟦<State<'out, 'prompt, W, H, P, S> as Refresher>⟧.draft self.old) (⟦<State<'out, 'prompt, W, H, P, S> as Refresher>⟧.draft self.new) }
+        ensures display { ⟦<State<'out, 'prompt, W, H, P, S> as Refresher>⟧.display self.new ≡ ⟦<State<'out, 'prompt, W, H, P, S> as Refresher>⟧.display self.old }
+        ensures redraws { ⟦<State<'out, 'prompt, W, H, P, S> as Refresher>⟧.redraws self.new ≡ ⟦<State<'out, 'prompt, W, H, P, S> as Refresher>⟧.redraws self.old }
+        ensures failures { ⟦<State<'out, 'prompt, W, H, P, S> as Refresher>⟧.failures self.new ≡ ⟦<State<'out, 'prompt, W, H, P, S> as Refresher>⟧.failures self.old }
+        ensures stays { Stays ⟦<State<'out, 'prompt, W, H, P, S> as Refresher>⟧ self.old self.new }
+        ensures io { IoOnlyIf result (⟦<State<'out, 'prompt, W, H, P, S> as Refresher>⟧.sure self.old ≡ true → ⊥) }
+        ensures faults { FaultsOnly result }
+    {
+        self.hint = unless_shows_nothing(hint_of(self.alloc, &self.helper, &self.line, &self.ctx)?);
+        Ok(())
+    }
+
+    // Whether the characters of the line have to be drawn again for their colours.
+    fn ask_highlight(&mut self, kind: CmdKind) -> bool
+        ensures hints { hint_by H.hint_at self.new.helper ≡ hint_by H.hint_at self.old.helper }
+        ensures verdicts { verdict_by H.verdict_at self.new.helper ≡ verdict_by H.verdict_at self.old.helper }
+        ensures sure { sure_by H.Hinter.sure H.Validator.sure self.new.helper ≡ sure_by H.Hinter.sure H.Validator.sure self.old.helper }
+        ensures out { self.new.out ≡ self.old.out }
+        ensures prompt_size { self.new.prompt_size ≡ self.old.prompt_size }
+        ensures layout { self.new.layout ≡ self.old.layout }
+        ensures line { self.new.line ≡ self.old.line }
+        ensures saved { self.new.saved_line_for_history ≡ self.old.saved_line_for_history }
+        ensures changes { self.new.changes ≡ self.old.changes }
+        ensures ctx { self.new.ctx ≡ self.old.ctx }
+        ensures hint { self.new.hint ≡ self.old.hint }
+    {
+        if !self.out.colors_enabled() {
+            return false;
+        }
+        let was_lit = self.highlight_char;
+        self.highlight_char = lights(&mut self.helper, &self.line, kind);
+        self.highlight_char || was_lit
+    }
+
+    /// Takes the drawn cursor to where the line's cursor is. Nothing is drawn where it stands there already.
+    pub fn move_cursor(&mut self, kind: CmdKind) -> Result<()>
+        ensures draft { ⟦<State<'out, 'prompt, W, H, P, S> as Refresher>⟧.draft self.new ≡ ⟦<State<'out, 'prompt, W, H, P, S> as Refresher>⟧.draft self.old }
+        ensures right { OnOk result (IsDrawn (⟦<State<'out, 'prompt, W, H, P, S> as Refresher>⟧.display self.old) (⟦<State<'out, 'prompt, W, H, P, S> as Refresher>⟧.draft self.old).line.text → IsRight (⟦<State<'out, 'prompt, W, H, P, S> as Refresher>⟧.display self.new) (⟦<State<'out, 'prompt, W, H, P, S> as Refresher>⟧.draft self.new).line) }
+        ensures stays { Stays ⟦<State<'out, 'prompt, W, H, P, S> as Refresher>⟧ self.old self.new }
+        ensures io { IoOnlyIf result (Rose (⟦<State<'out, 'prompt, W, H, P, S> as Refresher>⟧.failures self.old) (⟦<State<'out, 'prompt, W, H, P, S> as Refresher>⟧.failures self.new)) }
+        ensures faults { FaultsOnly result }
+    {
+        let text = self.line.as_str();
+        let cursor = self
+            .out
+            .calculate_position(&text[..self.line.pos()], self.prompt_size);
+        if self.layout.cursor == cursor {
+            return Ok(());
+        }
+        let _ = self.ask_highlight(kind);
+        self.redraw(self.prompt, self.prompt_size, true, Info::Nothing)
+    }
+
+    /// Moves the cursor `n` clusters back, or as many as there are. The cursor that is drawn goes along.
+    #[tactic(auto, using(crate::proofs::EditLemmas::moved_text))]
+    pub fn edit_move_backward(&mut self, n: RepeatCount) -> Result<()>
+        ensures draft { ⟦<State<'out, 'prompt, W, H, P, S> as Refresher>⟧.draft self.new ≡ record (⟦<State<'out, 'prompt, W, H, P, S> as Refresher>⟧.draft self.old) { line = moved_to (⟦<State<'out, 'prompt, W, H, P, S> as Refresher>⟧.draft self.old).line (place_back (⟦<State<'out, 'prompt, W, H, P, S> as Refresher>⟧.draft self.old).line n) } }
+        ensures right { OnOk result (IsRight (⟦<State<'out, 'prompt, W, H, P, S> as Refresher>⟧.display self.old) (⟦<State<'out, 'prompt, W, H, P, S> as Refresher>⟧.draft self.old).line → IsRight (⟦<State<'out, 'prompt, W, H, P, S> as Refresher>⟧.display self.new) (⟦<State<'out, 'prompt, W, H, P, S> as Refresher>⟧.draft self.new).line) }
+        ensures stays { Stays ⟦<State<'out, 'prompt, W, H, P, S> as Refresher>⟧ self.old self.new }
+        ensures io { IoOnlyIf result (Rose (⟦<State<'out, 'prompt, W, H, P, S> as Refresher>⟧.failures self.old) (⟦<State<'out, 'prompt, W, H, P, S> as Refresher>⟧.failures self.new)) }
+        ensures faults { FaultsOnly result }
+    {
+        if self.line.move_backward(n) {
+            self.move_cursor(CmdKind::MoveCursor)
+        } else {
+            Ok(())
+        }
+    }
+
+    /// Moves the cursor `n` clusters on, or as many as there are. The cursor that is drawn goes along.
+    #[tactic(auto, using(crate::proofs::EditLemmas::moved_text))]
+    pub fn edit_move_forward(&mut self, n: RepeatCount) -> Result<()>
+        ensures draft { ⟦<State<'out, 'prompt, W, H, P, S> as Refresher>⟧.draft self.new ≡ record (⟦<State<'out, 'prompt, W, H, P, S> as Refresher>⟧.draft self.old) { line = moved_to (⟦<State<'out, 'prompt, W, H, P, S> as Refresher>⟧.draft self.old).line (place_on (⟦<State<'out, 'prompt, W, H, P, S> as Refresher>⟧.draft self.old).line n) } }
+        ensures right { OnOk result (IsRight (⟦<State<'out, 'prompt, W, H, P, S> as Refresher>⟧.display self.old) (⟦<State<'out, 'prompt, W, H, P, S> as Refresher>⟧.draft self.old).line → IsRight (⟦<State<'out, 'prompt, W, H, P, S> as Refresher>⟧.display self.new) (⟦<State<'out, 'prompt, W, H, P, S> as Refresher>⟧.draft self.new).line) }
+        ensures stays { Stays ⟦<State<'out, 'prompt, W, H, P, S> as Refresher>⟧ self.old self.new }
+        ensures io { IoOnlyIf result (Rose (⟦<State<'out, 'prompt, W, H, P, S> as Refresher>⟧.failures self.old) (⟦<State<'out, 'prompt, W, H, P, S> as Refresher>⟧.failures self.new)) }
+        ensures faults { FaultsOnly result }
+    {
+        if self.line.move_forward(n) {
+            self.move_cursor(CmdKind::MoveCursor)
+        } else {
+            Ok(())
+        }
+    }
+
+    /// Moves the cursor to the start of its line. The cursor that is drawn goes along.
+    pub fn edit_move_home(&mut self) -> Result<()>
+        ensures draft { ⟦<State<'out, 'prompt, W, H, P, S> as Refresher>⟧.draft self.new ≡ record (⟦<State<'out, 'prompt, W, H, P, S> as Refresher>⟧.draft self.old) { line = with_cursor (⟦<State<'out, 'prompt, W, H, P, S> as Refresher>⟧.draft self.old).line (start_of_line (⟦<State<'out, 'prompt, W, H, P, S> as Refresher>⟧.draft self.old).line) } }
+        ensures right { OnOk result (IsRight (⟦<State<'out, 'prompt, W, H, P, S> as Refresher>⟧.display self.old) (⟦<State<'out, 'prompt, W, H, P, S> as Refresher>⟧.draft self.old).line → IsRight (⟦<State<'out, 'prompt, W, H, P, S> as Refresher>⟧.display self.new) (⟦<State<'out, 'prompt, W, H, P, S> as Refresher>⟧.draft self.new).line) }
+        ensures stays { Stays ⟦<State<'out, 'prompt, W, H, P, S> as Refresher>⟧ self.old self.new }
+        ensures io { IoOnlyIf result (Rose (⟦<State<'out, 'prompt, W, H, P, S> as Refresher>⟧.failures self.old) (⟦<State<'out, 'prompt, W, H, P, S> as Refresher>⟧.failures self.new)) }
+        ensures faults { FaultsOnly result }
+    {
+        if self.line.move_home() {
+            self.move_cursor(CmdKind::MoveCursor)
+        } else {
+            Ok(())
+        }
+    }
+
+    /// Moves the cursor to the end of its line. The cursor that is drawn goes along.
+    pub fn edit_move_end(&mut self) -> Result<()>
+        ensures draft { ⟦<State<'out, 'prompt, W, H, P, S> as Refresher>⟧.draft self.new ≡ record (⟦<State<'out, 'prompt, W, H, P, S> as Refresher>⟧.draft self.old) { line = with_cursor (⟦<State<'out, 'prompt, W, H, P, S> as Refresher>⟧.draft self.old).line (end_of_line (⟦<State<'out, 'prompt, W, H, P, S> as Refresher>⟧.draft self.old).line) } }
+        ensures right { OnOk result (IsRight (⟦<State<'out, 'prompt, W, H, P, S> as Refresher>⟧.display self.old) (⟦<State<'out, 'prompt, W, H, P, S> as Refresher>⟧.draft self.old).line → IsRight (⟦<State<'out, 'prompt, W, H, P, S> as Refresher>⟧.display self.new) (⟦<State<'out, 'prompt, W, H, P, S> as Refresher>⟧.draft self.new).line) }
+        ensures stays { Stays ⟦<State<'out, 'prompt, W, H, P, S> as Refresher>⟧ self.old self.new }
+        ensures io { IoOnlyIf result (Rose (⟦<State<'out, 'prompt, W, H, P, S> as Refresher>⟧.failures self.old) (⟦<State<'out, 'prompt, W, H, P, S> as Refresher>⟧.failures self.new)) }
+        ensures faults { FaultsOnly result }
+    {
+        if self.line.move_end() {
+            self.move_cursor(CmdKind::MoveCursor)
+        } else {
+            Ok(())
+        }
+    }
+}
+
+impl<'out, 'prompt, W: Renderer, H: Helper, P: Prompt, S: History> Refresher
+    for State<'out, 'prompt, W, H, P, S> {
+    ghost Fixed = { GName };
+
+    ghost draft = { λ s. record {
+      line = s.line;
+      saved = s.saved_line_for_history;
+      place = s.ctx.place;
+      hint = option_map (λ h. record { display = H.Hint.display_text h; completion = H.Hint.completion_text h }) s.hint;
+      changes = s.changes;
+    } };
+
+    ghost world = { λ s. record {
+      hint_at = hint_by H.hint_at s.helper;
+      verdict_at = verdict_by H.verdict_at s.helper;
+      lines = S.lines s.ctx.history;
+    } };
+
+    ghost display = { λ s. record {
+      surface = W.surface s.out.now;
+      prompt_end = s.prompt_size;
+      layout = s.layout;
+      screen = W.screen s.out.now;
+    } };
+
+    ghost fixed = { λ s. s.out.ghost_name };
+
+    ghost sure = { λ s. sure_by H.Hinter.sure H.Validator.sure s.helper && S.sure s.ctx.history };
+
+    ghost failures = { λ s. W.failures s.out.now };
+
+    ghost redraws = { λ s. W.redraws s.out.now };
+
+    fn refresh_line(&mut self) -> Result<()> {
+        self.hint()?;
+        let _ = self.ask_highlight(CmdKind::Other);
+        self.redraw(self.prompt, self.prompt_size, true, Info::Hint)
+    }
+
+    fn refresh_line_with_msg(&mut self, msg: Option<&str>, kind: CmdKind) -> Result<()> {
+        self.hint = None;
+        let _ = self.ask_highlight(kind);
+        self.redraw(self.prompt, self.prompt_size, true, Info::Message(msg))
+    }
+
+    fn refresh_prompt_and_line(&mut self, prompt: &str) -> Result<()> {
+        let prompt_size = self
+            .out
+            .calculate_position(prompt, Position { row: 0, col: 0 });
+        self.hint()?;
+        let _ = self.ask_highlight(CmdKind::Other);
+        self.redraw(&prompt, prompt_size, false, Info::Hint)
+    }
+
+    fn is_cursor_at_end(&self) -> bool {
+        self.line.pos() == self.line.len()
+    }
+
+    fn has_hint(&self) -> bool {
+        self.hint.is_some()
+    }
+
+    fn line(&self) -> &str {
+        self.line.as_str()
+    }
+
+    fn pos(&self) -> usize {
+        self.line.pos()
+    }
+}

@@ -1,0 +1,50 @@
+-- The line that is being edited, and what answers for it.
+use Rattle.std.specs.Prelude.{◌≡◌, ℕ, Bool, List, [], ◌∷◌, Option, Some, None}
+use Rattle.line_buffer.specs.Changes.{Changes}
+use Rattle.line_buffer.specs.Line.{Line}
+use Rattle.line_parts.specs.Hint.{Suggestion}
+use Rattle.line_parts.specs.Shown.{Shown}
+use Rattle.line_parts.specs.Verdict.{Verdict}
+
+-- a line with its cursor, the line that was left for the history, the place in the history, the hint, and the changes so far
+pub record Draft : Type 0 where
+  pub line : Line
+  pub saved : Line
+  pub place : ℕ
+  pub hint : Option Suggestion
+  pub changes : Changes
+
+-- what is fixed beside it: the helper's hints, its verdicts where there is a helper, and the history's list
+pub record World : Type 0 where
+  pub hint_at : Shown → Option Suggestion
+  pub verdict_at : Option (List ℕ → Verdict)
+  pub lines : List (List ℕ)
+
+-- a hint that shows nothing is none
+abbrev pub unless_empty : Option Suggestion → Option Suggestion
+unless_empty None = None
+unless_empty (Some hint) = shown_or_none hint hint.display
+  where
+    shown_or_none : Suggestion → List ℕ → Option Suggestion
+    shown_or_none hint [] = None
+    shown_or_none hint (_ ∷ _) = Some hint
+
+-- what the helper is shown of a draft
+abbrev pub shown : World → Draft → Shown
+shown world draft =
+    record { text = draft.line.text; cursor = draft.line.cursor; place = draft.place; lines = world.lines }
+
+-- the hint asked again
+abbrev pub hinted : World → Draft → Draft
+hinted world draft = record draft { hint = unless_empty (world.hint_at (shown world draft)) }
+
+-- the hint taken away
+abbrev pub unhinted : Draft → Draft
+unhinted draft = record draft { hint = None }
+
+-- all but the hint stays
+pub record KeepsText (old new : Draft) : Type 0 where
+  pub line : new.line ≡ old.line
+  pub saved : new.saved ≡ old.saved
+  pub place : new.place ≡ old.place
+  pub changes : new.changes ≡ old.changes

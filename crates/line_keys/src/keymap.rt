@@ -1,0 +1,120 @@
+//! What the keys' tables ask of the editor.
+ghost use Rattle.std.specs.Prelude.{◌≡◌, ℕ, ◌≤◌, Bool, true, List, Option, Some, None, IfOk, OnOk, OnErr, IsTrue, is_some, option_map, length, ◌↔◌, ◌==◌};
+ghost use Rattle.line_config.specs.Error.{FaultsOnly, IoOnlyIf, IsOneMore, MemoryOnly, Rose};
+ghost use Rattle.line_buffer.specs.Changes.{Changes};
+ghost use Rattle.line_keys.specs.Display.{Display, IsRight};
+ghost use Rattle.line_keys.specs.Draft.{Draft, World, KeepsText, hinted, unhinted};
+
+use line_config::Result;
+use line_parts::CmdKind;
+
+/// A mode of the Vi style of editing.
+#[derive(Clone, Copy, PartialEq, Eq)]
+pub enum InputMode {
+    /// Keys are commands.
+    Command,
+    /// Keys are text.
+    Insert,
+    /// Keys are text in place of what is there.
+    Replace,
+}
+
+/// Gives the text that is being edited.
+pub trait Invoke {
+    ghost input_text: { Self → List ℕ };
+
+    /// The whole text.
+    fn input(&self) -> &str
+        ensures { result.now ≡ input_text self.now };
+}
+
+impl Invoke for &str {
+    ghost input_text = { λ s. s.now };
+
+    fn input(&self) -> &str {
+        self
+    }
+}
+
+/// The editor, as far as reading a command needs it: it draws the line, asks for hints, and groups changes.
+///
+/// A call that fails answers an error of input or output, and then the renderer's count of failures has risen or a
+/// party is not sure, or that memory ran out. It leaves the text, the cursor and the place in the history.
+pub trait Refresher {
+    ghost Fixed: { Type 0 };
+
+    ghost draft: { Self → Draft };
+
+    ghost world: { Self → World };
+
+    ghost display: { Self → Display };
+
+    ghost fixed: { Self → Fixed };
+
+    ghost sure: { Self → Bool };
+
+    ghost failures: { Self → ℕ };
+
+    ghost redraws: { Self → ℕ };
+
+    /// Asks for the hint and draws all again.
+    fn refresh_line(&mut self) -> Result<()>
+        ensures draft { OnOk result (draft self.new ≡ hinted (world self.old) (draft self.old)) }
+        ensures kept { KeepsText (draft self.old) (draft self.new) }
+        ensures right { OnOk result (IsRight (display self.new) (draft self.new).line) }
+        ensures redraws { OnOk result (IsOneMore (redraws self.old) (redraws self.new)) }
+        ensures world { world self.new ≡ world self.old }
+        ensures fixed { fixed self.new ≡ fixed self.old }
+        ensures surface { (display self.new).surface ≡ (display self.old).surface }
+        ensures prompt_end { (display self.new).prompt_end ≡ (display self.old).prompt_end }
+        ensures sure { sure self.new ≡ sure self.old }
+        ensures counts { failures self.old ≤ failures self.new }
+        ensures io { IoOnlyIf result (sure self.old ≡ true → Rose (failures self.old) (failures self.new)) }
+        ensures faults { FaultsOnly result };
+
+    /// Takes the hint away, and draws all again with a message, if there is one, behind the line.
+    fn refresh_line_with_msg(&mut self, msg: Option<&str>, kind: CmdKind) -> Result<()>
+        ensures draft { OnOk result (draft self.new ≡ unhinted (draft self.old)) }
+        ensures kept { KeepsText (draft self.old) (draft self.new) }
+        ensures right { OnOk result (IsRight (display self.new) (draft self.new).line) }
+        ensures message { OnOk result ((display self.new).layout.has_info ≡ is_some msg.entry) }
+        ensures redraws { OnOk result (IsOneMore (redraws self.old) (redraws self.new)) }
+        ensures world { world self.new ≡ world self.old }
+        ensures fixed { fixed self.new ≡ fixed self.old }
+        ensures surface { (display self.new).surface ≡ (display self.old).surface }
+        ensures prompt_end { (display self.new).prompt_end ≡ (display self.old).prompt_end }
+        ensures sure { sure self.new ≡ sure self.old }
+        ensures counts { failures self.old ≤ failures self.new }
+        ensures io { IoOnlyIf result (sure self.old ≡ true → Rose (failures self.old) (failures self.new)) }
+        ensures faults { FaultsOnly result };
+
+    /// Asks for the hint and draws all again, with another prompt in place of the editor's.
+    fn refresh_prompt_and_line(&mut self, prompt: &str) -> Result<()>
+        ensures draft { OnOk result (draft self.new ≡ hinted (world self.old) (draft self.old)) }
+        ensures kept { KeepsText (draft self.old) (draft self.new) }
+        ensures redraws { OnOk result (IsOneMore (redraws self.old) (redraws self.new)) }
+        ensures world { world self.new ≡ world self.old }
+        ensures fixed { fixed self.new ≡ fixed self.old }
+        ensures surface { (display self.new).surface ≡ (display self.old).surface }
+        ensures prompt_end { (display self.new).prompt_end ≡ (display self.old).prompt_end }
+        ensures sure { sure self.new ≡ sure self.old }
+        ensures counts { failures self.old ≤ failures self.new }
+        ensures io { IoOnlyIf result (sure self.old ≡ true → Rose (failures self.old) (failures self.new)) }
+        ensures faults { FaultsOnly result };
+
+    /// Whether the cursor stands at the end of the text.
+    fn is_cursor_at_end(&self) -> bool
+        ensures { IsTrue result ↔ ((draft self.now).line.cursor ≡ length (draft self.now).line.text) };
+
+    /// Whether there is a hint.
+    fn has_hint(&self) -> bool
+        ensures { result ≡ is_some (draft self.now).hint };
+
+    /// The whole text.
+    fn line(&self) -> &str
+        ensures { result.now ≡ (draft self.now).line.text };
+
+    /// The cursor's place in bytes.
+    fn pos(&self) -> usize
+        ensures { result ≡ (draft self.now).line.cursor };
+}

@@ -1,0 +1,9 @@
+//! Keys, commands and the tables that lead from one to the other: what reads keys without naming
+//! the bindings of a program.
+#![tactic(auto)]
+
+pub mod command;
+pub mod keymap;
+pub mod keys;
+pub mod tables;
+pub mod tty;

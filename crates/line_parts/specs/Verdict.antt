@@ -1,0 +1,16 @@
+-- What a validator says of a text.
+use Rattle.std.specs.Prelude.{ℕ, List, Option, option_map, string_bytes}
+use Rattle.line_parts.specs.declared.validate.ValidationResult.{ValidationResult}
+use Rattle.line_parts.specs.declared.validate.ValidationResult.TheVariants as Said
+
+-- the text goes on; it is refused, or taken, with a message or without
+pub data Verdict : Type 0 where
+  incomplete : Verdict
+  invalid : Option (List ℕ) → Verdict
+  valid : Option (List ℕ) → Verdict
+
+-- the verdict of a result
+abbrev pub verdict_of : ValidationResult → Verdict
+verdict_of Said.Incomplete = incomplete
+verdict_of (Said.Invalid message) = invalid (option_map string_bytes message)
+verdict_of (Said.Valid message) = valid (option_map string_bytes message)

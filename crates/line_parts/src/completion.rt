@@ -1,0 +1,110 @@
+//! Completions of a part of the line.
+ghost use Rattle.std.specs.Prelude.{◌≡◌, ◌≤◌, ℕ, Bool, List, Option, Some, None, map, IfOk, OnOk, IsCharBoundary, string_bytes, true, false};
+ghost use Rattle.line_buffer.specs.Line.{Line};
+ghost use Rattle.line_config.specs.Error.{IoOnlyIf, FaultsOnly};
+ghost use Rattle.line_parts.specs.Candidate.{Offer, Completion, nothing, replaced_to_cursor};
+ghost use Rattle.line_parts.specs.Shown.{Shown, NotBoth, IsUsualOrOwn};
+
+use crate::context::Context;
+use crate::history::History;
+use line_buffer::{Changeset, LineBuffer};
+use line_config::Result;
+use std::alloc::Global;
+
+/// What may complete a part of the line.
+pub trait Candidate {
+    ghost display_text: { Self → List ℕ };
+
+    ghost replacement_text: { Self → List ℕ };
+
+    /// What is shown in a list of candidates.
+    fn display(&self) -> &str
+        ensures { result.now ≡ display_text self.now };
+
+    /// What is put into the line.
+    fn replacement(&self) -> &str
+        ensures { result.now ≡ replacement_text self.now };
+}
+
+impl Candidate for String {
+    ghost display_text = { λ s. string_bytes s };
+
+    ghost replacement_text = { λ s. string_bytes s };
+
+    fn display(&self) -> &str {
+        self.as_str()
+    }
+
+    fn replacement(&self) -> &str {
+        self.as_str()
+    }
+}
+
+impl Candidate for &str {
+    ghost display_text = { λ s. s.now };
+
+    ghost replacement_text = { λ s. s.now };
+
+    fn display(&self) -> &str {
+        self
+    }
+
+    fn replacement(&self) -> &str {
+        self
+    }
+}
+
+/// Who offers completions.
+pub trait Completer {
+    /// What it offers.
+    type Candidate: Candidate + Drop;
+
+    ghost sure: { Self → Bool };
+
+    ghost own_completion: { Self → Shown → Option Completion } = { λ _ _. None };
+
+    ghost own_update: { Self → Line → ℕ → List ℕ → Option Line } = { λ _ _ _ _. None };
+
+    /// Where the part of `line` before the cursor, at byte `pos`, that can be completed begins, and
+    /// the candidates for it.
+    ///
+    /// Errors are `Io`, which comes only where this completer or the history is not sure, and `Memory`.
+    fn complete<S: History>(&self, alloc: Global, line: &str, pos: usize, ctx: &Context<'_, S>) -> Result<(usize, Vec<Self::Candidate>)>
+        requires { IsCharBoundary line.now pos }
+        ensures start { IfOk result (λ r. (r.0 ≤ pos) × IsCharBoundary line.now r.0) }
+        ensures answer { IfOk result (λ r. IsUsualOrOwn nothing
+            (own_completion self.now (record { text = line.now; cursor = pos; place = ctx.now.place; lines = S.lines ctx.now.history }))
+            (record { start = r.0; offers = map (λ c. record { display = Self.Candidate.display_text c; replacement = Self.Candidate.replacement_text c }) r.1.items })) }
+        ensures io { IoOnlyIf result (NotBoth (sure self.now) (S.sure ctx.now.history)) }
+        ensures faults { FaultsOnly result }
+    {
+        let _ = line;
+        let _ = pos;
+        let _ = ctx;
+        Ok((0, Vec::new(alloc)))
+    }
+
+    /// Puts the elected candidate's text into the line, from `start` on to the cursor.
+    ///
+    /// Errors are `Io`, which comes only where this completer is not sure, and `Memory`.
+    fn update(&self, line: &mut LineBuffer, start: usize, elected: &str, changes: &mut Changeset) -> Result<()>
+        requires before { start ≤ line.old.cursor }
+        requires boundary { IsCharBoundary line.old.text start }
+        ensures line { OnOk result (IsUsualOrOwn (replaced_to_cursor line.old start elected.now)
+            (own_update self.now line.old start elected.now) line.new) }
+        ensures io { IoOnlyIf result (sure self.now ≡ false) }
+        ensures faults { FaultsOnly result };
+}
+
+impl Completer for () {
+    type Candidate = String;
+
+    ghost sure = { λ _. true };
+
+    ghost own_update = { λ _ line _ _. Some line };
+
+    /// Leaves the line as it is.
+    fn update(&self, _line: &mut LineBuffer, _start: usize, _elected: &str, _changes: &mut Changeset) -> Result<()> {
+        Ok(())
+    }
+}

@@ -1,0 +1,68 @@
+//! Where a line stands in the history.
+ghost use Rattle.std.specs.Prelude.{◌≡◌, ◌≤◌, length};
+
+use crate::history::History;
+use std::marker::Model;
+
+/// A history, and the place in it at which the line stands. The place of the line that is being
+/// written is the history's length.
+pub struct Context<'h, S: History> {
+    history: &'h S,
+    history_index: usize,
+}
+
+impl<'h, S: History> Model for Context<'h, S> {
+    ghost use Rattle.std.specs.Prelude.{◌≤◌, length};
+    ghost use Rattle.line_parts.specs.Context.{Standing};
+
+    ghost Value = { Standing S };
+
+    ghost view = { λ c. record { history = c.history.now; place = c.history_index } };
+
+    ghost invariant = { λ c. c.history_index ≤ length (S.lines c.history.now) };
+}
+
+impl<S: History> Drop for Context<'_, S> {
+    fn drop(self) {
+        let Context {
+            history: _,
+            history_index: _,
+        } = self;
+    }
+}
+
+impl<'h, S: History> Context<'h, S> {
+    /// The place of the line that is being written.
+    pub fn new(history: &'h S) -> Self
+        ensures { result ≡ record { history = history.now; place = length (S.lines history.now) } }
+    {
+        let history_index = history.len();
+        Context {
+            history,
+            history_index,
+        }
+    }
+
+    /// The history.
+    pub fn history(&self) -> &'h S
+        ensures { result.now ≡ self.now.history }
+    {
+        self.history
+    }
+
+    /// The place in the history, at most its length.
+    pub fn history_index(&self) -> usize
+        ensures value { result ≡ self.now.place }
+        ensures within { result ≤ length (S.lines self.now.history) }
+    {
+        self.history_index
+    }
+
+    /// Goes to a place of the history.
+    pub fn set_history_index(&mut self, index: usize)
+        requires { index ≤ length (S.lines self.old.history) }
+        ensures { self.new ≡ record self.old { place = index } }
+    {
+        self.history_index = index;
+    }
+}

@@ -1,0 +1,84 @@
+//! Hints: what is shown after the line as its likely end.
+ghost use Rattle.std.specs.Prelude.{◌≡◌, ℕ, Bool, List, Option, Some, None, option_map, IfOk, string_bytes, true};
+ghost use Rattle.line_config.specs.Error.{IoOnlyIf, FaultsOnly};
+ghost use Rattle.line_parts.specs.Shown.{Shown, NotBoth};
+ghost use Rattle.line_parts.specs.Hint.{Suggestion};
+
+use crate::context::Context;
+use crate::history::History;
+use line_config::Result;
+use std::alloc::Global;
+
+/// A hint.
+pub trait Hint {
+    ghost display_text: { Self → List ℕ };
+
+    ghost completion_text: { Self → Option (List ℕ) };
+
+    /// What is shown after the line.
+    fn display(&self) -> &str
+        ensures { result.now ≡ display_text self.now };
+
+    /// What the line is completed with, if the hint can be taken.
+    fn completion(&self) -> Option<&str>
+        ensures { option_map (λ s. s.now) result ≡ completion_text self.now };
+}
+
+impl Hint for String {
+    ghost display_text = { λ s. string_bytes s };
+
+    ghost completion_text = { λ s. Some (string_bytes s) };
+
+    fn display(&self) -> &str {
+        self.as_str()
+    }
+
+    fn completion(&self) -> Option<&str> {
+        Some(self.as_str())
+    }
+}
+
+impl Hint for &str {
+    ghost display_text = { λ s. s.now };
+
+    ghost completion_text = { λ s. Some s.now };
+
+    fn display(&self) -> &str {
+        self
+    }
+
+    fn completion(&self) -> Option<&str> {
+        Some(self)
+    }
+}
+
+/// Who gives hints.
+pub trait Hinter {
+    /// The hints that it gives.
+    type Hint: Hint + Drop;
+
+    ghost sure: { Self → Bool };
+
+    ghost hint_at: { Self → Shown → Option Suggestion };
+
+    /// The hint for `line` with the cursor at byte `pos`, or None where there is none.
+    ///
+    /// Errors are `Io`, which comes only where this hinter or the history is not sure, and `Memory`.
+    fn hint<S: History>(&self, alloc: Global, line: &str, pos: usize, ctx: &Context<'_, S>) -> Result<Option<Self::Hint>>
+        ensures answer { IfOk result (λ hint. option_map (λ h. record { display = Self.Hint.display_text h; completion = Self.Hint.completion_text h }) hint
+            ≡ hint_at self.now (record { text = line.now; cursor = pos; place = ctx.now.place; lines = S.lines ctx.now.history })) }
+        ensures io { IoOnlyIf result (NotBoth (sure self.now) (S.sure ctx.now.history)) }
+        ensures faults { FaultsOnly result };
+}
+
+impl Hinter for () {
+    type Hint = String;
+
+    ghost sure = { λ _. true };
+
+    ghost hint_at = { λ _ _. None };
+
+    fn hint<S: History>(&self, _alloc: Global, _line: &str, _pos: usize, _ctx: &Context<'_, S>) -> Result<Option<String>> {
+        Ok(None)
+    }
+}

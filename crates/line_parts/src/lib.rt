@@ -1,0 +1,18 @@
+//! The parties that a line editor asks: history, hints, validation, highlighting, completion.
+#![tactic(auto)]
+
+pub mod completion;
+pub mod context;
+pub mod helper;
+pub mod highlight;
+pub mod hint;
+pub mod history;
+pub mod validate;
+
+pub use completion::{Candidate, Completer};
+pub use context::Context;
+pub use helper::Helper;
+pub use highlight::{CmdKind, Highlighter};
+pub use hint::{Hint, Hinter};
+pub use history::{History, MemHistory};
+pub use validate::{ValidationContext, ValidationResult, Validator};
