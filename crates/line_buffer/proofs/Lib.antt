@@ -2,3 +2,4 @@ pub mod ChangeLemmas
 pub mod ClusterLemmas
 pub mod LineLemmas
 pub mod ListLemmas
+pub mod RingLemmas

@@ -1,5 +1,7 @@
 -- The texts that were killed.
-use Rattle.std.specs.Prelude.{ℕ, List}
+use Rattle.std.specs.Prelude.{ℕ, ◌+◌, Bool, true, false, ◌==◌, ◌||◌, ◌&&◌, not, List, [], ◌∷◌, ◌++◌, length, slice_set, slice_index_or, Option, Some, None, if◌then◌else◌}
+use Rattle.line_buffer.specs.declared.kill_ring.Mode.{Mode}
+use Rattle.line_buffer.specs.declared.kill_ring.Mode.TheVariants.{Append, Prepend}
 
 -- a kill, a yank of so many bytes, or something else
 pub data LastAction : Type 0 where
@@ -13,3 +15,55 @@ pub record Ring : Type 0 where
   pub slots : List (List ℕ)
   pub current : ℕ
   pub last : LastAction
+
+-- a ring that holds nothing
+abbrev pub empty_ring : ℕ → Ring
+empty_ring size = record { size = size; slots = []; current = 0; last = other }
+
+-- the ring after another last action
+abbrev pub with_last : Ring → LastAction → Ring
+with_last r last = record { size = r.size; slots = r.slots; current = r.current; last = last }
+
+-- the text of the current slot
+abbrev pub current_text : Ring → List ℕ
+current_text r = slice_index_or r.slots r.current []
+
+-- the slot behind the current one: 0 on an empty ring, and behind the last that there may be
+abbrev pub next_slot : Ring → ℕ
+next_slot r = if (length r.slots == 0) || (r.current + 1 == r.size) then 0 else r.current + 1
+
+-- the slots with a text in one of them, or in a new last one
+abbrev pub with_slot : ℕ → List ℕ → List (List ℕ) → List (List ℕ)
+with_slot slot text slots = if slot == length slots then slots ++ text ∷ [] else slice_set slots slot text
+
+-- a text that joins another at its end or at its front
+abbrev pub joined : Mode → List ℕ → List ℕ → List ℕ
+joined Append text more = text ++ more
+joined Prepend text more = more ++ text
+
+-- the text joins that of the current slot
+abbrev pub with_joined : Ring → List ℕ → Mode → Ring
+with_joined r text mode =
+    record { size = r.size; slots = slice_set r.slots r.current (joined mode (current_text r) text); current = r.current; last = killed }
+
+-- the text takes the next slot, which becomes the current one
+abbrev pub with_next : Ring → List ℕ → Ring
+with_next r text = record { size = r.size; slots = with_slot (next_slot r) text r.slots; current = next_slot r; last = killed }
+
+-- whether the last action was a kill
+abbrev pub is_kill : LastAction → Bool
+is_kill killed = true
+is_kill (yanked _) = false
+is_kill other = false
+
+-- a text was killed: after a kill it joins the current slot, else it takes the next one; a ring without slots keeps nothing
+abbrev pub after_kill : Ring → List ℕ → Mode → Ring
+after_kill r text mode =
+    if r.size == 0 then with_last r killed
+    else if is_kill r.last && not (length r.slots == 0) then with_joined r text mode
+    else with_next r text
+
+-- a text was killed that the ring keeps by a mode, if there is one
+abbrev pub with_kept : Ring → List ℕ → Option Mode → Ring
+with_kept r text None = r
+with_kept r text (Some mode) = after_kill r text mode

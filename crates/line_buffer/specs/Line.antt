@@ -1,7 +1,7 @@
 -- A line: a text and a cursor in it.
 use Rattle.std.specs.Prelude.{ℕ, ◌+◌, ◌-◌, ◌==◌, Bool, not, List, ◌++◌, length, take, drop, reverse, chars, IsCharBoundary, Option, Some, None, slice_range, MatchOption}
 use Rattle.std.specs.Char.{is_whitespace}
-use Rattle.std.specs.List.{list_all, prefix_len, suffix_len, remove_range}
+use Rattle.std.specs.List.{list_all, prefix_len, suffix_len, remove_range, insert_slice}
 
 -- the bytes of the text, and the cursor's place among them
 pub record Line : Type 0 where
@@ -26,7 +26,7 @@ moved_to l (Some place) = with_cursor l place
 
 -- a text comes in at the cursor, which goes behind it
 abbrev pub inserted_at_cursor : Line → List ℕ → Line
-inserted_at_cursor l t = record { text = before l ++ t ++ after l; cursor = l.cursor + length t }
+inserted_at_cursor l t = record { text = insert_slice l.text l.cursor t; cursor = l.cursor + length t }
 
 -- the bytes of a range go, and the cursor goes to where they were
 abbrev pub without : Line → Option (ℕ × ℕ) → Line

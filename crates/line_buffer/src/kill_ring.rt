@@ -1,6 +1,7 @@
-ghost use Rattle.std.specs.Prelude.{◌≡◌, ◌≤◌, length, []};
-ghost use Rattle.line_buffer.specs.KillRing.{other};
+ghost use Rattle.std.specs.Prelude.{◌≡◌, ◌<◌, ◌≤◌, length, slice_set, string_bytes, OnOk};
+ghost use Rattle.line_buffer.specs.KillRing.{other, empty_ring, with_last, after_kill, joined, current_text, with_slot, next_slot, with_kept};
 
+use crate::line_buffer::OutOfMemory;
 use std::alloc::Global;
 use std::marker::Model;
 
@@ -23,7 +24,6 @@ enum Action {
 /// The last texts that were killed, at most so many as its size, and the one that a yank gives.
 #[derive(Debug, Drop)]
 pub struct KillRing {
-    alloc: Global,
     size: usize,
     slots: Vec<String>,
     current: usize,
@@ -47,10 +47,9 @@ impl Model for KillRing {
 impl KillRing {
     /// A ring of `size` slots that holds nothing yet. It grows from `alloc`.
     pub fn new(alloc: Global, size: usize) -> KillRing
-        ensures { result ≡ record { size = size; slots = []; current = 0; last = other } }
+        ensures { result ≡ empty_ring size }
     {
         KillRing {
-            alloc,
             size,
             slots: Vec::new(alloc),
             current: 0,
@@ -60,8 +59,104 @@ impl KillRing {
 
     /// Ends a row of kills or yanks: the next kill takes a slot of its own.
     pub fn reset(&mut self)
-        ensures { self.new ≡ record self.old { last = other } }
+        ensures { self.new ≡ with_last self.old other }
     {
         self.last = Action::Other;
+    }
+
+    /// Keeps a text that was killed: right after a kill it joins the current slot, on the side that `mode`
+    /// tells; else it takes the next slot, which becomes the current one. A ring of size 0 keeps nothing.
+    /// `OutOfMemory` comes where a slot cannot grow; then the ring still has at most `size` slots.
+    pub fn kill(&mut self, text: &str, mode: Mode) -> Result<(), OutOfMemory>
+        ensures ring { OnOk result (self.new ≡ after_kill self.old text.now mode) }
+        ensures size { self.new.size ≡ self.old.size }
+        ensures bound { length self.new.slots ≤ self.new.size }
+    {
+        let joins = self.last == Action::Kill && !self.slots.is_empty();
+        self.last = Action::Kill;
+        if self.size == 0 {
+            return Ok(());
+        }
+        if joins {
+            return self.join(text, mode);
+        }
+        self.take_next(text)
+    }
+
+    /// Keeps a text that was killed, if there is a mode by which to keep it.
+    pub(crate) fn keep(&mut self, text: &str, mode: Option<Mode>) -> Result<(), OutOfMemory>
+        ensures ring { OnOk result (self.new ≡ with_kept self.old text.now mode) }
+        ensures size { self.new.size ≡ self.old.size }
+        ensures bound { length self.new.slots ≤ self.new.size }
+    {
+        let _ = &self.slots;
+        match mode {
+            Some(mode) => self.kill(text, mode),
+            None => Ok(()),
+        }
+    }
+
+    /// Puts a text on one side of the current slot's.
+    fn join(&mut self, text: &str, mode: Mode) -> Result<(), OutOfMemory>
+        requires { 0 < length self.old.slots }
+        ensures ring { OnOk result (self.new ≡ record { size = self.old.size; slots = slice_set self.old.slots self.old.current (joined mode (current_text self.old) text.now); current = self.old.current; last = self.old.last }) }
+        ensures size { self.new.size ≡ self.old.size }
+        ensures bound { length self.new.slots ≤ self.new.size }
+    {
+        let slot = &mut self.slots[self.current];
+        join_text(slot, text, mode)?;
+        Ok(())
+    }
+
+    /// Puts a text into the next slot.
+    fn take_next(&mut self, text: &str) -> Result<(), OutOfMemory>
+        requires { 0 < self.old.size }
+        ensures ring { OnOk result (self.new ≡ record { size = self.old.size; slots = with_slot (next_slot self.old) text.now self.old.slots; current = next_slot self.old; last = self.old.last }) }
+        ensures size { self.new.size ≡ self.old.size }
+        ensures bound { length self.new.slots ≤ self.new.size }
+    {
+        let next = self.next_slot();
+        let text = String::from_str(*self.slots.allocator(), text)?;
+        self.put(next, text)
+    }
+
+    /// The slot behind the current one: 0 on an empty ring and behind the last that there may be.
+    fn next_slot(&self) -> usize
+        ensures slot { result ≡ next_slot self.now }
+        ensures within { result ≤ length self.now.slots }
+        ensures fits { 0 < self.now.size → result < self.now.size }
+    {
+        if self.slots.is_empty() || self.current + 1 == self.size {
+            return 0;
+        }
+        self.current + 1
+    }
+
+    /// Puts a text into a slot, which becomes the current one.
+    fn put(&mut self, slot: usize, text: String) -> Result<(), OutOfMemory>
+        requires within { slot ≤ length self.old.slots }
+        requires fits { slot < self.old.size }
+        ensures ring { OnOk result (self.new ≡ record { size = self.old.size; slots = with_slot slot (string_bytes text) self.old.slots; current = slot; last = self.old.last }) }
+        ensures size { self.new.size ≡ self.old.size }
+        ensures bound { length self.new.slots ≤ self.new.size }
+    {
+        if slot == self.slots.len() {
+            self.slots.push(text)?;
+            self.current = slot;
+            return Ok(());
+        }
+        self.slots[slot] = text;
+        self.current = slot;
+        Ok(())
+    }
+}
+
+/// Puts a text behind another or before it.
+fn join_text(text: &mut String, more: &str, mode: Mode) -> Result<(), OutOfMemory>
+    ensures { OnOk result (string_bytes text.new ≡ joined mode (string_bytes text.old) more.now) }
+{
+    match mode {
+        Mode::Append => Ok(text.push_str(more)?),
+        Mode::Prepend => Ok(text.insert_str(0, more)?),
     }
 }

@@ -1,6 +1,9 @@
-ghost use Rattle.std.specs.Prelude.{◌≡◌, [], ◌==◌, length, not, is_some, IfOk, IfSome, IsCharBoundary};
+ghost use Rattle.std.specs.Prelude.{◌≡◌, ◌≤◌, [], ◌==◌, length, not, is_some, IfOk, IfSome, IsCharBoundary};
 ghost use Rattle.line_buffer.specs.Cluster.{place_on, place_back};
 ghost use Rattle.line_buffer.specs.Line.{before, after, with_cursor, moved_to, start_of_line, end_of_line, ends_in_white_space};
+
+mod edits;
+mod kills;
 
 use crate::clusters::{first_len, first_line_len, last_line_start, last_start};
 use crate::keymap::RepeatCount;
@@ -102,6 +105,7 @@ impl LineBuffer {
     /// The whole text.
     pub fn as_str(&self) -> &str
         ensures value { result.now ≡ self.now.text }
+        ensures start { IsCharBoundary self.now.text 0 }
         ensures cursor { IsCharBoundary self.now.text self.now.cursor }
     {
         self.buf.as_str()
@@ -173,6 +177,7 @@ impl LineBuffer {
     /// `n` = 0 and at the text's end.
     pub fn next_pos(&self, n: RepeatCount) -> Option<usize>
         ensures place { result ≡ place_on self.now n }
+        ensures on { IfSome result (λ place. self.now.cursor ≤ place) }
         ensures boundary { IfSome result (λ place. IsCharBoundary self.now.text place) }
     {
         if n == 0 || self.pos == self.buf.len() {
@@ -185,6 +190,7 @@ impl LineBuffer {
     /// for `n` = 0 and at the text's start.
     pub fn prev_pos(&self, n: RepeatCount) -> Option<usize>
         ensures place { result ≡ place_back self.now n }
+        ensures back { IfSome result (λ place. place ≤ self.now.cursor) }
         ensures boundary { IfSome result (λ place. IsCharBoundary self.now.text place) }
     {
         if n == 0 || self.pos == 0 {

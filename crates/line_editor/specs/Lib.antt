@@ -6,6 +6,8 @@ pub mod InputState
 pub mod Keymap
 pub mod Phrase
 pub mod Printable
+pub mod Run
+pub mod Step
 pub mod Laws
 pub mod Party
 pub use Rattle.line_buffer.specs.Line

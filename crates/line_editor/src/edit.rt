@@ -1,22 +1,33 @@
 //! The line while it is edited, and how it is drawn.
-ghost use Rattle.std.specs.Prelude.{◌≡◌, ℕ, ◌≤◌, ◌&&◌, Bool, true, false, List, [], Option, Some, None, option_map, is_some, length, IfOk, OnOk, OnErr, IsOk};
+ghost use Rattle.std.specs.Prelude.{◌≡◌, ℕ, ◌≤◌, ◌<◌, ◌&&◌, ◌++◌, Bool, true, false, List, [], Option, Some, None, option_map, is_some, length, IfOk, OnOk, OnErr, IsOk, IsErrOf};
 ghost use Rattle.std.specs.Borrow.{GName};
 ghost use Rattle.line_buffer.specs.declared.layout.Position.{Position};
-ghost use Rattle.line_config.specs.Error.{FaultsOnly, IoOnlyIf, IsOneMore, Rose};
+ghost use Rattle.line_config.specs.Error.{FaultsOnly, IoOnlyIf, IsOneMore, MemoryOnly, Rose};
 ghost use Rattle.line_editor.specs.Party.{verdict_by, sure_by};
 ghost use Rattle.line_keys.specs.Display.{IsDrawn, IsFullRedraw, IsRight};
-ghost use Rattle.line_keys.specs.Draft.{KeepsText, hinted, unhinted, unless_empty};
+ghost use Rattle.line_keys.specs.Draft.{Draft, KeepsText, hinted, unhinted, unless_empty};
 ghost use Rattle.line_keys.specs.Stays.{Stays};
 ghost use Rattle.line_buffer.specs.Line.{Line, moved_to, with_cursor, start_of_line, end_of_line};
 ghost use Rattle.line_buffer.specs.Cluster.{place_on, place_back};
 ghost use Rattle.line_editor.specs.Info.{shown_info};
+ghost use Rattle.line_editor.specs.Fault.{EitherRose};
+ghost use Rattle.line_editor.specs.InputState.{input_of, keymap_of};
+ghost use Rattle.line_editor.specs.Phrase.{Phrase, IsBeginning};
+ghost use Rattle.line_editor.specs.Step.{grouped, killed_by, typed, validated, verdict_on, verdict_by_any, unhinted_by};
+ghost use Rattle.line_buffer.specs.Kill.{killed_range};
+ghost use Rattle.line_keys.specs.Command.{command_of};
+ghost use Rattle.line_keys.specs.Item.{Item};
+ghost use Rattle.line_parts.specs.Verdict.{verdict_of};
 ghost use Rattle.line_parts.specs.Helped.{hint_by};
 
+use crate::keymap::InputState;
 use crate::tty::Renderer;
-use line_buffer::{Changeset, Layout, LineBuffer, Position, RepeatCount};
-use line_config::{Prompt, Result};
+use line_buffer::{Changeset, KillRing, Layout, LineBuffer, Movement, Position, RepeatCount};
+use line_config::{Prompt, ReadlineError, Result};
+use line_keys::command::Cmd;
 use line_keys::keymap::Refresher;
-use line_parts::{CmdKind, Context, Helper, Highlighter, Hint, Hinter, History, Validator};
+use line_keys::tty::RawReader;
+use line_parts::{CmdKind, Context, Helper, Highlighter, Hint, Hinter, History, ValidationContext, ValidationResult, Validator};
 use std::alloc::Global;
 
 /// The line while it is edited: its text and cursor, what was changed, the place in the history, the hint, and what is
@@ -117,6 +128,32 @@ fn hint_of<'a, 'out, H: Helper, S: History>(
     match helper {
         Some(h) => h.hint(alloc, line.as_str(), line.pos(), ctx),
         None => Ok(None),
+    }
+}
+
+#[tactic(auto, unfolding(crate::specs::Party::verdict_by))]
+fn has_validator<'a, 'out, H: Helper>(helper: &'a Option<&'out mut H>) -> bool
+    ensures { is_some (verdict_by H.verdict_at helper.now) ≡ result }
+{
+    match helper {
+        Some(_) => true,
+        None => false,
+    }
+}
+
+#[tactic(auto, unfolding(crate::specs::Party::sure_by, crate::specs::Party::verdict_by))]
+fn asked_verdict<'a, 'out, H: Helper>(
+    alloc: Global,
+    helper: &'a Option<&'out mut H>,
+    line: &LineBuffer,
+) -> Result<ValidationResult>
+    ensures answer { IfOk result (λ r. verdict_of r ≡ verdict_by_any (verdict_by H.verdict_at helper.now) line.now.text) }
+    ensures io { IoOnlyIf result (sure_by H.Hinter.sure H.Validator.sure helper.now ≡ true → ⊥) }
+    ensures faults { FaultsOnly result }
+{
+    match helper {
+        Some(h) => h.validate(alloc, &ValidationContext::new(line.as_str())),
+        None => Ok(ValidationResult::Valid(None)),
     }
 }
 
@@ -328,6 +365,166 @@ impl<'out, 'prompt, W: Renderer, H: Helper, P: Prompt, S: History> State<
             Ok(())
         }
     }
+
+    /// Takes the drawn cursor to where the drawn text ends, a hint or message behind it included.
+    pub fn move_cursor_to_end(&mut self) -> Result<()>
+        ensures draft { (⟦<State<'out, 'prompt, W, H, P, S> as Refresher>⟧.draft self.new) ≡ (⟦<State<'out, 'prompt, W, H, P, S> as Refresher>⟧.draft self.old) }
+        ensures cursor { OnOk result ((⟦<State<'out, 'prompt, W, H, P, S> as Refresher>⟧.display self.new).layout.cursor ≡ (⟦<State<'out, 'prompt, W, H, P, S> as Refresher>⟧.display self.new).layout.end) }
+        ensures end { (⟦<State<'out, 'prompt, W, H, P, S> as Refresher>⟧.display self.new).layout.end ≡ (⟦<State<'out, 'prompt, W, H, P, S> as Refresher>⟧.display self.old).layout.end }
+        ensures place { OnOk result ((⟦<State<'out, 'prompt, W, H, P, S> as Refresher>⟧.display self.old).screen.place ≡ (⟦<State<'out, 'prompt, W, H, P, S> as Refresher>⟧.display self.old).layout.cursor
+            → (⟦<State<'out, 'prompt, W, H, P, S> as Refresher>⟧.display self.new).screen.place ≡ (⟦<State<'out, 'prompt, W, H, P, S> as Refresher>⟧.display self.new).layout.cursor) }
+        ensures text { (⟦<State<'out, 'prompt, W, H, P, S> as Refresher>⟧.display self.new).screen.text ≡ (⟦<State<'out, 'prompt, W, H, P, S> as Refresher>⟧.display self.old).screen.text }
+        ensures redraws { ⟦<State<'out, 'prompt, W, H, P, S> as Refresher>⟧.redraws self.new ≡ ⟦<State<'out, 'prompt, W, H, P, S> as Refresher>⟧.redraws self.old }
+        ensures stays { Stays ⟦<State<'out, 'prompt, W, H, P, S> as Refresher>⟧ self.old self.new }
+        ensures io { IoOnlyIf result (Rose (⟦<State<'out, 'prompt, W, H, P, S> as Refresher>⟧.failures self.old) (⟦<State<'out, 'prompt, W, H, P, S> as Refresher>⟧.failures self.new)) }
+        ensures faults { FaultsOnly result }
+    {
+        if self.layout.cursor == self.layout.end {
+            return Ok(());
+        }
+        self.out.move_cursor(self.layout.cursor, self.layout.end)?;
+        self.layout.cursor = self.layout.end;
+        Ok(())
+    }
+
+    /// Inserts `n` copies of a character at the cursor, asks for the hint and draws the line again. Where memory ran out,
+    /// the line is text with its cursor on a boundary.
+    pub fn edit_insert(&mut self, c: char, n: RepeatCount) -> Result<()>
+        ensures draft { OnOk result ((⟦<State<'out, 'prompt, W, H, P, S> as Refresher>⟧.draft self.new) ≡ typed (⟦<State<'out, 'prompt, W, H, P, S> as Refresher>⟧.world self.old) n c (⟦<State<'out, 'prompt, W, H, P, S> as Refresher>⟧.draft self.old)) }
+        ensures right { OnOk result (IsRight (⟦<State<'out, 'prompt, W, H, P, S> as Refresher>⟧.display self.new) (⟦<State<'out, 'prompt, W, H, P, S> as Refresher>⟧.draft self.new).line) }
+        ensures stays { Stays ⟦<State<'out, 'prompt, W, H, P, S> as Refresher>⟧ self.old self.new }
+        ensures io { IoOnlyIf result (⟦<State<'out, 'prompt, W, H, P, S> as Refresher>⟧.sure self.old ≡ true → Rose (⟦<State<'out, 'prompt, W, H, P, S> as Refresher>⟧.failures self.old) (⟦<State<'out, 'prompt, W, H, P, S> as Refresher>⟧.failures self.new)) }
+        ensures faults { FaultsOnly result }
+    {
+        let _ = self.line.insert(c, n, &mut self.changes)?;
+        self.refresh_line()
+    }
+
+    /// Asks the helper for its verdict on the line, inside a group of changes, and draws the line with the verdict's
+    /// message where there is something to show or to take away. Without a helper every line is valid.
+    #[tactic(auto, using(crate::proofs::EditLemmas::no_verdict, crate::proofs::EditLemmas::not_validated, crate::proofs::EditLemmas::was_validated))]
+    pub fn validate(&mut self) -> Result<ValidationResult>
+        ensures verdict { IfOk result (λ r. verdict_of r ≡ verdict_on (⟦<State<'out, 'prompt, W, H, P, S> as Refresher>⟧.world self.old) (⟦<State<'out, 'prompt, W, H, P, S> as Refresher>⟧.draft self.old)) }
+        ensures draft { OnOk result ((⟦<State<'out, 'prompt, W, H, P, S> as Refresher>⟧.draft self.new) ≡ validated (⟦<State<'out, 'prompt, W, H, P, S> as Refresher>⟧.world self.old) (⟦<State<'out, 'prompt, W, H, P, S> as Refresher>⟧.draft self.old)) }
+        ensures right { OnOk result (IsRight (⟦<State<'out, 'prompt, W, H, P, S> as Refresher>⟧.display self.old) (⟦<State<'out, 'prompt, W, H, P, S> as Refresher>⟧.draft self.old).line → IsRight (⟦<State<'out, 'prompt, W, H, P, S> as Refresher>⟧.display self.new) (⟦<State<'out, 'prompt, W, H, P, S> as Refresher>⟧.draft self.new).line) }
+        ensures stays { Stays ⟦<State<'out, 'prompt, W, H, P, S> as Refresher>⟧ self.old self.new }
+        ensures io { IoOnlyIf result (⟦<State<'out, 'prompt, W, H, P, S> as Refresher>⟧.sure self.old ≡ true → Rose (⟦<State<'out, 'prompt, W, H, P, S> as Refresher>⟧.failures self.old) (⟦<State<'out, 'prompt, W, H, P, S> as Refresher>⟧.failures self.new)) }
+        ensures faults { FaultsOnly result }
+    {
+        if !has_validator(&self.helper) {
+            return Ok(ValidationResult::Valid(None));
+        }
+        self.changes.begin()?;
+        let result = asked_verdict(self.alloc, &self.helper, &self.line)?;
+        let corrected = self.changes.end()?;
+        self.show_verdict(&result, corrected)?;
+        Ok(result)
+    }
+
+    // Draws the line with a verdict's message, where there is something to show or to take away.
+    fn show_verdict(&mut self, verdict: &ValidationResult, corrected: bool) -> Result<()>
+        ensures draft { OnOk result ((⟦<State<'out, 'prompt, W, H, P, S> as Refresher>⟧.draft self.new) ≡ unhinted_by (verdict_of verdict.now) (⟦<State<'out, 'prompt, W, H, P, S> as Refresher>⟧.draft self.old)) }
+        ensures right { OnOk result (IsRight (⟦<State<'out, 'prompt, W, H, P, S> as Refresher>⟧.display self.old) (⟦<State<'out, 'prompt, W, H, P, S> as Refresher>⟧.draft self.old).line → IsRight (⟦<State<'out, 'prompt, W, H, P, S> as Refresher>⟧.display self.new) (⟦<State<'out, 'prompt, W, H, P, S> as Refresher>⟧.draft self.new).line) }
+        ensures stays { Stays ⟦<State<'out, 'prompt, W, H, P, S> as Refresher>⟧ self.old self.new }
+        ensures io { IoOnlyIf result (⟦<State<'out, 'prompt, W, H, P, S> as Refresher>⟧.sure self.old ≡ true → Rose (⟦<State<'out, 'prompt, W, H, P, S> as Refresher>⟧.failures self.old) (⟦<State<'out, 'prompt, W, H, P, S> as Refresher>⟧.failures self.new)) }
+        ensures faults { FaultsOnly result }
+    {
+        let (message, kind) = match verdict {
+            ValidationResult::Incomplete => return Ok(()),
+            ValidationResult::Valid(message) => (message, CmdKind::ForcedRefresh),
+            ValidationResult::Invalid(message) => (message, CmdKind::Other),
+        };
+        if corrected || self.has_hint() || message.is_some() {
+            self.refresh_line_with_msg(message.as_ref().map(|m| m.as_str()), kind)?;
+        }
+        Ok(())
+    }
+
+    /// Kills the text of a movement, with the kill ring as the line buffer has it, asks for the hint and draws the line
+    /// again. Where there is nothing to kill, nothing happens. Where memory ran out, the line is text with its cursor on a
+    /// boundary.
+    pub fn edit_kill(&mut self, movement: &Movement, kill_ring: &mut KillRing) -> Result<()>
+        ensures draft { OnOk result ((⟦<State<'out, 'prompt, W, H, P, S> as Refresher>⟧.draft self.new) ≡ (killed_by (⟦<State<'out, 'prompt, W, H, P, S> as Refresher>⟧.world self.old) movement.now (record { draft = ⟦<State<'out, 'prompt, W, H, P, S> as Refresher>⟧.draft self.old; kills = kill_ring.old }) (killed_range (⟦<State<'out, 'prompt, W, H, P, S> as Refresher>⟧.draft self.old).line movement.now)).draft) }
+        ensures kills { OnOk result (kill_ring.new ≡ (killed_by (⟦<State<'out, 'prompt, W, H, P, S> as Refresher>⟧.world self.old) movement.now (record { draft = ⟦<State<'out, 'prompt, W, H, P, S> as Refresher>⟧.draft self.old; kills = kill_ring.old }) (killed_range (⟦<State<'out, 'prompt, W, H, P, S> as Refresher>⟧.draft self.old).line movement.now)).kills) }
+        ensures right { OnOk result (IsRight (⟦<State<'out, 'prompt, W, H, P, S> as Refresher>⟧.display self.old) (⟦<State<'out, 'prompt, W, H, P, S> as Refresher>⟧.draft self.old).line → IsRight (⟦<State<'out, 'prompt, W, H, P, S> as Refresher>⟧.display self.new) (⟦<State<'out, 'prompt, W, H, P, S> as Refresher>⟧.draft self.new).line) }
+        ensures stays { Stays ⟦<State<'out, 'prompt, W, H, P, S> as Refresher>⟧ self.old self.new }
+        ensures io { IoOnlyIf result (⟦<State<'out, 'prompt, W, H, P, S> as Refresher>⟧.sure self.old ≡ true → Rose (⟦<State<'out, 'prompt, W, H, P, S> as Refresher>⟧.failures self.old) (⟦<State<'out, 'prompt, W, H, P, S> as Refresher>⟧.failures self.new)) }
+        ensures faults { FaultsOnly result }
+    {
+        match self.line.kill(movement, &mut self.changes, kill_ring)? {
+            Some(_) => self.refresh_line(),
+            None => Ok(()),
+        }
+    }
+
+    /// Reads the next command, by the program's bindings, the reader's and the tables, and begins a group of changes for a
+    /// replacement.
+    ///
+    /// `Eof` comes where the items ended inside a phrase or before one; another error is one of input or output, or that
+    /// memory ran out. After an error the line, its cursor and the place in the history stand as they were.
+    pub fn next_cmd(&mut self, input_state: &mut InputState<'_>, rdr: &mut W::Reader, single_esc_abort: bool) -> Result<Cmd>
+        ensures phrase { IfOk result (λ c. (items : List Item) × (draft : Draft) × (W.Reader.rest rdr.old ≡ items ++ W.Reader.rest rdr.new)
+            × Phrase (keymap_of input_state.old (W.Reader.own_binding rdr.old)) (⟦<State<'out, 'prompt, W, H, P, S> as Refresher>⟧.world self.old) (⟦<State<'out, 'prompt, W, H, P, S> as Refresher>⟧.draft self.old) (input_of input_state.old)
+                items (command_of c) draft (input_of input_state.new)
+            × ((⟦<State<'out, 'prompt, W, H, P, S> as Refresher>⟧.draft self.new) ≡ grouped (command_of c) draft)) }
+        ensures eof { IsErrOf result ReadlineError.Eof → (W.Reader.rest rdr.new ≡ [])
+            × IsBeginning (keymap_of input_state.old (W.Reader.own_binding rdr.old)) (⟦<State<'out, 'prompt, W, H, P, S> as Refresher>⟧.world self.old) (⟦<State<'out, 'prompt, W, H, P, S> as Refresher>⟧.draft self.old) (input_of input_state.old) (W.Reader.rest rdr.old) }
+        ensures not_interrupted { IsErrOf result ReadlineError.Interrupted → ⊥ }
+        // Where nothing was left to read, nothing changes.
+        ensures dry { W.Reader.rest rdr.old ≡ [] → ((⟦<State<'out, 'prompt, W, H, P, S> as Refresher>⟧.draft self.new) ≡ (⟦<State<'out, 'prompt, W, H, P, S> as Refresher>⟧.draft self.old)) × (⟦<State<'out, 'prompt, W, H, P, S> as Refresher>⟧.display self.new ≡ ⟦<State<'out, 'prompt, W, H, P, S> as Refresher>⟧.display self.old) }
+        ensures line { (⟦<State<'out, 'prompt, W, H, P, S> as Refresher>⟧.draft self.new).line ≡ (⟦<State<'out, 'prompt, W, H, P, S> as Refresher>⟧.draft self.old).line }
+        ensures saved { (⟦<State<'out, 'prompt, W, H, P, S> as Refresher>⟧.draft self.new).saved ≡ (⟦<State<'out, 'prompt, W, H, P, S> as Refresher>⟧.draft self.old).saved }
+        ensures place { (⟦<State<'out, 'prompt, W, H, P, S> as Refresher>⟧.draft self.new).place ≡ (⟦<State<'out, 'prompt, W, H, P, S> as Refresher>⟧.draft self.old).place }
+        ensures right { OnOk result (IsRight (⟦<State<'out, 'prompt, W, H, P, S> as Refresher>⟧.display self.old) (⟦<State<'out, 'prompt, W, H, P, S> as Refresher>⟧.draft self.old).line → IsRight (⟦<State<'out, 'prompt, W, H, P, S> as Refresher>⟧.display self.new) (⟦<State<'out, 'prompt, W, H, P, S> as Refresher>⟧.draft self.new).line) }
+        ensures stays { Stays ⟦<State<'out, 'prompt, W, H, P, S> as Refresher>⟧ self.old self.new }
+        ensures own { W.Reader.own_binding rdr.new ≡ W.Reader.own_binding rdr.old }
+        ensures keymap { keymap_of input_state.new (W.Reader.own_binding rdr.old) ≡ keymap_of input_state.old (W.Reader.own_binding rdr.old) }
+        ensures reads { OnOk result (length (W.Reader.rest rdr.new) < length (W.Reader.rest rdr.old)) }
+        ensures counts { W.Reader.failures rdr.old ≤ W.Reader.failures rdr.new }
+        ensures io { IoOnlyIf result (⟦<State<'out, 'prompt, W, H, P, S> as Refresher>⟧.sure self.old ≡ true → EitherRose (W.Reader.failures rdr.old) (⟦<State<'out, 'prompt, W, H, P, S> as Refresher>⟧.failures self.old) (W.Reader.failures rdr.new) (⟦<State<'out, 'prompt, W, H, P, S> as Refresher>⟧.failures self.new)) }
+    {
+        let command = input_state.next_cmd(rdr, self, single_esc_abort)?;
+        self.begin_group(&command)?;
+        Ok(command)
+    }
+
+    /// The kept layout: where the prompt ends, and where the cursor and the end of what is shown are.
+    pub fn layout(&self) -> &Layout
+        ensures { result.now ≡ (⟦<State<'out, 'prompt, W, H, P, S> as Refresher>⟧.display self.now).layout }
+    {
+        &self.layout
+    }
+
+    /// The place in the history; its length is that of the line that is being typed.
+    pub fn place(&self) -> usize
+        ensures { result ≡ (⟦<State<'out, 'prompt, W, H, P, S> as Refresher>⟧.draft self.now).place }
+    {
+        self.ctx.history_index()
+    }
+
+    /// Whether the line was last drawn behind its own prompt.
+    pub fn is_default_prompt(&self) -> bool
+        ensures { result ≡ (⟦<State<'out, 'prompt, W, H, P, S> as Refresher>⟧.display self.now).layout.default_prompt }
+    {
+        self.layout.default_prompt
+    }
+
+    // Begins a group of changes for a replacement.
+    fn begin_group(&mut self, command: &Cmd) -> Result<()>
+        ensures draft { OnOk result ((⟦<State<'out, 'prompt, W, H, P, S> as Refresher>⟧.draft self.new) ≡ grouped (command_of command.now) (⟦<State<'out, 'prompt, W, H, P, S> as Refresher>⟧.draft self.old)) }
+        ensures line { (⟦<State<'out, 'prompt, W, H, P, S> as Refresher>⟧.draft self.new).line ≡ (⟦<State<'out, 'prompt, W, H, P, S> as Refresher>⟧.draft self.old).line }
+        ensures saved { (⟦<State<'out, 'prompt, W, H, P, S> as Refresher>⟧.draft self.new).saved ≡ (⟦<State<'out, 'prompt, W, H, P, S> as Refresher>⟧.draft self.old).saved }
+        ensures place { (⟦<State<'out, 'prompt, W, H, P, S> as Refresher>⟧.draft self.new).place ≡ (⟦<State<'out, 'prompt, W, H, P, S> as Refresher>⟧.draft self.old).place }
+        ensures display { ⟦<State<'out, 'prompt, W, H, P, S> as Refresher>⟧.display self.new ≡ ⟦<State<'out, 'prompt, W, H, P, S> as Refresher>⟧.display self.old }
+        ensures failures { ⟦<State<'out, 'prompt, W, H, P, S> as Refresher>⟧.failures self.new ≡ ⟦<State<'out, 'prompt, W, H, P, S> as Refresher>⟧.failures self.old }
+        ensures stays { Stays ⟦<State<'out, 'prompt, W, H, P, S> as Refresher>⟧ self.old self.new }
+        ensures memory { MemoryOnly result }
+    {
+        match command {
+            Cmd::Replace(_, _) => self.doing_insert(),
+            _ => Ok(()),
+        }
+    }
 }
 
 impl<'out, 'prompt, W: Renderer, H: Helper, P: Prompt, S: History> Refresher
@@ -384,8 +581,24 @@ impl<'out, 'prompt, W: Renderer, H: Helper, P: Prompt, S: History> Refresher
         self.redraw(&prompt, prompt_size, false, Info::Hint)
     }
 
+    fn doing_insert(&mut self) -> Result<()> {
+        Ok(self.changes.begin()?)
+    }
+
+    fn done_inserting(&mut self) -> Result<()> {
+        let _ = self.changes.end()?;
+        Ok(())
+    }
+
     fn is_cursor_at_end(&self) -> bool {
-        self.line.pos() == self.line.len()
+        self.line.is_cursor_at_end()
+    }
+
+    fn hint_text(&self) -> Option<&str> {
+        match &self.hint {
+            Some(hint) => hint.completion(),
+            None => None,
+        }
     }
 
     fn has_hint(&self) -> bool {

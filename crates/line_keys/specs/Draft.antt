@@ -1,6 +1,6 @@
 -- The line that is being edited, and what answers for it.
 use Rattle.std.specs.Prelude.{◌≡◌, ℕ, Bool, List, [], ◌∷◌, Option, Some, None}
-use Rattle.line_buffer.specs.Changes.{Changes}
+use Rattle.line_buffer.specs.Changes.{Changes, begun, ended}
 use Rattle.line_buffer.specs.Line.{Line}
 use Rattle.line_parts.specs.Hint.{Suggestion}
 use Rattle.line_parts.specs.Shown.{Shown}
@@ -41,6 +41,13 @@ hinted world draft = record draft { hint = unless_empty (world.hint_at (shown wo
 -- the hint taken away
 abbrev pub unhinted : Draft → Draft
 unhinted draft = record draft { hint = None }
+
+-- a group of changes is opened, or every open one is closed
+abbrev pub in_group : Draft → Draft
+in_group draft = record draft { changes = begun draft.changes }
+
+abbrev pub out_of_group : Draft → Draft
+out_of_group draft = record draft { changes = ended draft.changes }
 
 -- all but the hint stays
 pub record KeepsText (old new : Draft) : Type 0 where

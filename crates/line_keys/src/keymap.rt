@@ -1,9 +1,9 @@
 //! What the keys' tables ask of the editor.
-ghost use Rattle.std.specs.Prelude.{◌≡◌, ℕ, ◌≤◌, Bool, true, List, Option, Some, None, IfOk, OnOk, OnErr, IsTrue, is_some, option_map, length, ◌↔◌, ◌==◌};
+ghost use Rattle.std.specs.Prelude.{◌≡◌, ℕ, ◌≤◌, ◌↔◌, Bool, true, List, OnOk, OnErr, IsTrue, is_some, option_map, option_and_then, length};
 ghost use Rattle.line_config.specs.Error.{FaultsOnly, IoOnlyIf, IsOneMore, MemoryOnly, Rose};
-ghost use Rattle.line_buffer.specs.Changes.{Changes};
 ghost use Rattle.line_keys.specs.Display.{Display, IsRight};
-ghost use Rattle.line_keys.specs.Draft.{Draft, World, KeepsText, hinted, unhinted};
+ghost use Rattle.line_buffer.specs.Changes.{no_changes};
+ghost use Rattle.line_keys.specs.Draft.{Draft, World, KeepsText, hinted, unhinted, in_group, out_of_group};
 
 use line_config::Result;
 use line_parts::CmdKind;
@@ -102,6 +102,30 @@ pub trait Refresher {
         ensures io { IoOnlyIf result (sure self.old ≡ true → Rose (failures self.old) (failures self.new)) }
         ensures faults { FaultsOnly result };
 
+    /// Opens a group of changes. After an error the changes are gone.
+    fn doing_insert(&mut self) -> Result<()>
+        ensures draft { OnOk result (draft self.new ≡ in_group (draft self.old)) }
+        ensures err { OnErr result (draft self.new ≡ record (draft self.old) { changes = no_changes }) }
+        ensures display { display self.new ≡ display self.old }
+        ensures world { world self.new ≡ world self.old }
+        ensures fixed { fixed self.new ≡ fixed self.old }
+        ensures sure { sure self.new ≡ sure self.old }
+        ensures failures { failures self.new ≡ failures self.old }
+        ensures redraws { redraws self.new ≡ redraws self.old }
+        ensures memory { MemoryOnly result };
+
+    /// Closes every open group of changes. After an error the changes are gone.
+    fn done_inserting(&mut self) -> Result<()>
+        ensures draft { OnOk result (draft self.new ≡ out_of_group (draft self.old)) }
+        ensures err { OnErr result (draft self.new ≡ record (draft self.old) { changes = no_changes }) }
+        ensures display { display self.new ≡ display self.old }
+        ensures world { world self.new ≡ world self.old }
+        ensures fixed { fixed self.new ≡ fixed self.old }
+        ensures sure { sure self.new ≡ sure self.old }
+        ensures failures { failures self.new ≡ failures self.old }
+        ensures redraws { redraws self.new ≡ redraws self.old }
+        ensures memory { MemoryOnly result };
+
     /// Whether the cursor stands at the end of the text.
     fn is_cursor_at_end(&self) -> bool
         ensures { IsTrue result ↔ ((draft self.now).line.cursor ≡ length (draft self.now).line.text) };
@@ -109,6 +133,10 @@ pub trait Refresher {
     /// Whether there is a hint.
     fn has_hint(&self) -> bool
         ensures { result ≡ is_some (draft self.now).hint };
+
+    /// What the hint completes the line with, if there is one and it can be taken.
+    fn hint_text(&self) -> Option<&str>
+        ensures { option_map (λ s. s.now) result ≡ option_and_then (λ hint. hint.completion) (draft self.now).hint };
 
     /// The whole text.
     fn line(&self) -> &str

@@ -1,0 +1,68 @@
+-- What a kill takes from the line, and what it leaves.
+use Rattle.std.specs.Prelude.{ℕ, List, Option, Some, None, option_map, slice_range, String, string_bytes}
+use Rattle.line_buffer.specs.Changes.{Changes, with_entries, with_delete}
+use Rattle.line_buffer.specs.KillRing.{Ring, with_kept}
+use Rattle.line_buffer.specs.Line.{Line}
+use Rattle.line_buffer.specs.Range.{range_of, unless_empty}
+use Rattle.line_buffer.specs.declared.keymap.CharSearch.TheVariants as Search
+use Rattle.line_buffer.specs.declared.keymap.Movement.{Movement}
+use Rattle.line_buffer.specs.declared.keymap.Movement.TheVariants.{WholeLine, BeginningOfLine, EndOfLine, BackwardWord, ForwardWord, ViCharSearch, ViFirstPrint, BackwardChar, ForwardChar, LineUp, LineDown, WholeBuffer, BeginningOfBuffer, EndOfBuffer}
+use Rattle.line_buffer.specs.declared.kill_ring.Mode.{Mode}
+use Rattle.line_buffer.specs.declared.kill_ring.Mode.TheVariants.{Append, Prepend}
+use Rattle.line_buffer.specs.declared.line_buffer.Direction.{Direction}
+use Rattle.line_buffer.specs.declared.line_buffer.Direction.TheVariants.{Forward, Backward}
+
+-- the range that a kill takes where that of the movement is empty: the cluster after or before the cursor
+abbrev pub neighbour_of : Line → Movement → Option (ℕ × ℕ)
+neighbour_of l WholeLine = range_of l (ForwardChar 1)
+neighbour_of l EndOfLine = range_of l (ForwardChar 1)
+neighbour_of l BeginningOfLine = range_of l (BackwardChar 1)
+neighbour_of l _ = None
+
+-- the first, or else the second
+abbrev pub or_else : {A : Type 0} → Option A → Option A → Option A
+or_else None other = other
+or_else (Some x) other = Some x
+
+-- the range that a kill takes
+abbrev pub killed_range : Line → Movement → Option (ℕ × ℕ)
+killed_range l m = or_else (unless_empty (range_of l m)) (neighbour_of l m)
+
+-- on which side of the cursor a movement leads
+abbrev pub direction_of : Movement → Direction
+direction_of (BackwardWord _ _) = Backward
+direction_of (BackwardChar _) = Backward
+direction_of BeginningOfLine = Backward
+direction_of BeginningOfBuffer = Backward
+direction_of (ViCharSearch _ (Search.Backward _)) = Backward
+direction_of (ViCharSearch _ (Search.BackwardAfter _)) = Backward
+direction_of _ = Forward
+
+-- where a text joins those killed just before
+abbrev pub mode_of : Direction → Mode
+mode_of Forward = Append
+mode_of Backward = Prepend
+
+-- where what a movement spans joins the kill ring; single clusters do not go there
+abbrev pub ring_mode : Movement → Option Mode
+ring_mode (BackwardChar _) = None
+ring_mode (ForwardChar _) = None
+ring_mode m = Some (mode_of (direction_of m))
+
+-- the place, the text and the side of what goes with a range
+abbrev pub killed : Line → Movement → Option (ℕ × ℕ) → Option (ℕ × List ℕ × Direction)
+killed l m range = option_map (λ r. (r.0, slice_range l.text r.0 r.1, direction_of m)) range
+
+-- the changes once a range of the line went
+abbrev pub with_killed : Line → Option (ℕ × ℕ) → Changes → Changes
+with_killed l None c = c
+with_killed l (Some r) c = with_entries c (with_delete r.0 (slice_range l.text r.0 r.1) c.entries)
+
+-- the ring once a range of the line went by a movement
+abbrev pub ring_with_killed : Line → Movement → Option (ℕ × ℕ) → Ring → Ring
+ring_with_killed l m None ring = ring
+ring_with_killed l m (Some r) ring = with_kept ring (slice_range l.text r.0 r.1) (ring_mode m)
+
+-- the same three of a call's answer
+abbrev pub killed_of : {Z : Type 0} → ℕ × String Z × Direction → ℕ × List ℕ × Direction
+killed_of answer = (answer.0, string_bytes answer.1, answer.2)

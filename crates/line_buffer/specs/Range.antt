@@ -1,0 +1,36 @@
+-- The range of the text that a movement spans.
+use Rattle.std.specs.Prelude.{ℕ, ◌==◌, length, Option, Some, None, option_map, if◌then◌else◌}
+use Rattle.line_buffer.specs.Cluster.{place_on, place_back}
+use Rattle.line_buffer.specs.Line.{Line, start_of_line, end_of_line}
+use Rattle.line_buffer.specs.declared.keymap.Movement.{Movement}
+use Rattle.line_buffer.specs.declared.keymap.Movement.TheVariants.{WholeLine, BeginningOfLine, EndOfLine, BackwardWord, ForwardWord, ViCharSearch, ViFirstPrint, BackwardChar, ForwardChar, LineUp, LineDown, WholeBuffer, BeginningOfBuffer, EndOfBuffer}
+
+-- from a place before the cursor to the cursor
+abbrev pub up_to_cursor : Line → Option ℕ → Option (ℕ × ℕ)
+up_to_cursor l place = option_map (λ from. (from, l.cursor)) place
+
+-- from the cursor to a place after it
+abbrev pub from_cursor : Line → Option ℕ → Option (ℕ × ℕ)
+from_cursor l place = option_map (λ to. (l.cursor, to)) place
+
+-- where the range of a movement begins and ends
+abbrev pub range_of : Line → Movement → Option (ℕ × ℕ)
+range_of l WholeLine = Some (start_of_line l, end_of_line l)
+range_of l BeginningOfLine = Some (start_of_line l, l.cursor)
+range_of l EndOfLine = Some (l.cursor, end_of_line l)
+range_of l (BackwardWord n word) = None
+range_of l (ForwardWord n at word) = None
+range_of l (ViCharSearch n search) = None
+range_of l ViFirstPrint = None
+range_of l (BackwardChar n) = up_to_cursor l (place_back l n)
+range_of l (ForwardChar n) = from_cursor l (place_on l n)
+range_of l (LineUp n) = None
+range_of l (LineDown n) = None
+range_of l WholeBuffer = Some (0, length l.text)
+range_of l BeginningOfBuffer = Some (0, l.cursor)
+range_of l EndOfBuffer = Some (l.cursor, length l.text)
+
+-- a range that is not empty
+abbrev pub unless_empty : Option (ℕ × ℕ) → Option (ℕ × ℕ)
+unless_empty None = None
+unless_empty (Some r) = if r.0 == r.1 then None else Some r

@@ -1,0 +1,199 @@
+//! Calls that take text out of the line.
+ghost use Rattle.std.specs.Prelude.{◌≡◌, ◌≤◌, ◌<◌, List, length, string_bytes, option_map, slice_range, Option, Some, None, IfOk, IfSome, OnOk, OnErr, IsCharBoundary};
+ghost use Rattle.line_buffer.specs.Changes.{no_changes, with_entries, with_delete};
+ghost use Rattle.line_buffer.specs.Kill.{direction_of, killed, killed_range, killed_of, mode_of, neighbour_of, ring_mode, ring_with_killed, with_killed};
+ghost use Rattle.line_buffer.specs.Line.{without};
+ghost use Rattle.line_buffer.specs.Range.{from_cursor, range_of, unless_empty, up_to_cursor};
+
+use super::{Direction, LineBuffer, OutOfMemory};
+use crate::keymap::{CharSearch, Movement};
+use crate::kill_ring::{KillRing, Mode};
+use crate::undo::Changeset;
+
+impl LineBuffer {
+    /// Takes the range of the movement out of the line, and the cursor to where it began. Where the range
+    /// of a line's end or of a whole line is empty, the cluster after the cursor goes, and where that of a
+    /// line's beginning is, the one before. Answers the place in bytes, the text, and on which side of the
+    /// cursor the movement led; `None` where nothing goes. All but single clusters are kept in the kill
+    /// ring. `OutOfMemory` comes where a copy of the text cannot be made; then the list of changes is empty
+    /// with no open group, and the line is text with its cursor on a boundary.
+    pub fn kill(
+        &mut self,
+        mvt: &Movement,
+        changes: &mut Changeset,
+        kill_ring: &mut KillRing,
+    ) -> Result<Option<(usize, String, Direction)>, OutOfMemory>
+        ensures answer { IfOk result (λ r. option_map killed_of r ≡ killed self.old mvt.now (killed_range self.old mvt.now)) }
+        ensures line { OnOk result (self.new ≡ without self.old (killed_range self.old mvt.now)) }
+        ensures changes { OnOk result (changes.new ≡ with_killed self.old (killed_range self.old mvt.now) changes.old) }
+        ensures ring { OnOk result (kill_ring.new ≡ ring_with_killed self.old mvt.now (killed_range self.old mvt.now) kill_ring.old) }
+        ensures err { OnErr result (changes.new ≡ no_changes) }
+        ensures cursor { IsCharBoundary self.new.text self.new.cursor }
+        ensures size { kill_ring.new.size ≡ kill_ring.old.size }
+        ensures bound { OnErr result (length kill_ring.new.slots ≤ kill_ring.new.size) }
+    {
+        let outcome = match self.killed_range(mvt) {
+            Some((from, to)) => self.kill_range(from, to, mvt, changes, kill_ring),
+            None => Ok(None),
+        };
+        changes.settled(outcome)
+    }
+
+    fn kill_range(
+        &mut self,
+        from: usize,
+        to: usize,
+        mvt: &Movement,
+        changes: &mut Changeset,
+        kill_ring: &mut KillRing,
+    ) -> Result<Option<(usize, String, Direction)>, OutOfMemory>
+        requires ordered { from ≤ to }
+        requires start { IsCharBoundary self.old.text from }
+        requires end { IsCharBoundary self.old.text to }
+        ensures answer { IfOk result (λ r. option_map killed_of r ≡ killed self.old mvt.now (Some (from, to))) }
+        ensures line { OnOk result (self.new ≡ without self.old (Some (from, to))) }
+        ensures changes { OnOk result (changes.new ≡ with_killed self.old (Some (from, to)) changes.old) }
+        ensures ring { OnOk result (kill_ring.new ≡ ring_with_killed self.old mvt.now (Some (from, to)) kill_ring.old) }
+        ensures cursor { IsCharBoundary self.new.text self.new.cursor }
+        ensures size { kill_ring.new.size ≡ kill_ring.old.size }
+        ensures bound { length kill_ring.new.slots ≤ kill_ring.new.size }
+    {
+        let gone = &self.buf.as_str()[from..to];
+        kill_ring.keep(gone, ring_mode(mvt))?;
+        changes.delete(from, gone)?;
+        let text = self.copy_range(from, to)?;
+        self.remove_range(from, to)?;
+        Ok(Some((from, text, direction_of(mvt))))
+    }
+
+    /// A copy of the text from one byte to another.
+    pub(super) fn copy_range(&self, from: usize, to: usize) -> Result<String, OutOfMemory>
+        requires ordered { from ≤ to }
+        requires start { IsCharBoundary self.now.text from }
+        requires end { IsCharBoundary self.now.text to }
+        ensures { IfOk result (λ text. string_bytes text ≡ slice_range self.now.text from to) }
+    {
+        let alloc = *self.buf.allocator();
+        Ok(String::from_str(alloc, &self.buf.as_str()[from..to])?)
+    }
+
+    /// Takes the text from one byte to another away, and the cursor to its start.
+    fn remove_range(&mut self, from: usize, to: usize) -> Result<(), OutOfMemory>
+        requires ordered { from ≤ to }
+        requires start { IsCharBoundary self.old.text from }
+        requires end { IsCharBoundary self.old.text to }
+        ensures line { OnOk result (self.new ≡ without self.old (Some (from, to))) }
+        ensures cursor { IsCharBoundary self.new.text self.new.cursor }
+    {
+        self.buf.replace_range(from..to, "")?;
+        self.pos = from;
+        Ok(())
+    }
+
+    /// The range of the movement, in bytes.
+    pub(super) fn range(&self, mvt: &Movement) -> Option<(usize, usize)>
+        ensures range { result ≡ range_of self.now mvt.now }
+        ensures ordered { IfSome result (λ r. r.0 ≤ r.1) }
+        ensures start { IfSome result (λ r. IsCharBoundary self.now.text r.0) }
+        ensures end { IfSome result (λ r. IsCharBoundary self.now.text r.1) }
+    {
+        let len = self.as_str().len();
+        match mvt {
+            Movement::WholeLine => Some((self.start_of_line(), self.end_of_line())),
+            Movement::BeginningOfLine => self.up_to_cursor(Some(self.start_of_line())),
+            Movement::EndOfLine => self.from_cursor(Some(self.end_of_line())),
+            Movement::BackwardChar(n) => self.up_to_cursor(self.prev_pos(*n)),
+            Movement::ForwardChar(n) => self.from_cursor(self.next_pos(*n)),
+            Movement::WholeBuffer => Some((0, len)),
+            Movement::BeginningOfBuffer => self.up_to_cursor(Some(0)),
+            Movement::EndOfBuffer => self.from_cursor(Some(len)),
+            _ => None,
+        }
+    }
+
+    /// From a place before the cursor to the cursor.
+    fn up_to_cursor(&self, place: Option<usize>) -> Option<(usize, usize)>
+        requires { IfSome place (λ p. (p ≤ self.now.cursor) × IsCharBoundary self.now.text p) }
+        ensures range { result ≡ up_to_cursor self.now place }
+        ensures ordered { IfSome result (λ r. r.0 ≤ r.1) }
+        ensures start { IfSome result (λ r. IsCharBoundary self.now.text r.0) }
+        ensures end { IfSome result (λ r. IsCharBoundary self.now.text r.1) }
+    {
+        match place {
+            Some(from) => Some((from, self.pos)),
+            None => None,
+        }
+    }
+
+    /// From the cursor to a place after it.
+    fn from_cursor(&self, place: Option<usize>) -> Option<(usize, usize)>
+        requires { IfSome place (λ p. (self.now.cursor ≤ p) × IsCharBoundary self.now.text p) }
+        ensures range { result ≡ from_cursor self.now place }
+        ensures ordered { IfSome result (λ r. r.0 ≤ r.1) }
+        ensures start { IfSome result (λ r. IsCharBoundary self.now.text r.0) }
+        ensures end { IfSome result (λ r. IsCharBoundary self.now.text r.1) }
+    {
+        match place {
+            Some(to) => Some((self.pos, to)),
+            None => None,
+        }
+    }
+
+    /// The range that a kill by the movement takes.
+    fn killed_range(&self, mvt: &Movement) -> Option<(usize, usize)>
+        ensures cursor { IsCharBoundary self.now.text self.now.cursor }
+        ensures range { result ≡ killed_range self.now mvt.now }
+        ensures ordered { IfSome result (λ r. r.0 ≤ r.1) }
+        ensures start { IfSome result (λ r. IsCharBoundary self.now.text r.0) }
+        ensures end { IfSome result (λ r. IsCharBoundary self.now.text r.1) }
+    {
+        let _ = &self.pos;
+        match self.range(mvt) {
+            Some((from, to)) if from != to => Some((from, to)),
+            _ => self.neighbour(mvt),
+        }
+    }
+
+    /// The cluster beside the cursor that a kill takes where the range of its movement is empty.
+    fn neighbour(&self, mvt: &Movement) -> Option<(usize, usize)>
+        ensures range { result ≡ neighbour_of self.now mvt.now }
+        ensures ordered { IfSome result (λ r. r.0 ≤ r.1) }
+        ensures start { IfSome result (λ r. IsCharBoundary self.now.text r.0) }
+        ensures end { IfSome result (λ r. IsCharBoundary self.now.text r.1) }
+    {
+        match mvt {
+            Movement::WholeLine | Movement::EndOfLine => self.range(&Movement::ForwardChar(1)),
+            Movement::BeginningOfLine => self.range(&Movement::BackwardChar(1)),
+            _ => None,
+        }
+    }
+}
+
+/// On which side of the cursor the movement leads.
+fn direction_of(mvt: &Movement) -> Direction
+    ensures { result ≡ direction_of mvt.now }
+{
+    match mvt {
+        Movement::BackwardChar(_)
+        | Movement::BackwardWord(_, _)
+        | Movement::BeginningOfLine
+        | Movement::BeginningOfBuffer
+        | Movement::ViCharSearch(_, CharSearch::Backward(_) | CharSearch::BackwardAfter(_)) => {
+            Direction::Backward
+        }
+        _ => Direction::Forward,
+    }
+}
+
+/// Where what the movement spans joins the kill ring; `None` for single clusters.
+fn ring_mode(mvt: &Movement) -> Option<Mode>
+    ensures { result ≡ ring_mode mvt.now }
+{
+    match mvt {
+        Movement::BackwardChar(_) | Movement::ForwardChar(_) => None,
+        _ => match direction_of(mvt) {
+            Direction::Forward => Some(Mode::Append),
+            Direction::Backward => Some(Mode::Prepend),
+        },
+    }
+}
