@@ -7,6 +7,7 @@ pub mod Keymap
 pub mod Phrase
 pub mod Printable
 pub mod Run
+pub mod Status
 pub mod Step
 pub mod Laws
 pub mod Party

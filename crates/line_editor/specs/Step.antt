@@ -139,3 +139,8 @@ step world input editor _ = goes_on editor
 abbrev pub grouped : Command → Draft → Draft
 grouped (replacement _ _) draft = in_group draft
 grouped _ draft = draft
+
+-- the editor that is left and the answer are those of a step
+pub record Leaves (done : Step) (left : Editor) (answer : Answer) : Type 0 where
+  pub editor : left ≡ done.editor
+  pub answered : done.answer ≡ answer

@@ -7,7 +7,7 @@ ghost use Rattle.line_editor.specs.Party.{verdict_by, sure_by};
 ghost use Rattle.line_keys.specs.Display.{IsDrawn, IsFullRedraw, IsRight};
 ghost use Rattle.line_keys.specs.Draft.{Draft, KeepsText, hinted, unhinted, unless_empty};
 ghost use Rattle.line_keys.specs.Stays.{Stays};
-ghost use Rattle.line_buffer.specs.Line.{Line, moved_to, with_cursor, start_of_line, end_of_line};
+ghost use Rattle.line_buffer.specs.Line.{Line, ends_in_white_space, moved_to, with_cursor, start_of_line, end_of_line};
 ghost use Rattle.line_buffer.specs.Cluster.{place_on, place_back};
 ghost use Rattle.line_editor.specs.Info.{shown_info};
 ghost use Rattle.line_editor.specs.Fault.{EitherRose};
@@ -524,6 +524,28 @@ impl<'out, 'prompt, W: Renderer, H: Helper, P: Prompt, S: History> State<
             Cmd::Replace(_, _) => self.doing_insert(),
             _ => Ok(()),
         }
+    }
+
+    /// Takes the hint away: by a full redraw without it, where a hint is there, a character is highlighted or another prompt
+    /// is shown.
+    pub(crate) fn drop_hint(&mut self) -> Result<()>
+        ensures draft { OnOk result ((⟦<State<'out, 'prompt, W, H, P, S> as Refresher>⟧.draft self.new) ≡ unhinted (⟦<State<'out, 'prompt, W, H, P, S> as Refresher>⟧.draft self.old)) }
+        ensures right { OnOk result (IsRight (⟦<State<'out, 'prompt, W, H, P, S> as Refresher>⟧.display self.old) (⟦<State<'out, 'prompt, W, H, P, S> as Refresher>⟧.draft self.old).line → IsRight (⟦<State<'out, 'prompt, W, H, P, S> as Refresher>⟧.display self.new) (⟦<State<'out, 'prompt, W, H, P, S> as Refresher>⟧.draft self.new).line) }
+        ensures stays { Stays ⟦<State<'out, 'prompt, W, H, P, S> as Refresher>⟧ self.old self.new }
+        ensures io { IoOnlyIf result (⟦<State<'out, 'prompt, W, H, P, S> as Refresher>⟧.sure self.old ≡ true → Rose (⟦<State<'out, 'prompt, W, H, P, S> as Refresher>⟧.failures self.old) (⟦<State<'out, 'prompt, W, H, P, S> as Refresher>⟧.failures self.new)) }
+        ensures faults { FaultsOnly result }
+    {
+        if self.has_hint() || self.highlight_char || !self.is_default_prompt() {
+            self.refresh_line_with_msg(None, CmdKind::ForcedRefresh)?;
+        }
+        Ok(())
+    }
+
+    /// Whether only white space stands from the cursor on.
+    pub(crate) fn is_end_of_input(&self) -> bool
+        ensures { result ≡ ends_in_white_space (⟦<State<'out, 'prompt, W, H, P, S> as Refresher>⟧.draft self.now).line }
+    {
+        self.line.is_end_of_input()
     }
 }
 

@@ -2,7 +2,9 @@
 #![tactic(auto)]
 
 pub mod binding;
+pub mod command;
 pub mod edit;
 pub mod keymap;
 pub mod laws;
+pub mod run;
 pub mod tty;

@@ -1,0 +1,84 @@
+-- Facts on runs.
+use Rattle.std.proofs.Common.{◌≡◌, ◌≢◌, List, [], ◌++◌, refl, sym, subst}
+use Rattle.line_buffer.specs.KillRing.{Ring}
+use Rattle.line_keys.specs.Command.{Command, command_of, resets_kill_ring}
+use Rattle.line_keys.specs.Draft.{Draft, World}
+use Rattle.line_keys.specs.Item.{Item}
+use Rattle.line_keys.specs.declared.command.Cmd.{Cmd}
+use Rattle.line_keys.specs.declared.command.Cmd.TheVariants.{Insert, Replace}
+use Rattle.line_editor.specs.Input.{Input}
+use Rattle.line_editor.specs.Keymap.{Keymap}
+use Rattle.line_editor.specs.Phrase.{Phrase, IsBeginning}
+use Rattle.line_editor.specs.Run.{Run, Turn, Stands, goes_on, ends, runs_dry, ends_kills, kills_before}
+use Rattle.line_editor.specs.Step.{Editor, Step, Answer, Leaves, step, grouped, proceeds, ended}
+
+-- a command and its value agree on the kill ring
+pub ends_kills_of : (cmd : Cmd) → ends_kills (command_of cmd) ≡ resets_kill_ring cmd
+ends_kills_of (Insert n text) = refl
+ends_kills_of (Replace movement text) = refl
+ends_kills_of _ = refl
+
+-- a phrase read and its command executed are a turn
+pub turn-of : (keymap : Keymap) (world world' : World) (editor left : Editor) (input input' : Input) (items more phrase : List Item)
+    → (command : Command) (read before : Draft) (kills : Ring) (answer : Answer)
+    → items ≡ phrase ++ more
+    → Phrase keymap world editor.draft input phrase command read input'
+    → before ≡ grouped command read
+    → kills ≡ kills_before command editor.kills
+    → world' ≡ world
+    → Leaves (step world' input' (record { draft = before; kills = kills }) command) left answer
+    → Turn keymap world editor input items left input' more answer
+turn-of keymap world world' editor left input input' items more phrase command read before kills answer cut reads group reset same leaves =
+    let P : World → Type 0 = λ w. Leaves (step w input' (record { draft = before; kills = kills }) command) left answer in
+    let Q : Draft → Type 0 = λ d. Leaves (step world input' (record { draft = d; kills = kills }) command) left answer in
+    let R : Ring → Type 0 = λ k. Leaves (step world input' (record { draft = grouped command read; kills = k }) command) left answer in
+    record {
+      phrase = phrase;
+      command = command;
+      draft = read;
+      cut = cut;
+      reads = reads;
+      leaves = subst R reset (subst Q group (subst P same leaves));
+    }
+
+-- the tables and the world of two moments of a run are the same
+module _ (keymap keymap' : Keymap) (world world' : World) (same_keymap : keymap' ≡ keymap) (same_world : world' ≡ world) where
+  retold : (editor left : Editor) (input input' : Input) (items more : List Item) (answer : Answer)
+      → Turn keymap' world' editor input items left input' more answer
+      → Turn keymap world editor input items left input' more answer
+  retold editor left input input' items more answer turn =
+      let P : Keymap → Type 0 = λ k. Turn k world' editor input items left input' more answer in
+      let Q : World → Type 0 = λ w. Turn keymap w editor input items left input' more answer in
+      subst Q same_world (subst P same_keymap turn)
+
+  -- a turn that proceeds and a run behind it are a run
+  pub run-goes : (editor left last : Editor) (input input' : Input) (items more rest inside : List Item) (answer answer' : Answer)
+      → answer' ≡ proceeds
+      → Turn keymap' world' editor input items left input' more answer'
+      → Run keymap world left input' more last rest inside answer
+      → Run keymap world editor input items last rest inside answer
+  run-goes editor left last input input' items more rest inside answer answer' proceeded turn run =
+      let P : Answer → Type 0 = λ a. Turn keymap world editor input items left input' more a in
+      goes_on (subst P proceeded (retold editor left input input' items more answer' turn)) run
+
+  -- a turn that doesn't proceed ends a run
+  pub run-ends : (editor left : Editor) (input input' : Input) (items more : List Item) (answer answer' : Answer)
+      → answer' ≡ answer
+      → answer ≢ proceeds
+      → Turn keymap' world' editor input items left input' more answer'
+      → Run keymap world editor input items left more [] answer
+  run-ends editor left input input' items more answer answer' same other turn =
+      let P : Answer → Type 0 = λ a. Turn keymap world editor input items left input' more a in
+      ends (subst P same (retold editor left input input' items more answer' turn)) other
+
+  -- items that run dry end a run
+  pub run-dry : (editor left : Editor) (input : Input) (items more : List Item)
+      → IsBeginning keymap' world' editor.draft input items
+      → Stands editor left
+      → more ≡ []
+      → Run keymap world editor input items left more items ended
+  run-dry editor left input items more begins stands dry =
+      let P : Keymap → Type 0 = λ k. IsBeginning k world' editor.draft input items in
+      let Q : World → Type 0 = λ w. IsBeginning keymap w editor.draft input items in
+      let R : List Item → Type 0 = λ m. Run keymap world editor input items left m items ended in
+      subst R (sym dry) (runs_dry (subst Q same_world (subst P same_keymap begins)) stands)

@@ -1,0 +1,8 @@
+-- What a status of a command says.
+use Rattle.line_editor.specs.Step.{Answer, proceeds, submitted}
+use Rattle.line_editor.specs.declared.command.Status.{Status}
+use Rattle.line_editor.specs.declared.command.Status.TheVariants.{Proceed, Submit}
+
+abbrev pub answer_of : Status → Answer
+answer_of Proceed = proceeds
+answer_of Submit = submitted
