@@ -3,3 +3,4 @@ pub mod ClusterLemmas
 pub mod LineLemmas
 pub mod ListLemmas
 pub mod RingLemmas
+pub mod WidthLemmas

@@ -29,6 +29,6 @@ pub suffix_len-at : (text : List ℕ) (k : ℕ) → k < length text → get_or t
 suffix_len-at text k within at none =
     position_or_len_is (λ b. eqb b 10) (reverse text) (length text - 1 - k) 0 (omega (arith, length-reverse text))
     (λ i h. let m : i < length text = omega arith in let above : k < length text - 1 - i = omega arith in let low : length text - 1 - i < length text = omega arith in
-        let e = get_or-reverse text i 0 m in grind (arith, nat_tests, none (length text - 1 - i) above low, e))
+    let e = get_or-reverse text i 0 m in grind (arith, nat_tests, none (length text - 1 - i) above low, e))
     (λ h. let m : length text - 1 - k < length text = omega arith in let e = get_or-reverse text (length text - 1 - k) 0 m in
-        let same : length text - 1 - (length text - 1 - k) ≡ k = omega arith in grind (arith, nat_tests, e, same, at))
+    let same : length text - 1 - (length text - 1 - k) ≡ k = omega arith in grind (arith, nat_tests, e, same, at))

@@ -20,7 +20,7 @@ put_held r slots slot text e h =
     let len : length r.slots ≡ length slots = ap length e ∙ length-map slots string_bytes in
     let other : slot ≢ length r.slots = λ same. h (same ∙ len) in
     let held : map string_bytes (set slots slot text) ≡ with_slot slot (string_bytes text) r.slots =
-        map-set string_bytes slots slot text ∙ ap (λ s. set s slot (string_bytes text)) (sym e) ∙ sym (with_slot-held slot (string_bytes text) r.slots other) in
+    map-set string_bytes slots slot text ∙ ap (λ s. set s slot (string_bytes text)) (sym e) ∙ sym (with_slot-held slot (string_bytes text) r.slots other) in
     ap (λ s. made r s slot) held
 
 pub joined_slot : (r : Ring) (slots : List (String Global)) (mode : Mode) (more : List ℕ) (old new : String Global) → r.slots ≡ map string_bytes slots → r.current < length slots
@@ -28,8 +28,8 @@ pub joined_slot : (r : Ring) (slots : List (String Global)) (mode : Mode) (more 
     → made r (map string_bytes (set slots r.current new)) r.current ≡ made r (set r.slots r.current (joined mode (get_or r.slots r.current []) more)) r.current
 joined_slot r slots mode more old new e h o n =
     let read : get_or r.slots r.current [] ≡ string_bytes old =
-        ap (λ s. get_or s r.current []) e ∙ get_or-map string_bytes slots r.current old [] h ∙ ap string_bytes (sym o) in
+    ap (λ s. get_or s r.current []) e ∙ get_or-map string_bytes slots r.current old [] h ∙ ap string_bytes (sym o) in
     let written : map string_bytes (set slots r.current new) ≡ set r.slots r.current (joined mode (get_or r.slots r.current []) more) =
-        map-set string_bytes slots r.current new ∙ ap (λ s. set s r.current (string_bytes new)) (sym e)
-        ∙ ap (set r.slots r.current) (n ∙ ap (λ t. joined mode t more) (sym read)) in
+    map-set string_bytes slots r.current new ∙ ap (λ s. set s r.current (string_bytes new)) (sym e)
+    ∙ ap (set r.slots r.current) (n ∙ ap (λ t. joined mode t more) (sym read)) in
     ap (λ s. made r s r.current) written

@@ -8,4 +8,6 @@ pub mod Line
 pub mod Movement
 pub mod Range
 pub mod Told
+pub mod Width
 pub use Rattle.unicode_segmentation.specs.Grapheme
+pub use Rattle.unicode_width.specs.Width as CharWidth

@@ -1,4 +1,11 @@
-ghost use Rattle.std.specs.Prelude.{◌≡◌, false};
+ghost use Rattle.std.specs.Prelude.{◌≡◌, false, min, chars, IsUtf8};
+ghost use Rattle.std.specs.List.{slice_split, sum_by};
+ghost use Rattle.line_buffer.specs.Width.{columns_of, columns_of_char, is_joiner, unit_width};
+
+use unicode_width::{UnicodeWidthChar, UnicodeWidthStr};
+
+/// The zero width joiner, which makes one cluster of several.
+const JOINER: char = '\u{200d}';
 
 /// A count of columns or of rows.
 pub type Unit = u16;
@@ -60,4 +67,59 @@ impl Layout {
             has_info: false,
         }
     }
+
+    /// The columns that the text takes by this layout's mode, at most the greatest `Unit`.
+    pub fn width(&self, text: &str) -> Unit
+        ensures { result ≡ unit_width self.now.grapheme_cluster_mode text.now }
+    {
+        self.grapheme_cluster_mode.width(text)
+    }
 }
+
+impl GraphemeClusterMode {
+    /// The columns that the text takes, at most the greatest `Unit`.
+    pub fn width(&self, text: &str) -> Unit
+        ensures { result ≡ unit_width self.now text.now }
+    {
+        match self {
+            GraphemeClusterMode::Unicode => columns_of(text),
+            GraphemeClusterMode::WcWidth => columns_of_chars(text),
+            GraphemeClusterMode::NoZwj => columns_between_joiners(text),
+        }
+    }
+}
+
+/// The columns of the text, at most the greatest `Unit`.
+fn columns_of(text: &str) -> Unit
+    ensures columns { result ≡ min (columns_of (chars text.now)) 65535 }
+    ensures text { IsUtf8 text.now }
+{
+    text.width().min(65535) as Unit
+}
+
+/// The columns of the text's characters, each by itself, at most the greatest `Unit`.
+fn columns_of_chars(text: &str) -> Unit
+    ensures { result ≡ min (sum_by columns_of_char (chars text.now)) 65535 }
+{
+    let mut columns: Unit = 0;
+    for c in text.chars() {
+        columns = columns.saturating_add(c.width().unwrap_or(0) as Unit);
+    }
+    columns
+}
+
+/// The columns of the text's pieces between zero width joiners, at most the greatest `Unit`.
+fn columns_between_joiners(text: &str) -> Unit
+    ensures { result ≡ min (sum_by columns_of (slice_split is_joiner (chars text.now))) 65535 }
+{
+    let mut columns: Unit = 0;
+    let mut rest = text;
+    while let Some((piece, behind)) = rest.split_once(JOINER) {
+        columns = columns.saturating_add(columns_of(piece));
+        rest = behind;
+    }
+    columns.saturating_add(columns_of(rest))
+}
+
+#[cfg(test)]
+mod tests;

@@ -225,8 +225,8 @@ impl LineBuffer {
         ensures cursor { IsCharBoundary self.new.text self.new.cursor }
     {
         match place {
-            Some(pos) => {
-                self.pos = pos;
+            Some(there) => {
+                self.pos = there;
                 true
             }
             None => false,
@@ -288,15 +288,18 @@ impl LineBuffer {
         self.move_cursor(end)
     }
 
-    /// Moves the cursor to byte `pos`, and answers whether it stood elsewhere.
-    fn move_cursor(&mut self, pos: usize) -> bool
-        requires { IsCharBoundary self.old.text pos }
-        ensures answer { result ≡ not (pos == self.old.cursor) }
-        ensures line { self.new ≡ with_cursor self.old pos }
+    /// Moves the cursor to byte `to`, and answers whether it stood elsewhere.
+    fn move_cursor(&mut self, to: usize) -> bool
+        requires { IsCharBoundary self.old.text to }
+        ensures answer { result ≡ not (to == self.old.cursor) }
+        ensures line { self.new ≡ with_cursor self.old to }
         ensures cursor { IsCharBoundary self.new.text self.new.cursor }
     {
-        let moved = self.pos != pos;
-        self.pos = pos;
+        let moved = self.pos != to;
+        self.pos = to;
         moved
     }
 }
+
+#[cfg(test)]
+mod tests;

@@ -186,12 +186,23 @@ impl Changeset {
         ensures { OnOk result (self.new ≡ with_entries self.old (with_joined_insert place text.now self.old.entries)) }
     {
         match self.changes.pop() {
-            Some(Change::Insert { place: at, text: mut old }) => {
+            Some(
+                Change::Insert {
+                    place: at,
+                    text: mut old,
+                },
+            ) => {
                 if ends_at(at, &old, place) {
                     old.push_str(text)?;
-                    return self.add(Change::Insert { place: at, text: old });
+                    return self.add(Change::Insert {
+                        place: at,
+                        text: old,
+                    });
                 }
-                self.add(Change::Insert { place: at, text: old })?;
+                self.add(Change::Insert {
+                    place: at,
+                    text: old,
+                })?;
                 self.add_insert(place, text)
             }
             Some(other) => {
@@ -231,16 +242,27 @@ impl Changeset {
         ensures { OnOk result (self.new ≡ with_entries self.old (with_joined_delete place text.now self.old.entries)) }
     {
         match self.changes.pop() {
-            Some(Change::Delete { place: at, text: mut old }) => {
+            Some(
+                Change::Delete {
+                    place: at,
+                    text: mut old,
+                },
+            ) => {
                 if at == place {
                     old.push_str(text)?;
-                    return self.add(Change::Delete { place: at, text: old });
+                    return self.add(Change::Delete {
+                        place: at,
+                        text: old,
+                    });
                 }
                 if ends_at(place, text, at) {
                     old.insert_str(0, text)?;
                     return self.add(Change::Delete { place, text: old });
                 }
-                self.add(Change::Delete { place: at, text: old })?;
+                self.add(Change::Delete {
+                    place: at,
+                    text: old,
+                })?;
                 self.add_delete(place, text)
             }
             Some(other) => {
@@ -256,13 +278,27 @@ impl Changeset {
         ensures { OnOk result (self.new ≡ with_entries self.old (with_replace place old.now new.now self.old.entries)) }
     {
         match self.changes.pop() {
-            Some(Change::Replace { place: at, old: mut before, new: mut after }) => {
+            Some(
+                Change::Replace {
+                    place: at,
+                    old: mut before,
+                    new: mut after,
+                },
+            ) => {
                 if ends_at(at, &after, place) {
                     before.push_str(old)?;
                     after.push_str(new)?;
-                    return self.add(Change::Replace { place: at, old: before, new: after });
+                    return self.add(Change::Replace {
+                        place: at,
+                        old: before,
+                        new: after,
+                    });
                 }
-                self.add(Change::Replace { place: at, old: before, new: after })?;
+                self.add(Change::Replace {
+                    place: at,
+                    old: before,
+                    new: after,
+                })?;
                 self.add_replace(place, old, new)
             }
             Some(other) => {
@@ -291,3 +327,6 @@ fn ends_at(place: usize, text: &str, end: usize) -> bool
 {
     end.checked_sub(text.len()) == Some(place)
 }
+
+#[cfg(test)]
+mod tests;

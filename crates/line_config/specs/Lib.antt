@@ -1,2 +1,3 @@
 pub mod Error
 pub mod Settings
+pub mod Usual

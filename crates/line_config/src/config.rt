@@ -1,13 +1,15 @@
 //! What a user sets, and reads back.
-ghost use Rattle.std.specs.Prelude.{◌≡◌};
+ghost use Rattle.std.specs.Prelude.{◌≡◌, IsOk, IsOkAnd, option_map};
 
+use crate::error::Result;
 use line_buffer::GraphemeClusterMode;
 use std::marker::Model;
 
 /// What the terminal does to be heard.
-#[derive(Clone, Copy, Debug, PartialEq, Eq)]
+#[derive(Clone, Copy, Debug, Default, PartialEq, Eq)]
 pub enum BellStyle {
     /// It rings.
+    #[default]
     Audible,
     /// Nothing.
     None,
@@ -54,9 +56,10 @@ pub enum ColorMode {
 }
 
 /// Where a line is read from, and drawn to.
-#[derive(Clone, Copy, Debug, PartialEq, Eq)]
+#[derive(Clone, Copy, Debug, Default, PartialEq, Eq)]
 pub enum Behavior {
     /// Standard input and output.
+    #[default]
     Stdio,
     /// The terminal, also where standard input or output is another.
     PreferTerm,
@@ -137,7 +140,14 @@ impl Model for Config {
 }
 
 impl Config {
-    ghost use Rattle.line_config.specs.Settings.{defaults};
+    ghost use Rattle.line_config.specs.Settings.{defaults, colors_under};
+
+    /// A builder that begins with the defaults, with clusters measured by `mode`.
+    pub fn builder(mode: GraphemeClusterMode) -> Builder
+        ensures { result ≡ defaults mode }
+    {
+        Builder::new(mode)
+    }
 
     /// The settings where none was set, with clusters measured by `mode`.
     pub fn new(mode: GraphemeClusterMode) -> Self
@@ -166,41 +176,530 @@ impl Config {
         }
     }
 
-    /// The keys that the user types.
+    /// How many lines the history keeps, by default 100.
+    pub fn max_history_size(&self) -> usize
+        ensures { result ≡ self.now.max_history_size }
+    {
+        self.max_history_size
+    }
+
+    /// Whether a line that equals the newest of the history is added to it, by default not.
+    pub fn history_duplicates(&self) -> HistoryDuplicates
+        ensures { result ≡ self.now.history_duplicates }
+    {
+        self.history_duplicates
+    }
+
+    /// Whether a line that begins with white space is kept out of the history, by default not.
+    pub fn history_ignore_space(&self) -> bool
+        ensures { result ≡ self.now.history_ignore_space }
+    {
+        self.history_ignore_space
+    }
+
+    /// How completions are offered, by default one after another.
+    pub fn completion_type(&self) -> CompletionType
+        ensures { result ≡ self.now.completion_type }
+    {
+        self.completion_type
+    }
+
+    /// From how many candidates on the user is asked whether to list them, by default 100.
+    pub fn completion_prompt_limit(&self) -> usize
+        ensures { result ≡ self.now.completion_prompt_limit }
+    {
+        self.completion_prompt_limit
+    }
+
+    /// Whether all candidates are listed at once, by default not.
+    pub fn completion_show_all_if_ambiguous(&self) -> bool
+        ensures { result ≡ self.now.completion_show_all_if_ambiguous }
+    {
+        self.completion_show_all_if_ambiguous
+    }
+
+    /// How many milliseconds the rest of a key sequence is waited for; None, the default, sets no limit.
+    pub fn keyseq_timeout(&self) -> Option<u16>
+        ensures { result ≡ self.now.keyseq_timeout }
+    {
+        self.keyseq_timeout
+    }
+
+    /// The keys that the user types, by default those of Emacs.
     pub fn edit_mode(&self) -> EditMode
         ensures { result ≡ self.now.edit_mode }
     {
         self.edit_mode
     }
 
-    /// How many spaces one indentation is.
+    /// Whether each submitted line is added to the history, by default not.
+    pub fn auto_add_history(&self) -> bool
+        ensures { result ≡ self.now.auto_add_history }
+    {
+        self.auto_add_history
+    }
+
+    /// What the terminal does to be heard, by default it rings.
+    pub fn bell_style(&self) -> BellStyle
+        ensures { result ≡ self.now.bell_style }
+    {
+        self.bell_style
+    }
+
+    /// Whether colors are shown, by default where the terminal shows them. `no_color` is the value of the
+    /// environment variable `NO_COLOR`: one that is there and not empty turns `Enabled` into `Disabled`.
+    pub fn color_mode(&self, no_color: Option<&str>) -> ColorMode
+        ensures { result ≡ colors_under self.now.color_mode (option_map (λ value. value.now) no_color.entry) }
+    {
+        match (self.color_mode, no_color) {
+            (ColorMode::Enabled, Some(value)) if !value.is_empty() => ColorMode::Disabled,
+            (mode, _) => mode,
+        }
+    }
+
+    /// How the columns of a text are counted.
+    pub fn grapheme_cluster_mode(&self) -> GraphemeClusterMode
+        ensures { result ≡ self.now.grapheme_cluster_mode }
+    {
+        self.grapheme_cluster_mode
+    }
+
+    /// Where the line is read from and drawn to, by default standard input and output.
+    pub fn behavior(&self) -> Behavior
+        ensures { result ≡ self.now.behavior }
+    {
+        self.behavior
+    }
+
+    /// How many columns a tab takes, by default 8.
+    pub fn tab_stop(&self) -> u8
+        ensures { result ≡ self.now.tab_stop }
+    {
+        self.tab_stop
+    }
+
+    /// How many spaces one indentation is, by default 2.
     pub fn indent_size(&self) -> u8
         ensures { result ≡ self.now.indent_size }
     {
         self.indent_size
     }
+
+    /// Whether the cursor is brought to the first column before the prompt, by default not.
+    pub fn check_cursor_position(&self) -> bool
+        ensures { result ≡ self.now.check_cursor_position }
+    {
+        self.check_cursor_position
+    }
+
+    /// Whether the terminal is to mark pasted text, by default yes.
+    pub fn enable_bracketed_paste(&self) -> bool
+        ensures { result ≡ self.now.enable_bracketed_paste }
+    {
+        self.enable_bracketed_paste
+    }
+
+    /// Whether the terminal is to show each drawing at once, by default yes.
+    pub fn enable_synchronized_output(&self) -> bool
+        ensures { result ≡ self.now.enable_synchronized_output }
+    {
+        self.enable_synchronized_output
+    }
+
+    /// Whether the terminal sends signals for keys such as Ctrl-C, by default not.
+    pub fn enable_signals(&self) -> bool
+        ensures { result ≡ self.now.enable_signals }
+    {
+        self.enable_signals
+    }
 }
 
-/// What holds settings, and lets them be set.
+/// What holds settings, and lets them be set. The setters that answer a `Result` always answer Ok.
 pub trait Configurer {
-    ghost use Rattle.line_config.specs.Settings.{Settings};
-    ghost use Rattle.line_config.specs.contracts.config.Config.{the_row as config_row};
     ghost use Rattle.std.specs.Borrow.{sem, Lends};
+    ghost use Rattle.line_config.specs.Settings.{Settings, duplicates_of, timeout_of};
+    ghost use Rattle.line_config.specs.contracts.config.Config.{the_row as config_row};
 
+    // The settings.
     ghost settings: { Self → Settings };
 
+    // The value with other settings, and all else as it is.
     ghost with_settings: { Self → Settings → Self };
 
     /// The settings, to be changed in place.
     fn config_mut(&mut self) -> &mut Config
-        ensures* lends { sem 𝓛 (Lends Self.row config_row self.entry result (λ c. with_settings self.old c)) }
+        ensures* lends { sem 𝓛 (Lends Self.row config_row self.entry result (with_settings self.old)) }
         ensures value { result.now ≡ settings self.old };
 
-    /// Sets how many columns a tab takes.
-    fn set_tab_stop(&mut self, tab_stop: u8)
-        ensures { self.new ≡ with_settings self.old (record (settings self.old) { tab_stop = tab_stop }) }
+    /// Sets how many lines the history keeps.
+    fn set_max_history_size(&mut self, max_size: usize) -> Result<()>
+        ensures ok { IsOk result }
+        ensures set { self.new ≡ with_settings self.old (record (settings self.old) { max_history_size = max_size }) }
     {
         let config = self.config_mut();
-        config.tab_stop = tab_stop;
+        config.max_history_size = max_size;
+        Ok(())
+    }
+
+    /// Sets whether a line that equals the newest of the history is kept out of it.
+    fn set_history_ignore_dups(&mut self, yes: bool) -> Result<()>
+        ensures ok { IsOk result }
+        ensures set { self.new ≡ with_settings self.old (record (settings self.old) { history_duplicates = duplicates_of yes }) }
+    {
+        let config = self.config_mut();
+        config.history_duplicates = if yes {
+            HistoryDuplicates::IgnoreConsecutive
+        } else {
+            HistoryDuplicates::AlwaysAdd
+        };
+        Ok(())
+    }
+
+    /// Sets whether a line that begins with white space is kept out of the history.
+    fn set_history_ignore_space(&mut self, yes: bool)
+        ensures { self.new ≡ with_settings self.old (record (settings self.old) { history_ignore_space = yes }) }
+    {
+        let config = self.config_mut();
+        config.history_ignore_space = yes;
+    }
+
+    /// Sets how completions are offered.
+    fn set_completion_type(&mut self, completion_type: CompletionType)
+        ensures { self.new ≡ with_settings self.old (record (settings self.old) { completion_type = completion_type }) }
+    {
+        let config = self.config_mut();
+        config.completion_type = completion_type;
+    }
+
+    /// Sets whether all candidates are listed at once.
+    fn set_completion_show_all_if_ambiguous(&mut self, yes: bool)
+        ensures { self.new ≡ with_settings self.old (record (settings self.old) { completion_show_all_if_ambiguous = yes }) }
+    {
+        let config = self.config_mut();
+        config.completion_show_all_if_ambiguous = yes;
+    }
+
+    /// Sets from how many candidates on the user is asked whether to list them.
+    fn set_completion_prompt_limit(&mut self, limit: usize)
+        ensures { self.new ≡ with_settings self.old (record (settings self.old) { completion_prompt_limit = limit }) }
+    {
+        let config = self.config_mut();
+        config.completion_prompt_limit = limit;
+    }
+
+    /// Sets how many milliseconds the rest of a key sequence is waited for; None sets no limit.
+    fn set_keyseq_timeout(&mut self, milliseconds: Option<u16>)
+        ensures { self.new ≡ with_settings self.old (record (settings self.old) { keyseq_timeout = milliseconds }) }
+    {
+        let config = self.config_mut();
+        config.keyseq_timeout = milliseconds;
+    }
+
+    /// Sets the keys that the user types, and with them the limit for the rest of a key sequence: none for
+    /// Emacs, 500 milliseconds for Vi.
+    fn set_edit_mode(&mut self, edit_mode: EditMode)
+        ensures { self.new ≡ with_settings self.old (record (settings self.old) { edit_mode = edit_mode; keyseq_timeout = timeout_of edit_mode }) }
+    {
+        let config = self.config_mut();
+        config.edit_mode = edit_mode;
+        config.keyseq_timeout = match edit_mode {
+            EditMode::Emacs => None,
+            EditMode::Vi => Some(500),
+        };
+    }
+
+    /// Sets whether each submitted line is added to the history.
+    fn set_auto_add_history(&mut self, yes: bool)
+        ensures { self.new ≡ with_settings self.old (record (settings self.old) { auto_add_history = yes }) }
+    {
+        let config = self.config_mut();
+        config.auto_add_history = yes;
+    }
+
+    /// Sets what the terminal does to be heard.
+    fn set_bell_style(&mut self, bell_style: BellStyle)
+        ensures { self.new ≡ with_settings self.old (record (settings self.old) { bell_style = bell_style }) }
+    {
+        let config = self.config_mut();
+        config.bell_style = bell_style;
+    }
+
+    /// Sets whether colors are shown.
+    fn set_color_mode(&mut self, color_mode: ColorMode)
+        ensures { self.new ≡ with_settings self.old (record (settings self.old) { color_mode = color_mode }) }
+    {
+        let config = self.config_mut();
+        config.color_mode = color_mode;
+    }
+
+    /// Sets how the columns of a text are counted.
+    fn set_grapheme_cluster_mode(&mut self, mode: GraphemeClusterMode)
+        ensures { self.new ≡ with_settings self.old (record (settings self.old) { grapheme_cluster_mode = mode }) }
+    {
+        let config = self.config_mut();
+        config.grapheme_cluster_mode = mode;
+    }
+
+    /// Sets how many columns a tab takes.
+    fn set_tab_stop(&mut self, columns: u8)
+        ensures { self.new ≡ with_settings self.old (record (settings self.old) { tab_stop = columns }) }
+    {
+        let config = self.config_mut();
+        config.tab_stop = columns;
+    }
+
+    /// Sets whether the cursor is brought to the first column before the prompt.
+    fn set_check_cursor_position(&mut self, yes: bool)
+        ensures { self.new ≡ with_settings self.old (record (settings self.old) { check_cursor_position = yes }) }
+    {
+        let config = self.config_mut();
+        config.check_cursor_position = yes;
+    }
+
+    /// Sets how many spaces one indentation is.
+    fn set_indent_size(&mut self, spaces: u8)
+        ensures { self.new ≡ with_settings self.old (record (settings self.old) { indent_size = spaces }) }
+    {
+        let config = self.config_mut();
+        config.indent_size = spaces;
+    }
+
+    /// Sets whether the terminal is to mark pasted text.
+    fn enable_bracketed_paste(&mut self, yes: bool)
+        ensures { self.new ≡ with_settings self.old (record (settings self.old) { enable_bracketed_paste = yes }) }
+    {
+        let config = self.config_mut();
+        config.enable_bracketed_paste = yes;
+    }
+
+    /// Sets whether the terminal is to show each drawing at once.
+    fn enable_synchronized_output(&mut self, yes: bool)
+        ensures { self.new ≡ with_settings self.old (record (settings self.old) { enable_synchronized_output = yes }) }
+    {
+        let config = self.config_mut();
+        config.enable_synchronized_output = yes;
+    }
+
+    /// Sets whether the terminal sends signals for keys such as Ctrl-C.
+    fn set_enable_signals(&mut self, yes: bool)
+        ensures { self.new ≡ with_settings self.old (record (settings self.old) { enable_signals = yes }) }
+    {
+        let config = self.config_mut();
+        config.enable_signals = yes;
+    }
+
+    ghost reads_back: { (holder : Self) (set : Settings) → settings (with_settings holder set) ≡ set };
+}
+
+impl Configurer for Config {
+    ghost use Rattle.std.specs.Prelude.{refl};
+
+    ghost settings = { λ config. config };
+
+    ghost with_settings = { λ _ set. set };
+
+    ghost reads_back = { λ _ _. refl };
+
+    fn config_mut(&mut self) -> &mut Config {
+        self
     }
 }
+
+impl Configurer for Builder {
+    ghost use Rattle.std.specs.Prelude.{refl};
+
+    ghost settings = { λ builder. builder };
+
+    ghost with_settings = { λ _ set. set };
+
+    ghost reads_back = { λ _ _. refl };
+
+    fn config_mut(&mut self) -> &mut Config {
+        &mut self.config
+    }
+}
+
+/// Settings that are set one after another.
+#[derive(Clone, Debug, Drop)]
+pub struct Builder {
+    config: Config,
+}
+
+impl Model for Builder {
+    ghost use Rattle.line_config.specs.Settings.{Settings};
+
+    ghost Value = { Settings };
+
+    ghost view = { λ b. b.config };
+
+    ghost inverse = { λ b. record { config = b } };
+}
+
+impl Builder {
+    ghost use Rattle.line_config.specs.Settings.{defaults, duplicates_of, timeout_of};
+
+    /// The defaults, with clusters measured by `mode`.
+    pub fn new(mode: GraphemeClusterMode) -> Self
+        ensures { result ≡ defaults mode }
+    {
+        Builder {
+            config: Config::new(mode),
+        }
+    }
+
+    /// Sets how many lines the history keeps. Always answers Ok.
+    pub fn max_history_size(mut self, max_size: usize) -> Result<Self>
+        ensures { IsOkAnd result (λ builder. builder ≡ record self { max_history_size = max_size }) }
+    {
+        self.set_max_history_size(max_size)?;
+        Ok(self)
+    }
+
+    /// Sets whether a line that equals the newest of the history is kept out of it. Always answers Ok.
+    pub fn history_ignore_dups(mut self, yes: bool) -> Result<Self>
+        ensures { IsOkAnd result (λ builder. builder ≡ record self { history_duplicates = duplicates_of yes }) }
+    {
+        self.set_history_ignore_dups(yes)?;
+        Ok(self)
+    }
+
+    /// Sets whether a line that begins with white space is kept out of the history.
+    pub fn history_ignore_space(mut self, yes: bool) -> Self
+        ensures { result ≡ record self { history_ignore_space = yes } }
+    {
+        self.set_history_ignore_space(yes);
+        self
+    }
+
+    /// Sets how completions are offered.
+    pub fn completion_type(mut self, completion_type: CompletionType) -> Self
+        ensures { result ≡ record self { completion_type = completion_type } }
+    {
+        self.set_completion_type(completion_type);
+        self
+    }
+
+    /// Sets from how many candidates on the user is asked whether to list them.
+    pub fn completion_prompt_limit(mut self, limit: usize) -> Self
+        ensures { result ≡ record self { completion_prompt_limit = limit } }
+    {
+        self.set_completion_prompt_limit(limit);
+        self
+    }
+
+    /// Sets whether all candidates are listed at once.
+    pub fn completion_show_all_if_ambiguous(mut self, yes: bool) -> Self
+        ensures { result ≡ record self { completion_show_all_if_ambiguous = yes } }
+    {
+        self.set_completion_show_all_if_ambiguous(yes);
+        self
+    }
+
+    /// Sets how many milliseconds the rest of a key sequence is waited for; None sets no limit.
+    pub fn keyseq_timeout(mut self, milliseconds: Option<u16>) -> Self
+        ensures { result ≡ record self { keyseq_timeout = milliseconds } }
+    {
+        self.set_keyseq_timeout(milliseconds);
+        self
+    }
+
+    /// Sets the keys that the user types, and with them the limit for the rest of a key sequence: none for
+    /// Emacs, 500 milliseconds for Vi.
+    pub fn edit_mode(mut self, edit_mode: EditMode) -> Self
+        ensures { result ≡ record self { edit_mode = edit_mode; keyseq_timeout = timeout_of edit_mode } }
+    {
+        self.set_edit_mode(edit_mode);
+        self
+    }
+
+    /// Sets whether each submitted line is added to the history.
+    pub fn auto_add_history(mut self, yes: bool) -> Self
+        ensures { result ≡ record self { auto_add_history = yes } }
+    {
+        self.set_auto_add_history(yes);
+        self
+    }
+
+    /// Sets what the terminal does to be heard.
+    pub fn bell_style(mut self, bell_style: BellStyle) -> Self
+        ensures { result ≡ record self { bell_style = bell_style } }
+    {
+        self.set_bell_style(bell_style);
+        self
+    }
+
+    /// Sets whether colors are shown.
+    pub fn color_mode(mut self, color_mode: ColorMode) -> Self
+        ensures { result ≡ record self { color_mode = color_mode } }
+    {
+        self.set_color_mode(color_mode);
+        self
+    }
+
+    /// Sets how the columns of a text are counted.
+    pub fn grapheme_cluster_mode(mut self, mode: GraphemeClusterMode) -> Self
+        ensures { result ≡ record self { grapheme_cluster_mode = mode } }
+    {
+        self.set_grapheme_cluster_mode(mode);
+        self
+    }
+
+    /// Sets where the line is read from and drawn to.
+    pub fn behavior(mut self, behavior: Behavior) -> Self
+        ensures { result ≡ record self { behavior = behavior } }
+    {
+        self.config.behavior = behavior;
+        self
+    }
+
+    /// Sets how many columns a tab takes.
+    pub fn tab_stop(mut self, columns: u8) -> Self
+        ensures { result ≡ record self { tab_stop = columns } }
+    {
+        self.set_tab_stop(columns);
+        self
+    }
+
+    /// Sets whether the cursor is brought to the first column before the prompt.
+    pub fn check_cursor_position(mut self, yes: bool) -> Self
+        ensures { result ≡ record self { check_cursor_position = yes } }
+    {
+        self.set_check_cursor_position(yes);
+        self
+    }
+
+    /// Sets how many spaces one indentation is.
+    pub fn indent_size(mut self, spaces: u8) -> Self
+        ensures { result ≡ record self { indent_size = spaces } }
+    {
+        self.set_indent_size(spaces);
+        self
+    }
+
+    /// Sets whether the terminal is to mark pasted text.
+    pub fn bracketed_paste(mut self, yes: bool) -> Self
+        ensures { result ≡ record self { enable_bracketed_paste = yes } }
+    {
+        Configurer::enable_bracketed_paste(&mut self, yes);
+        self
+    }
+
+    /// Sets whether the terminal sends signals for keys such as Ctrl-C.
+    pub fn enable_signals(mut self, yes: bool) -> Self
+        ensures { result ≡ record self { enable_signals = yes } }
+    {
+        self.set_enable_signals(yes);
+        self
+    }
+
+    /// The settings as they were set.
+    pub fn build(self) -> Config
+        ensures { result ≡ self }
+    {
+        let Builder { config } = self;
+        config
+    }
+}
+
+#[cfg(test)]
+mod tests;

@@ -76,3 +76,6 @@ impl From<OutOfMemory> for ReadlineError {
         ReadlineError::Memory
     }
 }
+
+#[cfg(test)]
+mod tests;

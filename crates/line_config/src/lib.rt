@@ -6,7 +6,8 @@ pub mod error;
 pub mod prompt;
 
 pub use config::{
-    Behavior, BellStyle, ColorMode, CompletionType, Config, Configurer, EditMode, HistoryDuplicates,
+    Behavior, BellStyle, Builder, ColorMode, CompletionType, Config, Configurer, EditMode,
+    HistoryDuplicates,
 };
 pub use error::{ReadlineError, Result};
 pub use prompt::Prompt;

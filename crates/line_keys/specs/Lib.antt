@@ -5,3 +5,9 @@ pub mod Table
 pub mod Draft
 pub mod Display
 pub mod Stays
+pub use Rattle.line_parts.specs.Shown
+pub use Rattle.line_parts.specs.Hint
+pub use Rattle.line_parts.specs.Verdict
+pub use Rattle.line_config.specs.Error
+pub use Rattle.line_buffer.specs.Line
+pub use Rattle.line_buffer.specs.Changes

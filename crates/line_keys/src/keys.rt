@@ -1,18 +1,23 @@
 //! Keys as a person presses them: a key code with its modifiers.
 
 ghost use Rattle.std.specs.Prelude.{⊤, ◌≡◌, [], ◌∷◌, codes};
-ghost use Rattle.std.specs.Int.RustNames.{bit_and, bit_or, bit_xor};
-ghost use Rattle.line_keys.specs.Key.{union, intersection, symmetric_difference, difference, complement, event_of};
+ghost use Rattle.line_keys.specs.Key.{bits_of, union, intersection, symmetric_difference, difference, complement, event_of, normalized};
+ghost use Rattle.line_keys.specs.declared.keys.TheConstants.Modifiers.{NONE};
 
 use bitflags::{Flag, Flags};
 use std::ops::{BitAnd, BitOr, BitXor, Not, Sub};
 
-/// A key with the modifiers that were held with it.
+/// A key with the modifiers that were held with it. Two events are equal where both key and modifiers are.
 #[derive(Debug, Clone, Copy, PartialEq, Eq, Hash)]
 pub struct KeyEvent(pub KeyCode, pub Modifiers);
 
 impl KeyEvent {
     /// The event that the character `c` stands for, with the modifiers `mods`.
+    ///
+    /// A character that is no control character is its own key, without Shift. Of the control characters, U+0008 and
+    /// U+007F are Backspace, Tab is Tab, or BackTab where Shift is held, Carriage Return is Enter, Escape is Esc, U+009B
+    /// is Esc with Shift, and each other up to U+001F is Ctrl with the character 64 places on, as U+0001 is Ctrl with
+    /// `A`. All others are `Null`.
     pub fn new(c: char, mods: Modifiers) -> Self
         ensures { result ≡ event_of c mods }
     {
@@ -34,6 +39,51 @@ impl KeyEvent {
             }
             _ => Self(KeyCode::Null, mods),
         }
+    }
+
+    /// The event of the character `c` with Ctrl, as `new` has it.
+    pub fn ctrl(c: char) -> Self
+        ensures { result ≡ event_of c Modifiers.CTRL }
+    {
+        Self::new(c, Modifiers::CTRL)
+    }
+
+    /// The event of the character `c` with Alt, as `new` has it.
+    pub fn alt(c: char) -> Self
+        ensures { result ≡ event_of c Modifiers.ALT }
+    {
+        Self::new(c, Modifiers::ALT)
+    }
+
+    /// The event `e` in normal form, so that ways to name one key press are equal.
+    ///
+    /// An ASCII control character goes through `new`, a small ASCII letter with Ctrl becomes the capital one, a capital
+    /// ASCII letter loses Shift, and Tab with Shift becomes BackTab without it. All else stays. A small letter with Ctrl
+    /// and Shift takes two calls to lose its Shift, and a third never changes anything.
+    pub fn normalize(e: Self) -> Self
+        ensures { result ≡ normalized e }
+    {
+        let Self(code, mods) = e;
+        match code {
+            KeyCode::Char(c) if c.is_ascii_control() => Self::new(c, mods),
+            KeyCode::Char(c) if c.is_ascii_lowercase() && mods.contains(Modifiers::CTRL) => {
+                Self(KeyCode::Char(c.to_ascii_uppercase()), mods)
+            }
+            KeyCode::Char(c) if c.is_ascii_uppercase() => Self(code, mods - Modifiers::SHIFT),
+            KeyCode::Tab if mods.contains(Modifiers::SHIFT) => {
+                Self(KeyCode::BackTab, mods - Modifiers::SHIFT)
+            }
+            _ => e,
+        }
+    }
+}
+
+/// The event of a character with no modifier, as `KeyEvent::new` has it.
+impl From<char> for KeyEvent {
+    ghost from_gives = { λ c e. e ≡ event_of c NONE };
+
+    fn from(c: char) -> Self {
+        Self::new(c, Modifiers::NONE)
     }
 }
 
@@ -85,27 +135,30 @@ pub enum KeyCode {
 }
 
 /// The modifier keys that are held with a key: a set of bits, of which bit 1 is Shift, bit 2 Alt and bit 3 Ctrl.
+///
+/// `bitflags::Flags` gives its calls, and `|`, `&`, `^` and `-` are union, intersection, symmetric difference and
+/// difference. `!` is the set of the three named modifiers that are not in it.
 #[derive(Debug, Clone, Copy, PartialEq, Eq, Hash)]
 pub struct Modifiers(u8);
 
 impl Modifiers {
-    /// Ctrl.
-    pub const CTRL: Self = Self(8);
-    /// Alt, or Escape before the key.
-    pub const ALT: Self = Self(4);
-    /// Shift.
-    pub const SHIFT: Self = Self(2);
+    /// Ctrl, bit 3.
+    pub const CTRL: Self = Self(1 << 3);
+    /// Alt, or Escape typed before the key, bit 2.
+    pub const ALT: Self = Self(1 << 2);
+    /// Shift, bit 1.
+    pub const SHIFT: Self = Self(1 << 1);
 
     /// No modifier.
     pub const NONE: Self = Self(0);
     /// Ctrl and Shift.
-    pub const CTRL_SHIFT: Self = Self(10);
+    pub const CTRL_SHIFT: Self = Self(Self::CTRL.0 | Self::SHIFT.0);
     /// Alt and Shift.
-    pub const ALT_SHIFT: Self = Self(6);
+    pub const ALT_SHIFT: Self = Self(Self::ALT.0 | Self::SHIFT.0);
     /// Ctrl and Alt.
-    pub const CTRL_ALT: Self = Self(12);
+    pub const CTRL_ALT: Self = Self(Self::CTRL.0 | Self::ALT.0);
     /// Ctrl, Alt and Shift.
-    pub const CTRL_ALT_SHIFT: Self = Self(14);
+    pub const CTRL_ALT_SHIFT: Self = Self(Self::CTRL.0 | Self::ALT.0 | Self::SHIFT.0);
 
     // The three modifiers by name, as `Flags` lists them.
     const NAMED: &'static [Flag<Self>] = &[
@@ -131,7 +184,7 @@ impl Flags for Modifiers {
 
     ghost table = { (codes "CTRL", 8) ∷ (codes "ALT", 4) ∷ (codes "SHIFT", 2) ∷ [] };
 
-    ghost set_of = { λ m. m.0 };
+    ghost set_of = { bits_of };
 
     fn flags<'a>() -> &'a [Flag<Self>] {
         Self::NAMED
@@ -195,3 +248,6 @@ impl Not for Modifiers {
         Self::CTRL_ALT_SHIFT - self
     }
 }
+
+#[cfg(test)]
+mod tests;

@@ -5,5 +5,6 @@
 pub mod command;
 pub mod keymap;
 pub mod keys;
+pub mod laws;
 pub mod tables;
 pub mod tty;

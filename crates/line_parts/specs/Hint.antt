@@ -1,7 +1,17 @@
 -- Hints, as text.
-use Rattle.std.specs.Prelude.{ℕ, List, Option}
+use Rattle.std.specs.Prelude.{ℕ, ◌==◌, if◌then◌else◌, List, length, Option, Some, None}
+use Rattle.line_parts.specs.declared.hint.Hint.{Ghosts}
 
 -- what a hint displays, and what it completes the line with, if anything
 pub record Suggestion : Type 0 where
   pub display : List ℕ
   pub completion : Option (List ℕ)
+
+-- a hint as text
+abbrev pub suggestion_of : {T : Type 0} → Ghosts T → T → Suggestion
+suggestion_of hint h = record { display = hint.display_text h; completion = hint.completion_text h }
+
+-- a hint that displays nothing is none
+abbrev pub visible : Option Suggestion → Option Suggestion
+visible None = None
+visible (Some s) = if length s.display == 0 then None else Some s

@@ -2,8 +2,7 @@
 ghost use Rattle.std.specs.Prelude.{◌≡◌, ◌≤◌, ℕ, Bool, List, Option, Some, None, map, IfOk, OnOk, IsCharBoundary, string_bytes, true, false};
 ghost use Rattle.line_buffer.specs.Line.{Line};
 ghost use Rattle.line_config.specs.Error.{IoOnlyIf, FaultsOnly};
-ghost use Rattle.line_parts.specs.Candidate.{Offer, Completion, nothing, replaced_to_cursor};
-ghost use Rattle.line_parts.specs.Shown.{Shown, NotBoth, IsUsualOrOwn};
+ghost use Rattle.line_config.specs.Usual.{IsUsualOrOwn};
 
 use crate::context::Context;
 use crate::history::History;
@@ -13,8 +12,10 @@ use std::alloc::Global;
 
 /// What may complete a part of the line.
 pub trait Candidate {
+    // What is displayed.
     ghost display_text: { Self → List ℕ };
 
+    // What is put into the line.
     ghost replacement_text: { Self → List ℕ };
 
     /// What is shown in a list of candidates.
@@ -56,25 +57,39 @@ impl Candidate for &str {
 
 /// Who offers completions.
 pub trait Completer {
+    ghost use Rattle.line_parts.specs.Candidate.{Completion, nothing, offer_of, replaced_to_cursor};
+    ghost use Rattle.line_parts.specs.Context.{shown_in};
+    ghost use Rattle.line_parts.specs.Shown.{Shown, NotBoth};
+
     /// What it offers.
     type Candidate: Candidate + Drop;
 
+    // Whether no error of input or output comes from it, over a history that is sure too.
     ghost sure: { Self → Bool };
 
+    // What it offers for what it is shown: where this says nothing, it offers nothing.
     ghost own_completion: { Self → Shown → Option Completion } = { λ _ _. None };
 
+    // The line that it makes with an elected text from a place to the cursor: where this says nothing, the
+    // text is put there.
     ghost own_update: { Self → Line → ℕ → List ℕ → Option Line } = { λ _ _ _ _. None };
 
     /// Where the part of `line` before the cursor, at byte `pos`, that can be completed begins, and
     /// the candidates for it.
     ///
     /// Errors are `Io`, which comes only where this completer or the history is not sure, and `Memory`.
-    fn complete<S: History>(&self, alloc: Global, line: &str, pos: usize, ctx: &Context<'_, S>) -> Result<(usize, Vec<Self::Candidate>)>
+    fn complete<S: History>(
+        &self,
+        alloc: Global,
+        line: &str,
+        pos: usize,
+        ctx: &Context<'_, S>,
+    ) -> Result<(usize, Vec<Self::Candidate>)>
         requires { IsCharBoundary line.now pos }
         ensures start { IfOk result (λ r. (r.0 ≤ pos) × IsCharBoundary line.now r.0) }
         ensures answer { IfOk result (λ r. IsUsualOrOwn nothing
-            (own_completion self.now (record { text = line.now; cursor = pos; place = ctx.now.place; lines = S.lines ctx.now.history }))
-            (record { start = r.0; offers = map (λ c. record { display = Self.Candidate.display_text c; replacement = Self.Candidate.replacement_text c }) r.1.items })) }
+            (own_completion self.now (shown_in S.History ctx.now line.now pos))
+            (record { start = r.0; offers = map (offer_of Self.Candidate.Candidate) r.1.items })) }
         ensures io { IoOnlyIf result (NotBoth (sure self.now) (S.sure ctx.now.history)) }
         ensures faults { FaultsOnly result }
     {
@@ -87,7 +102,13 @@ pub trait Completer {
     /// Puts the elected candidate's text into the line, from `start` on to the cursor.
     ///
     /// Errors are `Io`, which comes only where this completer is not sure, and `Memory`.
-    fn update(&self, line: &mut LineBuffer, start: usize, elected: &str, changes: &mut Changeset) -> Result<()>
+    fn update(
+        &self,
+        line: &mut LineBuffer,
+        start: usize,
+        elected: &str,
+        changes: &mut Changeset,
+    ) -> Result<()>
         requires before { start ≤ line.old.cursor }
         requires boundary { IsCharBoundary line.old.text start }
         ensures line { OnOk result (IsUsualOrOwn (replaced_to_cursor line.old start elected.now)
@@ -104,7 +125,13 @@ impl Completer for () {
     ghost own_update = { λ _ line _ _. Some line };
 
     /// Leaves the line as it is.
-    fn update(&self, _line: &mut LineBuffer, _start: usize, _elected: &str, _changes: &mut Changeset) -> Result<()> {
+    fn update(
+        &self,
+        _line: &mut LineBuffer,
+        _start: usize,
+        _elected: &str,
+        _changes: &mut Changeset,
+    ) -> Result<()> {
         Ok(())
     }
 }

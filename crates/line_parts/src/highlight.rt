@@ -3,7 +3,7 @@ ghost use Rattle.std.specs.Prelude.{◌≡◌, ℕ, Bool, List, Option, None, If
 ghost use Rattle.std.specs.Cow.{cow_str_bytes};
 ghost use Rattle.line_config.specs.Error.{IoOnlyIf, FaultsOnly};
 ghost use Rattle.line_config.specs.declared.config.CompletionType.{CompletionType};
-ghost use Rattle.line_parts.specs.Shown.{IsUsualOrOwn};
+ghost use Rattle.line_config.specs.Usual.{IsUsualOrOwn};
 ghost use Rattle.line_parts.specs.declared.highlight.CmdKind.{CmdKind};
 
 use line_config::{CompletionType, Result};
@@ -23,8 +23,11 @@ pub enum CmdKind {
 
 /// Who shows a line, its prompt and its hint with colors. What is shown is as wide as the text.
 pub trait Highlighter {
+    // Whether no error of input or output comes from it.
     ghost sure: { Self → Bool };
 
+    // What it shows for a line and its cursor, a prompt and whether it is the line's own, a hint, a
+    // candidate: where these say nothing, the text is shown as it stands.
     ghost own_line: { Self → List ℕ → ℕ → Option (List ℕ) } = { λ _ _ _. None };
 
     ghost own_prompt: { Self → List ℕ → Bool → Option (List ℕ) } = { λ _ _ _. None };
@@ -33,11 +36,11 @@ pub trait Highlighter {
 
     ghost own_candidate: { Self → List ℕ → CompletionType → Option (List ℕ) } = { λ _ _ _. None };
 
+    // Where it asks for a drawing in full, for a line, its cursor and what brought it.
     ghost lights: { Self → List ℕ → ℕ → CmdKind → Bool } = { λ _ _ _ _. false };
 
-    ghost Answers: { Type 0 };
-
-    ghost answers: { Self → Answers };
+    // What `highlight_char` leaves of it: two values with one rest give the same answers but for colors.
+    ghost steady: { Self → Self } = { λ h. h };
 
     /// The line, with the cursor at byte `pos`, as it is shown.
     fn highlight<'l>(&self, alloc: Global, line: &'l str, pos: usize) -> Result<CowStr<'l>>
@@ -51,7 +54,12 @@ pub trait Highlighter {
     }
 
     /// The prompt as it is shown; `default` says whether it is the line's own.
-    fn highlight_prompt<'b, 's: 'b, 'p: 'b>(&'s self, alloc: Global, prompt: &'p str, default: bool) -> Result<CowStr<'b>>
+    fn highlight_prompt<'b, 's: 'b, 'p: 'b>(
+        &'s self,
+        alloc: Global,
+        prompt: &'p str,
+        default: bool,
+    ) -> Result<CowStr<'b>>
         ensures text { IfOk result (λ t. IsUsualOrOwn prompt.now (own_prompt self.now prompt.now default) (cow_str_bytes t)) }
         ensures io { IoOnlyIf result (sure self.now ≡ false) }
         ensures faults { FaultsOnly result }
@@ -72,7 +80,12 @@ pub trait Highlighter {
     }
 
     /// A candidate of a completion as it is shown.
-    fn highlight_candidate<'c>(&self, alloc: Global, candidate: &'c str, completion: CompletionType) -> Result<CowStr<'c>>
+    fn highlight_candidate<'c>(
+        &self,
+        alloc: Global,
+        candidate: &'c str,
+        completion: CompletionType,
+    ) -> Result<CowStr<'c>>
         ensures text { IfOk result (λ t. IsUsualOrOwn candidate.now (own_candidate self.now candidate.now completion) (cow_str_bytes t)) }
         ensures io { IoOnlyIf result (sure self.now ≡ false) }
         ensures faults { FaultsOnly result }
@@ -85,7 +98,7 @@ pub trait Highlighter {
     /// Whether the line, with the cursor at byte `pos`, has to be drawn in full for its colors.
     fn highlight_char(&mut self, line: &str, pos: usize, kind: CmdKind) -> bool
         ensures lit { IsTrue result → IsTrue (lights self.old line.now pos kind) }
-        ensures answers { answers self.new ≡ answers self.old }
+        ensures steady { steady self.new ≡ steady self.old }
         ensures sure { sure self.new ≡ sure self.old }
     {
         let _ = line;
@@ -97,8 +110,4 @@ pub trait Highlighter {
 
 impl Highlighter for () {
     ghost sure = { λ _. true };
-
-    ghost Answers = { Unit {0} };
-
-    ghost answers = { λ _. tt };
 }

@@ -1,8 +1,6 @@
 //! Hints: what is shown after the line as its likely end.
 ghost use Rattle.std.specs.Prelude.{◌≡◌, ℕ, Bool, List, Option, Some, None, option_map, IfOk, string_bytes, true};
 ghost use Rattle.line_config.specs.Error.{IoOnlyIf, FaultsOnly};
-ghost use Rattle.line_parts.specs.Shown.{Shown, NotBoth};
-ghost use Rattle.line_parts.specs.Hint.{Suggestion};
 
 use crate::context::Context;
 use crate::history::History;
@@ -11,8 +9,10 @@ use std::alloc::Global;
 
 /// A hint.
 pub trait Hint {
+    // What is displayed.
     ghost display_text: { Self → List ℕ };
 
+    // What the line is completed with.
     ghost completion_text: { Self → Option (List ℕ) };
 
     /// What is shown after the line.
@@ -54,19 +54,31 @@ impl Hint for &str {
 
 /// Who gives hints.
 pub trait Hinter {
+    ghost use Rattle.line_parts.specs.Context.{shown_in};
+    ghost use Rattle.line_parts.specs.Hint.{Suggestion, suggestion_of};
+    ghost use Rattle.line_parts.specs.Shown.{Shown, NotBoth};
+
     /// The hints that it gives.
     type Hint: Hint + Drop;
 
+    // Whether no error of input or output comes from it, over a history that is sure too.
     ghost sure: { Self → Bool };
 
+    // The hint for what it is shown.
     ghost hint_at: { Self → Shown → Option Suggestion };
 
     /// The hint for `line` with the cursor at byte `pos`, or None where there is none.
     ///
     /// Errors are `Io`, which comes only where this hinter or the history is not sure, and `Memory`.
-    fn hint<S: History>(&self, alloc: Global, line: &str, pos: usize, ctx: &Context<'_, S>) -> Result<Option<Self::Hint>>
-        ensures answer { IfOk result (λ hint. option_map (λ h. record { display = Self.Hint.display_text h; completion = Self.Hint.completion_text h }) hint
-            ≡ hint_at self.now (record { text = line.now; cursor = pos; place = ctx.now.place; lines = S.lines ctx.now.history })) }
+    fn hint<S: History>(
+        &self,
+        alloc: Global,
+        line: &str,
+        pos: usize,
+        ctx: &Context<'_, S>,
+    ) -> Result<Option<Self::Hint>>
+        ensures answer { IfOk result (λ hint.
+            option_map (suggestion_of Self.Hint.Hint) hint ≡ hint_at self.now (shown_in S.History ctx.now line.now pos)) }
         ensures io { IoOnlyIf result (NotBoth (sure self.now) (S.sure ctx.now.history)) }
         ensures faults { FaultsOnly result };
 }
@@ -78,7 +90,13 @@ impl Hinter for () {
 
     ghost hint_at = { λ _ _. None };
 
-    fn hint<S: History>(&self, _alloc: Global, _line: &str, _pos: usize, _ctx: &Context<'_, S>) -> Result<Option<String>> {
+    fn hint<S: History>(
+        &self,
+        _alloc: Global,
+        _line: &str,
+        _pos: usize,
+        _ctx: &Context<'_, S>,
+    ) -> Result<Option<String>> {
         Ok(None)
     }
 }

@@ -7,8 +7,10 @@ use std::marker::Model;
 
 /// Lines that were entered before, the oldest first.
 pub trait History {
+    // The lines, the oldest first.
     ghost lines: { Self → List (List ℕ) };
 
+    // Whether no error of input or output comes from it.
     ghost sure: { Self → Bool };
 
     /// How many lines there are.

@@ -55,10 +55,13 @@ impl<'i> ValidationContext<'i> {
 
 /// Who says whether a line is whole.
 pub trait Validator {
+    // Whether no error of input or output comes from it.
     ghost sure: { Self → Bool };
 
+    // What it says of a text.
     ghost verdict_at: { Self → List ℕ → Verdict };
 
+    // Whether it may want to be asked with each key.
     ghost checks_typing: { Self → Bool } = { λ _. false };
 
     /// What is said of the line.

@@ -14,7 +14,12 @@ impl LineBuffer {
     /// Inserts `n` copies of the character at the cursor, which goes behind them, and answers whether it
     /// was at the text's end. `OutOfMemory` comes where the text or the list of changes cannot grow; then
     /// the list is empty with no open group, and the line is text with its cursor on a boundary.
-    pub fn insert(&mut self, c: char, n: RepeatCount, changes: &mut Changeset) -> Result<bool, OutOfMemory>
+    pub fn insert(
+        &mut self,
+        c: char,
+        n: RepeatCount,
+        changes: &mut Changeset,
+    ) -> Result<bool, OutOfMemory>
         ensures answer { IfOk result (λ at_end. at_end ≡ (self.old.cursor == length self.old.text)) }
         ensures line { OnOk result (self.new ≡ inserted_at_cursor self.old (repeat n (encode_utf8 c))) }
         ensures changes { OnOk result (changes.new ≡ with_entries changes.old (with_typed self.old.cursor c n changes.old.entries)) }
@@ -46,7 +51,12 @@ impl LineBuffer {
         self.insert_text(text)
     }
 
-    fn insert_copies(&mut self, c: char, n: RepeatCount, changes: &mut Changeset) -> Result<bool, OutOfMemory>
+    fn insert_copies(
+        &mut self,
+        c: char,
+        n: RepeatCount,
+        changes: &mut Changeset,
+    ) -> Result<bool, OutOfMemory>
         requires { n ≢ 1 }
         ensures answer { IfOk result (λ at_end. at_end ≡ (self.old.cursor == length self.old.text)) }
         ensures line { OnOk result (self.new ≡ inserted_at_cursor self.old (repeat n (encode_utf8 c))) }

@@ -7,7 +7,7 @@ use Rattle.line_buffer.proofs.clusters.behind_first.Goals as goal
 pub returns-in_default : goal.returns-in_default
 returns-in_default c =
     let none : drop c.args.n (clusters c.args.text.now) ≡ [] =
-        drop_nothing_more c.loop.counter _ _ (sym c.loop.invariant ∙ c.in_default.ensures.steps.0) (omega arith) in
+    drop_nothing_more c.loop.counter _ _ (sym c.loop.invariant ∙ c.in_default.ensures.steps.0) (omega arith) in
     sym (ap concat none)
 
 pub loop-preserved : goal.loop-preserved

@@ -13,5 +13,5 @@ returns-clause-len c = omega (arith, length-behind_first _ _ c.args.n c.utf8.tex
 pub returns-clause-boundary : goal.returns-clause-boundary
 returns-clause-boundary c =
     let len : length c.args.text.now - length c.behind_first.result.now ≡ length (concat (take c.args.n (clusters c.args.text.now))) =
-        omega (arith, length-behind_first _ _ c.args.n c.utf8.text c.behind_first.ensures) in
+    omega (arith, length-behind_first _ _ c.args.n c.utf8.text c.behind_first.ensures) in
     rw len (boundary-behind_first _ _ c.args.n c.utf8.text c.behind_first.utf8 c.behind_first.ensures)

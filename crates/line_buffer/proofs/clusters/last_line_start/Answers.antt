@@ -10,13 +10,13 @@ pub returns-in-Some-clause-place : goal.returns-in-Some-clause-place
 returns-in-Some-clause-place c =
     let found = rfind_char 10 c.args.text.now (Some c.in-Some.newline) c.in-Some.ensures.cases (lit< tt) in
     let after : suffix_len is_no_newline c.args.text.now ≡ length c.args.text.now - 1 - c.in-Some.newline =
-        suffix_len-at c.args.text.now c.in-Some.newline found.0 found.1 found.2 in
+    suffix_len-at c.args.text.now c.in-Some.newline found.0 found.1 found.2 in
     omega (arith, found.0)
 
 pub returns-in-None-clause-place : goal.returns-in-None-clause-place
 returns-in-None-clause-place c =
     let all : suffix_len is_no_newline c.args.text.now ≡ length c.args.text.now =
-        suffix_len-none c.args.text.now (rfind_char 10 c.args.text.now None c.in-None.ensures.cases (lit< tt)) in
+    suffix_len-none c.args.text.now (rfind_char 10 c.args.text.now None c.in-None.ensures.cases (lit< tt)) in
     omega arith
 
 pub returns-in-None-clause-boundary : goal.returns-in-None-clause-boundary

@@ -10,7 +10,7 @@ pub returns-clause-ring : goal.returns-clause-ring
 returns-clause-ring c =
     let slots = c.self.inside.slots.items in
     let some : 0 < length slots =
-        omega (arith, c.requires, ap (λ (r : Ring). length r.slots) c.self.view_is, length-map slots string_bytes) in
+    omega (arith, c.requires, ap (λ (r : Ring). length r.slots) c.self.view_is, length-map slots string_bytes) in
     rw (← c.self.view_is)
     (joined_slot (the_view c.self.inside) slots c.args.mode c.args.text.now c.index_mut-slot.result.now c.join_text.new.text refl
-        (c.self.invariant.1 some) c.index_mut-slot.ensures.value c.in_ok-join_text.ensures)
+    (c.self.invariant.1 some) c.index_mut-slot.ensures.value c.in_ok-join_text.ensures)

@@ -7,4 +7,4 @@ pub returns-clause-ring : goal.returns-clause-ring
 returns-clause-ring c =
     rw (← c.self.view_is)
     (put_held (the_view c.self.inside) c.self.inside.slots.items c.args.slot c.args.text refl
-        (λ same. c.if-slot-len.false (omega (arith, c.self.inside.slots.ok.0))))
+    (λ same. c.if-slot-len.false (omega (arith, c.self.inside.slots.ok.0))))

@@ -1,0 +1,28 @@
+use super::*;
+use std::test::Fail;
+
+fn texts(ring: &KillRing) -> usize {
+    ring.slots.len()
+}
+
+#[test]
+fn kills_join_or_take_the_next_slot(rt: HostRuntime) -> Result<(), Fail> {
+    for (size, held, current) in [(0, 0, 0), (1, 1, 0), (2, 2, 0), (60, 3, 2)] {
+        let mut ring = KillRing::new(rt.alloc(), size);
+        for text in ["a", "b", "c"] {
+            ring.kill(text, Mode::Append)?;
+            ring.kill("-", Mode::Append)?;
+            ring.kill("+", Mode::Prepend)?;
+            ring.reset();
+        }
+        assert_eq!(rt;
+            (texts(&ring), ring.current),
+            (held, current),
+            "of size {size}"
+        );
+        if let Some(text) = ring.slots.get(current) {
+            assert_eq!(rt; text.as_str(), "+c-");
+        }
+    }
+    Ok(())
+}
