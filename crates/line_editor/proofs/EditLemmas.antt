@@ -1,9 +1,9 @@
 -- Facts on edits.
-use Rattle.std.proofs.Common.{◌≡◌, ℕ, Bool, true, false, cond, List, Option, Some, None, is_some, refl, ap}
+use Rattle.std.proofs.Common.{◌≡◌, ℕ, Bool, true, false, cond, Option, Some, None, is_some, unwrap_or, refl, ap}
 use Rattle.line_buffer.specs.Line.{Line, moved_to}
 use Rattle.line_keys.specs.Draft.{Draft, World, in_group, out_of_group}
 use Rattle.line_parts.specs.Verdict.{Verdict, valid}
-use Rattle.line_editor.specs.Step.{verdict_by_any, verdict_on, validated, unhinted_by}
+use Rattle.line_editor.specs.Step.{verdict_on, validated, unhinted_by}
 
 -- a move keeps the text
 pub moved_text : (line : Line) (place : Option ℕ) → (moved_to line place).text ≡ line.text
@@ -11,15 +11,15 @@ moved_text line None = refl
 moved_text line (Some place) = refl
 
 -- without a helper each text is valid
-pub no_verdict : (verdict_at : Option (List ℕ → Verdict)) (text : List ℕ) → is_some verdict_at ≡ false → verdict_by_any verdict_at text ≡ valid None
-no_verdict None text e = refl
-no_verdict (Some verdict_at) text e = absurd (cc)
+pub no_verdict : (verdict : Option Verdict) → is_some verdict ≡ false → unwrap_or verdict (valid None) ≡ valid None
+no_verdict None e = refl
+no_verdict (Some verdict) e = absurd (cc)
 
 -- without a helper nothing is validated
-pub not_validated : (world : World) (draft : Draft) → is_some world.verdict_at ≡ false → validated world draft ≡ draft
+pub not_validated : (world : World) (draft : Draft) → is_some (world.verdict_at draft.line.text) ≡ false → validated world draft ≡ draft
 not_validated world draft e = ap (λ b. cond b (unhinted_by (verdict_on world draft) (out_of_group (in_group draft))) draft) e
 
 -- with a helper the draft is validated
-pub was_validated : (world : World) (draft : Draft) → is_some world.verdict_at ≡ true
+pub was_validated : (world : World) (draft : Draft) → is_some (world.verdict_at draft.line.text) ≡ true
     → validated world draft ≡ unhinted_by (verdict_on world draft) (out_of_group (in_group draft))
 was_validated world draft e = ap (λ b. cond b (unhinted_by (verdict_on world draft) (out_of_group (in_group draft))) draft) e

@@ -10,7 +10,6 @@ pub mod Run
 pub mod Status
 pub mod Step
 pub mod Laws
-pub mod Party
 pub use Rattle.line_buffer.specs.Line
 pub use Rattle.line_keys.specs.Command
 pub use Rattle.line_keys.specs.Draft

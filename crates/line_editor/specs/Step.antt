@@ -1,5 +1,5 @@
 -- What a command does to the editor.
-use Rattle.std.specs.Prelude.{◌≡◌, ℕ, Bool, true, false, not, ◌&&◌, ◌||◌, if◌then◌else◌, List, [], ◌∷◌, Option, Some, None, is_some, encode_utf8}
+use Rattle.std.specs.Prelude.{◌≡◌, ℕ, Bool, true, false, not, ◌&&◌, ◌||◌, if◌then◌else◌, List, [], ◌∷◌, Option, Some, None, is_some, unwrap_or, encode_utf8}
 use Rattle.std.specs.List.{repeat}
 use Rattle.line_buffer.specs.Changes.{with_entries, with_typed}
 use Rattle.line_buffer.specs.Cluster.{place_on, place_back}
@@ -61,13 +61,9 @@ killed_by world movement editor (Some range) = record {
   kills = ring_with_killed editor.draft.line movement (Some range) editor.kills;
 }
 
--- a helper's verdict on a text: without a helper it is valid
-abbrev pub verdict_by_any : Option (List ℕ → Verdict) → List ℕ → Verdict
-verdict_by_any None text = valid None
-verdict_by_any (Some verdict_at) text = verdict_at text
-
+-- the verdict on a line: without a helper it is valid
 abbrev pub verdict_on : World → Draft → Verdict
-verdict_on world draft = verdict_by_any world.verdict_at draft.line.text
+verdict_on world draft = unwrap_or (world.verdict_at draft.line.text) (valid None)
 
 abbrev pub is_valid : Verdict → Bool
 is_valid (valid _) = true
@@ -86,7 +82,7 @@ unhinted_by _ draft = unhinted draft
 -- a helper is asked for its verdict inside a group of changes
 abbrev pub validated : World → Draft → Draft
 validated world draft =
-    if is_some world.verdict_at then unhinted_by (verdict_on world draft) (out_of_group (in_group draft))
+    if is_some (world.verdict_at draft.line.text) then unhinted_by (verdict_on world draft) (out_of_group (in_group draft))
     else draft
 
 -- a valid line is submitted, in its middle only where that is allowed; another one gets a newline, unless a message says why it

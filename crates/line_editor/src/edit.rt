@@ -1,11 +1,10 @@
 //! The line while it is edited, and how it is drawn.
-ghost use Rattle.std.specs.Prelude.{◌≡◌, ℕ, ◌≤◌, ◌<◌, ◌&&◌, ◌++◌, Bool, true, false, List, [], Option, Some, None, option_map, is_some, length, IfOk, OnOk, OnErr, IsOk, IsErrOf};
+ghost use Rattle.std.specs.Prelude.{◌≡◌, ℕ, ◌≤◌, ◌<◌, ◌&&◌, ◌++◌, Bool, true, false, List, [], Option, Some, None, option_map, is_some, length, unwrap_or, IfOk, OnOk, OnErr, IsOk, IsErrOf};
 ghost use Rattle.std.specs.Borrow.{GName};
 ghost use Rattle.line_buffer.specs.declared.layout.Position.{Position};
 ghost use Rattle.line_config.specs.Error.{FaultsOnly, IoOnlyIf, IsOneMore, MemoryOnly, Rose};
-ghost use Rattle.line_editor.specs.Party.{verdict_by, sure_by};
 ghost use Rattle.line_keys.specs.Display.{IsDrawn, IsFullRedraw, IsRight};
-ghost use Rattle.line_keys.specs.Draft.{Draft, KeepsText, hinted, unhinted, unless_empty};
+ghost use Rattle.line_keys.specs.Draft.{Draft, KeepsText, hinted, unhinted};
 ghost use Rattle.line_keys.specs.Stays.{Stays};
 ghost use Rattle.line_buffer.specs.Line.{Line, ends_in_white_space, moved_to, with_cursor, start_of_line, end_of_line};
 ghost use Rattle.line_buffer.specs.Cluster.{place_on, place_back};
@@ -13,12 +12,14 @@ ghost use Rattle.line_editor.specs.Info.{shown_info};
 ghost use Rattle.line_editor.specs.Fault.{EitherRose};
 ghost use Rattle.line_editor.specs.InputState.{input_of, keymap_of};
 ghost use Rattle.line_editor.specs.Phrase.{Phrase, IsBeginning};
-ghost use Rattle.line_editor.specs.Step.{grouped, killed_by, typed, validated, verdict_on, verdict_by_any, unhinted_by};
+ghost use Rattle.line_editor.specs.Step.{grouped, killed_by, typed, validated, verdict_on, unhinted_by};
 ghost use Rattle.line_buffer.specs.Kill.{killed_range};
 ghost use Rattle.line_keys.specs.Command.{command_of};
 ghost use Rattle.line_keys.specs.Item.{Item};
-ghost use Rattle.line_parts.specs.Verdict.{verdict_of};
-ghost use Rattle.line_parts.specs.Helped.{hint_by};
+ghost use Rattle.line_parts.specs.Verdict.{valid, verdict_of};
+ghost use Rattle.line_parts.specs.Context.{shown_in};
+ghost use Rattle.line_parts.specs.Helped.{hint_by, is_sure_by, verdict_by};
+ghost use Rattle.line_parts.specs.Hint.{suggestion_of, visible};
 
 use crate::keymap::InputState;
 use crate::tty::Renderer;
@@ -97,7 +98,7 @@ fn highlighter_of<'a, 'out, H: Highlighter>(
     }
 }
 
-#[tactic(auto, unfolding(crate::specs::Party::verdict_by, crate::specs::Party::sure_by, line_parts::specs::Helped::hint_by))]
+#[tactic(auto, unfolding(line_parts::specs::Helped::verdict_by, line_parts::specs::Helped::is_sure_by, line_parts::specs::Helped::hint_by))]
 fn lights<'out, H: Helper>(
     helper: &mut Option<&'out mut H>,
     line: &LineBuffer,
@@ -105,7 +106,7 @@ fn lights<'out, H: Helper>(
 ) -> bool
     ensures hints { hint_by H.hint_at helper.new ≡ hint_by H.hint_at helper.old }
     ensures verdicts { verdict_by H.verdict_at helper.new ≡ verdict_by H.verdict_at helper.old }
-    ensures sure { sure_by H.Hinter.sure H.Validator.sure helper.new ≡ sure_by H.Hinter.sure H.Validator.sure helper.old }
+    ensures sure { (is_sure_by H.Hinter.sure helper.new && is_sure_by H.Validator.sure helper.new) ≡ (is_sure_by H.Hinter.sure helper.old && is_sure_by H.Validator.sure helper.old) }
 {
     match helper {
         Some(h) => h.highlight_char(line.as_str(), line.pos(), kind),
@@ -113,16 +114,16 @@ fn lights<'out, H: Helper>(
     }
 }
 
-#[tactic(auto, unfolding(crate::specs::Party::sure_by, line_parts::specs::Helped::hint_by))]
+#[tactic(auto, unfolding(line_parts::specs::Helped::is_sure_by, line_parts::specs::Helped::hint_by))]
 fn hint_of<'a, 'out, H: Helper, S: History>(
     alloc: Global,
     helper: &'a Option<&'out mut H>,
     line: &LineBuffer,
     ctx: &Context<'_, S>,
 ) -> Result<Option<H::Hint>>
-    ensures answer { IfOk result (λ hint. option_map (λ h. record { display = H.Hint.display_text h; completion = H.Hint.completion_text h }) hint
-        ≡ hint_by H.hint_at helper.now (record { text = line.now.text; cursor = line.now.cursor; place = ctx.now.place; lines = S.lines ctx.now.history })) }
-    ensures io { IoOnlyIf result (sure_by H.Hinter.sure H.Validator.sure helper.now ≡ true → S.sure ctx.now.history ≡ true → ⊥) }
+    ensures answer { IfOk result (λ hint. option_map (suggestion_of H.Hint.Hint) hint
+        ≡ hint_by H.hint_at helper.now (shown_in S.History ctx.now line.now.text line.now.cursor)) }
+    ensures io { IoOnlyIf result (is_sure_by H.Hinter.sure helper.now ≡ true → S.sure ctx.now.history ≡ true → ⊥) }
     ensures faults { FaultsOnly result }
 {
     match helper {
@@ -131,9 +132,9 @@ fn hint_of<'a, 'out, H: Helper, S: History>(
     }
 }
 
-#[tactic(auto, unfolding(crate::specs::Party::verdict_by))]
+#[tactic(auto, unfolding(line_parts::specs::Helped::verdict_by))]
 fn has_validator<'a, 'out, H: Helper>(helper: &'a Option<&'out mut H>) -> bool
-    ensures { is_some (verdict_by H.verdict_at helper.now) ≡ result }
+    ensures { (text : List ℕ) → is_some (verdict_by H.verdict_at helper.now text) ≡ result }
 {
     match helper {
         Some(_) => true,
@@ -141,14 +142,14 @@ fn has_validator<'a, 'out, H: Helper>(helper: &'a Option<&'out mut H>) -> bool
     }
 }
 
-#[tactic(auto, unfolding(crate::specs::Party::sure_by, crate::specs::Party::verdict_by))]
+#[tactic(auto, unfolding(line_parts::specs::Helped::is_sure_by, line_parts::specs::Helped::verdict_by))]
 fn asked_verdict<'a, 'out, H: Helper>(
     alloc: Global,
     helper: &'a Option<&'out mut H>,
     line: &LineBuffer,
 ) -> Result<ValidationResult>
-    ensures answer { IfOk result (λ r. verdict_of r ≡ verdict_by_any (verdict_by H.verdict_at helper.now) line.now.text) }
-    ensures io { IoOnlyIf result (sure_by H.Hinter.sure H.Validator.sure helper.now ≡ true → ⊥) }
+    ensures answer { IfOk result (λ r. verdict_of r ≡ unwrap_or (verdict_by H.verdict_at helper.now line.now.text) (valid None)) }
+    ensures io { IoOnlyIf result (is_sure_by H.Validator.sure helper.now ≡ true → ⊥) }
     ensures faults { FaultsOnly result }
 {
     match helper {
@@ -158,8 +159,8 @@ fn asked_verdict<'a, 'out, H: Helper>(
 }
 
 fn unless_shows_nothing<T: Hint + Drop>(hint: Option<T>) -> Option<T>
-    ensures { option_map (λ h. record { display = T.display_text h; completion = T.completion_text h }) result
-        ≡ unless_empty (option_map (λ h. record { display = T.display_text h; completion = T.completion_text h }) hint) }
+    ensures { option_map (suggestion_of T.Hint) result
+        ≡ visible (option_map (suggestion_of T.Hint) hint) }
 {
     match hint {
         Some(h) if h.display().is_empty() => None,
@@ -267,7 +268,7 @@ impl<'out, 'prompt, W: Renderer, H: Helper, P: Prompt, S: History> State<
     fn ask_highlight(&mut self, kind: CmdKind) -> bool
         ensures hints { hint_by H.hint_at self.new.helper ≡ hint_by H.hint_at self.old.helper }
         ensures verdicts { verdict_by H.verdict_at self.new.helper ≡ verdict_by H.verdict_at self.old.helper }
-        ensures sure { sure_by H.Hinter.sure H.Validator.sure self.new.helper ≡ sure_by H.Hinter.sure H.Validator.sure self.old.helper }
+        ensures sure { (is_sure_by H.Hinter.sure self.new.helper && is_sure_by H.Validator.sure self.new.helper) ≡ (is_sure_by H.Hinter.sure self.old.helper && is_sure_by H.Validator.sure self.old.helper) }
         ensures out { self.new.out ≡ self.old.out }
         ensures prompt_size { self.new.prompt_size ≡ self.old.prompt_size }
         ensures layout { self.new.layout ≡ self.old.layout }
@@ -557,7 +558,7 @@ impl<'out, 'prompt, W: Renderer, H: Helper, P: Prompt, S: History> Refresher
       line = s.line;
       saved = s.saved_line_for_history;
       place = s.ctx.place;
-      hint = option_map (λ h. record { display = H.Hint.display_text h; completion = H.Hint.completion_text h }) s.hint;
+      hint = option_map (suggestion_of H.Hint.Hint) s.hint;
       changes = s.changes;
     } };
 
@@ -576,7 +577,7 @@ impl<'out, 'prompt, W: Renderer, H: Helper, P: Prompt, S: History> Refresher
 
     ghost fixed = { λ s. s.out.ghost_name };
 
-    ghost sure = { λ s. sure_by H.Hinter.sure H.Validator.sure s.helper && S.sure s.ctx.history };
+    ghost sure = { λ s. is_sure_by H.Hinter.sure s.helper && is_sure_by H.Validator.sure s.helper && S.sure s.ctx.history };
 
     ghost failures = { λ s. W.failures s.out.now };
 

@@ -1,8 +1,8 @@
 -- The line that is being edited, and what answers for it.
-use Rattle.std.specs.Prelude.{◌≡◌, ℕ, Bool, List, [], ◌∷◌, Option, Some, None}
+use Rattle.std.specs.Prelude.{◌≡◌, ℕ, List, Option, None}
 use Rattle.line_buffer.specs.Changes.{Changes, begun, ended}
 use Rattle.line_buffer.specs.Line.{Line}
-use Rattle.line_parts.specs.Hint.{Suggestion}
+use Rattle.line_parts.specs.Hint.{Suggestion, visible}
 use Rattle.line_parts.specs.Shown.{Shown}
 use Rattle.line_parts.specs.Verdict.{Verdict}
 
@@ -17,17 +17,8 @@ pub record Draft : Type 0 where
 -- what is fixed beside it: the helper's hints, its verdicts where there is a helper, and the history's list
 pub record World : Type 0 where
   pub hint_at : Shown → Option Suggestion
-  pub verdict_at : Option (List ℕ → Verdict)
+  pub verdict_at : List ℕ → Option Verdict
   pub lines : List (List ℕ)
-
--- a hint that shows nothing is none
-abbrev pub unless_empty : Option Suggestion → Option Suggestion
-unless_empty None = None
-unless_empty (Some hint) = shown_or_none hint hint.display
-  where
-    shown_or_none : Suggestion → List ℕ → Option Suggestion
-    shown_or_none hint [] = None
-    shown_or_none hint (_ ∷ _) = Some hint
 
 -- what the helper is shown of a draft
 abbrev pub shown : World → Draft → Shown
@@ -36,7 +27,7 @@ shown world draft =
 
 -- the hint asked again
 abbrev pub hinted : World → Draft → Draft
-hinted world draft = record draft { hint = unless_empty (world.hint_at (shown world draft)) }
+hinted world draft = record draft { hint = visible (world.hint_at (shown world draft)) }
 
 -- the hint taken away
 abbrev pub unhinted : Draft → Draft

@@ -6,6 +6,8 @@ pub mod Draft
 pub mod Display
 pub mod Stays
 pub use Rattle.line_parts.specs.Shown
+pub use Rattle.line_parts.specs.Context
+pub use Rattle.line_parts.specs.Helped
 pub use Rattle.line_parts.specs.Hint
 pub use Rattle.line_parts.specs.Verdict
 pub use Rattle.line_config.specs.Error

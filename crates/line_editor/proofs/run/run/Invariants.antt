@@ -1,11 +1,11 @@
 use Rattle.std.proofs.Common.{◌≡◌, ◌≤◌, ◌&&◌, List, option_map, length}
-use Rattle.line_parts.specs.Helped.{hint_by}
+use Rattle.line_parts.specs.Helped.{hint_by, is_sure_by, verdict_by}
+use Rattle.line_parts.specs.Hint.{suggestion_of}
 use Rattle.line_keys.specs.Display.{Display, IsRight}
 use Rattle.line_keys.specs.Draft.{Draft, World, hinted}
 use Rattle.line_keys.specs.Item.{Item}
 use Rattle.line_editor.specs.InputState.{input_of, keymap_of}
 use Rattle.line_editor.specs.Keymap.{Keymap}
-use Rattle.line_editor.specs.Party.{verdict_by, sure_by}
 use Rattle.line_editor.specs.Run.{Run}
 use Rattle.line_editor.specs.Step.{Editor, Answer}
 use Rattle.line_editor.proofs.run.run.Given as goal
@@ -22,14 +22,14 @@ invariant-turns g l =
       line = l.fn.state.line;
       saved = l.fn.state.saved_line_for_history;
       place = l.fn.state.ctx.place;
-      hint = option_map (λ h. record { display = g.H.Hint.Hint.display_text h; completion = g.H.Hint.Hint.completion_text h }) l.fn.state.hint;
+      hint = option_map (suggestion_of g.H.Hint.Hint) l.fn.state.hint;
       changes = l.fn.state.changes;
     } in
     let now : Draft = record {
       line = l.state.line;
       saved = l.state.saved_line_for_history;
       place = l.state.ctx.place;
-      hint = option_map (λ h. record { display = g.H.Hint.Hint.display_text h; completion = g.H.Hint.Hint.completion_text h }) l.state.hint;
+      hint = option_map (suggestion_of g.H.Hint.Hint) l.state.hint;
       changes = l.state.changes;
     } in
     let display : Display = record {
@@ -53,8 +53,8 @@ invariant-turns g l =
       fixed : l.state.out.ghost_name ≡ l.fn.state.out.ghost_name;
       surface : g.W.Renderer.surface l.state.out.now ≡ g.W.Renderer.surface l.fn.state.out.now;
       prompt_end : l.state.prompt_size ≡ l.fn.state.prompt_size;
-      sure : sure_by g.H.Hinter.sure g.H.Validator.sure l.state.helper && g.S.History.sure l.state.ctx.history
-          ≡ sure_by g.H.Hinter.sure g.H.Validator.sure l.fn.state.helper && g.S.History.sure l.fn.state.ctx.history;
+      sure : is_sure_by g.H.Hinter.sure l.state.helper && is_sure_by g.H.Validator.sure l.state.helper && g.S.History.sure l.state.ctx.history
+          ≡ is_sure_by g.H.Hinter.sure l.fn.state.helper && is_sure_by g.H.Validator.sure l.fn.state.helper && g.S.History.sure l.fn.state.ctx.history;
       right : IsRight display l.state.line;
       reads : g.W.Reader.RawReader.failures l.fn.rdr ≤ g.W.Reader.RawReader.failures l.rdr;
       draws : g.W.Renderer.failures l.fn.state.out.now ≤ g.W.Renderer.failures l.state.out.now;
