@@ -5,14 +5,10 @@ use Rattle.line_keys.specs.Draft.{Draft}
 use Rattle.line_keys.specs.declared.command.Cmd.TheVariants.{EndOfFile}
 use Rattle.line_keys.specs.declared.keys.KeyEvent.{KeyEvent}
 use Rattle.line_keys.specs.declared.tables.Count.{Count}
+use Rattle.line_editor.specs.Asked.{Asked}
+use Rattle.line_editor.specs.Event.{keys}
 use Rattle.line_editor.specs.Input.{Input}
-
--- what a binding is shown: the keys, the count, the draft and the input
-pub record Asked : Type 0 where
-  pub keys : List KeyEvent
-  pub count : Count
-  pub draft : Draft
-  pub input : Input
+use Rattle.line_editor.specs.Moment.{moment_in}
 
 -- what the bindings of the program answer, and what the reader gives each key by itself
 pub record Keymap : Type 0 where
@@ -32,5 +28,5 @@ first_of_two None other = other
 -- the command of a key by the bindings, or else by the reader
 abbrev pub bound_command : Keymap → Draft → Input → Count → KeyEvent → Option Command
 bound_command keymap draft input count key =
-    first_of_two (keymap.bound (record { keys = key ∷ []; count = count; draft = draft; input = input }))
+    first_of_two (keymap.bound (record { event = keys (key ∷ []); count = count; moment = moment_in draft input }))
     (on_line draft.line.text (keymap.own key))

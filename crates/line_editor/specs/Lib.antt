@@ -1,3 +1,6 @@
+pub mod Asked
+pub mod Event
+pub mod Moment
 pub mod Info
 pub mod Binding
 pub mod Fault

@@ -3,8 +3,8 @@ ghost use Rattle.std.specs.Prelude.{◌≡◌, ℕ, ◌≤◌, ◌<◌, ◌&&◌
 ghost use Rattle.std.specs.Borrow.{GName};
 ghost use Rattle.line_buffer.specs.declared.layout.Position.{Position};
 ghost use Rattle.line_config.specs.Error.{FaultsOnly, IoOnlyIf, IsOneMore, MemoryOnly, Rose};
-ghost use Rattle.line_keys.specs.Display.{IsDrawn, IsFullRedraw, IsRight};
-ghost use Rattle.line_keys.specs.Draft.{Draft, KeepsText, hinted, unhinted};
+ghost use Rattle.line_keys.specs.Display.{IsDrawn, IsFullRedraw, IsRight, undrawn};
+ghost use Rattle.line_keys.specs.Draft.{Draft, KeepsText, empty_draft, hinted, unhinted};
 ghost use Rattle.line_keys.specs.Stays.{Stays};
 ghost use Rattle.line_buffer.specs.Line.{Line, ends_in_white_space, moved_to, with_cursor, start_of_line, end_of_line};
 ghost use Rattle.line_buffer.specs.Cluster.{place_on, place_back};
@@ -183,7 +183,24 @@ impl<'out, 'prompt, W: Renderer, H: Helper, P: Prompt, S: History> State<
         prompt: &'prompt P,
         helper: Option<&'out mut H>,
         ctx: Context<'out, S>,
-    ) -> Result<Self> {
+    ) -> Result<Self>
+        ensures made { IsOk result }
+        ensures state { IfOk result (λ s.
+            ⟦<State<'out, 'prompt, W, H, P, S> as Refresher>⟧.draft s ≡ empty_draft ctx.entry.place) }
+        ensures display { IfOk result (λ s.
+            ⟦<State<'out, 'prompt, W, H, P, S> as Refresher>⟧.display s ≡ undrawn (W.surface out.old) (W.screen out.old) (P.raw_text prompt.now)) }
+        ensures world { IfOk result (λ s.
+            ⟦<State<'out, 'prompt, W, H, P, S> as Refresher>⟧.world s ≡ record {
+                hint_at = hint_by H.hint_at helper.entry;
+                verdict_at = verdict_by H.verdict_at helper.entry;
+                lines = S.lines ctx.entry.history }) }
+        ensures sure { IfOk result (λ s.
+            ⟦<State<'out, 'prompt, W, H, P, S> as Refresher>⟧.sure s
+                ≡ (is_sure_by H.Hinter.sure helper.entry && is_sure_by H.Validator.sure helper.entry && S.sure ctx.entry.history)) }
+        ensures failures { IfOk result (λ s. ⟦<State<'out, 'prompt, W, H, P, S> as Refresher>⟧.failures s ≡ W.failures out.old) }
+        ensures redraws { IfOk result (λ s. ⟦<State<'out, 'prompt, W, H, P, S> as Refresher>⟧.redraws s ≡ W.redraws out.old) }
+        ensures same_renderer { IfOk result (λ s. ⟦<State<'out, 'prompt, W, H, P, S> as Refresher>⟧.fixed s ≡ out.entry.ghost_name) }
+    {
         let prompt_size = out.calculate_position(prompt.raw(), Position { row: 0, col: 0 });
         let mut layout = Layout::new(out.grapheme_cluster_mode());
         layout.prompt_size = prompt_size;
@@ -498,7 +515,8 @@ impl<'out, 'prompt, W: Renderer, H: Helper, P: Prompt, S: History> State<
 
     /// The place in the history; its length is that of the line that is being typed.
     pub fn place(&self) -> usize
-        ensures { result ≡ (⟦<State<'out, 'prompt, W, H, P, S> as Refresher>⟧.draft self.now).place }
+        ensures within { result ≤ length (⟦<State<'out, 'prompt, W, H, P, S> as Refresher>⟧.world self.now).lines }
+        ensures value { result ≡ (⟦<State<'out, 'prompt, W, H, P, S> as Refresher>⟧.draft self.now).place }
     {
         self.ctx.history_index()
     }

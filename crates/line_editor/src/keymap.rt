@@ -1,15 +1,17 @@
 //! Reads keys, and gives the commands that they stand for.
 ghost use Rattle.std.specs.Prelude.{◌≡◌, ◌<◌, ◌≤◌, ◌↔◌, ◌+◌, true, Bool, List, [], ◌∷◌, ◌++◌, length, Option, Some, None, option_map, IfOk, OnOk, OnErr, IsErrOf, IsTrue};
 ghost use Rattle.line_config.specs.Error.{FaultsOnly, IoOnlyIf, Rose};
+ghost use Rattle.line_editor.specs.Binding.{answer_of};
 ghost use Rattle.line_editor.specs.Fault.{EitherRose};
 ghost use Rattle.line_editor.specs.Keymap.{on_line};
 ghost use Rattle.line_editor.specs.Input.{first_input};
 ghost use Rattle.line_editor.specs.InputState.{input_of, keymap_of};
 ghost use Rattle.line_editor.specs.Phrase.{Phrase, IsBeginning, seen_of};
-ghost use Rattle.line_keys.specs.Command.{command_of};
+ghost use Rattle.line_keys.specs.Command.{Command, command_of};
 ghost use Rattle.line_keys.specs.Draft.{KeepsText};
 ghost use Rattle.line_keys.specs.Display.{IsRight};
 ghost use Rattle.line_keys.specs.Item.{Item};
+ghost use Rattle.line_keys.specs.declared.keys.KeyEvent.{KeyEvent};
 ghost use Rattle.line_keys.specs.Stays.{Stays};
 
 use crate::binding::Bindings;
@@ -35,7 +37,9 @@ pub struct InputState<'b> {
 impl<'b> InputState<'b> {
     /// The state before the first key, in the configured style; the Vi style begins in insert mode.
     pub fn new(config: &Config, bindings: &'b Bindings) -> Self
-        ensures { input_of result ≡ first_input config.now.edit_mode }
+        ensures input { input_of result ≡ first_input config.now.edit_mode }
+        ensures bindings { (own : KeyEvent → Option Command)
+            → keymap_of result own ≡ record { bound = answer_of bindings.now; own = own } }
     {
         InputState {
             mode: config.edit_mode(),

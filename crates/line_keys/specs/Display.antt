@@ -29,6 +29,26 @@ pub record Display : Type 0 where
   pub layout : Layout
   pub screen : Screen
 
+-- the first column of the first row
+abbrev pub corner : Position
+corner = record { row = 0; col = 0 }
+
+-- nothing is drawn yet: of the kept layout the prompt's end and the mode stand
+abbrev pub undrawn : Surface → Screen → List ℕ → Display
+undrawn surface screen prompt = record {
+  surface = surface;
+  prompt_end = surface.measure prompt corner;
+  layout = record {
+    grapheme_cluster_mode = surface.mode;
+    prompt_size = surface.measure prompt corner;
+    default_prompt = false;
+    cursor = corner;
+    end = corner;
+    has_info = false;
+  };
+  screen = screen;
+}
+
 -- where the cursor of a line is in a full redraw
 abbrev pub cursor_place : Measure → Position → Line → Position
 cursor_place measure prompt_end line = measure (take line.cursor line.text) prompt_end

@@ -1,6 +1,6 @@
 -- The line that is being edited, and what answers for it.
-use Rattle.std.specs.Prelude.{◌≡◌, ℕ, List, Option, None}
-use Rattle.line_buffer.specs.Changes.{Changes, begun, ended}
+use Rattle.std.specs.Prelude.{◌≡◌, ℕ, List, [], Option, None}
+use Rattle.line_buffer.specs.Changes.{Changes, begun, ended, no_changes}
 use Rattle.line_buffer.specs.Line.{Line}
 use Rattle.line_parts.specs.Hint.{Suggestion, visible}
 use Rattle.line_parts.specs.Shown.{Shown}
@@ -13,6 +13,16 @@ pub record Draft : Type 0 where
   pub place : ℕ
   pub hint : Option Suggestion
   pub changes : Changes
+
+-- the draft before the first key, at a place in the history
+abbrev pub empty_draft : ℕ → Draft
+empty_draft place = record {
+  line = record { text = []; cursor = 0 };
+  saved = record { text = []; cursor = 0 };
+  place = place;
+  hint = None;
+  changes = no_changes;
+}
 
 -- what is fixed beside it: the helper's hints, its verdicts where there is a helper, and the history's list
 pub record World : Type 0 where

@@ -1,5 +1,5 @@
 //! What the keys' tables ask of the editor.
-ghost use Rattle.std.specs.Prelude.{◌≡◌, ℕ, ◌≤◌, ◌↔◌, Bool, true, List, OnOk, OnErr, IsTrue, is_some, option_map, option_and_then, length};
+ghost use Rattle.std.specs.Prelude.{◌≡◌, ℕ, ◌≤◌, ◌↔◌, Bool, true, List, OnOk, OnErr, IsTrue, is_some, option_map, option_and_then, length, IsCharBoundary};
 ghost use Rattle.line_config.specs.Error.{FaultsOnly, IoOnlyIf, IsOneMore, MemoryOnly, Rose};
 ghost use Rattle.line_keys.specs.Display.{Display, IsRight};
 ghost use Rattle.line_buffer.specs.Changes.{no_changes};
@@ -144,5 +144,6 @@ pub trait Refresher {
 
     /// The cursor's place in bytes.
     fn pos(&self) -> usize
-        ensures { result ≡ (draft self.now).line.cursor };
+        ensures value { result ≡ (draft self.now).line.cursor }
+        ensures boundary { IsCharBoundary (draft self.now).line.text result };
 }
