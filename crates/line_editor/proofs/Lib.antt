@@ -1,3 +1,4 @@
 pub mod EditLemmas
 pub mod PhraseLemmas
+pub mod RunLaws
 pub mod RunLemmas

@@ -1,0 +1,154 @@
+-- A run has one end.
+use Rattle.std.proofs.Common.{◌≡◌, ◌≢◌, ◌⊎◌, inl, inr, List, [], ◌∷◌, ◌++◌, append_assoc, refl, sym, ◌∙◌, ap, subst}
+use Rattle.line_buffer.specs.KillRing.{Ring}
+use Rattle.line_keys.specs.Command.{Command}
+use Rattle.line_keys.specs.Draft.{Draft, World}
+use Rattle.line_keys.specs.Item.{Item}
+use Rattle.line_editor.specs.Input.{Input}
+use Rattle.line_editor.specs.Keymap.{Keymap}
+use Rattle.line_editor.specs.Laws.{HasOneEnd, SameEnd}
+use Rattle.line_editor.specs.Phrase.{Phrase, IsBeginning}
+use Rattle.line_editor.specs.Run.{Run, Turn, Stands, goes_on, ends, runs_dry, ready}
+use Rattle.line_editor.specs.Step.{Editor, Step, Answer, Leaves, step, proceeds, ended}
+use Rattle.line_editor.proofs.PhraseLemmas.{phrases-fit}
+
+-- nothing is behind a list that stays as it is
+append-nothing : {A : Type 0} (xs : List A) → xs ++ [] ≡ xs
+append-nothing [] = refl
+append-nothing (x ∷ xs) = ap (λ r. x ∷ r) (append-nothing xs)
+
+-- nothing is in a list that joins to nothing
+nothing-in : {A : Type 0} (xs ys : List A) → xs ++ ys ≡ [] → ys ≡ []
+nothing-in [] ys e = e
+nothing-in (x ∷ xs) ys e = absurd (cc)
+
+-- of two fronts of one list the one begins the other
+fronts : {A : Type 0} (p q m n : List A) → p ++ m ≡ q ++ n
+    → ((d : List A) × (q ≡ p ++ d) × (m ≡ d ++ n)) ⊎ ((d : List A) × (p ≡ q ++ d) × (n ≡ d ++ m))
+fronts [] q m n e = inl (q, refl, e)
+fronts (x ∷ p) [] m n e = inr (x ∷ p, refl, sym e)
+fronts (x ∷ p) (y ∷ q) m n e =
+    let head : x ≡ y = cc in
+    let tail : p ++ m ≡ q ++ n = cc in
+    elim (fronts p q m n tail) [
+      inl f ↦ inl (f.0, ap (λ h. h ∷ q) (sym head) ∙ ap (λ r. x ∷ r) f.1, f.2)
+      | inr f ↦ inr (f.0, ap (λ h. h ∷ p) head ∙ ap (λ r. y ∷ r) f.1, f.2)
+    ]
+
+-- what two phrases at the front of one list have in common: all
+record SamePhrase (p q m n : List Item) (c c' : Command) (d d' : Draft) (i i' : Input) : Type 0 where
+  more : m ≡ n
+  command : c ≡ c'
+  draft : d ≡ d'
+  input : i ≡ i'
+
+module _ (keymap : Keymap) (world : World) where
+  -- a phrase that begins another one is the other
+  begins-same : (draft : Draft) (input : Input) (p q m n d : List Item) (c c' : Command) (l l' : Draft) (i i' : Input)
+      → Phrase keymap world draft input p c l i → Phrase keymap world draft input q c' l' i'
+      → q ≡ p ++ d → m ≡ d ++ n
+      → SamePhrase p q m n c c' l l' i i'
+  begins-same draft input p q m n d c c' l l' i i' one other front rest =
+      let P : List Item → Type 0 = λ x. Phrase keymap world draft input x c' l' i' in
+      let fit = phrases-fit keymap world draft input p d c c' l l' i i' one (subst P front other) in
+      record { more = rest ∙ ap (λ x. x ++ n) fit.0; command = fit.1; draft = fit.2; input = fit.3 }
+
+  flipped : (p q m n : List Item) (c c' : Command) (l l' : Draft) (i i' : Input)
+      → SamePhrase p q m n c c' l l' i i' → SamePhrase q p n m c' c l' l i' i
+  flipped p q m n c c' l l' i i' s =
+      record { more = sym s.more; command = sym s.command; draft = sym s.draft; input = sym s.input }
+
+  -- two phrases at the front of one list are the same
+  one-phrase : (draft : Draft) (input : Input) (p q m n : List Item) (c c' : Command) (l l' : Draft) (i i' : Input)
+      → Phrase keymap world draft input p c l i → Phrase keymap world draft input q c' l' i'
+      → p ++ m ≡ q ++ n
+      → SamePhrase p q m n c c' l l' i i'
+  one-phrase draft input p q m n c c' l l' i i' one other e =
+      elim (fronts p q m n e) [
+        inl f ↦ begins-same draft input p q m n f.0 c c' l l' i i' one other f.1 f.2
+        | inr f ↦ flipped q p n m c' c l' l i' i (begins-same draft input q p n m f.0 c' c l' l i' i other one f.1 f.2)
+      ]
+
+  -- what two turns from one place have in common: all
+  record SameTurn (left left' : Editor) (i i' : Input) (m n : List Item) (a a' : Answer) : Type 0 where
+    editor : left ≡ left'
+    input : i ≡ i'
+    more : m ≡ n
+    answer : a ≡ a'
+
+  one-turn : (editor left left' : Editor) (input i i' : Input) (items m n : List Item) (a a' : Answer)
+      → Turn keymap world editor input items left i m a
+      → Turn keymap world editor input items left' i' n a'
+      → SameTurn left left' i i' m n a a'
+  one-turn editor left left' input i i' items m n a a' one other =
+      let s = one-phrase editor.draft input one.phrase other.phrase m n one.command other.command one.draft other.draft i i' one.reads other.reads (sym one.cut ∙ other.cut) in
+      let done : Input → Command → Draft → Step = λ j c d. step world j (ready c d editor.kills) c in
+      let same : done i one.command one.draft ≡ done i' other.command other.draft =
+          ap (λ j. done j one.command one.draft) s.input ∙ ap (λ c. done i' c one.draft) s.command ∙ ap (λ d. done i' other.command d) s.draft in
+      record {
+        editor = one.leaves.editor ∙ ap (λ (d : Step). d.editor) same ∙ sym other.leaves.editor;
+        input = s.input;
+        more = s.more;
+        answer = sym one.leaves.answered ∙ ap (λ (d : Step). d.answer) same ∙ other.leaves.answered;
+      }
+
+  -- where a turn is made the items don't run dry
+  not-dry : {B : Type 0} (editor left : Editor) (input i : Input) (items m : List Item) (a : Answer)
+      → Turn keymap world editor input items left i m a
+      → IsBeginning keymap world editor.draft input items
+      → B
+  not-dry editor left input i items m a turn begins =
+      let P : List Item → Type 0 = λ x. Phrase keymap world editor.draft input x begins.command begins.draft' begins.input' in
+      let whole = subst P (ap (λ x. x ++ begins.rest) turn.cut ∙ append_assoc turn.phrase m begins.rest) begins.phrase in
+      let fit = phrases-fit keymap world editor.draft input turn.phrase (m ++ begins.rest) turn.command begins.command turn.draft begins.draft' i begins.input' turn.reads whole in
+      absurd (begins.proper (nothing-in m begins.rest fit.0))
+
+  one-end : (editor last last' : Editor) (input : Input) (items rest rest' inside inside' : List Item) (answer answer' : Answer)
+      → Run keymap world editor input items last rest inside answer
+      → Run keymap world editor input items last' rest' inside' answer'
+      → SameEnd last last' rest rest' inside inside' answer answer'
+  one-end editor last last' input items rest rest' inside inside' answer answer' (goes_on {middle = middle} {input' = i} {more = m} turn run) (goes_on {middle = middle'} {input' = i'} {more = n} turn' run') =
+      let s = one-turn editor middle middle' input i i' items m n proceeds proceeds turn turn' in
+      let P : Editor → Type 0 = λ e. Run keymap world e i' n last' rest' inside' answer' in
+      let Q : Input → Type 0 = λ j. Run keymap world middle j n last' rest' inside' answer' in
+      let R : List Item → Type 0 = λ x. Run keymap world middle i x last' rest' inside' answer' in
+      one-end middle last last' i m rest rest' inside inside' answer answer' run
+      (subst R (sym s.more) (subst Q (sym s.input) (subst P (sym s.editor) run')))
+  one-end editor last last' input items rest rest' inside inside' answer answer' (goes_on {middle = middle} {input' = i} {more = m} turn run) (ends {input' = i'} turn' other) =
+      let s = one-turn editor middle last' input i i' items m rest' proceeds answer' turn turn' in
+      absurd (other (sym s.answer))
+  one-end editor last last' input items rest rest' inside inside' answer answer' (goes_on {middle = middle} {input' = i} {more = m} turn run) (runs_dry begins stands) =
+      not-dry editor middle input i items m proceeds turn begins
+  one-end editor last last' input items rest rest' inside inside' answer answer' (ends {input' = i} turn other) (goes_on {middle = middle} {input' = i'} {more = n} turn' run') =
+      let s = one-turn editor last middle input i i' items rest n answer proceeds turn turn' in
+      absurd (other s.answer)
+  one-end editor last last' input items rest rest' inside inside' answer answer' (ends {input' = i} turn other) (ends {input' = i'} turn' other') =
+      let s = one-turn editor last last' input i i' items rest rest' answer answer' turn turn' in
+      record {
+        line = ap (λ (e : Editor). e.draft.line) s.editor;
+        place = ap (λ (e : Editor). e.draft.place) s.editor;
+        kills = ap (λ (e : Editor). e.kills) s.editor;
+        left = s.more;
+        cut_short = refl;
+        answered = s.answer;
+      }
+  one-end editor last last' input items rest rest' inside inside' answer answer' (ends {input' = i} turn other) (runs_dry begins stands) =
+      not-dry editor last input i items rest answer turn begins
+  one-end editor last last' input items rest rest' inside inside' answer answer' (runs_dry begins stands) (goes_on {middle = middle} {input' = i} {more = m} turn run) =
+      not-dry editor middle input i items m proceeds turn begins
+  one-end editor last last' input items rest rest' inside inside' answer answer' (runs_dry begins stands) (ends {input' = i} turn other) =
+      not-dry editor last' input i items rest' answer' turn begins
+  one-end editor last last' input items rest rest' inside inside' answer answer' (runs_dry begins stands) (runs_dry begins' stands') =
+      record {
+        line = stands.line ∙ sym stands'.line;
+        place = stands.place ∙ sym stands'.place;
+        kills = stands.kills ∙ sym stands'.kills;
+        left = refl;
+        cut_short = refl;
+        answered = refl;
+      }
+
+-- a run has one end
+pub runs-fit : HasOneEnd
+runs-fit keymap world editor last last' input items rest rest' inside inside' answer answer' =
+    one-end keymap world editor last last' input items rest rest' inside inside' answer answer'
