@@ -1,0 +1,4 @@
+pub mod Measure
+pub mod Script
+pub mod MeasureLaws
+pub mod Outcome

@@ -1,0 +1,111 @@
+//! Runs a script of keys through the line editor, and prints what became of the line.
+#![tactic(auto)]
+
+ghost use Rattle.std.specs.Prelude.{◌≤◌, IfOk};
+
+mod measure;
+mod plain;
+mod report;
+mod script;
+
+use line_buffer::{GraphemeClusterMode, KillRing, Unit};
+use line_config::{Config, ReadlineError};
+use line_editor::binding::Bindings;
+use line_editor::edit::State;
+use line_editor::keymap::InputState;
+use line_editor::run::run;
+use line_keys::keymap::Refresher;
+use line_parts::{Context, MemHistory};
+use plain::Plain;
+use report::{Outcome, Report};
+use script::{Script, ScriptError, read_script};
+use std::alloc::Global;
+use std::io;
+use std::io::{Read, Write};
+use std::process::ExitCode;
+
+/// The status of a fault.
+const FAULT: u8 = 3;
+
+/// The status of a script with a bad line.
+const BAD_SCRIPT: u8 = 4;
+
+/// The columns of the screen.
+const COLUMNS: Unit = 80;
+
+/// The prompt.
+const PROMPT: &str = "> ";
+
+/// The slots of the kill ring.
+const KILL_RING_SIZE: usize = 60;
+
+fn main(rt: HostRuntime) -> ExitCode {
+    ExitCode::from(play(rt.alloc(), rt.reader(), &mut io::writer(&rt)))
+}
+
+/// Runs a script and prints what became of the line, in six lines, or the script's first bad line, in one.
+///
+/// The answer is the status to end with: 0 where the line was submitted, 1 where the input ended, 2 where the line
+/// was interrupted, 3 after a fault of the editor, of memory or of a stream, and 4 where the script has a bad line.
+pub fn play<R: Read + Drop, O: Write>(alloc: Global, input: R, out: &mut O) -> u8
+    ensures { result ≤ 4 }
+{
+    match play_script(alloc, input, out) {
+        Ok(status) => status,
+        Err(_) => FAULT,
+    }
+}
+
+/// The same, with a fault of a stream or of memory as the error.
+fn play_script<R: Read + Drop, O: Write>(
+    alloc: Global,
+    input: R,
+    out: &mut O,
+) -> Result<u8, ReadlineError>
+    ensures { IfOk result (λ status. status ≤ 4) }
+{
+    let items = match read_script(alloc, input) {
+        Ok(items) => items,
+        Err(ScriptError::BadLine(line)) => {
+            writeln!(out, "bad script line {line}")?;
+            out.flush()?;
+            return Ok(BAD_SCRIPT);
+        }
+        Err(ScriptError::Fault(error)) => return Err(error),
+    };
+    let mut screen = Plain::new(alloc, COLUMNS);
+    let outcome = edit(alloc, Script::new(items), &mut screen, out)?;
+    writeln!(out, "redraws {}", screen.redraws())?;
+    out.flush()?;
+    Ok(outcome.status())
+}
+
+/// Edits a line by the script's items, and prints all but the redraws.
+fn edit<O: Write>(
+    alloc: Global,
+    mut script: Script,
+    screen: &mut Plain,
+    out: &mut O,
+) -> Result<Outcome, ReadlineError> {
+    let config = Config::new(GraphemeClusterMode::Unicode);
+    let bindings = Bindings::new(alloc);
+    let history = MemHistory::new(alloc);
+    let mut input = InputState::new(&config, &bindings);
+    let mut kill_ring = KillRing::new(alloc, KILL_RING_SIZE);
+    let mut helper = ();
+    let context = Context::new(&history);
+    let mut state = State::new(alloc, screen, &PROMPT, Some(&mut helper), context)?;
+    let answer = run(&mut state, &mut input, &mut script, &mut kill_ring, &config);
+    let report = Report {
+        outcome: Outcome::of(answer),
+        line: state.line(),
+        cursor: state.pos(),
+        place: state.place(),
+        at: state.layout().cursor,
+    };
+    report.write_to(out)?;
+    Ok(report.outcome)
+}
+
+#[cfg(test)]
+mod tests;

@@ -1,0 +1,150 @@
+//! What is printed of a run.
+ghost use Rattle.std.specs.Prelude.{◌≡◌, ◌≤◌};
+ghost use Rattle.replay.specs.Outcome.{outcome_of, status_of};
+
+use line_buffer::Position;
+use line_config::{ReadlineError, Result};
+use std::fmt::{Display, Formatter};
+use std::io::Write;
+use std::{fmt, io};
+
+/// How a run ended.
+#[derive(Clone, Copy, Debug, PartialEq, Eq)]
+pub(crate) enum Outcome {
+    /// The line was submitted.
+    Submitted,
+    /// The input ended.
+    Eof,
+    /// The line was interrupted.
+    Interrupted,
+    /// A party failed, or memory ran out.
+    Fault,
+}
+
+impl Outcome {
+    /// How a run ended that gave this answer.
+    pub(crate) fn of(answer: Result<()>) -> Outcome
+        ensures { result ≡ outcome_of answer }
+    {
+        match answer {
+            Ok(()) => Outcome::Submitted,
+            Err(ReadlineError::Eof) => Outcome::Eof,
+            Err(ReadlineError::Interrupted) => Outcome::Interrupted,
+            Err(ReadlineError::Io(_) | ReadlineError::Memory) => Outcome::Fault,
+        }
+    }
+
+    /// The status that the program ends with.
+    pub(crate) fn status(self) -> u8
+        ensures value { result ≡ status_of self }
+        ensures bound { result ≤ 3 }
+    {
+        match self {
+            Outcome::Submitted => 0,
+            Outcome::Eof => 1,
+            Outcome::Interrupted => 2,
+            Outcome::Fault => 3,
+        }
+    }
+}
+
+impl Display for Outcome {
+    fn fmt<W: fmt::Write>(&self, f: &mut Formatter<W>) -> fmt::Result {
+        f.write_str(match self {
+            Outcome::Submitted => "submitted",
+            Outcome::Eof => "eof",
+            Outcome::Interrupted => "interrupted",
+            Outcome::Fault => "fault",
+        })
+    }
+}
+
+/// What became of the line.
+#[derive(Clone, Copy, Debug)]
+pub(crate) struct Report<'a> {
+    /// How the run ended.
+    pub(crate) outcome: Outcome,
+    /// The line's text.
+    pub(crate) line: &'a str,
+    /// The cursor's place in it, in bytes.
+    pub(crate) cursor: usize,
+    /// The place in the history.
+    pub(crate) place: usize,
+    /// Where the cursor was drawn.
+    pub(crate) at: Position,
+}
+
+impl Report<'_> {
+    /// Writes the report, a line for each part of it.
+    pub(crate) fn write_to<O: Write>(&self, out: &mut O) -> io::Result<()> {
+        writeln!(out, "outcome {}", self.outcome)?;
+        out.write_all(b"line ")?;
+        write_escaped(self.line, out)?;
+        writeln!(out)?;
+        writeln!(out, "cursor {}", self.cursor)?;
+        writeln!(out, "place {}", self.place)?;
+        writeln!(out, "at {} {}", self.at.row, self.at.col)
+    }
+}
+
+/// Writes the text with a backslash as `\\` and a newline as `\n`.
+fn write_escaped<O: Write>(text: &str, out: &mut O) -> io::Result<()> {
+    for c in text.chars() {
+        match c {
+            '\\' => out.write_all(br"\\")?,
+            '\n' => out.write_all(br"\n")?,
+            _ => write!(out, "{c}")?,
+        }
+    }
+    Ok(())
+}
+
+#[cfg(test)]
+mod tests {
+    use super::*;
+    use std::result::Result;
+    use std::test::Fail;
+
+    #[test]
+    fn names_each_outcome(rt: HostRuntime) -> Result<(), Fail> {
+        let fault = io::Error::from(io::ErrorKind::Other);
+        let cases = [
+            (Ok(()), "submitted", 0),
+            (Err(ReadlineError::Eof), "eof", 1),
+            (Err(ReadlineError::Interrupted), "interrupted", 2),
+            (Err(ReadlineError::Io(fault)), "fault", 3),
+            (Err(ReadlineError::Memory), "fault", 3),
+        ];
+        for (answer, name, status) in cases {
+            let outcome = Outcome::of(answer);
+            let shown = format!(in rt.alloc(); "{outcome}")?;
+            assert_eq!(rt; shown.as_str(), name);
+            assert_eq!(rt; outcome.status(), status, "{name}");
+        }
+        Ok(())
+    }
+
+    #[test]
+    fn escapes_the_line(rt: HostRuntime) -> Result<(), Fail> {
+        let cases = [
+            ("", "outcome eof\nline \ncursor 3\nplace 7\nat 2 5\n"),
+            (
+                "a\\\n世",
+                "outcome eof\nline a\\\\\\n世\ncursor 3\nplace 7\nat 2 5\n",
+            ),
+        ];
+        for (line, printed) in cases {
+            let report = Report {
+                outcome: Outcome::Eof,
+                line,
+                cursor: 3,
+                place: 7,
+                at: Position { row: 2, col: 5 },
+            };
+            let mut out = Vec::new(rt.alloc());
+            report.write_to(&mut out)?;
+            assert_eq!(rt; out.as_slice(), printed.as_bytes(), "{line:?}");
+        }
+        Ok(())
+    }
+}

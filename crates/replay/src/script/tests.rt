@@ -1,0 +1,113 @@
+//! Scripts, line by line.
+
+use super::*;
+use std::test::Fail;
+
+const NEWLINE: char = '\n';
+
+#[test]
+fn keeps_the_items_of_good_lines(rt: HostRuntime) -> Result<(), Fail> {
+    let scripts: [(&str, &[KeyEvent]); 10] = [
+        ("", &[]),
+        ("\n\n", &[]),
+        ("type ", &[]),
+        ("type aB", &[typed('a'), typed('B')]),
+        ("type aB\n", &[typed('a'), typed('B')]),
+        ("type  é", &[typed(' '), typed('é')]),
+        (
+            r"type C-a\n\\",
+            &[
+                typed('C'),
+                typed('-'),
+                typed('a'),
+                typed(NEWLINE),
+                typed('\\'),
+            ],
+        ),
+        ("type a\r\n", &[typed('a'), typed('\r')]),
+        ("key  \n", &[typed(' ')]),
+        (
+            "\nkey C-a\n\ntype x\nkey Enter",
+            &[CTRL_A, typed('x'), ENTER],
+        ),
+    ];
+    for (script, keys) in scripts {
+        let Ok(items) = read_script(rt.alloc(), script.as_bytes()) else {
+            return Err(Fail::from("a good script"));
+        };
+        assert_eq!(rt; items.len(), keys.len(), "{script}");
+        for (item, key) in items.iter().zip(keys) {
+            assert!(rt; matches!(item, Item::Key(read) if read == key), "{script}");
+        }
+    }
+    Ok(())
+}
+
+#[test]
+fn names_the_first_bad_line(rt: HostRuntime) {
+    let scripts: [(&[u8], usize); 24] = [
+        (b"key Foo", 1),
+        (b"type a\nkey Left\nkey Foo\ntype b\n", 3),
+        (b"\n\nkey\n", 3),
+        (b"key ", 1),
+        (b"type", 1),
+        (b"type\ta", 1),
+        (b" type a", 1),
+        (b"Type a", 1),
+        (b"types a", 1),
+        (b"\r\n", 1),
+        (b"key Enter\r\n", 1),
+        (b"type \\t", 1),
+        (b"type a\\", 1),
+        (b"type \\\\\\", 1),
+        (b"type \xff", 1),
+        (b"type a\n\xc3\n", 2),
+        (b"key Foo\n\xff", 1),
+        (b"mode vi", 1),
+        (b"columns 80", 1),
+        (b"prompt $", 1),
+        (b"history ls", 1),
+        (b"hints", 1),
+        (b"brackets", 1),
+        (b"paste a", 1),
+    ];
+    for (script, line) in scripts {
+        let bad = match read_script(rt.alloc(), script) {
+            Err(ScriptError::BadLine(number)) => Some(number),
+            _ => None,
+        };
+        assert_eq!(rt; bad, Some(line), "{script:?}");
+    }
+}
+
+#[test]
+fn gives_items_of_the_asked_kind(rt: HostRuntime) -> Result<(), Fail> {
+    let mut items = VecDeque::new(rt.alloc());
+    items.push_back(Item::Key(typed('x')))?;
+    items.push_back(Item::Paste(String::from_str(rt.alloc(), "t\n")?))?;
+    items.push_back(Item::Key(CTRL_A))?;
+    let mut script = Script::new(items);
+    assert!(rt; matches!(script.read_pasted_text(), Err(ReadlineError::Io(_))));
+    assert_eq!(rt; script.next_char()?, 'x');
+    assert!(rt; matches!(script.next_key(false), Err(ReadlineError::Io(_))));
+    let pasted = script.read_pasted_text()?;
+    assert_eq!(rt; pasted.as_str(), "t\n");
+    assert!(rt; matches!(script.next_char(), Err(ReadlineError::Io(_))));
+    assert_eq!(rt; script.next_key(true)?, CTRL_A);
+    assert!(rt; matches!(script.next_key(false), Err(ReadlineError::Eof)));
+    assert_eq!(rt; script.failures, 3);
+    assert!(rt; matches!(script.find_binding(&KeyEvent::ctrl('c')), None));
+    let bound = script.find_binding(&KeyEvent::ctrl('\u{3}'));
+    assert!(rt; matches!(bound, Some(Cmd::Interrupt)));
+    let bound = script.find_binding(&KeyEvent::ctrl('\u{4}'));
+    assert!(rt; matches!(bound, Some(Cmd::EndOfFile)));
+    Ok(())
+}
+
+const CTRL_A: KeyEvent = KeyEvent(KeyCode::Char('A'), Modifiers::CTRL);
+
+const ENTER: KeyEvent = KeyEvent(KeyCode::Enter, Modifiers::NONE);
+
+fn typed(c: char) -> KeyEvent {
+    KeyEvent(KeyCode::Char(c), Modifiers::NONE)
+}
