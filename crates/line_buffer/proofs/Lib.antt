@@ -1,3 +1,4 @@
+pub mod BoundaryLemmas
 pub mod ChangeLemmas
 pub mod ClusterLemmas
 pub mod LineLemmas

@@ -21,7 +21,7 @@ drop_nothing_more n (suc m) [] e h = refl
 drop_nothing_more zero (suc m) (x ∷ xs) e h = cc
 drop_nothing_more (suc n) (suc m) (x ∷ xs) e h = drop_nothing_more n m xs e (omega arith)
 
-take_within_take : {A : Type 0} (n m : ℕ) (xs : List A) → m ≤ n → take m (take n xs) ≡ take m xs
+pub take_within_take : {A : Type 0} (n m : ℕ) (xs : List A) → m ≤ n → take m (take n xs) ≡ take m xs
 take_within_take n zero xs h = refl
 take_within_take zero (suc m) xs h = absurd (omega arith)
 take_within_take (suc n) (suc m) [] h = refl

@@ -1,5 +1,5 @@
 -- The changes of a line, newest first, and what each call adds to them.
-use Rattle.std.specs.Prelude.{ℕ, suc, ◌+◌, ◌-◌, ◌^◌, min, Bool, true, false, not, ◌==◌, ◌&&◌, List, [], ◌∷◌, ◌++◌, length, replicate, encode_utf8, if◌then◌else◌}
+use Rattle.std.specs.Prelude.{ℕ, suc, ◌+◌, ◌-◌, ◌^◌, min, Bool, true, false, not, ◌==◌, ◌&&◌, List, [], ◌∷◌, ◌++◌, length, replicate, Option, Some, None, encode_utf8, if◌then◌else◌}
 use Rattle.std.specs.List.{repeat}
 use Rattle.line_buffer.specs.Character.{is_alphanumeric, is_one_alphanumeric}
 
@@ -84,3 +84,12 @@ with_replace place old new (replaced at before after ∷ entries) =
     if at + length after == place then replaced at (before ++ old) (after ++ new) ∷ entries
     else replaced place old new ∷ replaced at before after ∷ entries
 with_replace place old new entries = replaced place old new ∷ entries
+
+-- the text that came in last: that of the newest entry which is no end
+abbrev pub last_insert_of : List Entry → Option (List ℕ)
+last_insert_of [] = None
+last_insert_of (ends ∷ entries) = last_insert_of entries
+last_insert_of (inserted place text ∷ entries) = Some text
+last_insert_of (replaced place old new ∷ entries) = Some new
+last_insert_of (begins ∷ entries) = None
+last_insert_of (deleted place text ∷ entries) = None

@@ -1,5 +1,5 @@
 -- The texts that were killed.
-use Rattle.std.specs.Prelude.{ℕ, ◌+◌, Bool, true, false, ◌==◌, ◌||◌, ◌&&◌, not, List, [], ◌∷◌, ◌++◌, length, slice_set, slice_index_or, Option, Some, None, if◌then◌else◌}
+use Rattle.std.specs.Prelude.{ℕ, ◌+◌, ◌-◌, Bool, true, false, ◌==◌, ◌||◌, ◌&&◌, not, List, [], ◌∷◌, ◌++◌, length, slice_set, slice_index_or, Option, Some, None, is_some, if◌then◌else◌}
 use Rattle.line_buffer.specs.declared.kill_ring.Mode.{Mode}
 use Rattle.line_buffer.specs.declared.kill_ring.Mode.TheVariants.{Append, Prepend}
 
@@ -67,3 +67,29 @@ after_kill r text mode =
 abbrev pub with_kept : Ring → List ℕ → Option Mode → Ring
 with_kept r text None = r
 with_kept r text (Some mode) = after_kill r text mode
+
+-- the text that a yank gives: the current slot's, if one is held
+abbrev pub yanked_text : Ring → Option (List ℕ)
+yanked_text r = if length r.slots == 0 then None else Some (current_text r)
+
+-- the ring after a yank
+abbrev pub after_yank : Ring → Ring
+after_yank r = if length r.slots == 0 then r else with_last r (yanked (length (current_text r)))
+
+-- the ring one slot back, from the first to the last that is held
+abbrev pub back_one : Ring → Ring
+back_one r = record { size = r.size; slots = r.slots; current = if r.current == 0 then length r.slots - 1 else r.current - 1; last = r.last }
+
+-- the bytes of the last yank, if that was the last action
+abbrev pub last_yank : LastAction → Option ℕ
+last_yank killed = None
+last_yank (yanked size) = Some size
+last_yank other = None
+
+-- what a yank-pop answers, the bytes of the yank before: none where that was not the last action, or nothing is held
+abbrev pub yank_pop_size : Ring → Option ℕ
+yank_pop_size r = if length r.slots == 0 then None else last_yank r.last
+
+-- the ring after a yank-pop
+abbrev pub after_yank_pop : Ring → Ring
+after_yank_pop r = if is_some (yank_pop_size r) then after_yank (back_one r) else r

@@ -9,5 +9,6 @@ pub mod Movement
 pub mod Range
 pub mod Told
 pub mod Width
+pub mod Yank
 pub use Rattle.unicode_segmentation.specs.Grapheme
 pub use Rattle.unicode_width.specs.Width as CharWidth

@@ -1,7 +1,7 @@
 -- A line: a text and a cursor in it.
 use Rattle.std.specs.Prelude.{ℕ, ◌+◌, ◌-◌, ◌==◌, Bool, not, List, ◌++◌, length, take, drop, reverse, chars, IsCharBoundary, Option, Some, None, slice_range, MatchOption}
 use Rattle.std.specs.Char.{is_whitespace}
-use Rattle.std.specs.List.{list_all, prefix_len, suffix_len, remove_range, insert_slice}
+use Rattle.std.specs.List.{list_all, prefix_len, suffix_len, remove_range, insert_slice, replace_range}
 
 -- the bytes of the text, and the cursor's place among them
 pub record Line : Type 0 where
@@ -27,6 +27,14 @@ moved_to l (Some place) = with_cursor l place
 -- a text comes in at the cursor, which goes behind it
 abbrev pub inserted_at_cursor : Line → List ℕ → Line
 inserted_at_cursor l t = record { text = insert_slice l.text l.cursor t; cursor = l.cursor + length t }
+
+-- a text comes in at a place, and the cursor stays
+abbrev pub inserted_at : Line → ℕ → List ℕ → Line
+inserted_at l place t = record { text = insert_slice l.text place t; cursor = l.cursor }
+
+-- a text comes for a range, and the cursor goes behind it
+abbrev pub replaced_in : Line → ℕ → ℕ → List ℕ → Line
+replaced_in l from to t = record { text = replace_range l.text from to t; cursor = from + length t }
 
 -- the bytes of a range go, and the cursor goes to where they were
 abbrev pub without : Line → Option (ℕ × ℕ) → Line

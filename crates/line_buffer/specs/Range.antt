@@ -1,5 +1,5 @@
 -- The range of the text that a movement spans.
-use Rattle.std.specs.Prelude.{ℕ, ◌==◌, length, Option, Some, None, option_map, if◌then◌else◌}
+use Rattle.std.specs.Prelude.{ℕ, ◌==◌, List, length, slice_range, Option, Some, None, option_map, if◌then◌else◌}
 use Rattle.line_buffer.specs.Cluster.{place_on, place_back}
 use Rattle.line_buffer.specs.Line.{Line, start_of_line, end_of_line}
 use Rattle.line_buffer.specs.declared.keymap.Movement.{Movement}
@@ -34,3 +34,7 @@ range_of l EndOfBuffer = Some (l.cursor, length l.text)
 abbrev pub unless_empty : Option (ℕ × ℕ) → Option (ℕ × ℕ)
 unless_empty None = None
 unless_empty (Some r) = if r.0 == r.1 then None else Some r
+
+-- the bytes of a range
+abbrev pub text_in : List ℕ → Option (ℕ × ℕ) → Option (List ℕ)
+text_in text range = option_map (λ r. slice_range text r.0 r.1) range

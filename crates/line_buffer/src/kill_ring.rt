@@ -1,5 +1,5 @@
-ghost use Rattle.std.specs.Prelude.{◌≡◌, ◌<◌, ◌≤◌, length, slice_set, string_bytes, OnOk};
-ghost use Rattle.line_buffer.specs.KillRing.{other, empty_ring, with_last, after_kill, joined, current_text, with_slot, next_slot, with_kept};
+ghost use Rattle.std.specs.Prelude.{◌≡◌, ◌<◌, ◌≤◌, length, slice_set, string_bytes, is_some, option_copied, OnOk};
+ghost use Rattle.line_buffer.specs.KillRing.{other, empty_ring, with_last, after_kill, joined, current_text, with_slot, next_slot, with_kept, yanked_text, after_yank, after_yank_pop, back_one, yank_pop_size};
 
 use crate::line_buffer::OutOfMemory;
 use std::alloc::Global;
@@ -81,6 +81,61 @@ impl KillRing {
             return self.join(text, mode);
         }
         self.take_next(text)
+    }
+
+    /// The current slot's text, or `None` where nothing is held.
+    pub fn text(&self) -> Option<&str>
+        ensures text { option_copied result ≡ yanked_text self.now }
+        ensures bound { length self.now.slots ≤ self.now.size }
+    {
+        if self.slots.is_empty() {
+            return None;
+        }
+        Some(self.slots[self.current].as_str())
+    }
+
+    /// Records that the current slot's text was yanked, and answers whether one is held: `text` gives it.
+    pub fn yank(&mut self) -> bool
+        ensures answer { result ≡ is_some (yanked_text self.old) }
+        ensures ring { self.new ≡ after_yank self.old }
+        ensures bound { length self.new.slots ≤ self.new.size }
+    {
+        if self.slots.is_empty() {
+            return false;
+        }
+        self.last = Action::Yank(self.slots[self.current].len());
+        true
+    }
+
+    /// Right after a yank goes one slot back, from the first to the last that is held, and records that its
+    /// text was yanked: `text` gives it. Answers the bytes of the yank before, or `None` where the last
+    /// action was no yank or nothing is held; then nothing changes.
+    pub fn yank_pop(&mut self) -> Option<usize>
+        ensures answer { result ≡ yank_pop_size self.old }
+        ensures ring { self.new ≡ after_yank_pop self.old }
+        ensures bound { length self.new.slots ≤ self.new.size }
+    {
+        let Action::Yank(size) = self.last else {
+            return None;
+        };
+        if self.slots.is_empty() {
+            return None;
+        }
+        self.go_back();
+        self.yank();
+        Some(size)
+    }
+
+    /// Goes one slot back, from the first to the last that is held.
+    fn go_back(&mut self)
+        requires { 0 < length self.old.slots }
+        ensures { self.new ≡ back_one self.old }
+    {
+        if self.current == 0 {
+            self.current = self.slots.len() - 1;
+        } else {
+            self.current -= 1;
+        }
     }
 
     /// Keeps a text that was killed, if there is a mode by which to keep it.

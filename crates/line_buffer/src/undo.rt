@@ -1,5 +1,5 @@
-ghost use Rattle.std.specs.Prelude.{◌≡◌, ◌+◌, ◌==◌, ◌++◌, ◌∷◌, length, replicate, not, IfOk, OnOk, OnErr};
-ghost use Rattle.line_buffer.specs.Changes.{ends, newest_begins, inserted, deleted, replaced, no_changes, with_entries, begun, ended, closed, adds_end, with_insert, with_joined_insert, with_joined_delete, with_delete, with_replace};
+ghost use Rattle.std.specs.Prelude.{◌≡◌, ◌+◌, ◌==◌, ◌++◌, ◌∷◌, length, replicate, not, string_bytes, option_copied, option_map, IfOk, OnOk, OnErr};
+ghost use Rattle.line_buffer.specs.Changes.{ends, last_insert_of, newest_begins, inserted, deleted, replaced, no_changes, with_entries, begun, ended, closed, adds_end, with_insert, with_joined_insert, with_joined_delete, with_delete, with_replace};
 
 use crate::clusters::{is_alphanumeric, is_one_alphanumeric};
 use crate::line_buffer::OutOfMemory;
@@ -43,7 +43,7 @@ impl Model for Changeset {
 }
 
 impl Changeset {
-    ghost use Rattle.line_buffer.specs.Told.{entry_of};
+    ghost use Rattle.line_buffer.specs.Told.{entries_of, entry_of};
 
     /// No change and no open group. The list grows from `alloc`.
     pub fn new(alloc: Global) -> Changeset
@@ -90,6 +90,35 @@ impl Changeset {
         self.take_newest_begins();
         let outcome = self.add_ends();
         self.settled(outcome)
+    }
+
+    /// A copy of the text that came in last: of the newest entry but ends, the text that was inserted or
+    /// came for another. `None` where that entry is a begin or a delete, or there is none. `OutOfMemory`
+    /// comes where the copy is refused; the list stays in any case.
+    pub fn last_insert(&self) -> Result<Option<String>, OutOfMemory>
+        ensures { IfOk result (λ r. option_map string_bytes r ≡ last_insert_of self.now.entries) }
+    {
+        match Changeset::inserted_text(self.changes.as_slice()) {
+            Some(text) => Ok(Some(String::from_str(*self.changes.allocator(), text)?)),
+            None => Ok(None),
+        }
+    }
+
+    /// The text that came in last by these changes.
+    fn inserted_text(changes: &[Change]) -> Option<&str>
+        ensures { option_copied result ≡ last_insert_of (entries_of changes.now) }
+    {
+        let mut left = changes;
+        while let [older @ .., newest] = left {
+            match newest {
+                Change::End => left = older,
+                Change::Insert { text, .. } | Change::Replace { new: text, .. } => {
+                    return Some(text.as_str());
+                }
+                Change::Begin | Change::Delete { .. } => return None,
+            }
+        }
+        None
     }
 
     /// Takes newest begins away, each of an open group.

@@ -1,5 +1,5 @@
 -- Facts on edits.
-use Rattle.std.proofs.Common.{◌≡◌, ℕ, Bool, true, false, cond, Option, Some, None, is_some, unwrap_or, refl, ap}
+use Rattle.std.proofs.Common.{◌≡◌, ℕ, true, false, cond, Option, Some, None, is_some, unwrap_or, refl, ap}
 use Rattle.line_buffer.specs.Line.{Line, moved_to}
 use Rattle.line_keys.specs.Draft.{Draft, World, in_group, out_of_group}
 use Rattle.line_parts.specs.Verdict.{Verdict, valid}

@@ -1,10 +1,8 @@
 -- Facts on phrases.
-use Rattle.std.proofs.Common.{◌≡◌, ◌≢◌, List, [], ◌∷◌, ◌++◌, map, Option, Some, None, refl, sym, ◌∙◌, ap, subst}
-use Rattle.line_config.specs.declared.config.EditMode.{EditMode}
-use Rattle.line_keys.specs.declared.keymap.InputMode.{InputMode}
+use Rattle.std.proofs.Common.{◌≡◌, List, [], ◌∷◌, ◌++◌, map, Option, Some, None, refl, sym, ◌∙◌, ap, subst}
 use Rattle.line_keys.specs.Command.{Command, plain}
 use Rattle.line_keys.specs.Draft.{Draft, World}
-use Rattle.line_keys.specs.Item.{Item, key, paste}
+use Rattle.line_keys.specs.Item.{Item, key}
 use Rattle.line_keys.specs.Table.{Row, Tail, nothing, row_of, command_at, one, IsCount}
 use Rattle.line_keys.specs.Key.{event}
 use Rattle.line_keys.specs.declared.keys.KeyCode.TheVariants.{Enter}

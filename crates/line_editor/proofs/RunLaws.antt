@@ -1,6 +1,5 @@
 -- A run has one end.
-use Rattle.std.proofs.Common.{◌≡◌, ◌≢◌, ◌⊎◌, inl, inr, List, [], ◌∷◌, ◌++◌, append_assoc, refl, sym, ◌∙◌, ap, subst}
-use Rattle.line_buffer.specs.KillRing.{Ring}
+use Rattle.std.proofs.Common.{◌≡◌, ◌⊎◌, inl, inr, List, [], ◌∷◌, ◌++◌, append_assoc, refl, sym, ◌∙◌, ap, subst}
 use Rattle.line_keys.specs.Command.{Command}
 use Rattle.line_keys.specs.Draft.{Draft, World}
 use Rattle.line_keys.specs.Item.{Item}
@@ -8,8 +7,8 @@ use Rattle.line_editor.specs.Input.{Input}
 use Rattle.line_editor.specs.Keymap.{Keymap}
 use Rattle.line_editor.specs.Laws.{HasOneEnd, SameEnd}
 use Rattle.line_editor.specs.Phrase.{Phrase, IsBeginning}
-use Rattle.line_editor.specs.Run.{Run, Turn, Stands, goes_on, ends, runs_dry, ready}
-use Rattle.line_editor.specs.Step.{Editor, Step, Answer, Leaves, step, proceeds, ended}
+use Rattle.line_editor.specs.Run.{Run, Turn, goes_on, ends, runs_dry, ready}
+use Rattle.line_editor.specs.Step.{Editor, Step, Answer, step, proceeds}
 use Rattle.line_editor.proofs.PhraseLemmas.{phrases-fit}
 
 -- nothing is behind a list that stays as it is
@@ -31,7 +30,7 @@ fronts (x ∷ p) (y ∷ q) m n e =
     let head : x ≡ y = cc in
     let tail : p ++ m ≡ q ++ n = cc in
     elim (fronts p q m n tail) [
-      inl f ↦ inl (f.0, ap (λ h. h ∷ q) (sym head) ∙ ap (λ r. x ∷ r) f.1, f.2)
+      | inl f ↦ inl (f.0, ap (λ h. h ∷ q) (sym head) ∙ ap (λ r. x ∷ r) f.1, f.2)
       | inr f ↦ inr (f.0, ap (λ h. h ∷ p) head ∙ ap (λ r. y ∷ r) f.1, f.2)
     ]
 
@@ -65,7 +64,7 @@ module _ (keymap : Keymap) (world : World) where
       → SamePhrase p q m n c c' l l' i i'
   one-phrase draft input p q m n c c' l l' i i' one other e =
       elim (fronts p q m n e) [
-        inl f ↦ begins-same draft input p q m n f.0 c c' l l' i i' one other f.1 f.2
+        | inl f ↦ begins-same draft input p q m n f.0 c c' l l' i i' one other f.1 f.2
         | inr f ↦ flipped q p n m c' c l' l i' i (begins-same draft input q p n m f.0 c' c l' l i' i other one f.1 f.2)
       ]
 
@@ -84,7 +83,7 @@ module _ (keymap : Keymap) (world : World) where
       let s = one-phrase editor.draft input one.phrase other.phrase m n one.command other.command one.draft other.draft i i' one.reads other.reads (sym one.cut ∙ other.cut) in
       let done : Input → Command → Draft → Step = λ j c d. step world j (ready c d editor.kills) c in
       let same : done i one.command one.draft ≡ done i' other.command other.draft =
-          ap (λ j. done j one.command one.draft) s.input ∙ ap (λ c. done i' c one.draft) s.command ∙ ap (λ d. done i' other.command d) s.draft in
+      ap (λ j. done j one.command one.draft) s.input ∙ ap (λ c. done i' c one.draft) s.command ∙ ap (λ d. done i' other.command d) s.draft in
       record {
         editor = one.leaves.editor ∙ ap (λ (d : Step). d.editor) same ∙ sym other.leaves.editor;
         input = s.input;

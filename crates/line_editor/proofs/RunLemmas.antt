@@ -10,7 +10,7 @@ use Rattle.line_editor.specs.Input.{Input}
 use Rattle.line_editor.specs.Keymap.{Keymap}
 use Rattle.line_editor.specs.Phrase.{Phrase, IsBeginning}
 use Rattle.line_editor.specs.Run.{Run, Turn, Stands, goes_on, ends, runs_dry, ends_kills, kills_before}
-use Rattle.line_editor.specs.Step.{Editor, Step, Answer, Leaves, step, grouped, proceeds, ended}
+use Rattle.line_editor.specs.Step.{Editor, Answer, Leaves, step, grouped, proceeds, ended}
 
 -- a command and its value agree on the kill ring
 pub ends_kills_of : (cmd : Cmd) → ends_kills (command_of cmd) ≡ resets_kill_ring cmd

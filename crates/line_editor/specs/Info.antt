@@ -1,5 +1,5 @@
 -- What is shown behind the line.
-use Rattle.std.specs.Prelude.{ℕ, List, Option, Some, None, option_map}
+use Rattle.std.specs.Prelude.{ℕ, List, Option, None, option_map}
 use Rattle.line_editor.specs.declared.edit.Info.{Info}
 use Rattle.line_editor.specs.declared.edit.Info.TheVariants.{Nothing, Hint, Message}
 

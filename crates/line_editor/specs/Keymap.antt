@@ -1,5 +1,5 @@
 -- Which command a key has before the tables are asked.
-use Rattle.std.specs.Prelude.{◌≡◌, ℕ, List, [], ◌∷◌, Option, Some, None}
+use Rattle.std.specs.Prelude.{ℕ, List, [], ◌∷◌, Option, Some, None}
 use Rattle.line_keys.specs.Command.{Command, plain}
 use Rattle.line_keys.specs.Draft.{Draft}
 use Rattle.line_keys.specs.declared.command.Cmd.TheVariants.{EndOfFile}

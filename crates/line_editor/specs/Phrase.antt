@@ -1,9 +1,8 @@
 -- Phrases: the items that one command is read from.
-use Rattle.std.specs.Prelude.{◌≡◌, ◌≢◌, ℕ, Bool, true, false, List, [], ◌∷◌, ◌++◌, map, length, ◌==◌, Option, Some, None}
-use Rattle.line_buffer.specs.Changes.{Changes}
-use Rattle.line_keys.specs.Command.{Command, plain, insertion, replacement}
+use Rattle.std.specs.Prelude.{◌≡◌, ◌≢◌, List, [], ◌∷◌, ◌++◌, map, length, ◌==◌, Option, Some, None}
+use Rattle.line_keys.specs.Command.{Command, plain}
 use Rattle.line_keys.specs.Draft.{Draft, World, hinted}
-use Rattle.line_keys.specs.Item.{Item, key, paste}
+use Rattle.line_keys.specs.Item.{Item, key}
 use Rattle.line_keys.specs.Table.{Row, Tail, nothing, row_of, command_at, IsCount}
 use Rattle.line_keys.specs.declared.keys.KeyEvent.{KeyEvent}
 use Rattle.line_keys.specs.declared.tables.Count.{Count}

@@ -121,9 +121,9 @@ pub trait ConditionalEventHandler: Drop {
         ctx: &EventContext<'_>,
     ) -> Result<Option<Cmd>>
         ensures answer { IfOk result (λ c. option_map command_of c ≡ answer self.now (record {
-            event = chord_of evt.now;
-            count = record { n = n; positive = positive };
-            moment = moment_of ctx.now;
+          event = chord_of evt.now;
+          count = record { n = n; positive = positive };
+          moment = moment_of ctx.now;
         })) }
         ensures io { IoOnlyIf result (sure self.now ≡ false) }
         ensures faults { FaultsOnly result };

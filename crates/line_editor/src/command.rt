@@ -77,7 +77,10 @@ pub fn execute<'out, 'prompt, W: Renderer, H: Helper, P: Prompt, S: History>(
 }
 
 // Moves the cursor.
-fn move_by<'out, 'prompt, W: Renderer, H: Helper, P: Prompt, S: History>(state: &mut State<'out, 'prompt, W, H, P, S>, movement: &Movement) -> Result<()>
+fn move_by<'out, 'prompt, W: Renderer, H: Helper, P: Prompt, S: History>(
+    state: &mut State<'out, 'prompt, W, H, P, S>,
+    movement: &Movement,
+) -> Result<()>
     ensures draft { (⟦<State<'out, 'prompt, W, H, P, S> as Refresher>⟧.draft state.new) ≡ record (⟦<State<'out, 'prompt, W, H, P, S> as Refresher>⟧.draft state.old) { line = moved movement.now (⟦<State<'out, 'prompt, W, H, P, S> as Refresher>⟧.draft state.old).line } }
     ensures right { OnOk result (IsRight (⟦<State<'out, 'prompt, W, H, P, S> as Refresher>⟧.display state.old) (⟦<State<'out, 'prompt, W, H, P, S> as Refresher>⟧.draft state.old).line → IsRight (⟦<State<'out, 'prompt, W, H, P, S> as Refresher>⟧.display state.new) (⟦<State<'out, 'prompt, W, H, P, S> as Refresher>⟧.draft state.new).line) }
     ensures stays { Stays ⟦<State<'out, 'prompt, W, H, P, S> as Refresher>⟧ state.old state.new }
@@ -94,7 +97,10 @@ fn move_by<'out, 'prompt, W: Renderer, H: Helper, P: Prompt, S: History>(state: 
 }
 
 // Ends the input on an empty line; submits another one in the Vi style.
-fn end_of_file<'out, 'prompt, W: Renderer, H: Helper, P: Prompt, S: History>(state: &mut State<'out, 'prompt, W, H, P, S>, input_state: &InputState<'_>) -> Result<Status>
+fn end_of_file<'out, 'prompt, W: Renderer, H: Helper, P: Prompt, S: History>(
+    state: &mut State<'out, 'prompt, W, H, P, S>,
+    input_state: &InputState<'_>,
+) -> Result<Status>
     ensures ok { IfOk result (λ status. ((⟦<State<'out, 'prompt, W, H, P, S> as Refresher>⟧.draft state.new) ≡ unhinted (⟦<State<'out, 'prompt, W, H, P, S> as Refresher>⟧.draft state.old))
         × (answer_at_end (input_of input_state.now).style (⟦<State<'out, 'prompt, W, H, P, S> as Refresher>⟧.draft state.old).line.text ≡ answer_of status)) }
     ensures eof { IsErrOf result ReadlineError.Eof → ((⟦<State<'out, 'prompt, W, H, P, S> as Refresher>⟧.draft state.new) ≡ unhinted (⟦<State<'out, 'prompt, W, H, P, S> as Refresher>⟧.draft state.old))
@@ -117,7 +123,10 @@ fn end_of_file<'out, 'prompt, W: Renderer, H: Helper, P: Prompt, S: History>(sta
 }
 
 // Submits a valid line, and gives another one a newline unless a message says why it is refused.
-fn accept_or_insert_line<'out, 'prompt, W: Renderer, H: Helper, P: Prompt, S: History>(state: &mut State<'out, 'prompt, W, H, P, S>, accept_in_the_middle: bool) -> Result<Status>
+fn accept_or_insert_line<'out, 'prompt, W: Renderer, H: Helper, P: Prompt, S: History>(
+    state: &mut State<'out, 'prompt, W, H, P, S>,
+    accept_in_the_middle: bool,
+) -> Result<Status>
     ensures ok { IfOk result (λ status. ((⟦<State<'out, 'prompt, W, H, P, S> as Refresher>⟧.draft state.new) ≡ (accepted (⟦<State<'out, 'prompt, W, H, P, S> as Refresher>⟧.world state.old) accept_in_the_middle (unhinted (⟦<State<'out, 'prompt, W, H, P, S> as Refresher>⟧.draft state.old))).0)
         × ((accepted (⟦<State<'out, 'prompt, W, H, P, S> as Refresher>⟧.world state.old) accept_in_the_middle (unhinted (⟦<State<'out, 'prompt, W, H, P, S> as Refresher>⟧.draft state.old))).1 ≡ answer_of status)) }
     ensures right { OnOk result (IsRight (⟦<State<'out, 'prompt, W, H, P, S> as Refresher>⟧.display state.old) (⟦<State<'out, 'prompt, W, H, P, S> as Refresher>⟧.draft state.old).line → IsRight (⟦<State<'out, 'prompt, W, H, P, S> as Refresher>⟧.display state.new) (⟦<State<'out, 'prompt, W, H, P, S> as Refresher>⟧.draft state.new).line) }

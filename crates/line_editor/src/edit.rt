@@ -28,7 +28,10 @@ use line_config::{Prompt, ReadlineError, Result};
 use line_keys::command::Cmd;
 use line_keys::keymap::Refresher;
 use line_keys::tty::RawReader;
-use line_parts::{CmdKind, Context, Helper, Highlighter, Hint, Hinter, History, ValidationContext, ValidationResult, Validator};
+use line_parts::{
+    CmdKind, Context, Helper, Highlighter, Hint, Hinter, History, ValidationContext,
+    ValidationResult, Validator,
+};
 use std::alloc::Global;
 
 /// The line while it is edited: its text and cursor, what was changed, the place in the history, the hint, and what is
@@ -191,12 +194,13 @@ impl<'out, 'prompt, W: Renderer, H: Helper, P: Prompt, S: History> State<
             ⟦<State<'out, 'prompt, W, H, P, S> as Refresher>⟧.display s ≡ undrawn (W.surface out.old) (W.screen out.old) (P.raw_text prompt.now)) }
         ensures world { IfOk result (λ s.
             ⟦<State<'out, 'prompt, W, H, P, S> as Refresher>⟧.world s ≡ record {
-                hint_at = hint_by H.hint_at helper.entry;
-                verdict_at = verdict_by H.verdict_at helper.entry;
-                lines = S.lines ctx.entry.history }) }
+              hint_at = hint_by H.hint_at helper.entry;
+              verdict_at = verdict_by H.verdict_at helper.entry;
+              lines = S.lines ctx.entry.history;
+            }) }
         ensures sure { IfOk result (λ s.
             ⟦<State<'out, 'prompt, W, H, P, S> as Refresher>⟧.sure s
-                ≡ (is_sure_by H.Hinter.sure helper.entry && is_sure_by H.Validator.sure helper.entry && S.sure ctx.entry.history)) }
+            ≡ (is_sure_by H.Hinter.sure helper.entry && is_sure_by H.Validator.sure helper.entry && S.sure ctx.entry.history)) }
         ensures failures { IfOk result (λ s. ⟦<State<'out, 'prompt, W, H, P, S> as Refresher>⟧.failures s ≡ W.failures out.old) }
         ensures redraws { IfOk result (λ s. ⟦<State<'out, 'prompt, W, H, P, S> as Refresher>⟧.redraws s ≡ W.redraws out.old) }
         ensures same_renderer { IfOk result (λ s. ⟦<State<'out, 'prompt, W, H, P, S> as Refresher>⟧.fixed s ≡ out.entry.ghost_name) }
@@ -480,10 +484,15 @@ impl<'out, 'prompt, W: Renderer, H: Helper, P: Prompt, S: History> State<
     ///
     /// `Eof` comes where the items ended inside a phrase or before one; another error is one of input or output, or that
     /// memory ran out. After an error the line, its cursor and the place in the history stand as they were.
-    pub fn next_cmd(&mut self, input_state: &mut InputState<'_>, rdr: &mut W::Reader, single_esc_abort: bool) -> Result<Cmd>
+    pub fn next_cmd(
+        &mut self,
+        input_state: &mut InputState<'_>,
+        rdr: &mut W::Reader,
+        single_esc_abort: bool,
+    ) -> Result<Cmd>
         ensures phrase { IfOk result (λ c. (items : List Item) × (draft : Draft) × (W.Reader.rest rdr.old ≡ items ++ W.Reader.rest rdr.new)
             × Phrase (keymap_of input_state.old (W.Reader.own_binding rdr.old)) (⟦<State<'out, 'prompt, W, H, P, S> as Refresher>⟧.world self.old) (⟦<State<'out, 'prompt, W, H, P, S> as Refresher>⟧.draft self.old) (input_of input_state.old)
-                items (command_of c) draft (input_of input_state.new)
+            items (command_of c) draft (input_of input_state.new)
             × ((⟦<State<'out, 'prompt, W, H, P, S> as Refresher>⟧.draft self.new) ≡ grouped (command_of c) draft)) }
         ensures eof { IsErrOf result ReadlineError.Eof → (W.Reader.rest rdr.new ≡ [])
             × IsBeginning (keymap_of input_state.old (W.Reader.own_binding rdr.old)) (⟦<State<'out, 'prompt, W, H, P, S> as Refresher>⟧.world self.old) (⟦<State<'out, 'prompt, W, H, P, S> as Refresher>⟧.draft self.old) (input_of input_state.old) (W.Reader.rest rdr.old) }
@@ -629,6 +638,10 @@ impl<'out, 'prompt, W: Renderer, H: Helper, P: Prompt, S: History> Refresher
     fn done_inserting(&mut self) -> Result<()> {
         let _ = self.changes.end()?;
         Ok(())
+    }
+
+    fn last_insert(&self) -> Result<Option<String>> {
+        Ok(self.changes.last_insert()?)
     }
 
     fn is_cursor_at_end(&self) -> bool {

@@ -10,5 +10,4 @@ pub fn phrases_are_prefix_free()
 /// once, and leaves the same items unread.
 pub fn runs_have_one_end()
     ensures { HasOneEnd }
-{
-}
+{}

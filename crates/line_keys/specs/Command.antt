@@ -3,7 +3,7 @@ use Rattle.std.specs.Prelude.{ℕ, Bool, true, false, List, Option, option_map, 
 use Rattle.line_buffer.specs.declared.keymap.Movement.{Movement}
 use Rattle.line_buffer.specs.declared.keymap.Movement.TheVariants.{BackwardChar, ForwardChar}
 use Rattle.line_keys.specs.declared.command.Cmd.{Cmd}
-use Rattle.line_keys.specs.declared.command.Cmd.TheVariants.{Insert, Replace, ClearScreen, Kill, Noop, Suspend, Yank, YankPop, EndOfFile, AcceptLine, AcceptOrInsertLine, Newline}
+use Rattle.line_keys.specs.declared.command.Cmd.TheVariants.{Insert, Replace, ClearScreen, Kill, Noop, Suspend, Yank, YankPop}
 
 -- a command: the two that hold a text by its bytes, and each other one as it is
 pub data Command : Type 0 where

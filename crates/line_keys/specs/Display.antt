@@ -1,5 +1,5 @@
 -- What is drawn of a line, and what a full redraw of it would give.
-use Rattle.std.specs.Prelude.{◌≡◌, ℕ, ◌+◌, ◌<◌, Bool, true, false, if◌then◌else◌, nat_lt, min, List, take, Option, Some, None, is_some}
+use Rattle.std.specs.Prelude.{◌≡◌, ℕ, ◌+◌, Bool, false, if◌then◌else◌, nat_lt, min, List, take, Option, Some, None, is_some}
 use Rattle.line_buffer.specs.Line.{Line}
 use Rattle.line_buffer.specs.declared.layout.Position.{Position}
 use Rattle.line_buffer.specs.declared.layout.Layout.{Layout}

@@ -1,7 +1,7 @@
 -- What a reader gives.
-use Rattle.std.specs.Prelude.{◌≡◌, ◌∷◌, [], List, ℕ}
+use Rattle.std.specs.Prelude.{◌≡◌, [], List, ℕ}
 use Rattle.line_config.specs.declared.error.ReadlineError.{ReadlineError}
-use Rattle.line_config.specs.declared.error.ReadlineError.TheVariants.{Eof, Interrupted, Io, Memory}
+use Rattle.line_config.specs.declared.error.ReadlineError.TheVariants.{Eof, Interrupted}
 use Rattle.line_keys.specs.declared.keys.KeyEvent.{KeyEvent}
 
 -- an item of the input: a key, or a pasted text as its bytes

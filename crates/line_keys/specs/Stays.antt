@@ -1,5 +1,5 @@
 -- What stays of an editor, whatever it is asked.
-use Rattle.std.specs.Prelude.{◌≡◌, ℕ, ◌≤◌}
+use Rattle.std.specs.Prelude.{◌≡◌, ◌≤◌}
 use Rattle.line_keys.specs.declared.keymap.Refresher.{Ghosts}
 
 -- what answers for the line stays, and what can't change of the screen; the count of failures never falls

@@ -1,6 +1,5 @@
 -- The tables of keys: for a style of editing and a mode, what each key stands for.
-use Rattle.std.specs.Prelude.{◌≡◌, ℕ, Bool, true, false, if◌then◌else◌, ◌==◌, List, [], ◌∷◌, Option, Some, None}
-use Rattle.line_buffer.specs.declared.keymap.Movement.{Movement}
+use Rattle.std.specs.Prelude.{◌≡◌, ℕ, true, if◌then◌else◌, ◌==◌, List, [], ◌∷◌, Option, Some, None}
 use Rattle.line_buffer.specs.declared.keymap.Movement.TheVariants.{BackwardChar, ForwardChar, BeginningOfLine, EndOfLine}
 use Rattle.line_config.specs.declared.config.EditMode.{EditMode}
 use Rattle.line_config.specs.declared.config.EditMode.TheVariants.{Emacs, Vi}

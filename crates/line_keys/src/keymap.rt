@@ -1,8 +1,8 @@
 //! What the keys' tables ask of the editor.
-ghost use Rattle.std.specs.Prelude.{◌≡◌, ℕ, ◌≤◌, ◌↔◌, Bool, true, List, OnOk, OnErr, IsTrue, is_some, option_map, option_and_then, length, IsCharBoundary};
+ghost use Rattle.std.specs.Prelude.{◌≡◌, ℕ, ◌≤◌, ◌↔◌, Bool, true, List, IfOk, OnOk, OnErr, IsTrue, is_some, option_map, option_and_then, length, string_bytes, IsCharBoundary};
 ghost use Rattle.line_config.specs.Error.{FaultsOnly, IoOnlyIf, IsOneMore, MemoryOnly, Rose};
 ghost use Rattle.line_keys.specs.Display.{Display, IsRight};
-ghost use Rattle.line_buffer.specs.Changes.{no_changes};
+ghost use Rattle.line_buffer.specs.Changes.{last_insert_of, no_changes};
 ghost use Rattle.line_keys.specs.Draft.{Draft, World, KeepsText, hinted, unhinted, in_group, out_of_group};
 
 use line_config::Result;
@@ -124,6 +124,12 @@ pub trait Refresher {
         ensures sure { sure self.new ≡ sure self.old }
         ensures failures { failures self.new ≡ failures self.old }
         ensures redraws { redraws self.new ≡ redraws self.old }
+        ensures memory { MemoryOnly result };
+
+    /// The text that came in last: that of the newest insert or replacement, unless a group was begun or a text deleted
+    /// since. `Memory` comes where its copy is refused.
+    fn last_insert(&self) -> Result<Option<String>>
+        ensures text { IfOk result (λ text. option_map string_bytes text ≡ last_insert_of (draft self.now).changes.entries) }
         ensures memory { MemoryOnly result };
 
     /// Whether the cursor stands at the end of the text.

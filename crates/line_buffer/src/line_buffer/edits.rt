@@ -1,14 +1,16 @@
 //! Calls that put text into the line.
-ghost use Rattle.std.specs.Prelude.{◌≡◌, ◌≢◌, ◌==◌, length, encode_utf8, string_bytes, IfOk, OnOk, OnErr, IsCharBoundary};
+ghost use Rattle.std.specs.Prelude.{◌≡◌, ◌≢◌, ◌≤◌, ◌==◌, length, encode_utf8, slice_range, string_bytes, IfOk, OnOk, OnErr, IsCharBoundary};
 ghost use Rattle.std.specs.List.{repeat};
-ghost use Rattle.line_buffer.specs.Changes.{no_changes, with_entries, with_typed};
-ghost use Rattle.line_buffer.specs.Line.{inserted_at_cursor};
+ghost use Rattle.line_buffer.specs.Changes.{no_changes, with_delete, with_entries, with_insert, with_replace, with_typed};
+ghost use Rattle.line_buffer.specs.Yank.{with_yank, with_yank_pop, yank_popped, yank_pops, yanked, yanks};
+ghost use Rattle.line_buffer.specs.Line.{inserted_at, inserted_at_cursor, replaced_in};
 
 use super::{LineBuffer, OutOfMemory};
 use crate::clusters::is_alphanumeric;
 use crate::keymap::RepeatCount;
 use crate::undo::Changeset;
 use std::alloc::Global;
+use std::ops::Range;
 
 impl LineBuffer {
     /// Inserts `n` copies of the character at the cursor, which goes behind them, and answers whether it
@@ -68,6 +70,152 @@ impl LineBuffer {
         let place = self.pos;
         changes.insert_str(place, text.as_str())?;
         self.insert_text(text.as_str())
+    }
+
+    /// Inserts the text at byte `place`, a boundary at the cursor or after it. The cursor stays.
+    /// `OutOfMemory` comes where the text or the list of changes cannot grow; then the list is empty with no
+    /// open group, and the line is text with its cursor on a boundary.
+    pub fn insert_str(&mut self, place: usize, text: &str, changes: &mut Changeset) -> Result<(), OutOfMemory>
+        requires boundary { IsCharBoundary self.old.text place }
+        requires behind { self.old.cursor ≤ place }
+        ensures line { OnOk result (self.new ≡ inserted_at self.old place text.now) }
+        ensures changes { OnOk result (changes.new ≡ with_entries changes.old (with_insert place text.now changes.old.entries)) }
+        ensures err { OnErr result (changes.new ≡ no_changes) }
+        ensures cursor { IsCharBoundary self.new.text self.new.cursor }
+    {
+        let outcome = self.try_insert_str(place, text, changes);
+        changes.settled(outcome)
+    }
+
+    fn try_insert_str(&mut self, place: usize, text: &str, changes: &mut Changeset) -> Result<(), OutOfMemory>
+        requires boundary { IsCharBoundary self.old.text place }
+        requires behind { self.old.cursor ≤ place }
+        ensures line { OnOk result (self.new ≡ inserted_at self.old place text.now) }
+        ensures changes { OnOk result (changes.new ≡ with_entries changes.old (with_insert place text.now changes.old.entries)) }
+        ensures cursor { IsCharBoundary self.new.text self.new.cursor }
+    {
+        let _ = &self.pos;
+        changes.insert_str(place, text)?;
+        self.buf.insert_str(place, text)?;
+        Ok(())
+    }
+
+    /// Inserts `n` copies of the text at the cursor, which goes behind them. Answers whether it was at the
+    /// text's end, or `None` for an empty text. `OutOfMemory` comes where the text or the list of changes
+    /// cannot grow; then the list is empty with no open group, and the line is text with its cursor on a
+    /// boundary.
+    pub fn yank(&mut self, text: &str, n: RepeatCount, changes: &mut Changeset) -> Result<Option<bool>, OutOfMemory>
+        ensures answer { IfOk result (λ at_end. at_end ≡ yanks self.old text.now) }
+        ensures line { OnOk result (self.new ≡ yanked self.old text.now n) }
+        ensures changes { OnOk result (changes.new ≡ with_entries changes.old (with_yank self.old.cursor text.now n changes.old.entries)) }
+        ensures err { OnErr result (changes.new ≡ no_changes) }
+        ensures cursor { IsCharBoundary self.new.text self.new.cursor }
+    {
+        let outcome = self.try_yank(text, n, changes);
+        changes.settled(outcome)
+    }
+
+    fn try_yank(&mut self, text: &str, n: RepeatCount, changes: &mut Changeset) -> Result<Option<bool>, OutOfMemory>
+        ensures answer { IfOk result (λ at_end. at_end ≡ yanks self.old text.now) }
+        ensures line { OnOk result (self.new ≡ yanked self.old text.now n) }
+        ensures changes { OnOk result (changes.new ≡ with_entries changes.old (with_yank self.old.cursor text.now n changes.old.entries)) }
+        ensures cursor { IsCharBoundary self.new.text self.new.cursor }
+    {
+        let place = self.pos;
+        if text.is_empty() {
+            return Ok(None);
+        }
+        let copies = repeated(*self.buf.allocator(), text, n)?;
+        changes.insert_str(place, copies.as_str())?;
+        let at_end = self.insert_text(copies.as_str())?;
+        Ok(Some(at_end))
+    }
+
+    /// Takes `size` bytes before the cursor away and inserts the text in their place, with the cursor behind
+    /// it. Answers whether the cursor was then at the text's end; `None` for an empty text, and where `size`
+    /// bytes pass the text's start or cut a character: then nothing changes. `OutOfMemory` comes where the
+    /// text or the list of changes cannot grow; then the list is empty with no open group, and the line is
+    /// text with its cursor on a boundary.
+    pub fn yank_pop(&mut self, size: usize, text: &str, changes: &mut Changeset) -> Result<Option<bool>, OutOfMemory>
+        ensures answer { IfOk result (λ at_end. at_end ≡ yank_pops self.old size text.now) }
+        ensures line { OnOk result (self.new ≡ yank_popped self.old size text.now) }
+        ensures changes { OnOk result (changes.new ≡ with_entries changes.old (with_yank_pop self.old size text.now changes.old.entries)) }
+        ensures err { OnErr result (changes.new ≡ no_changes) }
+        ensures cursor { IsCharBoundary self.new.text self.new.cursor }
+    {
+        let outcome = self.try_yank_pop(size, text, changes);
+        changes.settled(outcome)
+    }
+
+    fn try_yank_pop(&mut self, size: usize, text: &str, changes: &mut Changeset) -> Result<Option<bool>, OutOfMemory>
+        ensures answer { IfOk result (λ at_end. at_end ≡ yank_pops self.old size text.now) }
+        ensures line { OnOk result (self.new ≡ yank_popped self.old size text.now) }
+        ensures changes { OnOk result (changes.new ≡ with_entries changes.old (with_yank_pop self.old size text.now changes.old.entries)) }
+        ensures cursor { IsCharBoundary self.new.text self.new.cursor }
+    {
+        let end = self.pos;
+        if size > end || !self.buf.is_char_boundary(end - size) {
+            return Ok(None);
+        }
+        self.delete_range(end - size, end, changes)?;
+        self.try_yank(text, 1, changes)
+    }
+
+    /// Puts a text in place of the whole line, and the cursor at byte `pos` of it. `OutOfMemory` comes where
+    /// the text or the list of changes cannot grow; then the list is empty with no open group, and the line
+    /// is text with its cursor on a boundary.
+    pub fn update(&mut self, text: &str, pos: usize, changes: &mut Changeset) -> Result<(), OutOfMemory>
+        requires { IsCharBoundary text.now pos }
+        ensures line { OnOk result (self.new ≡ record { text = text.now; cursor = pos }) }
+        ensures changes { OnOk result (changes.new ≡ with_entries changes.old (with_insert 0 text.now (with_delete 0 self.old.text changes.old.entries))) }
+        ensures err { OnErr result (changes.new ≡ no_changes) }
+        ensures cursor { IsCharBoundary self.new.text self.new.cursor }
+    {
+        let outcome = self.try_update(text, pos, changes);
+        changes.settled(outcome)
+    }
+
+    fn try_update(&mut self, text: &str, pos: usize, changes: &mut Changeset) -> Result<(), OutOfMemory>
+        requires { IsCharBoundary text.now pos }
+        ensures line { OnOk result (self.new ≡ record { text = text.now; cursor = pos }) }
+        ensures changes { OnOk result (changes.new ≡ with_entries changes.old (with_insert 0 text.now (with_delete 0 self.old.text changes.old.entries))) }
+        ensures cursor { IsCharBoundary self.new.text self.new.cursor }
+    {
+        changes.delete(0, self.buf.as_str())?;
+        changes.insert_str(0, text)?;
+        self.buf = String::from_str(*self.buf.allocator(), text)?;
+        self.pos = pos;
+        Ok(())
+    }
+
+    /// Puts a text in place of a range of bytes, and the cursor behind it. The range begins and ends on
+    /// boundaries. `OutOfMemory` comes where the text or the list of changes cannot grow; then the list is
+    /// empty with no open group, and the line is text with its cursor on a boundary.
+    pub fn replace(&mut self, range: Range<usize>, text: &str, changes: &mut Changeset) -> Result<(), OutOfMemory>
+        requires ordered { range.start ≤ range.end }
+        requires start { IsCharBoundary self.old.text range.start }
+        requires end { IsCharBoundary self.old.text range.end }
+        ensures line { OnOk result (self.new ≡ replaced_in self.old range.start range.end text.now) }
+        ensures changes { OnOk result (changes.new ≡ with_entries changes.old (with_replace range.start (slice_range self.old.text range.start range.end) text.now changes.old.entries)) }
+        ensures err { OnErr result (changes.new ≡ no_changes) }
+        ensures cursor { IsCharBoundary self.new.text self.new.cursor }
+    {
+        let outcome = self.try_replace(range.start, range.end, text, changes);
+        changes.settled(outcome)
+    }
+
+    pub(super) fn try_replace(&mut self, from: usize, to: usize, text: &str, changes: &mut Changeset) -> Result<(), OutOfMemory>
+        requires ordered { from ≤ to }
+        requires start { IsCharBoundary self.old.text from }
+        requires end { IsCharBoundary self.old.text to }
+        ensures line { OnOk result (self.new ≡ replaced_in self.old from to text.now) }
+        ensures changes { OnOk result (changes.new ≡ with_entries changes.old (with_replace from (slice_range self.old.text from to) text.now changes.old.entries)) }
+        ensures cursor { IsCharBoundary self.new.text self.new.cursor }
+    {
+        changes.replace(from, &self.buf.as_str()[from..to], text)?;
+        self.buf.replace_range(from..to, text)?;
+        self.pos = from + text.len();
+        Ok(())
     }
 
     /// Inserts the text at the cursor, which goes behind it, and answers whether it was at the text's end.

@@ -1,12 +1,13 @@
 //! Calls that take text out of the line.
 ghost use Rattle.std.specs.Prelude.{◌≡◌, ◌≤◌, ◌<◌, List, length, string_bytes, option_map, slice_range, Option, Some, None, IfOk, IfSome, OnOk, OnErr, IsCharBoundary};
 ghost use Rattle.line_buffer.specs.Changes.{no_changes, with_entries, with_delete};
+ghost use Rattle.line_buffer.specs.Cluster.{place_on};
 ghost use Rattle.line_buffer.specs.Kill.{direction_of, killed, killed_range, killed_of, mode_of, neighbour_of, ring_mode, ring_with_killed, with_killed};
 ghost use Rattle.line_buffer.specs.Line.{without};
-ghost use Rattle.line_buffer.specs.Range.{from_cursor, range_of, unless_empty, up_to_cursor};
+ghost use Rattle.line_buffer.specs.Range.{from_cursor, range_of, text_in, unless_empty, up_to_cursor};
 
 use super::{Direction, LineBuffer, OutOfMemory};
-use crate::keymap::{CharSearch, Movement};
+use crate::keymap::{CharSearch, Movement, RepeatCount};
 use crate::kill_ring::{KillRing, Mode};
 use crate::undo::Changeset;
 
@@ -64,6 +65,64 @@ impl LineBuffer {
         let text = self.copy_range(from, to)?;
         self.remove_range(from, to)?;
         Ok(Some((from, text, direction_of(mvt))))
+    }
+
+    /// Takes `n` clusters after the cursor away, or as many as there are, and answers their text; `None`
+    /// for `n` = 0 and at the text's end. `OutOfMemory` comes where a copy of the text cannot be made; then
+    /// the list of changes is empty with no open group, and the line is text with its cursor on a boundary.
+    pub fn delete(&mut self, n: RepeatCount, changes: &mut Changeset) -> Result<Option<String>, OutOfMemory>
+        ensures answer { IfOk result (λ r. option_map string_bytes r ≡ text_in self.old.text (from_cursor self.old (place_on self.old n))) }
+        ensures line { OnOk result (self.new ≡ without self.old (from_cursor self.old (place_on self.old n))) }
+        ensures changes { OnOk result (changes.new ≡ with_killed self.old (from_cursor self.old (place_on self.old n)) changes.old) }
+        ensures err { OnErr result (changes.new ≡ no_changes) }
+        ensures cursor { IsCharBoundary self.new.text self.new.cursor }
+    {
+        let _ = &self.pos;
+        let outcome = match self.from_cursor(self.next_pos(n)) {
+            Some((from, to)) => self.take_range(from, to, changes),
+            None => Ok(None),
+        };
+        changes.settled(outcome)
+    }
+
+    /// A copy of the text that the movement spans, or `None` where its range is empty or there is none.
+    /// `OutOfMemory` comes where the copy is refused.
+    pub fn copy(&self, mvt: &Movement) -> Result<Option<String>, OutOfMemory>
+        ensures { IfOk result (λ r. option_map string_bytes r ≡ text_in self.now.text (unless_empty (range_of self.now mvt.now))) }
+    {
+        match self.range(mvt) {
+            Some((from, to)) if from != to => Ok(Some(self.copy_range(from, to)?)),
+            _ => Ok(None),
+        }
+    }
+
+    /// Takes a range away, tells of it, and answers its text.
+    fn take_range(&mut self, from: usize, to: usize, changes: &mut Changeset) -> Result<Option<String>, OutOfMemory>
+        requires ordered { from ≤ to }
+        requires start { IsCharBoundary self.old.text from }
+        requires end { IsCharBoundary self.old.text to }
+        ensures answer { IfOk result (λ r. option_map string_bytes r ≡ text_in self.old.text (Some (from, to))) }
+        ensures line { OnOk result (self.new ≡ without self.old (Some (from, to))) }
+        ensures changes { OnOk result (changes.new ≡ with_killed self.old (Some (from, to)) changes.old) }
+        ensures cursor { IsCharBoundary self.new.text self.new.cursor }
+    {
+        let _ = &self.pos;
+        let text = self.copy_range(from, to)?;
+        self.delete_range(from, to, changes)?;
+        Ok(Some(text))
+    }
+
+    /// Takes a range away, and tells of it.
+    pub(super) fn delete_range(&mut self, from: usize, to: usize, changes: &mut Changeset) -> Result<(), OutOfMemory>
+        requires ordered { from ≤ to }
+        requires start { IsCharBoundary self.old.text from }
+        requires end { IsCharBoundary self.old.text to }
+        ensures line { OnOk result (self.new ≡ without self.old (Some (from, to))) }
+        ensures changes { OnOk result (changes.new ≡ with_killed self.old (Some (from, to)) changes.old) }
+        ensures cursor { IsCharBoundary self.new.text self.new.cursor }
+    {
+        changes.delete(from, &self.buf.as_str()[from..to])?;
+        self.remove_range(from, to)
     }
 
     /// A copy of the text from one byte to another.

@@ -1,9 +1,9 @@
-use Rattle.std.proofs.Common.{◌≡◌, [], refl, sym, ◌∙◌, ap, arith, inl, inr, Err}
+use Rattle.std.proofs.Common.{◌≡◌, [], refl, ◌∙◌, ap, arith, inl, inr, Err}
 use Rattle.std.proofs.lemmas.Result.{err_from_is_err_and}
 use Rattle.line_config.specs.declared.error.ReadlineError.TheVariants.{Eof, Interrupted}
 use Rattle.line_editor.specs.InputState.{keymap_of}
 use Rattle.line_editor.specs.Status.{answer_of}
-use Rattle.line_editor.specs.Step.{proceeds, submitted, ended, interrupted}
+use Rattle.line_editor.specs.Step.{submitted, ended, interrupted}
 use Rattle.line_editor.proofs.RunLemmas.{run-goes, run-ends, run-dry}
 use Rattle.line_editor.proofs.run.run.Goals as goal
 
@@ -15,7 +15,7 @@ returns-in_err-turn-clause-eof g c =
     let p = err_from_is_err_and c.from_residual-in_err-turn.result c.from_residual-in_err-turn.ensures.1 in
     let e : c.in_err-turn.field-0.0 ≡ Eof = (cc) in
     elim (c.in_err-turn.ensures.eof (ap Err e)) [
-      inl t ↦ ([], i.goes_on _ _ _ _ (run-ends _ _ _ _ same_keymap i.world _ _ _ _ _ _ ended _ refl (λ no. cc) t.0), λ _. t.1 i.right)
+      | inl t ↦ ([], i.goes_on _ _ _ _ (run-ends _ _ _ _ same_keymap i.world _ _ _ _ _ _ ended _ refl (λ no. cc) t.0), λ _. t.1 i.right)
       | inr t ↦ (g.W.Reader.RawReader.rest c.turns.rdr, i.goes_on _ _ _ _ (run-dry _ _ _ _ same_keymap i.world _ _ _ _ _ t.0 t.1 t.2), λ dry. t.3 dry i.right)
     ]
 

@@ -1,11 +1,11 @@
-use Rattle.std.proofs.Common.{◌≡◌, [], ◌∷◌, Some, None, refl, sym, ◌∙◌, ap, subst}
+use Rattle.std.proofs.Common.{◌≡◌, [], ◌∷◌, sym, ◌∙◌, ap, subst}
 use Rattle.std.proofs.lemmas.Result.{err_from_is_err_and}
 use Rattle.line_config.specs.declared.error.ReadlineError.{ReadlineError}
 use Rattle.line_config.specs.declared.error.ReadlineError.TheVariants.{Eof}
 use Rattle.line_editor.specs.InputState.{input_of, keymap_of}
-use Rattle.line_editor.specs.Phrase.{Phrase, seen_of}
+use Rattle.line_editor.specs.Phrase.{seen_of}
 use Rattle.line_editor.proofs.PhraseLemmas.{bound-phrase, row-phrase, nothing-begins}
-use Rattle.line_keys.specs.Command.{Command, command_of, plain}
+use Rattle.line_keys.specs.Command.{command_of, plain}
 use Rattle.line_keys.specs.Item.{key, ReadFault}
 use Rattle.line_keys.specs.Table.{row_of, command_at, one}
 use Rattle.line_editor.proofs.keymap.InputState.next_cmd.Goals as goal

@@ -1,0 +1,21 @@
+use Rattle.std.proofs.Common.{◌≤◌, length, string_bytes, ap, arith}
+use Rattle.std.proofs.lemmas.Str.{IsUtf8-had}
+use Rattle.line_buffer.specs.Line.{Line}
+use Rattle.line_buffer.proofs.BoundaryLemmas.{boundary_before_insert}
+use Rattle.line_buffer.proofs.line_buffer.LineBuffer.try_insert_str.Goals as goal
+
+pub invariant_of-self-2 : goal.invariant_of-self-2
+invariant_of-self-2 c =
+    let text = ap (λ (l : Line). l.text) c.self.view_is in
+    let within : c.args.place ≤ length (string_bytes c.self.inside.buf) = omega (arith, ap length text, c.requires.boundary.0) in
+    boundary_before_insert (string_bytes c.self.inside.buf) (string_bytes c.insert_str-2.new.self) c.args.text.now c.self.inside.pos c.args.place
+    (IsUtf8-had _ c.self.inside.buf.ok) (IsUtf8-had _ c.insert_str-2.new.self.ok) c.in_ok-insert_str-2.ensures.bytes c.self.invariant
+    (omega (arith, ap (λ (l : Line). l.cursor) c.self.view_is, c.requires.behind)) within
+
+pub returns-clause-cursor : goal.returns-clause-cursor
+returns-clause-cursor c =
+    let text = ap (λ (l : Line). l.text) c.self.view_is in
+    let within : c.args.place ≤ length (string_bytes c.self.inside.buf) = omega (arith, ap length text, c.requires.boundary.0) in
+    boundary_before_insert (string_bytes c.self.inside.buf) (string_bytes c.insert_str-2.new.self) c.args.text.now c.self.inside.pos c.args.place
+    (IsUtf8-had _ c.self.inside.buf.ok) (IsUtf8-had _ c.insert_str-2.new.self.ok) c.in_ok-insert_str-2.ensures.bytes c.self.invariant
+    (omega (arith, ap (λ (l : Line). l.cursor) c.self.view_is, c.requires.behind)) within
