@@ -10,6 +10,7 @@ pub mod Keymap
 pub mod Phrase
 pub mod Printable
 pub mod Run
+pub mod Runs
 pub mod Status
 pub mod Step
 pub mod Laws

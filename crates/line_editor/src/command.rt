@@ -3,11 +3,12 @@ ghost use Rattle.std.specs.Prelude.{◌≡◌, ◌≤◌, ◌∷◌, [], true, f
 ghost use Rattle.line_config.specs.Error.{FaultsOnly, IoOnlyIf, Rose};
 ghost use Rattle.line_editor.specs.InputState.{input_of};
 ghost use Rattle.line_editor.specs.Status.{answer_of};
-ghost use Rattle.line_editor.specs.Step.{Leaves, is_valid, has_message, accepted, answer_at_end, ended, interrupted, moved, step};
+ghost use Rattle.line_editor.specs.Step.{is_valid, has_message, accepted, answer_at_end, ended, interrupted, moved};
+ghost use Rattle.line_editor.specs.Runs.{StepsTo};
 ghost use Rattle.line_keys.specs.Command.{command_of};
 ghost use Rattle.line_keys.specs.Display.{IsRight};
 ghost use Rattle.line_keys.specs.Draft.{unhinted};
-ghost use Rattle.line_keys.specs.Stays.{Stays};
+ghost use Rattle.line_keys.specs.Refresher.{FailsByDrawing, FailsByParty, StandsAtEnd, Stays, StaysRight};
 ghost use Rattle.line_parts.specs.Verdict.{verdict_of};
 
 use crate::edit::State;
@@ -40,14 +41,17 @@ pub fn execute<'out, 'prompt, W: Renderer, H: Helper, P: Prompt, S: History>(
     kill_ring: &mut KillRing,
     _config: &Config,
 ) -> Result<Status>
-    ensures ok { IfOk result (λ status. Leaves (step (⟦<State<'out, 'prompt, W, H, P, S> as Refresher>⟧.world state.old) (input_of input_state.now) (record { draft = (⟦<State<'out, 'prompt, W, H, P, S> as Refresher>⟧.draft state.old); kills = kill_ring.old }) (command_of cmd)) (record { draft = (⟦<State<'out, 'prompt, W, H, P, S> as Refresher>⟧.draft state.new); kills = kill_ring.new }) (answer_of status)) }
-    ensures eof { IsErrOf result ReadlineError.Eof → Leaves (step (⟦<State<'out, 'prompt, W, H, P, S> as Refresher>⟧.world state.old) (input_of input_state.now) (record { draft = (⟦<State<'out, 'prompt, W, H, P, S> as Refresher>⟧.draft state.old); kills = kill_ring.old }) (command_of cmd)) (record { draft = (⟦<State<'out, 'prompt, W, H, P, S> as Refresher>⟧.draft state.new); kills = kill_ring.new }) ended }
-    ensures interrupted { IsErrOf result ReadlineError.Interrupted → Leaves (step (⟦<State<'out, 'prompt, W, H, P, S> as Refresher>⟧.world state.old) (input_of input_state.now) (record { draft = (⟦<State<'out, 'prompt, W, H, P, S> as Refresher>⟧.draft state.old); kills = kill_ring.old }) (command_of cmd)) (record { draft = (⟦<State<'out, 'prompt, W, H, P, S> as Refresher>⟧.draft state.new); kills = kill_ring.new }) interrupted }
-    ensures right_at_eof { IsErrOf result ReadlineError.Eof → IsRight (⟦<State<'out, 'prompt, W, H, P, S> as Refresher>⟧.display state.old) (⟦<State<'out, 'prompt, W, H, P, S> as Refresher>⟧.draft state.old).line → IsRight (⟦<State<'out, 'prompt, W, H, P, S> as Refresher>⟧.display state.new) (⟦<State<'out, 'prompt, W, H, P, S> as Refresher>⟧.draft state.new).line }
-    ensures at_end { IsErrOf result ReadlineError.Interrupted → (⟦<State<'out, 'prompt, W, H, P, S> as Refresher>⟧.display state.new).layout.cursor ≡ (⟦<State<'out, 'prompt, W, H, P, S> as Refresher>⟧.display state.new).layout.end }
-    ensures right { OnOk result (IsRight (⟦<State<'out, 'prompt, W, H, P, S> as Refresher>⟧.display state.old) (⟦<State<'out, 'prompt, W, H, P, S> as Refresher>⟧.draft state.old).line → IsRight (⟦<State<'out, 'prompt, W, H, P, S> as Refresher>⟧.display state.new) (⟦<State<'out, 'prompt, W, H, P, S> as Refresher>⟧.draft state.new).line) }
+    ensures ok { IfOk result (λ status. StepsTo ⟦<State<'out, 'prompt, W, H, P, S> as Refresher>⟧
+        state.old (input_of input_state.now) kill_ring.old (command_of cmd) state.new kill_ring.new (answer_of status)) }
+    ensures eof { IsErrOf result ReadlineError.Eof → StepsTo ⟦<State<'out, 'prompt, W, H, P, S> as Refresher>⟧
+        state.old (input_of input_state.now) kill_ring.old (command_of cmd) state.new kill_ring.new ended }
+    ensures interrupted { IsErrOf result ReadlineError.Interrupted → StepsTo ⟦<State<'out, 'prompt, W, H, P, S> as Refresher>⟧
+        state.old (input_of input_state.now) kill_ring.old (command_of cmd) state.new kill_ring.new interrupted }
+    ensures right_at_eof { IsErrOf result ReadlineError.Eof → StaysRight ⟦<State<'out, 'prompt, W, H, P, S> as Refresher>⟧ state.old state.new }
+    ensures at_end { IsErrOf result ReadlineError.Interrupted → StandsAtEnd ⟦<State<'out, 'prompt, W, H, P, S> as Refresher>⟧ state.new }
+    ensures right { OnOk result (StaysRight ⟦<State<'out, 'prompt, W, H, P, S> as Refresher>⟧ state.old state.new) }
     ensures stays { Stays ⟦<State<'out, 'prompt, W, H, P, S> as Refresher>⟧ state.old state.new }
-    ensures io { IoOnlyIf result (⟦<State<'out, 'prompt, W, H, P, S> as Refresher>⟧.sure state.old ≡ true → Rose (⟦<State<'out, 'prompt, W, H, P, S> as Refresher>⟧.failures state.old) (⟦<State<'out, 'prompt, W, H, P, S> as Refresher>⟧.failures state.new)) }
+    ensures io { FailsByParty ⟦<State<'out, 'prompt, W, H, P, S> as Refresher>⟧ result state.old state.new }
 {
     match cmd {
         Cmd::SelfInsert(n, c) => state.edit_insert(c, n)?,
@@ -82,9 +86,9 @@ fn move_by<'out, 'prompt, W: Renderer, H: Helper, P: Prompt, S: History>(
     movement: &Movement,
 ) -> Result<()>
     ensures draft { (⟦<State<'out, 'prompt, W, H, P, S> as Refresher>⟧.draft state.new) ≡ record (⟦<State<'out, 'prompt, W, H, P, S> as Refresher>⟧.draft state.old) { line = moved movement.now (⟦<State<'out, 'prompt, W, H, P, S> as Refresher>⟧.draft state.old).line } }
-    ensures right { OnOk result (IsRight (⟦<State<'out, 'prompt, W, H, P, S> as Refresher>⟧.display state.old) (⟦<State<'out, 'prompt, W, H, P, S> as Refresher>⟧.draft state.old).line → IsRight (⟦<State<'out, 'prompt, W, H, P, S> as Refresher>⟧.display state.new) (⟦<State<'out, 'prompt, W, H, P, S> as Refresher>⟧.draft state.new).line) }
+    ensures right { OnOk result (StaysRight ⟦<State<'out, 'prompt, W, H, P, S> as Refresher>⟧ state.old state.new) }
     ensures stays { Stays ⟦<State<'out, 'prompt, W, H, P, S> as Refresher>⟧ state.old state.new }
-    ensures io { IoOnlyIf result (Rose (⟦<State<'out, 'prompt, W, H, P, S> as Refresher>⟧.failures state.old) (⟦<State<'out, 'prompt, W, H, P, S> as Refresher>⟧.failures state.new)) }
+    ensures io { FailsByDrawing ⟦<State<'out, 'prompt, W, H, P, S> as Refresher>⟧ result state.old state.new }
     ensures faults { FaultsOnly result }
 {
     match movement {
@@ -105,11 +109,11 @@ fn end_of_file<'out, 'prompt, W: Renderer, H: Helper, P: Prompt, S: History>(
         × (answer_at_end (input_of input_state.now).style (⟦<State<'out, 'prompt, W, H, P, S> as Refresher>⟧.draft state.old).line.text ≡ answer_of status)) }
     ensures eof { IsErrOf result ReadlineError.Eof → ((⟦<State<'out, 'prompt, W, H, P, S> as Refresher>⟧.draft state.new) ≡ unhinted (⟦<State<'out, 'prompt, W, H, P, S> as Refresher>⟧.draft state.old))
         × (answer_at_end (input_of input_state.now).style (⟦<State<'out, 'prompt, W, H, P, S> as Refresher>⟧.draft state.old).line.text ≡ ended) }
-    ensures right_at_eof { IsErrOf result ReadlineError.Eof → IsRight (⟦<State<'out, 'prompt, W, H, P, S> as Refresher>⟧.display state.old) (⟦<State<'out, 'prompt, W, H, P, S> as Refresher>⟧.draft state.old).line → IsRight (⟦<State<'out, 'prompt, W, H, P, S> as Refresher>⟧.display state.new) (⟦<State<'out, 'prompt, W, H, P, S> as Refresher>⟧.draft state.new).line }
+    ensures right_at_eof { IsErrOf result ReadlineError.Eof → StaysRight ⟦<State<'out, 'prompt, W, H, P, S> as Refresher>⟧ state.old state.new }
     ensures not_interrupted { IsErrOf result ReadlineError.Interrupted → ⊥ }
-    ensures right { OnOk result (IsRight (⟦<State<'out, 'prompt, W, H, P, S> as Refresher>⟧.display state.old) (⟦<State<'out, 'prompt, W, H, P, S> as Refresher>⟧.draft state.old).line → IsRight (⟦<State<'out, 'prompt, W, H, P, S> as Refresher>⟧.display state.new) (⟦<State<'out, 'prompt, W, H, P, S> as Refresher>⟧.draft state.new).line) }
+    ensures right { OnOk result (StaysRight ⟦<State<'out, 'prompt, W, H, P, S> as Refresher>⟧ state.old state.new) }
     ensures stays { Stays ⟦<State<'out, 'prompt, W, H, P, S> as Refresher>⟧ state.old state.new }
-    ensures io { IoOnlyIf result (⟦<State<'out, 'prompt, W, H, P, S> as Refresher>⟧.sure state.old ≡ true → Rose (⟦<State<'out, 'prompt, W, H, P, S> as Refresher>⟧.failures state.old) (⟦<State<'out, 'prompt, W, H, P, S> as Refresher>⟧.failures state.new)) }
+    ensures io { FailsByParty ⟦<State<'out, 'prompt, W, H, P, S> as Refresher>⟧ result state.old state.new }
 {
     state.drop_hint()?;
     if state.line().is_empty() {
@@ -129,9 +133,9 @@ fn accept_or_insert_line<'out, 'prompt, W: Renderer, H: Helper, P: Prompt, S: Hi
 ) -> Result<Status>
     ensures ok { IfOk result (λ status. ((⟦<State<'out, 'prompt, W, H, P, S> as Refresher>⟧.draft state.new) ≡ (accepted (⟦<State<'out, 'prompt, W, H, P, S> as Refresher>⟧.world state.old) accept_in_the_middle (unhinted (⟦<State<'out, 'prompt, W, H, P, S> as Refresher>⟧.draft state.old))).0)
         × ((accepted (⟦<State<'out, 'prompt, W, H, P, S> as Refresher>⟧.world state.old) accept_in_the_middle (unhinted (⟦<State<'out, 'prompt, W, H, P, S> as Refresher>⟧.draft state.old))).1 ≡ answer_of status)) }
-    ensures right { OnOk result (IsRight (⟦<State<'out, 'prompt, W, H, P, S> as Refresher>⟧.display state.old) (⟦<State<'out, 'prompt, W, H, P, S> as Refresher>⟧.draft state.old).line → IsRight (⟦<State<'out, 'prompt, W, H, P, S> as Refresher>⟧.display state.new) (⟦<State<'out, 'prompt, W, H, P, S> as Refresher>⟧.draft state.new).line) }
+    ensures right { OnOk result (StaysRight ⟦<State<'out, 'prompt, W, H, P, S> as Refresher>⟧ state.old state.new) }
     ensures stays { Stays ⟦<State<'out, 'prompt, W, H, P, S> as Refresher>⟧ state.old state.new }
-    ensures io { IoOnlyIf result (⟦<State<'out, 'prompt, W, H, P, S> as Refresher>⟧.sure state.old ≡ true → Rose (⟦<State<'out, 'prompt, W, H, P, S> as Refresher>⟧.failures state.old) (⟦<State<'out, 'prompt, W, H, P, S> as Refresher>⟧.failures state.new)) }
+    ensures io { FailsByParty ⟦<State<'out, 'prompt, W, H, P, S> as Refresher>⟧ result state.old state.new }
     ensures faults { FaultsOnly result }
 {
     state.drop_hint()?;

@@ -5,11 +5,11 @@ ghost use Rattle.line_buffer.specs.declared.layout.Position.{Position};
 ghost use Rattle.line_config.specs.Error.{FaultsOnly, IoOnlyIf, IsOneMore, MemoryOnly, Rose};
 ghost use Rattle.line_keys.specs.Display.{IsDrawn, IsFullRedraw, IsRight, undrawn};
 ghost use Rattle.line_keys.specs.Draft.{Draft, KeepsText, empty_draft, hinted, unhinted};
-ghost use Rattle.line_keys.specs.Stays.{Stays};
+ghost use Rattle.line_keys.specs.Refresher.{FailsByDrawing, FailsByParty, HoldsRight, StandsAtEnd, Stays, StaysRight};
 ghost use Rattle.line_buffer.specs.Line.{Line, ends_in_white_space, moved_to, with_cursor, start_of_line, end_of_line};
 ghost use Rattle.line_buffer.specs.Cluster.{place_on, place_back};
 ghost use Rattle.line_editor.specs.Info.{shown_info};
-ghost use Rattle.line_editor.specs.Fault.{EitherRose};
+ghost use Rattle.line_editor.specs.Fault.{FailsByReading};
 ghost use Rattle.line_editor.specs.InputState.{input_of, keymap_of};
 ghost use Rattle.line_editor.specs.Phrase.{Phrase, IsBeginning};
 ghost use Rattle.line_editor.specs.Step.{grouped, killed_by, typed, validated, verdict_on, unhinted_by};
@@ -189,21 +189,21 @@ impl<'out, 'prompt, W: Renderer, H: Helper, P: Prompt, S: History> State<
     ) -> Result<Self>
         ensures made { IsOk result }
         ensures state { IfOk result (λ s.
-            ⟦<State<'out, 'prompt, W, H, P, S> as Refresher>⟧.draft s ≡ empty_draft ctx.entry.place) }
+            ⟦<Self as Refresher>⟧.draft s ≡ empty_draft ctx.entry.place) }
         ensures display { IfOk result (λ s.
-            ⟦<State<'out, 'prompt, W, H, P, S> as Refresher>⟧.display s ≡ undrawn (W.surface out.old) (W.screen out.old) (P.raw_text prompt.now)) }
+            ⟦<Self as Refresher>⟧.display s ≡ undrawn (W.surface out.old) (W.screen out.old) (P.raw_text prompt.now)) }
         ensures world { IfOk result (λ s.
-            ⟦<State<'out, 'prompt, W, H, P, S> as Refresher>⟧.world s ≡ record {
+            ⟦<Self as Refresher>⟧.world s ≡ record {
               hint_at = hint_by H.hint_at helper.entry;
               verdict_at = verdict_by H.verdict_at helper.entry;
               lines = S.lines ctx.entry.history;
             }) }
         ensures sure { IfOk result (λ s.
-            ⟦<State<'out, 'prompt, W, H, P, S> as Refresher>⟧.sure s
+            ⟦<Self as Refresher>⟧.sure s
             ≡ (is_sure_by H.Hinter.sure helper.entry && is_sure_by H.Validator.sure helper.entry && S.sure ctx.entry.history)) }
-        ensures failures { IfOk result (λ s. ⟦<State<'out, 'prompt, W, H, P, S> as Refresher>⟧.failures s ≡ W.failures out.old) }
-        ensures redraws { IfOk result (λ s. ⟦<State<'out, 'prompt, W, H, P, S> as Refresher>⟧.redraws s ≡ W.redraws out.old) }
-        ensures same_renderer { IfOk result (λ s. ⟦<State<'out, 'prompt, W, H, P, S> as Refresher>⟧.fixed s ≡ out.entry.ghost_name) }
+        ensures failures { IfOk result (λ s. ⟦<Self as Refresher>⟧.failures s ≡ W.failures out.old) }
+        ensures redraws { IfOk result (λ s. ⟦<Self as Refresher>⟧.redraws s ≡ W.redraws out.old) }
+        ensures same_renderer { IfOk result (λ s. ⟦<Self as Refresher>⟧.fixed s ≡ out.entry.ghost_name) }
     {
         let prompt_size = out.calculate_position(prompt.raw(), Position { row: 0, col: 0 });
         let mut layout = Layout::new(out.grapheme_cluster_mode());
@@ -271,14 +271,14 @@ impl<'out, 'prompt, W: Renderer, H: Helper, P: Prompt, S: History> State<
 
     /// Asks the helper for the hint of the line as it stands; one that shows nothing is none. Nothing is drawn.
     pub fn hint(&mut self) -> Result<()>
-        ensures draft { OnOk result (⟦<State<'out, 'prompt, W, H, P, S> as Refresher>⟧.draft self.new ≡ hinted (⟦<State<'out, 'prompt, W, H, P, S> as Refresher>⟧.world self.old) (⟦<State<'out, 'prompt, W, H, P, S> as Refresher>⟧.draft self.old)) }
-        ensures err { OnErr result (⟦<State<'out, 'prompt, W, H, P, S> as Refresher>⟧.draft self.new ≡ ⟦<State<'out, 'prompt, W, H, P, S> as Refresher>⟧.draft self.old) }
-        ensures text { KeepsText (⟦<State<'out, 'prompt, W, H, P, S> as Refresher>⟧.draft self.old) (⟦<State<'out, 'prompt, W, H, P, S> as Refresher>⟧.draft self.new) }
-        ensures display { ⟦<State<'out, 'prompt, W, H, P, S> as Refresher>⟧.display self.new ≡ ⟦<State<'out, 'prompt, W, H, P, S> as Refresher>⟧.display self.old }
-        ensures redraws { ⟦<State<'out, 'prompt, W, H, P, S> as Refresher>⟧.redraws self.new ≡ ⟦<State<'out, 'prompt, W, H, P, S> as Refresher>⟧.redraws self.old }
-        ensures failures { ⟦<State<'out, 'prompt, W, H, P, S> as Refresher>⟧.failures self.new ≡ ⟦<State<'out, 'prompt, W, H, P, S> as Refresher>⟧.failures self.old }
-        ensures stays { Stays ⟦<State<'out, 'prompt, W, H, P, S> as Refresher>⟧ self.old self.new }
-        ensures io { IoOnlyIf result (⟦<State<'out, 'prompt, W, H, P, S> as Refresher>⟧.sure self.old ≡ true → ⊥) }
+        ensures draft { OnOk result (⟦<Self as Refresher>⟧.draft self.new ≡ hinted (⟦<Self as Refresher>⟧.world self.old) (⟦<Self as Refresher>⟧.draft self.old)) }
+        ensures err { OnErr result (⟦<Self as Refresher>⟧.draft self.new ≡ ⟦<Self as Refresher>⟧.draft self.old) }
+        ensures text { KeepsText (⟦<Self as Refresher>⟧.draft self.old) (⟦<Self as Refresher>⟧.draft self.new) }
+        ensures display { ⟦<Self as Refresher>⟧.display self.new ≡ ⟦<Self as Refresher>⟧.display self.old }
+        ensures redraws { ⟦<Self as Refresher>⟧.redraws self.new ≡ ⟦<Self as Refresher>⟧.redraws self.old }
+        ensures failures { ⟦<Self as Refresher>⟧.failures self.new ≡ ⟦<Self as Refresher>⟧.failures self.old }
+        ensures stays { Stays ⟦<Self as Refresher>⟧ self.old self.new }
+        ensures io { IoOnlyIf result (⟦<Self as Refresher>⟧.sure self.old ≡ true → ⊥) }
         ensures faults { FaultsOnly result }
     {
         self.hint = unless_shows_nothing(hint_of(self.alloc, &self.helper, &self.line, &self.ctx)?);
@@ -309,10 +309,10 @@ impl<'out, 'prompt, W: Renderer, H: Helper, P: Prompt, S: History> State<
 
     /// Takes the drawn cursor to where the line's cursor is. Nothing is drawn where it stands there already.
     pub fn move_cursor(&mut self, kind: CmdKind) -> Result<()>
-        ensures draft { ⟦<State<'out, 'prompt, W, H, P, S> as Refresher>⟧.draft self.new ≡ ⟦<State<'out, 'prompt, W, H, P, S> as Refresher>⟧.draft self.old }
-        ensures right { OnOk result (IsDrawn (⟦<State<'out, 'prompt, W, H, P, S> as Refresher>⟧.display self.old) (⟦<State<'out, 'prompt, W, H, P, S> as Refresher>⟧.draft self.old).line.text → IsRight (⟦<State<'out, 'prompt, W, H, P, S> as Refresher>⟧.display self.new) (⟦<State<'out, 'prompt, W, H, P, S> as Refresher>⟧.draft self.new).line) }
-        ensures stays { Stays ⟦<State<'out, 'prompt, W, H, P, S> as Refresher>⟧ self.old self.new }
-        ensures io { IoOnlyIf result (Rose (⟦<State<'out, 'prompt, W, H, P, S> as Refresher>⟧.failures self.old) (⟦<State<'out, 'prompt, W, H, P, S> as Refresher>⟧.failures self.new)) }
+        ensures draft { ⟦<Self as Refresher>⟧.draft self.new ≡ ⟦<Self as Refresher>⟧.draft self.old }
+        ensures right { OnOk result (IsDrawn (⟦<Self as Refresher>⟧.display self.old) (⟦<Self as Refresher>⟧.draft self.old).line.text → IsRight (⟦<Self as Refresher>⟧.display self.new) (⟦<Self as Refresher>⟧.draft self.new).line) }
+        ensures stays { Stays ⟦<Self as Refresher>⟧ self.old self.new }
+        ensures io { FailsByDrawing ⟦<Self as Refresher>⟧ result self.old self.new }
         ensures faults { FaultsOnly result }
     {
         let text = self.line.as_str();
@@ -329,10 +329,10 @@ impl<'out, 'prompt, W: Renderer, H: Helper, P: Prompt, S: History> State<
     /// Moves the cursor `n` clusters back, or as many as there are. The cursor that is drawn goes along.
     #[tactic(auto, using(crate::proofs::EditLemmas::moved_text))]
     pub fn edit_move_backward(&mut self, n: RepeatCount) -> Result<()>
-        ensures draft { ⟦<State<'out, 'prompt, W, H, P, S> as Refresher>⟧.draft self.new ≡ record (⟦<State<'out, 'prompt, W, H, P, S> as Refresher>⟧.draft self.old) { line = moved_to (⟦<State<'out, 'prompt, W, H, P, S> as Refresher>⟧.draft self.old).line (place_back (⟦<State<'out, 'prompt, W, H, P, S> as Refresher>⟧.draft self.old).line n) } }
-        ensures right { OnOk result (IsRight (⟦<State<'out, 'prompt, W, H, P, S> as Refresher>⟧.display self.old) (⟦<State<'out, 'prompt, W, H, P, S> as Refresher>⟧.draft self.old).line → IsRight (⟦<State<'out, 'prompt, W, H, P, S> as Refresher>⟧.display self.new) (⟦<State<'out, 'prompt, W, H, P, S> as Refresher>⟧.draft self.new).line) }
-        ensures stays { Stays ⟦<State<'out, 'prompt, W, H, P, S> as Refresher>⟧ self.old self.new }
-        ensures io { IoOnlyIf result (Rose (⟦<State<'out, 'prompt, W, H, P, S> as Refresher>⟧.failures self.old) (⟦<State<'out, 'prompt, W, H, P, S> as Refresher>⟧.failures self.new)) }
+        ensures draft { ⟦<Self as Refresher>⟧.draft self.new ≡ record (⟦<Self as Refresher>⟧.draft self.old) { line = moved_to (⟦<Self as Refresher>⟧.draft self.old).line (place_back (⟦<Self as Refresher>⟧.draft self.old).line n) } }
+        ensures right { OnOk result (StaysRight ⟦<Self as Refresher>⟧ self.old self.new) }
+        ensures stays { Stays ⟦<Self as Refresher>⟧ self.old self.new }
+        ensures io { FailsByDrawing ⟦<Self as Refresher>⟧ result self.old self.new }
         ensures faults { FaultsOnly result }
     {
         if self.line.move_backward(n) {
@@ -345,10 +345,10 @@ impl<'out, 'prompt, W: Renderer, H: Helper, P: Prompt, S: History> State<
     /// Moves the cursor `n` clusters on, or as many as there are. The cursor that is drawn goes along.
     #[tactic(auto, using(crate::proofs::EditLemmas::moved_text))]
     pub fn edit_move_forward(&mut self, n: RepeatCount) -> Result<()>
-        ensures draft { ⟦<State<'out, 'prompt, W, H, P, S> as Refresher>⟧.draft self.new ≡ record (⟦<State<'out, 'prompt, W, H, P, S> as Refresher>⟧.draft self.old) { line = moved_to (⟦<State<'out, 'prompt, W, H, P, S> as Refresher>⟧.draft self.old).line (place_on (⟦<State<'out, 'prompt, W, H, P, S> as Refresher>⟧.draft self.old).line n) } }
-        ensures right { OnOk result (IsRight (⟦<State<'out, 'prompt, W, H, P, S> as Refresher>⟧.display self.old) (⟦<State<'out, 'prompt, W, H, P, S> as Refresher>⟧.draft self.old).line → IsRight (⟦<State<'out, 'prompt, W, H, P, S> as Refresher>⟧.display self.new) (⟦<State<'out, 'prompt, W, H, P, S> as Refresher>⟧.draft self.new).line) }
-        ensures stays { Stays ⟦<State<'out, 'prompt, W, H, P, S> as Refresher>⟧ self.old self.new }
-        ensures io { IoOnlyIf result (Rose (⟦<State<'out, 'prompt, W, H, P, S> as Refresher>⟧.failures self.old) (⟦<State<'out, 'prompt, W, H, P, S> as Refresher>⟧.failures self.new)) }
+        ensures draft { ⟦<Self as Refresher>⟧.draft self.new ≡ record (⟦<Self as Refresher>⟧.draft self.old) { line = moved_to (⟦<Self as Refresher>⟧.draft self.old).line (place_on (⟦<Self as Refresher>⟧.draft self.old).line n) } }
+        ensures right { OnOk result (StaysRight ⟦<Self as Refresher>⟧ self.old self.new) }
+        ensures stays { Stays ⟦<Self as Refresher>⟧ self.old self.new }
+        ensures io { FailsByDrawing ⟦<Self as Refresher>⟧ result self.old self.new }
         ensures faults { FaultsOnly result }
     {
         if self.line.move_forward(n) {
@@ -360,10 +360,10 @@ impl<'out, 'prompt, W: Renderer, H: Helper, P: Prompt, S: History> State<
 
     /// Moves the cursor to the start of its line. The cursor that is drawn goes along.
     pub fn edit_move_home(&mut self) -> Result<()>
-        ensures draft { ⟦<State<'out, 'prompt, W, H, P, S> as Refresher>⟧.draft self.new ≡ record (⟦<State<'out, 'prompt, W, H, P, S> as Refresher>⟧.draft self.old) { line = with_cursor (⟦<State<'out, 'prompt, W, H, P, S> as Refresher>⟧.draft self.old).line (start_of_line (⟦<State<'out, 'prompt, W, H, P, S> as Refresher>⟧.draft self.old).line) } }
-        ensures right { OnOk result (IsRight (⟦<State<'out, 'prompt, W, H, P, S> as Refresher>⟧.display self.old) (⟦<State<'out, 'prompt, W, H, P, S> as Refresher>⟧.draft self.old).line → IsRight (⟦<State<'out, 'prompt, W, H, P, S> as Refresher>⟧.display self.new) (⟦<State<'out, 'prompt, W, H, P, S> as Refresher>⟧.draft self.new).line) }
-        ensures stays { Stays ⟦<State<'out, 'prompt, W, H, P, S> as Refresher>⟧ self.old self.new }
-        ensures io { IoOnlyIf result (Rose (⟦<State<'out, 'prompt, W, H, P, S> as Refresher>⟧.failures self.old) (⟦<State<'out, 'prompt, W, H, P, S> as Refresher>⟧.failures self.new)) }
+        ensures draft { ⟦<Self as Refresher>⟧.draft self.new ≡ record (⟦<Self as Refresher>⟧.draft self.old) { line = with_cursor (⟦<Self as Refresher>⟧.draft self.old).line (start_of_line (⟦<Self as Refresher>⟧.draft self.old).line) } }
+        ensures right { OnOk result (StaysRight ⟦<Self as Refresher>⟧ self.old self.new) }
+        ensures stays { Stays ⟦<Self as Refresher>⟧ self.old self.new }
+        ensures io { FailsByDrawing ⟦<Self as Refresher>⟧ result self.old self.new }
         ensures faults { FaultsOnly result }
     {
         if self.line.move_home() {
@@ -375,10 +375,10 @@ impl<'out, 'prompt, W: Renderer, H: Helper, P: Prompt, S: History> State<
 
     /// Moves the cursor to the end of its line. The cursor that is drawn goes along.
     pub fn edit_move_end(&mut self) -> Result<()>
-        ensures draft { ⟦<State<'out, 'prompt, W, H, P, S> as Refresher>⟧.draft self.new ≡ record (⟦<State<'out, 'prompt, W, H, P, S> as Refresher>⟧.draft self.old) { line = with_cursor (⟦<State<'out, 'prompt, W, H, P, S> as Refresher>⟧.draft self.old).line (end_of_line (⟦<State<'out, 'prompt, W, H, P, S> as Refresher>⟧.draft self.old).line) } }
-        ensures right { OnOk result (IsRight (⟦<State<'out, 'prompt, W, H, P, S> as Refresher>⟧.display self.old) (⟦<State<'out, 'prompt, W, H, P, S> as Refresher>⟧.draft self.old).line → IsRight (⟦<State<'out, 'prompt, W, H, P, S> as Refresher>⟧.display self.new) (⟦<State<'out, 'prompt, W, H, P, S> as Refresher>⟧.draft self.new).line) }
-        ensures stays { Stays ⟦<State<'out, 'prompt, W, H, P, S> as Refresher>⟧ self.old self.new }
-        ensures io { IoOnlyIf result (Rose (⟦<State<'out, 'prompt, W, H, P, S> as Refresher>⟧.failures self.old) (⟦<State<'out, 'prompt, W, H, P, S> as Refresher>⟧.failures self.new)) }
+        ensures draft { ⟦<Self as Refresher>⟧.draft self.new ≡ record (⟦<Self as Refresher>⟧.draft self.old) { line = with_cursor (⟦<Self as Refresher>⟧.draft self.old).line (end_of_line (⟦<Self as Refresher>⟧.draft self.old).line) } }
+        ensures right { OnOk result (StaysRight ⟦<Self as Refresher>⟧ self.old self.new) }
+        ensures stays { Stays ⟦<Self as Refresher>⟧ self.old self.new }
+        ensures io { FailsByDrawing ⟦<Self as Refresher>⟧ result self.old self.new }
         ensures faults { FaultsOnly result }
     {
         if self.line.move_end() {
@@ -390,15 +390,15 @@ impl<'out, 'prompt, W: Renderer, H: Helper, P: Prompt, S: History> State<
 
     /// Takes the drawn cursor to where the drawn text ends, a hint or message behind it included.
     pub fn move_cursor_to_end(&mut self) -> Result<()>
-        ensures draft { (⟦<State<'out, 'prompt, W, H, P, S> as Refresher>⟧.draft self.new) ≡ (⟦<State<'out, 'prompt, W, H, P, S> as Refresher>⟧.draft self.old) }
-        ensures cursor { OnOk result ((⟦<State<'out, 'prompt, W, H, P, S> as Refresher>⟧.display self.new).layout.cursor ≡ (⟦<State<'out, 'prompt, W, H, P, S> as Refresher>⟧.display self.new).layout.end) }
-        ensures end { (⟦<State<'out, 'prompt, W, H, P, S> as Refresher>⟧.display self.new).layout.end ≡ (⟦<State<'out, 'prompt, W, H, P, S> as Refresher>⟧.display self.old).layout.end }
-        ensures place { OnOk result ((⟦<State<'out, 'prompt, W, H, P, S> as Refresher>⟧.display self.old).screen.place ≡ (⟦<State<'out, 'prompt, W, H, P, S> as Refresher>⟧.display self.old).layout.cursor
-            → (⟦<State<'out, 'prompt, W, H, P, S> as Refresher>⟧.display self.new).screen.place ≡ (⟦<State<'out, 'prompt, W, H, P, S> as Refresher>⟧.display self.new).layout.cursor) }
-        ensures text { (⟦<State<'out, 'prompt, W, H, P, S> as Refresher>⟧.display self.new).screen.text ≡ (⟦<State<'out, 'prompt, W, H, P, S> as Refresher>⟧.display self.old).screen.text }
-        ensures redraws { ⟦<State<'out, 'prompt, W, H, P, S> as Refresher>⟧.redraws self.new ≡ ⟦<State<'out, 'prompt, W, H, P, S> as Refresher>⟧.redraws self.old }
-        ensures stays { Stays ⟦<State<'out, 'prompt, W, H, P, S> as Refresher>⟧ self.old self.new }
-        ensures io { IoOnlyIf result (Rose (⟦<State<'out, 'prompt, W, H, P, S> as Refresher>⟧.failures self.old) (⟦<State<'out, 'prompt, W, H, P, S> as Refresher>⟧.failures self.new)) }
+        ensures draft { (⟦<Self as Refresher>⟧.draft self.new) ≡ (⟦<Self as Refresher>⟧.draft self.old) }
+        ensures cursor { OnOk result (StandsAtEnd ⟦<Self as Refresher>⟧ self.new) }
+        ensures end { (⟦<Self as Refresher>⟧.display self.new).layout.end ≡ (⟦<Self as Refresher>⟧.display self.old).layout.end }
+        ensures place { OnOk result ((⟦<Self as Refresher>⟧.display self.old).screen.place ≡ (⟦<Self as Refresher>⟧.display self.old).layout.cursor
+            → (⟦<Self as Refresher>⟧.display self.new).screen.place ≡ (⟦<Self as Refresher>⟧.display self.new).layout.cursor) }
+        ensures text { (⟦<Self as Refresher>⟧.display self.new).screen.text ≡ (⟦<Self as Refresher>⟧.display self.old).screen.text }
+        ensures redraws { ⟦<Self as Refresher>⟧.redraws self.new ≡ ⟦<Self as Refresher>⟧.redraws self.old }
+        ensures stays { Stays ⟦<Self as Refresher>⟧ self.old self.new }
+        ensures io { FailsByDrawing ⟦<Self as Refresher>⟧ result self.old self.new }
         ensures faults { FaultsOnly result }
     {
         if self.layout.cursor == self.layout.end {
@@ -412,10 +412,10 @@ impl<'out, 'prompt, W: Renderer, H: Helper, P: Prompt, S: History> State<
     /// Inserts `n` copies of a character at the cursor, asks for the hint and draws the line again. Where memory ran out,
     /// the line is text with its cursor on a boundary.
     pub fn edit_insert(&mut self, c: char, n: RepeatCount) -> Result<()>
-        ensures draft { OnOk result ((⟦<State<'out, 'prompt, W, H, P, S> as Refresher>⟧.draft self.new) ≡ typed (⟦<State<'out, 'prompt, W, H, P, S> as Refresher>⟧.world self.old) n c (⟦<State<'out, 'prompt, W, H, P, S> as Refresher>⟧.draft self.old)) }
-        ensures right { OnOk result (IsRight (⟦<State<'out, 'prompt, W, H, P, S> as Refresher>⟧.display self.new) (⟦<State<'out, 'prompt, W, H, P, S> as Refresher>⟧.draft self.new).line) }
-        ensures stays { Stays ⟦<State<'out, 'prompt, W, H, P, S> as Refresher>⟧ self.old self.new }
-        ensures io { IoOnlyIf result (⟦<State<'out, 'prompt, W, H, P, S> as Refresher>⟧.sure self.old ≡ true → Rose (⟦<State<'out, 'prompt, W, H, P, S> as Refresher>⟧.failures self.old) (⟦<State<'out, 'prompt, W, H, P, S> as Refresher>⟧.failures self.new)) }
+        ensures draft { OnOk result ((⟦<Self as Refresher>⟧.draft self.new) ≡ typed (⟦<Self as Refresher>⟧.world self.old) n c (⟦<Self as Refresher>⟧.draft self.old)) }
+        ensures right { OnOk result (HoldsRight ⟦<Self as Refresher>⟧ self.new) }
+        ensures stays { Stays ⟦<Self as Refresher>⟧ self.old self.new }
+        ensures io { FailsByParty ⟦<Self as Refresher>⟧ result self.old self.new }
         ensures faults { FaultsOnly result }
     {
         let _ = self.line.insert(c, n, &mut self.changes)?;
@@ -426,11 +426,11 @@ impl<'out, 'prompt, W: Renderer, H: Helper, P: Prompt, S: History> State<
     /// message where there is something to show or to take away. Without a helper every line is valid.
     #[tactic(auto, using(crate::proofs::EditLemmas::no_verdict, crate::proofs::EditLemmas::not_validated, crate::proofs::EditLemmas::was_validated))]
     pub fn validate(&mut self) -> Result<ValidationResult>
-        ensures verdict { IfOk result (λ r. verdict_of r ≡ verdict_on (⟦<State<'out, 'prompt, W, H, P, S> as Refresher>⟧.world self.old) (⟦<State<'out, 'prompt, W, H, P, S> as Refresher>⟧.draft self.old)) }
-        ensures draft { OnOk result ((⟦<State<'out, 'prompt, W, H, P, S> as Refresher>⟧.draft self.new) ≡ validated (⟦<State<'out, 'prompt, W, H, P, S> as Refresher>⟧.world self.old) (⟦<State<'out, 'prompt, W, H, P, S> as Refresher>⟧.draft self.old)) }
-        ensures right { OnOk result (IsRight (⟦<State<'out, 'prompt, W, H, P, S> as Refresher>⟧.display self.old) (⟦<State<'out, 'prompt, W, H, P, S> as Refresher>⟧.draft self.old).line → IsRight (⟦<State<'out, 'prompt, W, H, P, S> as Refresher>⟧.display self.new) (⟦<State<'out, 'prompt, W, H, P, S> as Refresher>⟧.draft self.new).line) }
-        ensures stays { Stays ⟦<State<'out, 'prompt, W, H, P, S> as Refresher>⟧ self.old self.new }
-        ensures io { IoOnlyIf result (⟦<State<'out, 'prompt, W, H, P, S> as Refresher>⟧.sure self.old ≡ true → Rose (⟦<State<'out, 'prompt, W, H, P, S> as Refresher>⟧.failures self.old) (⟦<State<'out, 'prompt, W, H, P, S> as Refresher>⟧.failures self.new)) }
+        ensures verdict { IfOk result (λ r. verdict_of r ≡ verdict_on (⟦<Self as Refresher>⟧.world self.old) (⟦<Self as Refresher>⟧.draft self.old)) }
+        ensures draft { OnOk result ((⟦<Self as Refresher>⟧.draft self.new) ≡ validated (⟦<Self as Refresher>⟧.world self.old) (⟦<Self as Refresher>⟧.draft self.old)) }
+        ensures right { OnOk result (StaysRight ⟦<Self as Refresher>⟧ self.old self.new) }
+        ensures stays { Stays ⟦<Self as Refresher>⟧ self.old self.new }
+        ensures io { FailsByParty ⟦<Self as Refresher>⟧ result self.old self.new }
         ensures faults { FaultsOnly result }
     {
         if !has_validator(&self.helper) {
@@ -445,10 +445,10 @@ impl<'out, 'prompt, W: Renderer, H: Helper, P: Prompt, S: History> State<
 
     // Draws the line with a verdict's message, where there is something to show or to take away.
     fn show_verdict(&mut self, verdict: &ValidationResult, corrected: bool) -> Result<()>
-        ensures draft { OnOk result ((⟦<State<'out, 'prompt, W, H, P, S> as Refresher>⟧.draft self.new) ≡ unhinted_by (verdict_of verdict.now) (⟦<State<'out, 'prompt, W, H, P, S> as Refresher>⟧.draft self.old)) }
-        ensures right { OnOk result (IsRight (⟦<State<'out, 'prompt, W, H, P, S> as Refresher>⟧.display self.old) (⟦<State<'out, 'prompt, W, H, P, S> as Refresher>⟧.draft self.old).line → IsRight (⟦<State<'out, 'prompt, W, H, P, S> as Refresher>⟧.display self.new) (⟦<State<'out, 'prompt, W, H, P, S> as Refresher>⟧.draft self.new).line) }
-        ensures stays { Stays ⟦<State<'out, 'prompt, W, H, P, S> as Refresher>⟧ self.old self.new }
-        ensures io { IoOnlyIf result (⟦<State<'out, 'prompt, W, H, P, S> as Refresher>⟧.sure self.old ≡ true → Rose (⟦<State<'out, 'prompt, W, H, P, S> as Refresher>⟧.failures self.old) (⟦<State<'out, 'prompt, W, H, P, S> as Refresher>⟧.failures self.new)) }
+        ensures draft { OnOk result ((⟦<Self as Refresher>⟧.draft self.new) ≡ unhinted_by (verdict_of verdict.now) (⟦<Self as Refresher>⟧.draft self.old)) }
+        ensures right { OnOk result (StaysRight ⟦<Self as Refresher>⟧ self.old self.new) }
+        ensures stays { Stays ⟦<Self as Refresher>⟧ self.old self.new }
+        ensures io { FailsByParty ⟦<Self as Refresher>⟧ result self.old self.new }
         ensures faults { FaultsOnly result }
     {
         let (message, kind) = match verdict {
@@ -466,11 +466,11 @@ impl<'out, 'prompt, W: Renderer, H: Helper, P: Prompt, S: History> State<
     /// again. Where there is nothing to kill, nothing happens. Where memory ran out, the line is text with its cursor on a
     /// boundary.
     pub fn edit_kill(&mut self, movement: &Movement, kill_ring: &mut KillRing) -> Result<()>
-        ensures draft { OnOk result ((⟦<State<'out, 'prompt, W, H, P, S> as Refresher>⟧.draft self.new) ≡ (killed_by (⟦<State<'out, 'prompt, W, H, P, S> as Refresher>⟧.world self.old) movement.now (record { draft = ⟦<State<'out, 'prompt, W, H, P, S> as Refresher>⟧.draft self.old; kills = kill_ring.old }) (killed_range (⟦<State<'out, 'prompt, W, H, P, S> as Refresher>⟧.draft self.old).line movement.now)).draft) }
-        ensures kills { OnOk result (kill_ring.new ≡ (killed_by (⟦<State<'out, 'prompt, W, H, P, S> as Refresher>⟧.world self.old) movement.now (record { draft = ⟦<State<'out, 'prompt, W, H, P, S> as Refresher>⟧.draft self.old; kills = kill_ring.old }) (killed_range (⟦<State<'out, 'prompt, W, H, P, S> as Refresher>⟧.draft self.old).line movement.now)).kills) }
-        ensures right { OnOk result (IsRight (⟦<State<'out, 'prompt, W, H, P, S> as Refresher>⟧.display self.old) (⟦<State<'out, 'prompt, W, H, P, S> as Refresher>⟧.draft self.old).line → IsRight (⟦<State<'out, 'prompt, W, H, P, S> as Refresher>⟧.display self.new) (⟦<State<'out, 'prompt, W, H, P, S> as Refresher>⟧.draft self.new).line) }
-        ensures stays { Stays ⟦<State<'out, 'prompt, W, H, P, S> as Refresher>⟧ self.old self.new }
-        ensures io { IoOnlyIf result (⟦<State<'out, 'prompt, W, H, P, S> as Refresher>⟧.sure self.old ≡ true → Rose (⟦<State<'out, 'prompt, W, H, P, S> as Refresher>⟧.failures self.old) (⟦<State<'out, 'prompt, W, H, P, S> as Refresher>⟧.failures self.new)) }
+        ensures draft { OnOk result ((⟦<Self as Refresher>⟧.draft self.new) ≡ (killed_by (⟦<Self as Refresher>⟧.world self.old) movement.now (record { draft = ⟦<Self as Refresher>⟧.draft self.old; kills = kill_ring.old }) (killed_range (⟦<Self as Refresher>⟧.draft self.old).line movement.now)).draft) }
+        ensures kills { OnOk result (kill_ring.new ≡ (killed_by (⟦<Self as Refresher>⟧.world self.old) movement.now (record { draft = ⟦<Self as Refresher>⟧.draft self.old; kills = kill_ring.old }) (killed_range (⟦<Self as Refresher>⟧.draft self.old).line movement.now)).kills) }
+        ensures right { OnOk result (StaysRight ⟦<Self as Refresher>⟧ self.old self.new) }
+        ensures stays { Stays ⟦<Self as Refresher>⟧ self.old self.new }
+        ensures io { FailsByParty ⟦<Self as Refresher>⟧ result self.old self.new }
         ensures faults { FaultsOnly result }
     {
         match self.line.kill(movement, &mut self.changes, kill_ring)? {
@@ -491,24 +491,24 @@ impl<'out, 'prompt, W: Renderer, H: Helper, P: Prompt, S: History> State<
         single_esc_abort: bool,
     ) -> Result<Cmd>
         ensures phrase { IfOk result (λ c. (items : List Item) × (draft : Draft) × (W.Reader.rest rdr.old ≡ items ++ W.Reader.rest rdr.new)
-            × Phrase (keymap_of input_state.old (W.Reader.own_binding rdr.old)) (⟦<State<'out, 'prompt, W, H, P, S> as Refresher>⟧.world self.old) (⟦<State<'out, 'prompt, W, H, P, S> as Refresher>⟧.draft self.old) (input_of input_state.old)
+            × Phrase (keymap_of input_state.old (W.Reader.own_binding rdr.old)) (⟦<Self as Refresher>⟧.world self.old) (⟦<Self as Refresher>⟧.draft self.old) (input_of input_state.old)
             items (command_of c) draft (input_of input_state.new)
-            × ((⟦<State<'out, 'prompt, W, H, P, S> as Refresher>⟧.draft self.new) ≡ grouped (command_of c) draft)) }
+            × ((⟦<Self as Refresher>⟧.draft self.new) ≡ grouped (command_of c) draft)) }
         ensures eof { IsErrOf result ReadlineError.Eof → (W.Reader.rest rdr.new ≡ [])
-            × IsBeginning (keymap_of input_state.old (W.Reader.own_binding rdr.old)) (⟦<State<'out, 'prompt, W, H, P, S> as Refresher>⟧.world self.old) (⟦<State<'out, 'prompt, W, H, P, S> as Refresher>⟧.draft self.old) (input_of input_state.old) (W.Reader.rest rdr.old) }
+            × IsBeginning (keymap_of input_state.old (W.Reader.own_binding rdr.old)) (⟦<Self as Refresher>⟧.world self.old) (⟦<Self as Refresher>⟧.draft self.old) (input_of input_state.old) (W.Reader.rest rdr.old) }
         ensures not_interrupted { IsErrOf result ReadlineError.Interrupted → ⊥ }
         // Where nothing was left to read, nothing changes.
-        ensures dry { W.Reader.rest rdr.old ≡ [] → ((⟦<State<'out, 'prompt, W, H, P, S> as Refresher>⟧.draft self.new) ≡ (⟦<State<'out, 'prompt, W, H, P, S> as Refresher>⟧.draft self.old)) × (⟦<State<'out, 'prompt, W, H, P, S> as Refresher>⟧.display self.new ≡ ⟦<State<'out, 'prompt, W, H, P, S> as Refresher>⟧.display self.old) }
-        ensures line { (⟦<State<'out, 'prompt, W, H, P, S> as Refresher>⟧.draft self.new).line ≡ (⟦<State<'out, 'prompt, W, H, P, S> as Refresher>⟧.draft self.old).line }
-        ensures saved { (⟦<State<'out, 'prompt, W, H, P, S> as Refresher>⟧.draft self.new).saved ≡ (⟦<State<'out, 'prompt, W, H, P, S> as Refresher>⟧.draft self.old).saved }
-        ensures place { (⟦<State<'out, 'prompt, W, H, P, S> as Refresher>⟧.draft self.new).place ≡ (⟦<State<'out, 'prompt, W, H, P, S> as Refresher>⟧.draft self.old).place }
-        ensures right { OnOk result (IsRight (⟦<State<'out, 'prompt, W, H, P, S> as Refresher>⟧.display self.old) (⟦<State<'out, 'prompt, W, H, P, S> as Refresher>⟧.draft self.old).line → IsRight (⟦<State<'out, 'prompt, W, H, P, S> as Refresher>⟧.display self.new) (⟦<State<'out, 'prompt, W, H, P, S> as Refresher>⟧.draft self.new).line) }
-        ensures stays { Stays ⟦<State<'out, 'prompt, W, H, P, S> as Refresher>⟧ self.old self.new }
+        ensures dry { W.Reader.rest rdr.old ≡ [] → ((⟦<Self as Refresher>⟧.draft self.new) ≡ (⟦<Self as Refresher>⟧.draft self.old)) × (⟦<Self as Refresher>⟧.display self.new ≡ ⟦<Self as Refresher>⟧.display self.old) }
+        ensures line { (⟦<Self as Refresher>⟧.draft self.new).line ≡ (⟦<Self as Refresher>⟧.draft self.old).line }
+        ensures saved { (⟦<Self as Refresher>⟧.draft self.new).saved ≡ (⟦<Self as Refresher>⟧.draft self.old).saved }
+        ensures place { (⟦<Self as Refresher>⟧.draft self.new).place ≡ (⟦<Self as Refresher>⟧.draft self.old).place }
+        ensures right { OnOk result (StaysRight ⟦<Self as Refresher>⟧ self.old self.new) }
+        ensures stays { Stays ⟦<Self as Refresher>⟧ self.old self.new }
         ensures own { W.Reader.own_binding rdr.new ≡ W.Reader.own_binding rdr.old }
         ensures keymap { keymap_of input_state.new (W.Reader.own_binding rdr.old) ≡ keymap_of input_state.old (W.Reader.own_binding rdr.old) }
         ensures reads { OnOk result (length (W.Reader.rest rdr.new) < length (W.Reader.rest rdr.old)) }
         ensures counts { W.Reader.failures rdr.old ≤ W.Reader.failures rdr.new }
-        ensures io { IoOnlyIf result (⟦<State<'out, 'prompt, W, H, P, S> as Refresher>⟧.sure self.old ≡ true → EitherRose (W.Reader.failures rdr.old) (⟦<State<'out, 'prompt, W, H, P, S> as Refresher>⟧.failures self.old) (W.Reader.failures rdr.new) (⟦<State<'out, 'prompt, W, H, P, S> as Refresher>⟧.failures self.new)) }
+        ensures io { FailsByReading ⟦<Self as Refresher>⟧ W.Reader.RawReader result self.old rdr.old self.new rdr.new }
     {
         let command = input_state.next_cmd(rdr, self, single_esc_abort)?;
         self.begin_group(&command)?;
@@ -517,35 +517,35 @@ impl<'out, 'prompt, W: Renderer, H: Helper, P: Prompt, S: History> State<
 
     /// The kept layout: where the prompt ends, and where the cursor and the end of what is shown are.
     pub fn layout(&self) -> &Layout
-        ensures { result.now ≡ (⟦<State<'out, 'prompt, W, H, P, S> as Refresher>⟧.display self.now).layout }
+        ensures { result.now ≡ (⟦<Self as Refresher>⟧.display self.now).layout }
     {
         &self.layout
     }
 
     /// The place in the history; its length is that of the line that is being typed.
     pub fn place(&self) -> usize
-        ensures within { result ≤ length (⟦<State<'out, 'prompt, W, H, P, S> as Refresher>⟧.world self.now).lines }
-        ensures value { result ≡ (⟦<State<'out, 'prompt, W, H, P, S> as Refresher>⟧.draft self.now).place }
+        ensures within { result ≤ length (⟦<Self as Refresher>⟧.world self.now).lines }
+        ensures value { result ≡ (⟦<Self as Refresher>⟧.draft self.now).place }
     {
         self.ctx.history_index()
     }
 
     /// Whether the line was last drawn behind its own prompt.
     pub fn is_default_prompt(&self) -> bool
-        ensures { result ≡ (⟦<State<'out, 'prompt, W, H, P, S> as Refresher>⟧.display self.now).layout.default_prompt }
+        ensures { result ≡ (⟦<Self as Refresher>⟧.display self.now).layout.default_prompt }
     {
         self.layout.default_prompt
     }
 
     // Begins a group of changes for a replacement.
     fn begin_group(&mut self, command: &Cmd) -> Result<()>
-        ensures draft { OnOk result ((⟦<State<'out, 'prompt, W, H, P, S> as Refresher>⟧.draft self.new) ≡ grouped (command_of command.now) (⟦<State<'out, 'prompt, W, H, P, S> as Refresher>⟧.draft self.old)) }
-        ensures line { (⟦<State<'out, 'prompt, W, H, P, S> as Refresher>⟧.draft self.new).line ≡ (⟦<State<'out, 'prompt, W, H, P, S> as Refresher>⟧.draft self.old).line }
-        ensures saved { (⟦<State<'out, 'prompt, W, H, P, S> as Refresher>⟧.draft self.new).saved ≡ (⟦<State<'out, 'prompt, W, H, P, S> as Refresher>⟧.draft self.old).saved }
-        ensures place { (⟦<State<'out, 'prompt, W, H, P, S> as Refresher>⟧.draft self.new).place ≡ (⟦<State<'out, 'prompt, W, H, P, S> as Refresher>⟧.draft self.old).place }
-        ensures display { ⟦<State<'out, 'prompt, W, H, P, S> as Refresher>⟧.display self.new ≡ ⟦<State<'out, 'prompt, W, H, P, S> as Refresher>⟧.display self.old }
-        ensures failures { ⟦<State<'out, 'prompt, W, H, P, S> as Refresher>⟧.failures self.new ≡ ⟦<State<'out, 'prompt, W, H, P, S> as Refresher>⟧.failures self.old }
-        ensures stays { Stays ⟦<State<'out, 'prompt, W, H, P, S> as Refresher>⟧ self.old self.new }
+        ensures draft { OnOk result ((⟦<Self as Refresher>⟧.draft self.new) ≡ grouped (command_of command.now) (⟦<Self as Refresher>⟧.draft self.old)) }
+        ensures line { (⟦<Self as Refresher>⟧.draft self.new).line ≡ (⟦<Self as Refresher>⟧.draft self.old).line }
+        ensures saved { (⟦<Self as Refresher>⟧.draft self.new).saved ≡ (⟦<Self as Refresher>⟧.draft self.old).saved }
+        ensures place { (⟦<Self as Refresher>⟧.draft self.new).place ≡ (⟦<Self as Refresher>⟧.draft self.old).place }
+        ensures display { ⟦<Self as Refresher>⟧.display self.new ≡ ⟦<Self as Refresher>⟧.display self.old }
+        ensures failures { ⟦<Self as Refresher>⟧.failures self.new ≡ ⟦<Self as Refresher>⟧.failures self.old }
+        ensures stays { Stays ⟦<Self as Refresher>⟧ self.old self.new }
         ensures memory { MemoryOnly result }
     {
         match command {
@@ -557,10 +557,10 @@ impl<'out, 'prompt, W: Renderer, H: Helper, P: Prompt, S: History> State<
     /// Takes the hint away: by a full redraw without it, where a hint is there, a character is highlighted or another prompt
     /// is shown.
     pub(crate) fn drop_hint(&mut self) -> Result<()>
-        ensures draft { OnOk result ((⟦<State<'out, 'prompt, W, H, P, S> as Refresher>⟧.draft self.new) ≡ unhinted (⟦<State<'out, 'prompt, W, H, P, S> as Refresher>⟧.draft self.old)) }
-        ensures right { OnOk result (IsRight (⟦<State<'out, 'prompt, W, H, P, S> as Refresher>⟧.display self.old) (⟦<State<'out, 'prompt, W, H, P, S> as Refresher>⟧.draft self.old).line → IsRight (⟦<State<'out, 'prompt, W, H, P, S> as Refresher>⟧.display self.new) (⟦<State<'out, 'prompt, W, H, P, S> as Refresher>⟧.draft self.new).line) }
-        ensures stays { Stays ⟦<State<'out, 'prompt, W, H, P, S> as Refresher>⟧ self.old self.new }
-        ensures io { IoOnlyIf result (⟦<State<'out, 'prompt, W, H, P, S> as Refresher>⟧.sure self.old ≡ true → Rose (⟦<State<'out, 'prompt, W, H, P, S> as Refresher>⟧.failures self.old) (⟦<State<'out, 'prompt, W, H, P, S> as Refresher>⟧.failures self.new)) }
+        ensures draft { OnOk result ((⟦<Self as Refresher>⟧.draft self.new) ≡ unhinted (⟦<Self as Refresher>⟧.draft self.old)) }
+        ensures right { OnOk result (StaysRight ⟦<Self as Refresher>⟧ self.old self.new) }
+        ensures stays { Stays ⟦<Self as Refresher>⟧ self.old self.new }
+        ensures io { FailsByParty ⟦<Self as Refresher>⟧ result self.old self.new }
         ensures faults { FaultsOnly result }
     {
         if self.has_hint() || self.highlight_char || !self.is_default_prompt() {
@@ -571,7 +571,7 @@ impl<'out, 'prompt, W: Renderer, H: Helper, P: Prompt, S: History> State<
 
     /// Whether only white space stands from the cursor on.
     pub(crate) fn is_end_of_input(&self) -> bool
-        ensures { result ≡ ends_in_white_space (⟦<State<'out, 'prompt, W, H, P, S> as Refresher>⟧.draft self.now).line }
+        ensures { result ≡ ends_in_white_space (⟦<Self as Refresher>⟧.draft self.now).line }
     {
         self.line.is_end_of_input()
     }

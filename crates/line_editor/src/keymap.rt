@@ -2,7 +2,7 @@
 ghost use Rattle.std.specs.Prelude.{◌≡◌, ◌<◌, ◌≤◌, ◌↔◌, ◌+◌, true, Bool, List, [], ◌∷◌, ◌++◌, length, Option, Some, None, option_map, IfOk, OnOk, OnErr, IsErrOf, IsTrue};
 ghost use Rattle.line_config.specs.Error.{FaultsOnly, IoOnlyIf, Rose};
 ghost use Rattle.line_editor.specs.Binding.{answer_of};
-ghost use Rattle.line_editor.specs.Fault.{EitherRose};
+ghost use Rattle.line_editor.specs.Fault.{FailsByReading};
 ghost use Rattle.line_editor.specs.Keymap.{on_line};
 ghost use Rattle.line_editor.specs.Input.{first_input};
 ghost use Rattle.line_editor.specs.InputState.{input_of, keymap_of};
@@ -12,7 +12,7 @@ ghost use Rattle.line_keys.specs.Draft.{KeepsText};
 ghost use Rattle.line_keys.specs.Display.{IsRight};
 ghost use Rattle.line_keys.specs.Item.{Item};
 ghost use Rattle.line_keys.specs.declared.keys.KeyEvent.{KeyEvent};
-ghost use Rattle.line_keys.specs.Stays.{Stays};
+ghost use Rattle.line_keys.specs.Refresher.{Stays, StaysRight};
 
 use crate::binding::Bindings;
 use line_buffer::CharSearch;
@@ -84,13 +84,13 @@ impl<'b> InputState<'b> {
         // Where nothing was left to read, nothing changes.
         ensures dry { R.rest rdr.old ≡ [] → (W.draft wrt.new ≡ W.draft wrt.old) × (W.display wrt.new ≡ W.display wrt.old) }
         ensures text { KeepsText (W.draft wrt.old) (W.draft wrt.new) }
-        ensures right { OnOk result (IsRight (W.display wrt.old) (W.draft wrt.old).line → IsRight (W.display wrt.new) (W.draft wrt.new).line) }
+        ensures right { OnOk result (StaysRight W.Refresher wrt.old wrt.new) }
         ensures stays { Stays W.Refresher wrt.old wrt.new }
         ensures own { R.own_binding rdr.new ≡ R.own_binding rdr.old }
         ensures keymap { keymap_of self.new (R.own_binding rdr.old) ≡ keymap_of self.old (R.own_binding rdr.old) }
         ensures reads { OnOk result (length (R.rest rdr.new) < length (R.rest rdr.old)) }
         ensures counts { R.failures rdr.old ≤ R.failures rdr.new }
-        ensures io { IoOnlyIf result (W.sure wrt.old ≡ true → EitherRose (R.failures rdr.old) (W.failures wrt.old) (R.failures rdr.new) (W.failures wrt.new)) }
+        ensures io { FailsByReading W.Refresher R.RawReader result wrt.old rdr.old wrt.new rdr.new }
     {
         let key = rdr.next_key(single_esc_abort && self.is_emacs_mode())?;
         let count = Count::one();

@@ -1,17 +1,18 @@
 //! Reads commands and executes them, until the line is submitted or the input ends.
 ghost use Rattle.std.specs.Prelude.{◌≡◌, ◌≤◌, ◌<◌, ◌⊎◌, ◌++◌, [], true, List, length, IfOk, OnOk, IsErrOf};
 ghost use Rattle.line_config.specs.Error.{IoOnlyIf};
-ghost use Rattle.line_editor.specs.Fault.{EitherRose};
+ghost use Rattle.line_editor.specs.Fault.{FailsByReading};
 ghost use Rattle.line_editor.specs.InputState.{input_of, keymap_of};
 ghost use Rattle.line_editor.specs.Phrase.{IsBeginning};
-ghost use Rattle.line_editor.specs.Run.{Run, Stands, Turn, kills_before};
+ghost use Rattle.line_editor.specs.Run.{kills_before};
+ghost use Rattle.line_editor.specs.Runs.{DriesUp, RunsTo, TurnsTo};
 ghost use Rattle.line_editor.specs.Status.{answer_of};
 ghost use Rattle.line_editor.specs.Step.{ended, interrupted, submitted};
 ghost use Rattle.line_keys.specs.Command.{command_of};
 ghost use Rattle.line_keys.specs.Display.{IsRight};
 ghost use Rattle.line_keys.specs.Draft.{hinted};
 ghost use Rattle.line_keys.specs.Item.{Item};
-ghost use Rattle.line_keys.specs.Stays.{Stays};
+ghost use Rattle.line_keys.specs.Refresher.{HoldsRight, StandsAtEnd, Stays, StaysRight};
 
 use crate::command::{Status, execute};
 use crate::edit::State;
@@ -42,19 +43,24 @@ fn turn<'out, 'prompt, W: Renderer, H: Helper, P: Prompt, S: History>(
     kill_ring: &mut KillRing,
     config: &Config,
 ) -> Result<Status>
-    ensures ok { IfOk result (λ status. Turn (keymap_of input_state.old (W.Reader.own_binding rdr.old)) (⟦<State<'out, 'prompt, W, H, P, S> as Refresher>⟧.world state.old) (record { draft = (⟦<State<'out, 'prompt, W, H, P, S> as Refresher>⟧.draft state.old); kills = kill_ring.old }) (input_of input_state.old) (W.Reader.rest rdr.old) (record { draft = (⟦<State<'out, 'prompt, W, H, P, S> as Refresher>⟧.draft state.new); kills = kill_ring.new }) (input_of input_state.new) (W.Reader.rest rdr.new) (answer_of status)) }
+    ensures ok { IfOk result (λ status. TurnsTo ⟦<State<'out, 'prompt, W, H, P, S> as Refresher>⟧ W.Reader.RawReader
+        state.old input_state.old rdr.old kill_ring.old state.new input_state.new rdr.new kill_ring.new (answer_of status)) }
     ensures eof { IsErrOf result ReadlineError.Eof →
-        (Turn (keymap_of input_state.old (W.Reader.own_binding rdr.old)) (⟦<State<'out, 'prompt, W, H, P, S> as Refresher>⟧.world state.old) (record { draft = (⟦<State<'out, 'prompt, W, H, P, S> as Refresher>⟧.draft state.old); kills = kill_ring.old }) (input_of input_state.old) (W.Reader.rest rdr.old) (record { draft = (⟦<State<'out, 'prompt, W, H, P, S> as Refresher>⟧.draft state.new); kills = kill_ring.new }) (input_of input_state.new) (W.Reader.rest rdr.new) ended × (IsRight (⟦<State<'out, 'prompt, W, H, P, S> as Refresher>⟧.display state.old) (⟦<State<'out, 'prompt, W, H, P, S> as Refresher>⟧.draft state.old).line → IsRight (⟦<State<'out, 'prompt, W, H, P, S> as Refresher>⟧.display state.new) (⟦<State<'out, 'prompt, W, H, P, S> as Refresher>⟧.draft state.new).line))
-        ⊎ (IsBeginning (keymap_of input_state.old (W.Reader.own_binding rdr.old)) (⟦<State<'out, 'prompt, W, H, P, S> as Refresher>⟧.world state.old) (⟦<State<'out, 'prompt, W, H, P, S> as Refresher>⟧.draft state.old) (input_of input_state.old) (W.Reader.rest rdr.old) × Stands (record { draft = (⟦<State<'out, 'prompt, W, H, P, S> as Refresher>⟧.draft state.old); kills = kill_ring.old }) (record { draft = (⟦<State<'out, 'prompt, W, H, P, S> as Refresher>⟧.draft state.new); kills = kill_ring.new }) × ((W.Reader.rest rdr.new) ≡ []) × ((W.Reader.rest rdr.old) ≡ [] → IsRight (⟦<State<'out, 'prompt, W, H, P, S> as Refresher>⟧.display state.old) (⟦<State<'out, 'prompt, W, H, P, S> as Refresher>⟧.draft state.old).line → IsRight (⟦<State<'out, 'prompt, W, H, P, S> as Refresher>⟧.display state.new) (⟦<State<'out, 'prompt, W, H, P, S> as Refresher>⟧.draft state.new).line)) }
-    ensures interrupted { IsErrOf result ReadlineError.Interrupted → Turn (keymap_of input_state.old (W.Reader.own_binding rdr.old)) (⟦<State<'out, 'prompt, W, H, P, S> as Refresher>⟧.world state.old) (record { draft = (⟦<State<'out, 'prompt, W, H, P, S> as Refresher>⟧.draft state.old); kills = kill_ring.old }) (input_of input_state.old) (W.Reader.rest rdr.old) (record { draft = (⟦<State<'out, 'prompt, W, H, P, S> as Refresher>⟧.draft state.new); kills = kill_ring.new }) (input_of input_state.new) (W.Reader.rest rdr.new) interrupted }
-    ensures at_end { IsErrOf result ReadlineError.Interrupted → (⟦<State<'out, 'prompt, W, H, P, S> as Refresher>⟧.display state.new).layout.cursor ≡ (⟦<State<'out, 'prompt, W, H, P, S> as Refresher>⟧.display state.new).layout.end }
-    ensures right { OnOk result (IsRight (⟦<State<'out, 'prompt, W, H, P, S> as Refresher>⟧.display state.old) (⟦<State<'out, 'prompt, W, H, P, S> as Refresher>⟧.draft state.old).line → IsRight (⟦<State<'out, 'prompt, W, H, P, S> as Refresher>⟧.display state.new) (⟦<State<'out, 'prompt, W, H, P, S> as Refresher>⟧.draft state.new).line) }
+        (TurnsTo ⟦<State<'out, 'prompt, W, H, P, S> as Refresher>⟧ W.Reader.RawReader
+        state.old input_state.old rdr.old kill_ring.old state.new input_state.new rdr.new kill_ring.new ended
+        × (StaysRight ⟦<State<'out, 'prompt, W, H, P, S> as Refresher>⟧ state.old state.new))
+        ⊎ (DriesUp ⟦<State<'out, 'prompt, W, H, P, S> as Refresher>⟧ W.Reader.RawReader state.old input_state.old rdr.old kill_ring.old state.new rdr.new kill_ring.new
+        × (W.Reader.rest rdr.old ≡ [] → StaysRight ⟦<State<'out, 'prompt, W, H, P, S> as Refresher>⟧ state.old state.new)) }
+    ensures interrupted { IsErrOf result ReadlineError.Interrupted → TurnsTo ⟦<State<'out, 'prompt, W, H, P, S> as Refresher>⟧ W.Reader.RawReader
+        state.old input_state.old rdr.old kill_ring.old state.new input_state.new rdr.new kill_ring.new interrupted }
+    ensures at_end { IsErrOf result ReadlineError.Interrupted → StandsAtEnd ⟦<State<'out, 'prompt, W, H, P, S> as Refresher>⟧ state.new }
+    ensures right { OnOk result (StaysRight ⟦<State<'out, 'prompt, W, H, P, S> as Refresher>⟧ state.old state.new) }
     ensures stays { Stays ⟦<State<'out, 'prompt, W, H, P, S> as Refresher>⟧ state.old state.new }
     ensures own { W.Reader.own_binding rdr.new ≡ W.Reader.own_binding rdr.old }
     ensures keymap { keymap_of input_state.new (W.Reader.own_binding rdr.old) ≡ keymap_of input_state.old (W.Reader.own_binding rdr.old) }
     ensures reads { OnOk result (length (W.Reader.rest rdr.new) < length (W.Reader.rest rdr.old)) }
     ensures counts { W.Reader.failures rdr.old ≤ W.Reader.failures rdr.new }
-    ensures io { IoOnlyIf result (⟦<State<'out, 'prompt, W, H, P, S> as Refresher>⟧.sure state.old ≡ true → EitherRose (W.Reader.failures rdr.old) (⟦<State<'out, 'prompt, W, H, P, S> as Refresher>⟧.failures state.old) (W.Reader.failures rdr.new) (⟦<State<'out, 'prompt, W, H, P, S> as Refresher>⟧.failures state.new)) }
+    ensures io { FailsByReading ⟦<State<'out, 'prompt, W, H, P, S> as Refresher>⟧ W.Reader.RawReader result state.old rdr.old state.new rdr.new }
 {
     let command = state.next_cmd(input_state, rdr, false)?;
     reset_kills(&command, kill_ring);
@@ -74,16 +80,20 @@ pub fn run<'out, 'prompt, W: Renderer, H: Helper, P: Prompt, S: History>(
     kill_ring: &mut KillRing,
     config: &Config,
 ) -> Result<()>
-    ensures submitted { OnOk result (Run (keymap_of input_state.old (W.Reader.own_binding rdr.old)) (⟦<State<'out, 'prompt, W, H, P, S> as Refresher>⟧.world state.old) (record { draft = hinted (⟦<State<'out, 'prompt, W, H, P, S> as Refresher>⟧.world state.old) (⟦<State<'out, 'prompt, W, H, P, S> as Refresher>⟧.draft state.old); kills = kill_ring.old }) (input_of input_state.old) (W.Reader.rest rdr.old) (record { draft = (⟦<State<'out, 'prompt, W, H, P, S> as Refresher>⟧.draft state.new); kills = kill_ring.new }) (W.Reader.rest rdr.new) [] submitted) }
+    ensures submitted { OnOk result (RunsTo ⟦<State<'out, 'prompt, W, H, P, S> as Refresher>⟧ W.Reader.RawReader
+        state.old input_state.old rdr.old kill_ring.old state.new rdr.new kill_ring.new [] submitted) }
     // Where no phrase was cut short, the kept layout is right at the end too.
-    ensures eof { IsErrOf result ReadlineError.Eof → (inside : List Item) × Run (keymap_of input_state.old (W.Reader.own_binding rdr.old)) (⟦<State<'out, 'prompt, W, H, P, S> as Refresher>⟧.world state.old) (record { draft = hinted (⟦<State<'out, 'prompt, W, H, P, S> as Refresher>⟧.world state.old) (⟦<State<'out, 'prompt, W, H, P, S> as Refresher>⟧.draft state.old); kills = kill_ring.old }) (input_of input_state.old) (W.Reader.rest rdr.old) (record { draft = (⟦<State<'out, 'prompt, W, H, P, S> as Refresher>⟧.draft state.new); kills = kill_ring.new }) (W.Reader.rest rdr.new) inside ended
-        × (inside ≡ [] → IsRight (⟦<State<'out, 'prompt, W, H, P, S> as Refresher>⟧.display state.new) (⟦<State<'out, 'prompt, W, H, P, S> as Refresher>⟧.draft state.new).line) }
-    ensures interrupted { IsErrOf result ReadlineError.Interrupted → Run (keymap_of input_state.old (W.Reader.own_binding rdr.old)) (⟦<State<'out, 'prompt, W, H, P, S> as Refresher>⟧.world state.old) (record { draft = hinted (⟦<State<'out, 'prompt, W, H, P, S> as Refresher>⟧.world state.old) (⟦<State<'out, 'prompt, W, H, P, S> as Refresher>⟧.draft state.old); kills = kill_ring.old }) (input_of input_state.old) (W.Reader.rest rdr.old) (record { draft = (⟦<State<'out, 'prompt, W, H, P, S> as Refresher>⟧.draft state.new); kills = kill_ring.new }) (W.Reader.rest rdr.new) [] interrupted }
-    ensures at_end { IsErrOf result ReadlineError.Interrupted → (⟦<State<'out, 'prompt, W, H, P, S> as Refresher>⟧.display state.new).layout.cursor ≡ (⟦<State<'out, 'prompt, W, H, P, S> as Refresher>⟧.display state.new).layout.end }
-    ensures right { OnOk result (IsRight (⟦<State<'out, 'prompt, W, H, P, S> as Refresher>⟧.display state.new) (⟦<State<'out, 'prompt, W, H, P, S> as Refresher>⟧.draft state.new).line) }
+    ensures eof { IsErrOf result ReadlineError.Eof → (inside : List Item)
+        × RunsTo ⟦<State<'out, 'prompt, W, H, P, S> as Refresher>⟧ W.Reader.RawReader
+        state.old input_state.old rdr.old kill_ring.old state.new rdr.new kill_ring.new inside ended
+        × (inside ≡ [] → HoldsRight ⟦<State<'out, 'prompt, W, H, P, S> as Refresher>⟧ state.new) }
+    ensures interrupted { IsErrOf result ReadlineError.Interrupted → RunsTo ⟦<State<'out, 'prompt, W, H, P, S> as Refresher>⟧ W.Reader.RawReader
+        state.old input_state.old rdr.old kill_ring.old state.new rdr.new kill_ring.new [] interrupted }
+    ensures at_end { IsErrOf result ReadlineError.Interrupted → StandsAtEnd ⟦<State<'out, 'prompt, W, H, P, S> as Refresher>⟧ state.new }
+    ensures right { OnOk result (HoldsRight ⟦<State<'out, 'prompt, W, H, P, S> as Refresher>⟧ state.new) }
     ensures stays { Stays ⟦<State<'out, 'prompt, W, H, P, S> as Refresher>⟧ state.old state.new }
     ensures counts { W.Reader.failures rdr.old ≤ W.Reader.failures rdr.new }
-    ensures io { IoOnlyIf result (⟦<State<'out, 'prompt, W, H, P, S> as Refresher>⟧.sure state.old ≡ true → EitherRose (W.Reader.failures rdr.old) (⟦<State<'out, 'prompt, W, H, P, S> as Refresher>⟧.failures state.old) (W.Reader.failures rdr.new) (⟦<State<'out, 'prompt, W, H, P, S> as Refresher>⟧.failures state.new)) }
+    ensures io { FailsByReading ⟦<State<'out, 'prompt, W, H, P, S> as Refresher>⟧ W.Reader.RawReader result state.old rdr.old state.new rdr.new }
 {
     state.refresh_line()?;
     'turns: loop {

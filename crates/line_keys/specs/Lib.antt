@@ -4,7 +4,7 @@ pub mod Item
 pub mod Table
 pub mod Draft
 pub mod Display
-pub mod Stays
+pub mod Refresher
 pub use Rattle.line_parts.specs.Shown
 pub use Rattle.line_parts.specs.Context
 pub use Rattle.line_parts.specs.Helped

@@ -16,7 +16,7 @@ returns-in_err-turn-clause-eof g c =
     let e : c.in_err-turn.field-0.0 ≡ Eof = (cc) in
     elim (c.in_err-turn.ensures.eof (ap Err e)) [
       | inl t ↦ ([], i.goes_on _ _ _ _ (run-ends _ _ _ _ same_keymap i.world _ _ _ _ _ _ ended _ refl (λ no. cc) t.0), λ _. t.1 i.right)
-      | inr t ↦ (g.W.Reader.RawReader.rest c.turns.rdr, i.goes_on _ _ _ _ (run-dry _ _ _ _ same_keymap i.world _ _ _ _ _ t.0 t.1 t.2), λ dry. t.3 dry i.right)
+      | inr t ↦ (g.W.Reader.RawReader.rest c.turns.rdr, i.goes_on _ _ _ _ (run-dry _ _ _ _ same_keymap i.world _ _ _ _ _ t.0.0 t.0.1 t.0.2), λ dry. t.1 dry i.right)
     ]
 
 pub returns-in_err-turn-clause-interrupted : goal.returns-in_err-turn-clause-interrupted
