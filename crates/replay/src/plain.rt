@@ -112,28 +112,6 @@ impl Renderer for Plain {
         Ok(())
     }
 
-    fn compute_layout(
-        &self,
-        prompt_size: Position,
-        default_prompt: bool,
-        line: &LineBuffer,
-        info: Option<&str>,
-    ) -> Layout {
-        let text = line.as_str();
-        let line_end = self.calculate_position(text, prompt_size);
-        Layout {
-            grapheme_cluster_mode: GraphemeClusterMode::Unicode,
-            prompt_size,
-            default_prompt,
-            cursor: self.calculate_position(&text[..line.pos()], prompt_size),
-            end: match info {
-                Some(info) => self.calculate_position(info, line_end),
-                None => line_end,
-            },
-            has_info: info.is_some(),
-        }
-    }
-
     fn calculate_position(&self, s: &str, orig: Position) -> Position {
         measured(self.columns, s, orig)
     }
@@ -190,14 +168,6 @@ impl Renderer for Plain {
     fn move_cursor_at_leftmost(&mut self, rdr: &mut Script) -> Result<()> {
         let _ = rdr;
         self.place.col = 0;
-        Ok(())
-    }
-
-    fn begin_synchronized_update(&mut self) -> Result<()> {
-        Ok(())
-    }
-
-    fn end_synchronized_update(&mut self) -> Result<()> {
         Ok(())
     }
 

@@ -41,7 +41,11 @@ fn prints_what_became_of_the_line(rt: HostRuntime) -> Result<(), Fail> {
     ];
     for (script, printed, status) in cases {
         let mut out = Vec::new(rt.alloc());
-        assert_eq!(rt; play(rt.alloc(), script.as_bytes(), &mut out), status, "{script}");
+        assert_eq!(rt;
+            play(rt.alloc(), script.as_bytes(), &mut out),
+            status,
+            "{script}"
+        );
         let shown = str::from_utf8(&out)?;
         assert_eq!(rt; shown, printed, "{script}");
     }
@@ -54,7 +58,11 @@ fn ends_with_the_fault_of_a_stream(rt: HostRuntime) -> Result<(), Fail> {
     assert_eq!(rt; play(rt.alloc(), Broken, &mut out), FAULT);
     assert_eq!(rt; out.len(), 0);
     let scripts = [
-        (SUBMITTED, "outcome submitted\nline a\ncursor 1\nplace 0\nat 0 3\nredraws 2\n", 0),
+        (
+            SUBMITTED,
+            "outcome submitted\nline a\ncursor 1\nplace 0\nat 0 3\nredraws 2\n",
+            0,
+        ),
         ("key\n", "bad script line 1\n", BAD_SCRIPT),
     ];
     for (script, whole, status) in scripts {
@@ -63,7 +71,11 @@ fn ends_with_the_fault_of_a_stream(rt: HostRuntime) -> Result<(), Fail> {
                 bytes: Vec::new(rt.alloc()),
                 room,
             };
-            assert_eq!(rt; play(rt.alloc(), script.as_bytes(), &mut out), FAULT, "{room}");
+            assert_eq!(rt;
+                play(rt.alloc(), script.as_bytes(), &mut out),
+                FAULT,
+                "{room}"
+            );
             assert_eq!(rt; out.bytes.as_slice(), &whole.as_bytes()[..room]);
         }
         let mut out = Narrow {
