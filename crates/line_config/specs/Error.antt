@@ -1,3 +1,4 @@
+-- Counts of failures, and which errors come.
 use Rattle.std.specs.Prelude.{◌≡◌, ℕ, ◌+◌, ◌-◌, ◌<◌, ◌^◌, Bool, true, false, Result, Ok, Err}
 use Rattle.std.specs.IoError.{error_kind}
 use Rattle.std.specs.declared.io.ErrorKind.{ErrorKind}
@@ -30,18 +31,22 @@ is_memory Interrupted = false
 is_memory (Io _) = false
 is_memory Memory = true
 
+-- whether an error is one of input or output, or that memory ran out
+abbrev pub is_fault : ReadlineError → Bool
+is_fault Eof = false
+is_fault Interrupted = false
+is_fault (Io _) = true
+is_fault Memory = true
+
 -- an error of input or output comes only where P holds
 abbrev pub IoOnlyIf : {T : Type 0} → Result T ReadlineError → Type 0 → Type 0
 IoOnlyIf (Ok _) P = Unit {0}
 IoOnlyIf (Err e) P = is_io e ≡ true → P
 
--- an error is one of input or output, or that memory ran out
+-- the only errors are those of input or output, and that memory ran out
 abbrev pub FaultsOnly : {T : Type 0} → Result T ReadlineError → Type 0
 FaultsOnly (Ok _) = Unit {0}
-FaultsOnly (Err Eof) = ⊥
-FaultsOnly (Err Interrupted) = ⊥
-FaultsOnly (Err (Io _)) = Unit {0}
-FaultsOnly (Err Memory) = Unit {0}
+FaultsOnly (Err e) = is_fault e ≡ true
 
 -- the only error is that memory ran out
 abbrev pub MemoryOnly : {T : Type 0} → Result T ReadlineError → Type 0

@@ -1,3 +1,4 @@
+-- The settings of a line editor.
 use Rattle.std.specs.Prelude.{ℕ, Bool, true, false, Option, Some, None, List, ◌∷◌}
 use Rattle.line_buffer.specs.declared.layout.GraphemeClusterMode.{GraphemeClusterMode}
 use Rattle.line_config.specs.declared.config.Behavior.{Behavior}
@@ -59,7 +60,7 @@ defaults mode = record {
   enable_signals = false;
 }
 
--- how long an edit mode waits for the rest of a key sequence, in milliseconds: no limit in Emacs mode
+-- how many milliseconds an edit mode waits for the rest of a key sequence: no limit in Emacs mode
 abbrev pub timeout_of : EditMode → Option ℕ
 timeout_of Emacs = None
 timeout_of Vi = Some 500
@@ -69,7 +70,7 @@ abbrev pub duplicates_of : Bool → HistoryDuplicates
 duplicates_of true = IgnoreConsecutive
 duplicates_of false = AlwaysAdd
 
--- the colours under a `NO_COLOR` of this value: a value that is there and not empty takes them away where they are only enabled
+-- the colors under this `NO_COLOR`: one that is there and not empty disables what is enabled alone
 abbrev pub colors_under : ColorMode → Option (List ℕ) → ColorMode
 colors_under Enabled (Some (_ ∷ _)) = Disabled
 colors_under mode _ = mode

@@ -218,7 +218,8 @@ impl Config {
         self.completion_show_all_if_ambiguous
     }
 
-    /// How many milliseconds the rest of a key sequence is waited for; None, the default, sets no limit.
+    /// How many milliseconds the rest of a key sequence is waited for; None, the default, is no
+    /// limit.
     pub fn keyseq_timeout(&self) -> Option<u16>
         ensures { result ≡ self.now.keyseq_timeout }
     {
@@ -246,10 +247,12 @@ impl Config {
         self.bell_style
     }
 
-    /// Whether colors are shown, by default where the terminal shows them. `no_color` is the value of the
-    /// environment variable `NO_COLOR`: one that is there and not empty turns `Enabled` into `Disabled`.
+    /// Whether colors are shown, by default where the terminal shows them. `no_color` is the value of
+    /// the environment variable `NO_COLOR`: one that is there and not empty turns `Enabled` into
+    /// `Disabled`.
     pub fn color_mode(&self, no_color: Option<&str>) -> ColorMode
-        ensures { result ≡ colors_under self.now.color_mode (option_map (λ value. value.now) no_color.entry) }
+        ensures { result ≡ colors_under self.now.color_mode
+            (option_map (λ value. value.now) no_color.entry) }
     {
         match (self.color_mode, no_color) {
             (ColorMode::Enabled, Some(value)) if !value.is_empty() => ColorMode::Disabled,
@@ -328,13 +331,15 @@ pub trait Configurer {
 
     /// The settings, to be changed in place.
     fn config_mut(&mut self) -> &mut Config
-        ensures* lends { sem 𝓛 (Lends Self.row config_row self.entry result (with_settings self.old)) }
+        ensures* lends { sem 𝓛
+            (Lends Self.row config_row self.entry result (with_settings self.old)) }
         ensures value { result.now ≡ settings self.old };
 
     /// Sets how many lines the history keeps.
     fn set_max_history_size(&mut self, max_size: usize) -> Result<()>
         ensures ok { IsOk result }
-        ensures set { self.new ≡ with_settings self.old (record (settings self.old) { max_history_size = max_size }) }
+        ensures set { self.new ≡ with_settings self.old
+            (record (settings self.old) { max_history_size = max_size }) }
     {
         let config = self.config_mut();
         config.max_history_size = max_size;
@@ -344,7 +349,8 @@ pub trait Configurer {
     /// Sets whether a line that equals the newest of the history is kept out of it.
     fn set_history_ignore_dups(&mut self, yes: bool) -> Result<()>
         ensures ok { IsOk result }
-        ensures set { self.new ≡ with_settings self.old (record (settings self.old) { history_duplicates = duplicates_of yes }) }
+        ensures set { self.new ≡ with_settings self.old
+            (record (settings self.old) { history_duplicates = duplicates_of yes }) }
     {
         let config = self.config_mut();
         config.history_duplicates = if yes {
@@ -357,7 +363,8 @@ pub trait Configurer {
 
     /// Sets whether a line that begins with white space is kept out of the history.
     fn set_history_ignore_space(&mut self, yes: bool)
-        ensures { self.new ≡ with_settings self.old (record (settings self.old) { history_ignore_space = yes }) }
+        ensures { self.new ≡ with_settings self.old
+            (record (settings self.old) { history_ignore_space = yes }) }
     {
         let config = self.config_mut();
         config.history_ignore_space = yes;
@@ -365,7 +372,8 @@ pub trait Configurer {
 
     /// Sets how completions are offered.
     fn set_completion_type(&mut self, completion_type: CompletionType)
-        ensures { self.new ≡ with_settings self.old (record (settings self.old) { completion_type = completion_type }) }
+        ensures { self.new ≡ with_settings self.old
+            (record (settings self.old) { completion_type = completion_type }) }
     {
         let config = self.config_mut();
         config.completion_type = completion_type;
@@ -373,7 +381,8 @@ pub trait Configurer {
 
     /// Sets whether all candidates are listed at once.
     fn set_completion_show_all_if_ambiguous(&mut self, yes: bool)
-        ensures { self.new ≡ with_settings self.old (record (settings self.old) { completion_show_all_if_ambiguous = yes }) }
+        ensures { self.new ≡ with_settings self.old
+            (record (settings self.old) { completion_show_all_if_ambiguous = yes }) }
     {
         let config = self.config_mut();
         config.completion_show_all_if_ambiguous = yes;
@@ -381,7 +390,8 @@ pub trait Configurer {
 
     /// Sets from how many candidates on the user is asked whether to list them.
     fn set_completion_prompt_limit(&mut self, limit: usize)
-        ensures { self.new ≡ with_settings self.old (record (settings self.old) { completion_prompt_limit = limit }) }
+        ensures { self.new ≡ with_settings self.old
+            (record (settings self.old) { completion_prompt_limit = limit }) }
     {
         let config = self.config_mut();
         config.completion_prompt_limit = limit;
@@ -389,16 +399,18 @@ pub trait Configurer {
 
     /// Sets how many milliseconds the rest of a key sequence is waited for; None sets no limit.
     fn set_keyseq_timeout(&mut self, milliseconds: Option<u16>)
-        ensures { self.new ≡ with_settings self.old (record (settings self.old) { keyseq_timeout = milliseconds }) }
+        ensures { self.new ≡ with_settings self.old
+            (record (settings self.old) { keyseq_timeout = milliseconds }) }
     {
         let config = self.config_mut();
         config.keyseq_timeout = milliseconds;
     }
 
-    /// Sets the keys that the user types, and with them the limit for the rest of a key sequence: none for
-    /// Emacs, 500 milliseconds for Vi.
+    /// Sets the keys that the user types, and with them the limit for the rest of a key sequence: none
+    /// for Emacs, 500 milliseconds for Vi.
     fn set_edit_mode(&mut self, edit_mode: EditMode)
-        ensures { self.new ≡ with_settings self.old (record (settings self.old) { edit_mode = edit_mode; keyseq_timeout = timeout_of edit_mode }) }
+        ensures { self.new ≡ with_settings self.old
+            (record (settings self.old) { edit_mode = edit_mode; keyseq_timeout = timeout_of edit_mode }) }
     {
         let config = self.config_mut();
         config.edit_mode = edit_mode;
@@ -410,7 +422,8 @@ pub trait Configurer {
 
     /// Sets whether each submitted line is added to the history.
     fn set_auto_add_history(&mut self, yes: bool)
-        ensures { self.new ≡ with_settings self.old (record (settings self.old) { auto_add_history = yes }) }
+        ensures { self.new ≡ with_settings self.old
+            (record (settings self.old) { auto_add_history = yes }) }
     {
         let config = self.config_mut();
         config.auto_add_history = yes;
@@ -418,7 +431,8 @@ pub trait Configurer {
 
     /// Sets what the terminal does to be heard.
     fn set_bell_style(&mut self, bell_style: BellStyle)
-        ensures { self.new ≡ with_settings self.old (record (settings self.old) { bell_style = bell_style }) }
+        ensures { self.new ≡ with_settings self.old
+            (record (settings self.old) { bell_style = bell_style }) }
     {
         let config = self.config_mut();
         config.bell_style = bell_style;
@@ -426,7 +440,8 @@ pub trait Configurer {
 
     /// Sets whether colors are shown.
     fn set_color_mode(&mut self, color_mode: ColorMode)
-        ensures { self.new ≡ with_settings self.old (record (settings self.old) { color_mode = color_mode }) }
+        ensures { self.new ≡ with_settings self.old
+            (record (settings self.old) { color_mode = color_mode }) }
     {
         let config = self.config_mut();
         config.color_mode = color_mode;
@@ -434,7 +449,8 @@ pub trait Configurer {
 
     /// Sets how the columns of a text are counted.
     fn set_grapheme_cluster_mode(&mut self, mode: GraphemeClusterMode)
-        ensures { self.new ≡ with_settings self.old (record (settings self.old) { grapheme_cluster_mode = mode }) }
+        ensures { self.new ≡ with_settings self.old
+            (record (settings self.old) { grapheme_cluster_mode = mode }) }
     {
         let config = self.config_mut();
         config.grapheme_cluster_mode = mode;
@@ -442,7 +458,8 @@ pub trait Configurer {
 
     /// Sets how many columns a tab takes.
     fn set_tab_stop(&mut self, columns: u8)
-        ensures { self.new ≡ with_settings self.old (record (settings self.old) { tab_stop = columns }) }
+        ensures { self.new ≡ with_settings self.old
+            (record (settings self.old) { tab_stop = columns }) }
     {
         let config = self.config_mut();
         config.tab_stop = columns;
@@ -450,7 +467,8 @@ pub trait Configurer {
 
     /// Sets whether the cursor is brought to the first column before the prompt.
     fn set_check_cursor_position(&mut self, yes: bool)
-        ensures { self.new ≡ with_settings self.old (record (settings self.old) { check_cursor_position = yes }) }
+        ensures { self.new ≡ with_settings self.old
+            (record (settings self.old) { check_cursor_position = yes }) }
     {
         let config = self.config_mut();
         config.check_cursor_position = yes;
@@ -458,7 +476,8 @@ pub trait Configurer {
 
     /// Sets how many spaces one indentation is.
     fn set_indent_size(&mut self, spaces: u8)
-        ensures { self.new ≡ with_settings self.old (record (settings self.old) { indent_size = spaces }) }
+        ensures { self.new ≡ with_settings self.old
+            (record (settings self.old) { indent_size = spaces }) }
     {
         let config = self.config_mut();
         config.indent_size = spaces;
@@ -466,7 +485,8 @@ pub trait Configurer {
 
     /// Sets whether the terminal is to mark pasted text.
     fn enable_bracketed_paste(&mut self, yes: bool)
-        ensures { self.new ≡ with_settings self.old (record (settings self.old) { enable_bracketed_paste = yes }) }
+        ensures { self.new ≡ with_settings self.old
+            (record (settings self.old) { enable_bracketed_paste = yes }) }
     {
         let config = self.config_mut();
         config.enable_bracketed_paste = yes;
@@ -474,7 +494,8 @@ pub trait Configurer {
 
     /// Sets whether the terminal is to show each drawing at once.
     fn enable_synchronized_output(&mut self, yes: bool)
-        ensures { self.new ≡ with_settings self.old (record (settings self.old) { enable_synchronized_output = yes }) }
+        ensures { self.new ≡ with_settings self.old
+            (record (settings self.old) { enable_synchronized_output = yes }) }
     {
         let config = self.config_mut();
         config.enable_synchronized_output = yes;
@@ -482,13 +503,20 @@ pub trait Configurer {
 
     /// Sets whether the terminal sends signals for keys such as Ctrl-C.
     fn set_enable_signals(&mut self, yes: bool)
-        ensures { self.new ≡ with_settings self.old (record (settings self.old) { enable_signals = yes }) }
+        ensures { self.new ≡ with_settings self.old
+            (record (settings self.old) { enable_signals = yes }) }
     {
         let config = self.config_mut();
         config.enable_signals = yes;
     }
 
-    ghost reads_back: { (holder : Self) (set : Settings) → settings (with_settings holder set) ≡ set };
+    ghost reads_back: { (holder : Self) (set : Settings)
+        → settings (with_settings holder set) ≡ set };
+
+    ghost last_stands: { (holder : Self) (first last : Settings)
+        → with_settings (with_settings holder first) last ≡ with_settings holder last };
+
+    ghost keeps_the_rest: { (holder : Self) → with_settings holder (settings holder) ≡ holder };
 }
 
 impl Configurer for Config {
@@ -499,6 +527,10 @@ impl Configurer for Config {
     ghost with_settings = { λ _ set. set };
 
     ghost reads_back = { λ _ _. refl };
+
+    ghost last_stands = { λ _ _ _. refl };
+
+    ghost keeps_the_rest = { λ _. refl };
 
     fn config_mut(&mut self) -> &mut Config {
         self
@@ -513,6 +545,10 @@ impl Configurer for Builder {
     ghost with_settings = { λ _ set. set };
 
     ghost reads_back = { λ _ _. refl };
+
+    ghost last_stands = { λ _ _ _. refl };
+
+    ghost keeps_the_rest = { λ _. refl };
 
     fn config_mut(&mut self) -> &mut Config {
         &mut self.config
@@ -549,15 +585,18 @@ impl Builder {
 
     /// Sets how many lines the history keeps. Always answers Ok.
     pub fn max_history_size(mut self, max_size: usize) -> Result<Self>
-        ensures { IsOkAnd result (λ builder. builder ≡ record self { max_history_size = max_size }) }
+        ensures { IsOkAnd result (λ builder.
+            builder ≡ record self { max_history_size = max_size }) }
     {
         self.set_max_history_size(max_size)?;
         Ok(self)
     }
 
-    /// Sets whether a line that equals the newest of the history is kept out of it. Always answers Ok.
+    /// Sets whether a line that equals the newest of the history is kept out of it. Always answers
+    /// Ok.
     pub fn history_ignore_dups(mut self, yes: bool) -> Result<Self>
-        ensures { IsOkAnd result (λ builder. builder ≡ record self { history_duplicates = duplicates_of yes }) }
+        ensures { IsOkAnd result (λ builder.
+            builder ≡ record self { history_duplicates = duplicates_of yes }) }
     {
         self.set_history_ignore_dups(yes)?;
         Ok(self)
@@ -603,10 +642,13 @@ impl Builder {
         self
     }
 
-    /// Sets the keys that the user types, and with them the limit for the rest of a key sequence: none for
-    /// Emacs, 500 milliseconds for Vi.
+    /// Sets the keys that the user types, and with them the limit for the rest of a key sequence: none
+    /// for Emacs, 500 milliseconds for Vi.
     pub fn edit_mode(mut self, edit_mode: EditMode) -> Self
-        ensures { result ≡ record self { edit_mode = edit_mode; keyseq_timeout = timeout_of edit_mode } }
+        ensures { result ≡ record self {
+          edit_mode = edit_mode;
+          keyseq_timeout = timeout_of edit_mode;
+        } }
     {
         self.set_edit_mode(edit_mode);
         self

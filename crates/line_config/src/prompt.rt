@@ -70,7 +70,8 @@ impl Prompt for (String, String) {
 
     fn styled(&self) -> &str
         ensures second { result.now ≡ string_bytes self.now.1 }
-        ensures style { IsUsualOrOwn (string_bytes self.now.0) (Some (string_bytes self.now.1)) result.now }
+        ensures style { IsUsualOrOwn (string_bytes self.now.0)
+            (Some (string_bytes self.now.1)) result.now }
     {
         self.1.as_str()
     }

@@ -26,7 +26,7 @@ use crate::tty::Renderer;
 use line_buffer::{Changeset, KillRing, Layout, LineBuffer, Movement, Position, RepeatCount};
 use line_config::{Prompt, ReadlineError, Result};
 use line_keys::command::Cmd;
-use line_keys::keymap::Refresher;
+use line_keys::keymap::{Invoke, Refresher};
 use line_keys::tty::RawReader;
 use line_parts::{
     CmdKind, Context, Helper, Highlighter, Hint, Hinter, History, ValidationContext,
@@ -665,5 +665,20 @@ impl<'out, 'prompt, W: Renderer, H: Helper, P: Prompt, S: History> Refresher
 
     fn pos(&self) -> usize {
         self.line.pos()
+    }
+}
+
+impl<'out, 'prompt, W: Renderer, H: Helper, P: Prompt, S: History> Invoke for State<
+    'out,
+    'prompt,
+    W,
+    H,
+    P,
+    S,
+> {
+    ghost input_text = { λ s. s.line.text };
+
+    fn input(&self) -> &str {
+        self.line.as_str()
     }
 }

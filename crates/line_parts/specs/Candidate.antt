@@ -1,6 +1,7 @@
 -- Completions, as text.
-use Rattle.std.specs.Prelude.{ℕ, ◌+◌, List, [], ◌++◌, length, take, drop}
-use Rattle.line_buffer.specs.Line.{Line}
+use Rattle.std.specs.Prelude.{ℕ, List, [], slice_range}
+use Rattle.line_buffer.specs.Changes.{Changes, with_entries, with_replace}
+use Rattle.line_buffer.specs.Line.{Line, replaced_in}
 use Rattle.line_parts.specs.declared.completion.Candidate.{Ghosts}
 
 -- what a candidate displays, and what it puts into the line
@@ -10,7 +11,10 @@ pub record Offer : Type 0 where
 
 -- a candidate as text
 abbrev pub offer_of : {T : Type 0} → Ghosts T → T → Offer
-offer_of candidate c = record { display = candidate.display_text c; replacement = candidate.replacement_text c }
+offer_of candidate c = record {
+  display = candidate.display_text c;
+  replacement = candidate.replacement_text c;
+}
 
 -- where the completed part of the line begins, and what is offered for it
 pub record Completion : Type 0 where
@@ -21,9 +25,15 @@ pub record Completion : Type 0 where
 abbrev pub nothing : Completion
 nothing = record { start = 0; offers = [] }
 
--- the line with this text from a place to the cursor, and the cursor after it
-abbrev pub replaced_to_cursor : Line → ℕ → List ℕ → Line
-replaced_to_cursor line start text = record {
-  text = take start line.text ++ text ++ drop line.cursor line.text;
-  cursor = start + length text;
+-- a line, and its changes
+pub record Written : Type 0 where
+  pub line : Line
+  pub changes : Changes
+
+-- a text put for what stands from a place to the cursor, told as one replacement
+abbrev pub put_to_cursor : Written → ℕ → List ℕ → Written
+put_to_cursor old start text = record {
+  line = replaced_in old.line start old.line.cursor text;
+  changes = with_entries old.changes
+      (with_replace start (slice_range old.line.text start old.line.cursor) text old.changes.entries);
 }

@@ -10,4 +10,9 @@ pub record Standing (S : Type 0) : Type 0 where
 
 -- a text with its cursor, at its place in a history, as it is shown
 abbrev pub shown_in : {S : Type 0} → Ghosts S → Standing S → List ℕ → ℕ → Shown
-shown_in history at text cursor = record { text = text; cursor = cursor; place = at.place; lines = history.lines at.history }
+shown_in history at text cursor = record {
+  text = text;
+  cursor = cursor;
+  place = at.place;
+  lines = history.lines at.history;
+}

@@ -1,6 +1,5 @@
 //! Completions of a part of the line.
-ghost use Rattle.std.specs.Prelude.{◌≡◌, ◌≤◌, ℕ, Bool, List, Option, Some, None, map, IfOk, OnOk, IsCharBoundary, string_bytes, true, false};
-ghost use Rattle.line_buffer.specs.Line.{Line};
+ghost use Rattle.std.specs.Prelude.{◌≡◌, ◌≤◌, ℕ, Bool, List, Option, Some, None, map, IfOk, IsOk, OnOk, IsCharBoundary, string_bytes, true, false};
 ghost use Rattle.line_config.specs.Error.{IoOnlyIf, FaultsOnly};
 ghost use Rattle.line_config.specs.Usual.{IsUsualOrOwn};
 
@@ -37,7 +36,7 @@ impl Candidate for String {
     }
 
     fn replacement(&self) -> &str {
-        self.as_str()
+        self.display()
     }
 }
 
@@ -47,17 +46,17 @@ impl Candidate for &str {
     ghost replacement_text = { λ s. s.now };
 
     fn display(&self) -> &str {
-        self
+        *self
     }
 
     fn replacement(&self) -> &str {
-        self
+        Candidate::display(self)
     }
 }
 
 /// Who offers completions.
 pub trait Completer {
-    ghost use Rattle.line_parts.specs.Candidate.{Completion, nothing, offer_of, replaced_to_cursor};
+    ghost use Rattle.line_parts.specs.Candidate.{Completion, Written, nothing, offer_of, put_to_cursor};
     ghost use Rattle.line_parts.specs.Context.{shown_in};
     ghost use Rattle.line_parts.specs.Shown.{Shown, NotBoth};
 
@@ -70,14 +69,15 @@ pub trait Completer {
     // What it offers for what it is shown: where this says nothing, it offers nothing.
     ghost own_completion: { Self → Shown → Option Completion } = { λ _ _. None };
 
-    // The line that it makes with an elected text from a place to the cursor: where this says nothing, the
-    // text is put there.
-    ghost own_update: { Self → Line → ℕ → List ℕ → Option Line } = { λ _ _ _ _. None };
+    // The line and the changes that it makes of an elected text from a place to the cursor: where this
+    // says nothing, the text is put there.
+    ghost own_update: { Self → Written → ℕ → List ℕ → Option Written } = { λ _ _ _ _. None };
 
     /// Where the part of `line` before the cursor, at byte `pos`, that can be completed begins, and
     /// the candidates for it.
     ///
-    /// Errors are `Io`, which comes only where this completer or the history is not sure, and `Memory`.
+    /// Errors are `Io`, which comes only where this completer or the history is not sure, and
+    /// `Memory`.
     fn complete<S: History>(
         &self,
         alloc: Global,
@@ -99,7 +99,8 @@ pub trait Completer {
         Ok((0, Vec::new(alloc)))
     }
 
-    /// Puts the elected candidate's text into the line, from `start` on to the cursor.
+    /// Puts the elected candidate's text into the line, from `start` on to the cursor, which then
+    /// stands after it.
     ///
     /// Errors are `Io`, which comes only where this completer is not sure, and `Memory`.
     fn update(
@@ -111,10 +112,16 @@ pub trait Completer {
     ) -> Result<()>
         requires before { start ≤ line.old.cursor }
         requires boundary { IsCharBoundary line.old.text start }
-        ensures line { OnOk result (IsUsualOrOwn (replaced_to_cursor line.old start elected.now)
-            (own_update self.now line.old start elected.now) line.new) }
+        ensures written { OnOk result (IsUsualOrOwn
+            (put_to_cursor (record { line = line.old; changes = changes.old }) start elected.now)
+            (own_update self.now (record { line = line.old; changes = changes.old }) start elected.now)
+            (record { line = line.new; changes = changes.new })) }
         ensures io { IoOnlyIf result (sure self.now ≡ false) }
-        ensures faults { FaultsOnly result };
+        ensures faults { FaultsOnly result }
+    {
+        let end = line.pos();
+        Ok(line.replace(start..end, elected, changes)?)
+    }
 }
 
 impl Completer for () {
@@ -122,7 +129,7 @@ impl Completer for () {
 
     ghost sure = { λ _. true };
 
-    ghost own_update = { λ _ line _ _. Some line };
+    ghost own_update = { λ _ written _ _. Some written };
 
     /// Leaves the line as it is.
     fn update(
@@ -131,7 +138,14 @@ impl Completer for () {
         _start: usize,
         _elected: &str,
         _changes: &mut Changeset,
-    ) -> Result<()> {
+    ) -> Result<()>
+        ensures kept { _line.new ≡ _line.old }
+        ensures untold { _changes.new ≡ _changes.old }
+        ensures ok { IsOk result }
+    {
         Ok(())
     }
 }
+
+#[cfg(test)]
+mod tests;

@@ -66,3 +66,18 @@ impl<'h, S: History> Context<'h, S> {
         self.history_index = index;
     }
 }
+
+#[cfg(test)]
+mod tests {
+    use super::*;
+    use crate::history::MemHistory;
+
+    #[test]
+    fn a_line_that_is_being_written_stands_at_the_end(rt: HostRuntime) {
+        let history = MemHistory::new(rt.alloc());
+        let mut ctx = Context::new(&history);
+        assert_eq!(rt; ctx.history_index(), 0);
+        ctx.set_history_index(0);
+        assert_eq!(rt; ctx.history_index(), ctx.history().len());
+    }
+}

@@ -6,7 +6,7 @@ use crate::highlight::Highlighter;
 use crate::hint::Hinter;
 use crate::validate::Validator;
 
-/// Who completes, hints, highlights and validates. Its `highlight_char` changes no other answer of it.
+/// Who completes, hints, highlights and validates. Its `highlight_char` changes no other answer.
 pub trait Helper: Completer + Hinter + Highlighter + Validator {
     // Two values that differ in what `highlight_char` remembers alone answer alike.
     ghost hints_kept: { (one other : Self) → Self.steady one ≡ Self.steady other

@@ -39,12 +39,13 @@ pub trait Highlighter {
     // Where it asks for a drawing in full, for a line, its cursor and what brought it.
     ghost lights: { Self → List ℕ → ℕ → CmdKind → Bool } = { λ _ _ _ _. false };
 
-    // What `highlight_char` leaves of it: two values with one rest give the same answers but for colors.
+    // What `highlight_char` leaves of it.
     ghost steady: { Self → Self } = { λ h. h };
 
     /// The line, with the cursor at byte `pos`, as it is shown.
     fn highlight<'l>(&self, alloc: Global, line: &'l str, pos: usize) -> Result<CowStr<'l>>
-        ensures text { IfOk result (λ t. IsUsualOrOwn line.now (own_line self.now line.now pos) (cow_str_bytes t)) }
+        ensures text { IfOk result (λ t.
+            IsUsualOrOwn line.now (own_line self.now line.now pos) (cow_str_bytes t)) }
         ensures io { IoOnlyIf result (sure self.now ≡ false) }
         ensures faults { FaultsOnly result }
     {
@@ -60,7 +61,8 @@ pub trait Highlighter {
         prompt: &'p str,
         default: bool,
     ) -> Result<CowStr<'b>>
-        ensures text { IfOk result (λ t. IsUsualOrOwn prompt.now (own_prompt self.now prompt.now default) (cow_str_bytes t)) }
+        ensures text { IfOk result (λ t.
+            IsUsualOrOwn prompt.now (own_prompt self.now prompt.now default) (cow_str_bytes t)) }
         ensures io { IoOnlyIf result (sure self.now ≡ false) }
         ensures faults { FaultsOnly result }
     {
@@ -71,7 +73,8 @@ pub trait Highlighter {
 
     /// The hint as it is shown.
     fn highlight_hint<'h>(&self, alloc: Global, hint: &'h str) -> Result<CowStr<'h>>
-        ensures text { IfOk result (λ t. IsUsualOrOwn hint.now (own_hint self.now hint.now) (cow_str_bytes t)) }
+        ensures text { IfOk result (λ t.
+            IsUsualOrOwn hint.now (own_hint self.now hint.now) (cow_str_bytes t)) }
         ensures io { IoOnlyIf result (sure self.now ≡ false) }
         ensures faults { FaultsOnly result }
     {
@@ -86,7 +89,8 @@ pub trait Highlighter {
         candidate: &'c str,
         completion: CompletionType,
     ) -> Result<CowStr<'c>>
-        ensures text { IfOk result (λ t. IsUsualOrOwn candidate.now (own_candidate self.now candidate.now completion) (cow_str_bytes t)) }
+        ensures text { IfOk result (λ t.
+            IsUsualOrOwn candidate.now (own_candidate self.now candidate.now completion) (cow_str_bytes t)) }
         ensures io { IoOnlyIf result (sure self.now ≡ false) }
         ensures faults { FaultsOnly result }
     {
@@ -110,4 +114,34 @@ pub trait Highlighter {
 
 impl Highlighter for () {
     ghost sure = { λ _. true };
+}
+
+#[cfg(test)]
+mod tests {
+    use super::*;
+
+    fn shows_as_it_stands<H: Highlighter>(
+        highlighter: &mut H,
+        alloc: Global,
+        text: &str,
+    ) -> Result<bool> {
+        Ok(
+            highlighter.highlight(alloc, text, 0)?.as_str() == text
+                && highlighter.highlight_prompt(alloc, text, true)?.as_str() == text
+                && highlighter.highlight_hint(alloc, text)?.as_str() == text
+                && highlighter
+                    .highlight_candidate(alloc, text, CompletionType::List)?
+                    .as_str()
+                    == text
+                && !highlighter.highlight_char(text, 0, CmdKind::Other),
+        )
+    }
+
+    #[test]
+    fn the_unit_highlighter_changes_nothing(rt: HostRuntime) -> Result<()> {
+        for text in ["", "(é)"] {
+            assert!(rt; shows_as_it_stands(&mut (), rt.alloc(), text)?);
+        }
+        Ok(())
+    }
 }

@@ -34,7 +34,7 @@ impl Hint for String {
     }
 
     fn completion(&self) -> Option<&str> {
-        Some(self.as_str())
+        Some(self.display())
     }
 }
 
@@ -44,7 +44,7 @@ impl Hint for &str {
     ghost completion_text = { λ s. Some s.now };
 
     fn display(&self) -> &str {
-        self
+        *self
     }
 
     fn completion(&self) -> Option<&str> {
@@ -69,7 +69,8 @@ pub trait Hinter {
 
     /// The hint for `line` with the cursor at byte `pos`, or None where there is none.
     ///
-    /// Errors are `Io`, which comes only where this hinter or the history is not sure, and `Memory`.
+    /// Errors are `Io`, which comes only where this hinter or the history is not sure, and
+    /// `Memory`.
     fn hint<S: History>(
         &self,
         alloc: Global,
@@ -78,7 +79,8 @@ pub trait Hinter {
         ctx: &Context<'_, S>,
     ) -> Result<Option<Self::Hint>>
         ensures answer { IfOk result (λ hint.
-            option_map (suggestion_of Self.Hint.Hint) hint ≡ hint_at self.now (shown_in S.History ctx.now line.now pos)) }
+            option_map (suggestion_of Self.Hint.Hint) hint
+            ≡ hint_at self.now (shown_in S.History ctx.now line.now pos)) }
         ensures io { IoOnlyIf result (NotBoth (sure self.now) (S.sure ctx.now.history)) }
         ensures faults { FaultsOnly result };
 }
@@ -98,5 +100,22 @@ impl Hinter for () {
         _ctx: &Context<'_, S>,
     ) -> Result<Option<String>> {
         Ok(None)
+    }
+}
+
+#[cfg(test)]
+mod tests {
+    use super::*;
+    use std::test::Fail;
+
+    fn displays<H: Hint>(hint: &H, text: &str) -> bool {
+        hint.display() == text && hint.completion() == Some(text)
+    }
+
+    #[test]
+    fn a_text_hints_itself(rt: HostRuntime) -> std::result::Result<(), Fail> {
+        assert!(rt; displays(&" status", " status"));
+        assert!(rt; displays(&String::from_str(rt.alloc(), "é")?, "é"));
+        Ok(())
     }
 }

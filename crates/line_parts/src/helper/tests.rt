@@ -12,7 +12,6 @@ use crate::highlight::CmdKind;
 use crate::hint::Hint;
 use crate::history::{History, MemHistory};
 use crate::validate::{ValidationContext, ValidationResult};
-use line_buffer::{Changeset, LineBuffer};
 use line_config::{ReadlineError, Result};
 use std::alloc::Global;
 use std::borrow::CowStr;
@@ -20,7 +19,12 @@ use std::test::Fail;
 
 // Asks the helper to highlight, where there is one.
 #[tactic(auto, unfolding(crate::specs::Helped::hint_by, crate::specs::Helped::verdict_by, crate::specs::Helped::is_sure_by))]
-fn lights<'a, 'out, H: Helper>(helper: &'a mut Option<&'out mut H>, line: &str, pos: usize, kind: CmdKind) -> bool
+fn lights<'a, 'out, H: Helper>(
+    helper: &'a mut Option<&'out mut H>,
+    line: &str,
+    pos: usize,
+    kind: CmdKind,
+) -> bool
     ensures hints { hint_by H.hint_at helper.new ≡ hint_by H.hint_at helper.old }
     ensures verdicts { verdict_by H.verdict_at helper.new ≡ verdict_by H.verdict_at helper.old }
     ensures hinter { is_sure_by H.Hinter.sure helper.new ≡ is_sure_by H.Hinter.sure helper.old }
@@ -35,7 +39,13 @@ fn lights<'a, 'out, H: Helper>(helper: &'a mut Option<&'out mut H>, line: &str, 
 
 // The hint of the helper, where there is one.
 #[tactic(auto, unfolding(crate::specs::Helped::hint_by, crate::specs::Helped::is_sure_by))]
-fn hint_of<'a, 'out, H: Helper, S: History>(helper: &'a Option<&'out mut H>, alloc: Global, line: &str, pos: usize, ctx: &Context<'_, S>) -> Result<Option<H::Hint>>
+fn hint_of<'a, 'out, H: Helper, S: History>(
+    helper: &'a Option<&'out mut H>,
+    alloc: Global,
+    line: &str,
+    pos: usize,
+    ctx: &Context<'_, S>,
+) -> Result<Option<H::Hint>>
     ensures answer { IfOk result (λ hint. option_map (suggestion_of H.Hint.Hint) hint
         ≡ hint_by H.hint_at helper.now (shown_in S.History ctx.now line.now pos)) }
     ensures io { IoOnlyIf result (NotBoth (is_sure_by H.Hinter.sure helper.now) (S.sure ctx.now.history)) }
@@ -49,7 +59,11 @@ fn hint_of<'a, 'out, H: Helper, S: History>(helper: &'a Option<&'out mut H>, all
 
 // What the helper says of the line, where there is one.
 #[tactic(auto, unfolding(crate::specs::Helped::verdict_by, crate::specs::Helped::is_sure_by))]
-fn verdict_of_line<'a, 'out, H: Helper>(helper: &'a Option<&'out mut H>, alloc: Global, line: &str) -> Result<Option<ValidationResult>>
+fn verdict_of_line<'a, 'out, H: Helper>(
+    helper: &'a Option<&'out mut H>,
+    alloc: Global,
+    line: &str,
+) -> Result<Option<ValidationResult>>
     ensures answer { IfOk result (λ r. option_map verdict_of r ≡ verdict_by H.verdict_at helper.now line.now) }
     ensures io { IoOnlyIf result (is_sure_by H.Validator.sure helper.now ≡ false) }
     ensures faults { FaultsOnly result }
@@ -77,7 +91,13 @@ impl Hinter for Marker {
     ghost hint_at = { λ marker shown. if length shown.text == shown.cursor
         then Some (record { display = marker.hint.now; completion = Some marker.hint.now }) else None };
 
-    fn hint<S: History>(&self, _alloc: Global, line: &str, pos: usize, _ctx: &Context<'_, S>) -> Result<Option<&'static str>> {
+    fn hint<S: History>(
+        &self,
+        _alloc: Global,
+        line: &str,
+        pos: usize,
+        _ctx: &Context<'_, S>,
+    ) -> Result<Option<&'static str>> {
         if line.len() == pos {
             Ok(Some(self.hint))
         } else {
@@ -116,16 +136,12 @@ impl Completer for Marker {
     type Candidate = String;
 
     ghost sure = { λ _. true };
-
-    ghost own_update = { λ _ line _ _. Some line };
-
-    fn update(&self, _line: &mut LineBuffer, _start: usize, _elected: &str, _changes: &mut Changeset) -> Result<()> {
-        Ok(())
-    }
 }
 
 impl Helper for Marker {
-    ghost hints_kept = { λ one other same. ap (λ (marker : Marker). hint_at marker) same };
+    ghost use Rattle.std.proofs.Common.{ap};
+
+    ghost hints_kept = { λ _ _ same. ap Self.hint_at same };
 
     ghost verdicts_kept = { λ _ _ _. refl };
 
@@ -144,14 +160,16 @@ fn no_helper_and_the_unit_helper_say_nothing(rt: HostRuntime) -> Result<()> {
     let history = MemHistory::new(alloc);
     let ctx = Context::new(&history);
     let mut unit = ();
-    for helper in [None, Some(&mut unit)] {
-        let mut helper: Option<&mut ()> = helper;
-        assert!(rt; !lights(&mut helper, "ab", 1, CmdKind::Other));
-        assert!(rt; hint_of(&helper, alloc, "ab", 2, &ctx)?.is_none());
-    }
-    assert!(rt; matches!(verdict_of_line(&Some(&mut unit), alloc, "ab")?, Some(ValidationResult::Valid(None))));
-    assert!(rt; verdict_of_line(&None::<&mut ()>, alloc, "ab")?.is_none());
     assert!(rt; !unit.validate_while_typing());
+    let mut helper = Some(&mut unit);
+    assert!(rt; !lights(&mut helper, "ab", 1, CmdKind::Other));
+    assert!(rt; hint_of(&helper, alloc, "ab", 2, &ctx)?.is_none());
+    let verdict = verdict_of_line(&helper, alloc, "ab")?;
+    assert!(rt; matches!(verdict, Some(ValidationResult::Valid(None))));
+    let mut nobody: Option<&mut ()> = None;
+    assert!(rt; !lights(&mut nobody, "ab", 1, CmdKind::Other));
+    assert!(rt; hint_of(&nobody, alloc, "ab", 2, &ctx)?.is_none());
+    assert!(rt; verdict_of_line(&nobody, alloc, "ab")?.is_none());
     Ok(())
 }
 
@@ -160,14 +178,27 @@ fn highlighting_keeps_the_answers(rt: HostRuntime) -> Result<()> {
     let alloc = rt.alloc();
     let history = MemHistory::new(alloc);
     let ctx = Context::new(&history);
-    let mut marker = Marker { hint: "!", marked: None };
+    let mut marker = Marker {
+        hint: "!",
+        marked: None,
+    };
     let mut helper = Some(&mut marker);
     assert!(rt; lights(&mut helper, "ab", 2, CmdKind::MoveCursor));
     assert!(rt; !lights(&mut helper, "ab", 0, CmdKind::MoveCursor));
     let hint = hint_of(&helper, alloc, "ab", 2, &ctx)?;
     assert!(rt; hint.is_some_and(|hint| hint.display() == "!"));
     assert!(rt; hint_of(&helper, alloc, "ab", 1, &ctx)?.is_none());
-    assert!(rt; matches!(verdict_of_line(&helper, alloc, "ab")?, Some(ValidationResult::Incomplete)));
-    assert!(rt; matches!(verdict_of_line(&helper, alloc, ""), Err(ReadlineError::Io(_))));
+    assert!(rt;
+        matches!(
+            verdict_of_line(&helper, alloc, "ab")?,
+            Some(ValidationResult::Incomplete)
+        )
+    );
+    assert!(rt;
+        matches!(
+            verdict_of_line(&helper, alloc, ""),
+            Err(ReadlineError::Io(_))
+        )
+    );
     Ok(())
 }
