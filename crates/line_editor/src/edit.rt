@@ -668,14 +668,8 @@ impl<'out, 'prompt, W: Renderer, H: Helper, P: Prompt, S: History> Refresher
     }
 }
 
-impl<'out, 'prompt, W: Renderer, H: Helper, P: Prompt, S: History> Invoke for State<
-    'out,
-    'prompt,
-    W,
-    H,
-    P,
-    S,
-> {
+impl<'out, 'prompt, W: Renderer, H: Helper, P: Prompt, S: History> Invoke
+    for State<'out, 'prompt, W, H, P, S> {
     ghost input_text = { λ s. s.line.text };
 
     fn input(&self) -> &str {

@@ -137,13 +137,10 @@ impl RawReader for Script {
 }
 
 /// Reads a whole script, to the end of the input.
-pub(crate) fn read_script<R: Read>(
+pub(crate) fn read_script<R: Read + Drop>(
     alloc: Global,
     mut input: R,
-) -> Result<VecDeque<Item>, ScriptError>
-where
-    R: Drop,
-{
+) -> Result<VecDeque<Item>, ScriptError> {
     let mut bytes = Vec::new(alloc);
     input.read_to_end(&mut bytes)?;
     parse_script(alloc, &bytes)
