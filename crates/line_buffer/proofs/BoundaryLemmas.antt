@@ -1,6 +1,7 @@
 -- Boundaries of a text that is changed behind them.
-use Rattle.std.proofs.Common.{◌≡◌, ℕ, ◌+◌, ◌≤◌, List, ◌++◌, length, take, drop, ap, sym, ◌∙◌, subst, arith, length-append}
-use Rattle.std.proofs.lemmas.List.{length-take-le, take-append-le}
+use Rattle.std.proofs.Common.{◌<◌, get_or, inl, inr, ◌≡◌, ℕ, ◌+◌, ◌≤◌, List, ◌++◌, length, take, drop, ap, sym, ◌∙◌, subst, arith, length-append}
+use Rattle.std.proofs.lemmas.Bool.{cases_lt}
+use Rattle.std.proofs.lemmas.List.{get_or-take, length-take-le, take-append-le}
 use Rattle.std.proofs.lemmas.Str.{IsCharBoundary-from_take, IsUtf8-take}
 use Rattle.std.specs.List.{insert_slice}
 use Rattle.std.specs.Str.{IsCharBoundary, IsUtf8}
@@ -19,5 +20,19 @@ boundary_before_insert s s' t i place u u' e b le within =
     let wide : length (front ++ t) ≡ length front + length t = length-append front t in
     let fits : i ≤ length s' = omega (arith, ap length e, length-append (front ++ t) (drop place s)) in
     let same : take i s' ≡ take i s =
-        ap (take i) e ∙ take-append-le i (front ++ t) (drop place s) (omega arith) ∙ take-append-le i front t (omega arith) ∙ take_within_take place i s le in
+    ap (take i) e ∙ take-append-le i (front ++ t) (drop place s) (omega arith) ∙ take-append-le i front t (omega arith) ∙ take_within_take place i s le in
     boundary_of_same_front s s' i u u' b fits same
+
+-- a boundary of the text before another is one of the whole text
+pub boundary_in_front : (s : List ℕ) (i k : ℕ) → IsCharBoundary s i → IsCharBoundary (take i s) k → IsCharBoundary s k
+boundary_in_front s i k there here =
+    elim (cases_lt k i) [
+      | inl before ↦
+          let fits : k ≤ length s = omega (arith, there.0) in
+          let same : get_or (take i s) k 0 ≡ get_or s k 0 = get_or-take i s k 0 before in
+          let inside : k < length (take i s) = omega (arith, length-take-le i s there.0) in
+          (fits, λ h high. rw (← same) (here.1 inside (rw same high)))
+      | inr past ↦
+          let same : k ≡ i = omega (arith, here.0, length-take-le i s there.0) in
+          subst (IsCharBoundary s) (sym same) there
+    ]

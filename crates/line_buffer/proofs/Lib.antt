@@ -1,7 +1,13 @@
 pub mod BoundaryLemmas
 pub mod ChangeLemmas
 pub mod ClusterLemmas
+pub mod FittingLemmas
 pub mod LineLemmas
 pub mod ListLemmas
 pub mod RingLemmas
+pub mod SkipLemmas
+pub mod UndoLemmas
 pub mod WidthLemmas
+pub mod WordBackLemmas
+pub mod WordLemmas
+pub mod WordPlaces

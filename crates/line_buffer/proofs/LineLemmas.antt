@@ -1,10 +1,13 @@
 -- Where the first and the last line of a text lie.
-use Rattle.std.proofs.Common.{◌≡◌, ℕ, ◌+◌, ◌-◌, ◌<◌, ◌≤◌, ◌≢◌, Bool, true, false, not, List, length, get_or, reverse, sym, ap, ◌∙◌, subst, arith, eqb, rules}
-use Rattle.std.proofs.lemmas.Bool.Decides.{nat_tests}
-use Rattle.std.proofs.lemmas.List.{get_or-reverse, length-reverse}
-use Rattle.std.proofs.lemmas.List.Sums.{position_or_len_is}
+use Rattle.std.proofs.Common.{◌≡◌, ℕ, ◌+◌, ◌-◌, ◌<◌, ◌≤◌, ◌≢◌, Bool, true, false, not, List, length, get_or, reverse, sym, ap, ◌∙◌, subst, arith, eqb, rules, zero, suc, [], ◌∷◌, ◌++◌, take, drop, Option, Some, None, inl, inr, refl}
+use Rattle.std.proofs.lemmas.Bool.Decides.{nat_tests, eqb_tells}
+use Rattle.std.proofs.lemmas.List.{get_or-reverse, length-reverse, take_all, take_more}
+use Rattle.std.proofs.lemmas.List.Sums.{position_or_len_is, passes_at_first}
+use Rattle.std.proofs.lemmas.Str.{IsCharBoundary-after_ascii}
+use Rattle.std.specs.Str.{IsCharBoundary, IsUtf8}
 use Rattle.std.specs.List.{prefix_len, suffix_len}
 use Rattle.line_buffer.specs.Line.{is_no_newline}
+use Rattle.line_buffer.specs.Lines.{line_above, lines_above, lines_below, next_line}
 
 is_newline : ℕ → Bool
 is_newline b = eqb b 10
@@ -32,3 +35,43 @@ suffix_len-at text k within at none =
     let e = get_or-reverse text i 0 m in grind (arith, nat_tests, none (length text - 1 - i) above low, e))
     (λ h. let m : length text - 1 - k < length text = omega arith in let e = get_or-reverse text (length text - 1 - k) 0 m in
     let same : length text - 1 - (length text - 1 - k) ≡ k = omega arith in grind (arith, nat_tests, e, same, at))
+
+-- ---- lines above and below
+
+pub no_line_above : (text : List ℕ) → ((front : List ℕ) → text ≢ front ++ 10 ∷ []) → None ≡ line_above text
+no_line_above text none =
+    elim (eqb_tells (length text) 0) [
+      | inl empty ↦ rw empty.0 refl
+      | inr full ↦ elim (eqb_tells (get_or text (length text - 1) 0) 10) [
+        | inl is ↦
+            let some : length text ≢ 0 = full.1 in
+            let within : length text - 1 < length text = omega arith in
+            let all : length text - 1 + 1 ≡ length text = omega arith in
+            let last : take (length text - 1 + 1) text ≡ take (length text - 1) text ++ get_or text (length text - 1) 0 ∷ [] = take_more text (length text - 1) 0 within in
+            let whole : take (length text - 1 + 1) text ≡ text = take_all (length text - 1 + 1) text (omega arith) in
+            absurd (none (take (length text - 1) text) (sym whole ∙ last ∙ ap (λ b. take (length text - 1) text ++ b ∷ []) is.1))
+        | inr other ↦ rw (full.0, other.0) refl
+      ]
+    ]
+
+pub behind_newline : (text : List ℕ) → IsUtf8 text → prefix_len is_no_newline text ≢ length text → prefix_len is_no_newline text ≤ length text
+    → IsCharBoundary text (prefix_len is_no_newline text + 1)
+behind_newline text u other le =
+    let within : prefix_len is_no_newline text < length text = omega arith in
+    let newline = passes_at_first (λ b. eqb b 10) text 0 within in
+    let small : get_or text (prefix_len is_no_newline text) 0 < 128 = grind (arith, nat_tests, newline) in
+    IsCharBoundary-after_ascii text (prefix_len is_no_newline text) u within small
+
+pub above-some : (n m : ℕ) (text : List ℕ) (place above : ℕ) → n ≡ suc m → Some above ≡ line_above (take place text) → lines_above n text place ≡ lines_above m text above
+above-some n m text place above e h = rw e (ap (λ o. elim o [ Some a ↦ lines_above m text a | None ↦ place ]) (sym h))
+
+pub above-none : (n : ℕ) (text : List ℕ) (place : ℕ) → None ≡ line_above (take place text) → lines_above n text place ≡ place
+above-none zero text place h = refl
+above-none (suc n) text place h = ap (λ o. elim o [ Some a ↦ lines_above n text a | None ↦ place ]) (sym h)
+
+pub below-some : (n m : ℕ) (text : List ℕ) (place bytes : ℕ) → n ≡ suc m → Some bytes ≡ next_line (drop place text) → lines_below n text place ≡ lines_below m text (place + bytes)
+below-some n m text place bytes e h = rw e (ap (λ o. elim o [ Some b ↦ lines_below m text (place + b) | None ↦ place ]) (sym h))
+
+pub below-none : (n : ℕ) (text : List ℕ) (place : ℕ) → None ≡ next_line (drop place text) → lines_below n text place ≡ place
+below-none zero text place h = refl
+below-none (suc n) text place h = ap (λ o. elim o [ Some b ↦ lines_below n text (place + b) | None ↦ place ]) (sym h)

@@ -1,5 +1,5 @@
 -- The texts that were killed.
-use Rattle.std.specs.Prelude.{ℕ, ◌+◌, ◌-◌, Bool, true, false, ◌==◌, ◌||◌, ◌&&◌, not, List, [], ◌∷◌, ◌++◌, length, slice_set, slice_index_or, Option, Some, None, is_some, if◌then◌else◌}
+use Rattle.std.specs.Prelude.{ℕ, ◌+◌, ◌-◌, Bool, true, false, ◌==◌, ◌||◌, ◌&&◌, not, List, [], ◌∷◌, ◌++◌, length, slice_set, slice_index_or, Option, option_map, Some, None, is_some, if◌then◌else◌}
 use Rattle.line_buffer.specs.declared.kill_ring.Mode.{Mode}
 use Rattle.line_buffer.specs.declared.kill_ring.Mode.TheVariants.{Append, Prepend}
 
@@ -93,3 +93,7 @@ yank_pop_size r = if length r.slots == 0 then None else last_yank r.last
 -- the ring after a yank-pop
 abbrev pub after_yank_pop : Ring → Ring
 after_yank_pop r = if is_some (yank_pop_size r) then after_yank (back_one r) else r
+
+-- what a yank-pop gives: the bytes of the yank before, and the text one slot back
+abbrev pub yank_popped : Ring → Option (ℕ × List ℕ)
+yank_popped r = option_map (λ size. (size, current_text (back_one r))) (yank_pop_size r)

@@ -4,11 +4,17 @@ pub mod Character
 pub mod Cluster
 pub mod Kill
 pub mod KillRing
+pub mod Lent
 pub mod Line
+pub mod Lines
 pub mod Movement
 pub mod Range
+pub mod Taken
 pub mod Told
+pub mod Transpose
+pub mod Undo
 pub mod Width
+pub mod Word
 pub mod Yank
 pub use Rattle.unicode_segmentation.specs.Grapheme
 pub use Rattle.unicode_width.specs.Width as CharWidth

@@ -2,6 +2,8 @@
 use Rattle.std.specs.Prelude.{ℕ, ◌==◌, List, length, slice_range, Option, Some, None, option_map, if◌then◌else◌}
 use Rattle.line_buffer.specs.Cluster.{place_on, place_back}
 use Rattle.line_buffer.specs.Line.{Line, start_of_line, end_of_line}
+use Rattle.line_buffer.specs.Lines.{lines_up, lines_down}
+use Rattle.line_buffer.specs.Word.{word_back, word_on}
 use Rattle.line_buffer.specs.declared.keymap.Movement.{Movement}
 use Rattle.line_buffer.specs.declared.keymap.Movement.TheVariants.{WholeLine, BeginningOfLine, EndOfLine, BackwardWord, ForwardWord, ViCharSearch, ViFirstPrint, BackwardChar, ForwardChar, LineUp, LineDown, WholeBuffer, BeginningOfBuffer, EndOfBuffer}
 
@@ -18,14 +20,14 @@ abbrev pub range_of : Line → Movement → Option (ℕ × ℕ)
 range_of l WholeLine = Some (start_of_line l, end_of_line l)
 range_of l BeginningOfLine = Some (start_of_line l, l.cursor)
 range_of l EndOfLine = Some (l.cursor, end_of_line l)
-range_of l (BackwardWord n word) = None
-range_of l (ForwardWord n at word) = None
+range_of l (BackwardWord n word) = up_to_cursor l (word_back word l n)
+range_of l (ForwardWord n at word) = from_cursor l (word_on at word l n)
 range_of l (ViCharSearch n search) = None
 range_of l ViFirstPrint = None
 range_of l (BackwardChar n) = up_to_cursor l (place_back l n)
 range_of l (ForwardChar n) = from_cursor l (place_on l n)
-range_of l (LineUp n) = None
-range_of l (LineDown n) = None
+range_of l (LineUp n) = lines_up l n
+range_of l (LineDown n) = lines_down l n
 range_of l WholeBuffer = Some (0, length l.text)
 range_of l BeginningOfBuffer = Some (0, l.cursor)
 range_of l EndOfBuffer = Some (l.cursor, length l.text)

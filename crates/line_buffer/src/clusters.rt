@@ -1,9 +1,11 @@
 //! Clusters at the ends of a text, and kinds of characters.
-ghost use Rattle.std.specs.Prelude.{◌≡◌, ◌==◌, ◌-◌, length, take, IsCharBoundary};
+ghost use Rattle.std.specs.Prelude.{◌≡◌, nat_le, ◌≤◌, IfSome, ◌==◌, ◌-◌, length, take, IsCharBoundary};
 ghost use Rattle.std.specs.List.{concat, prefix_len, suffix_len};
 ghost use Rattle.line_buffer.specs.Character.{is_alphanumeric, is_alphanumeric_cluster, is_one_alphanumeric};
 ghost use Rattle.line_buffer.specs.Cluster.{behind_first, before_last, clusters};
 ghost use Rattle.line_buffer.specs.Line.{is_no_newline};
+ghost use Rattle.line_buffer.specs.Transpose.{first_alphanumeric};
+ghost use Rattle.line_buffer.specs.Lines.{line_above, next_line};
 
 use crate::keymap::RepeatCount;
 use unicode_segmentation::UnicodeSegmentation;
@@ -72,6 +74,31 @@ pub(crate) fn last_line_start(text: &str) -> usize
     }
 }
 
+/// Of a text that ends where a line begins: where the line above begins, or `None` where the text does not
+/// end in a newline.
+pub(crate) fn line_above(text: &str) -> Option<usize>
+    ensures place { result ≡ line_above text.now }
+    ensures up { IfSome result (λ place. place ≤ length text.now) }
+    ensures boundary { IfSome result (λ place. IsCharBoundary text.now place) }
+{
+    match text.strip_suffix('\n') {
+        Some(above) => Some(last_line_start(above)),
+        None => None,
+    }
+}
+
+/// Where the text goes on behind its first newline, or `None` where it has none.
+pub(crate) fn next_line(text: &str) -> Option<usize>
+    ensures place { result ≡ next_line text.now }
+    ensures boundary { IfSome result (λ place. IsCharBoundary text.now place) }
+{
+    let newline = first_line_len(text);
+    if newline == text.len() {
+        return None;
+    }
+    Some(newline + 1)
+}
+
 /// Whether the character is a letter or a digit of ASCII, or past ASCII and no white space.
 pub(crate) fn is_alphanumeric(c: char) -> bool
     ensures { result ≡ is_alphanumeric c }
@@ -90,8 +117,24 @@ pub(crate) fn is_alphanumeric_text(text: &str) -> bool
     text.chars().all(|c| is_alphanumeric(c))
 }
 
+/// Where the first alphanumeric cluster of the text begins, if there is one.
+pub(crate) fn first_alphanumeric(text: &str) -> Option<usize>
+    ensures place { result ≡ first_alphanumeric text.now }
+    ensures boundary { IfSome result (λ place. IsCharBoundary text.now place) }
+{
+    let mut rest = text.graphemes(true);
+    let mut at = 0;
+    while let Some(cluster) = rest.next() {
+        if is_alphanumeric_text(cluster) {
+            return Some(at);
+        }
+        at = text.len() - rest.as_str().len();
+    }
+    None
+}
+
 /// Whether the text is one cluster.
-fn is_one_cluster(text: &str) -> bool
+pub(crate) fn is_one_cluster(text: &str) -> bool
     ensures { result ≡ (length (clusters text.now) == 1) }
 {
     let mut left = text.graphemes(true);
@@ -99,6 +142,17 @@ fn is_one_cluster(text: &str) -> bool
         return false;
     };
     left.next().is_none()
+}
+
+/// Whether the text has two clusters or more.
+pub(crate) fn has_two_clusters(text: &str) -> bool
+    ensures { result ≡ nat_le 2 (length (clusters text.now)) }
+{
+    let mut left = text.graphemes(true);
+    let Some(_) = left.next() else {
+        return false;
+    };
+    left.next().is_some()
 }
 
 /// Whether the text is one cluster of alphanumeric characters.

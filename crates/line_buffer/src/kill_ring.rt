@@ -1,5 +1,5 @@
-ghost use Rattle.std.specs.Prelude.{◌≡◌, ◌<◌, ◌≤◌, length, slice_set, string_bytes, is_some, option_copied, OnOk};
-ghost use Rattle.line_buffer.specs.KillRing.{other, empty_ring, with_last, after_kill, joined, current_text, with_slot, next_slot, with_kept, yanked_text, after_yank, after_yank_pop, back_one, yank_pop_size};
+ghost use Rattle.std.specs.Prelude.{◌≡◌, ◌<◌, ◌≤◌, length, slice_set, string_bytes, is_some, option_copied, option_map, OnOk};
+ghost use Rattle.line_buffer.specs.KillRing.{other, empty_ring, with_last, after_kill, joined, current_text, with_slot, next_slot, with_kept, yanked_text, after_yank, after_yank_pop, back_one, yank_pop_size, yank_popped};
 
 use crate::line_buffer::OutOfMemory;
 use std::alloc::Global;
@@ -45,6 +45,9 @@ impl Model for KillRing {
 }
 
 impl KillRing {
+    ghost use Rattle.std.specs.Borrow.{sem};
+    ghost use Rattle.line_buffer.specs.Lent.{EndsAs};
+
     /// A ring of `size` slots that holds nothing yet. It grows from `alloc`.
     pub fn new(alloc: Global, size: usize) -> KillRing
         ensures { result ≡ empty_ring size }
@@ -83,10 +86,30 @@ impl KillRing {
         self.take_next(text)
     }
 
-    /// The current slot's text, or `None` where nothing is held.
-    pub fn text(&self) -> Option<&str>
-        ensures text { option_copied result ≡ yanked_text self.now }
-        ensures bound { length self.now.slots ≤ self.now.size }
+    /// Gives the text of the current slot, and records that it was yanked. `None` where nothing is held; then nothing
+    /// changes.
+    pub fn yank(&mut self) -> Option<&str>
+        ensures* ring { sem 𝓛 (EndsAs self.entry (after_yank self.entry.now)) }
+        ensures answer { option_copied result ≡ yanked_text self.entry.now }
+    {
+        self.record_yank();
+        self.current_text()
+    }
+
+    /// Right after a yank goes one slot back, from the first to the last that is held, and gives the bytes of the yank
+    /// before and the text that is there now, which is recorded as yanked. `None` where the last action was no yank or
+    /// nothing is held; then nothing changes.
+    pub fn yank_pop(&mut self) -> Option<(usize, &str)>
+        ensures* ring { sem 𝓛 (EndsAs self.entry (after_yank_pop self.entry.now)) }
+        ensures answer { option_map (λ popped. (popped.0, popped.1.now)) result ≡ yank_popped self.entry.now }
+    {
+        let size = self.record_yank_pop()?;
+        let text = self.current_text()?;
+        Some((size, text))
+    }
+
+    fn current_text(&self) -> Option<&str>
+        ensures { option_copied result ≡ yanked_text self.now }
     {
         if self.slots.is_empty() {
             return None;
@@ -94,26 +117,17 @@ impl KillRing {
         Some(self.slots[self.current].as_str())
     }
 
-    /// Records that the current slot's text was yanked, and answers whether one is held: `text` gives it.
-    pub fn yank(&mut self) -> bool
-        ensures answer { result ≡ is_some (yanked_text self.old) }
-        ensures ring { self.new ≡ after_yank self.old }
-        ensures bound { length self.new.slots ≤ self.new.size }
+    fn record_yank(&mut self)
+        ensures { self.new ≡ after_yank self.old }
     {
-        if self.slots.is_empty() {
-            return false;
+        if !self.slots.is_empty() {
+            self.last = Action::Yank(self.slots[self.current].len());
         }
-        self.last = Action::Yank(self.slots[self.current].len());
-        true
     }
 
-    /// Right after a yank goes one slot back, from the first to the last that is held, and records that its
-    /// text was yanked: `text` gives it. Answers the bytes of the yank before, or `None` where the last
-    /// action was no yank or nothing is held; then nothing changes.
-    pub fn yank_pop(&mut self) -> Option<usize>
+    fn record_yank_pop(&mut self) -> Option<usize>
         ensures answer { result ≡ yank_pop_size self.old }
         ensures ring { self.new ≡ after_yank_pop self.old }
-        ensures bound { length self.new.slots ≤ self.new.size }
     {
         let Action::Yank(size) = self.last else {
             return None;
@@ -122,7 +136,7 @@ impl KillRing {
             return None;
         }
         self.go_back();
-        self.yank();
+        self.record_yank();
         Some(size)
     }
 

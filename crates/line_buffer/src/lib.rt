@@ -8,6 +8,7 @@ pub mod kill_ring;
 pub mod layout;
 pub mod line_buffer;
 pub mod undo;
+mod words;
 
 pub use keymap::{At, CharSearch, Movement, RepeatCount, Word};
 pub use kill_ring::{KillRing, Mode};

@@ -1,9 +1,12 @@
-ghost use Rattle.std.specs.Prelude.{◌≡◌, ◌≤◌, [], ◌==◌, length, not, is_some, IfOk, IfSome, IsCharBoundary};
+ghost use Rattle.std.specs.Prelude.{◌≡◌, ◌≤◌, [], ◌==◌, length, take, drop, not, is_some, IfOk, IfSome, IsCharBoundary};
 ghost use Rattle.line_buffer.specs.Cluster.{place_on, place_back};
 ghost use Rattle.line_buffer.specs.Line.{before, after, with_cursor, moved_to, start_of_line, end_of_line, ends_in_white_space};
 
 mod edits;
 mod kills;
+mod lines;
+mod motions;
+mod transposes;
 
 use crate::clusters::{first_len, first_line_len, last_line_start, last_start};
 use crate::keymap::RepeatCount;
@@ -171,6 +174,22 @@ impl LineBuffer {
         ensures { result.now ≡ after self.now }
     {
         &self.buf.as_str()[self.pos..]
+    }
+
+    /// The text before a boundary.
+    fn text_to(&self, place: usize) -> &str
+        requires { IsCharBoundary self.now.text place }
+        ensures { result.now ≡ take place self.now.text }
+    {
+        &self.buf.as_str()[..place]
+    }
+
+    /// The text from a boundary on.
+    fn text_from(&self, place: usize) -> &str
+        requires { IsCharBoundary self.now.text place }
+        ensures { result.now ≡ drop place self.now.text }
+    {
+        &self.buf.as_str()[place..]
     }
 
     /// The place `n` clusters on from the cursor, or the text's end where there are fewer. `None` for

@@ -1,8 +1,12 @@
-ghost use Rattle.std.specs.Prelude.{◌≡◌, ◌+◌, ◌==◌, ◌++◌, ◌∷◌, length, replicate, not, string_bytes, option_copied, option_map, IfOk, OnOk, OnErr};
+ghost use Rattle.std.specs.Prelude.{◌≡◌, ◌+◌, ◌==◌, ◌++◌, ◌∷◌, length, replicate, not, string_bytes, option_copied, option_map, ◌<◌, drop, take, max, IsCharBoundary, IfOk, OnOk, OnErr};
+ghost use Rattle.std.specs.List.{list_any};
+ghost use Rattle.line_buffer.specs.Taken.{closed_by, is_text, newest_kind, opened_by};
+ghost use Rattle.line_buffer.specs.Undo.{Tells, all_taken_back, is_change, steps_len};
 ghost use Rattle.line_buffer.specs.Changes.{ends, last_insert_of, newest_begins, inserted, deleted, replaced, no_changes, with_entries, begun, ended, closed, adds_end, with_insert, with_joined_insert, with_joined_delete, with_delete, with_replace};
 
 use crate::clusters::{is_alphanumeric, is_one_alphanumeric};
-use crate::line_buffer::OutOfMemory;
+use crate::keymap::RepeatCount;
+use crate::line_buffer::{LineBuffer, OutOfMemory};
 use std::alloc::Global;
 use std::marker::Model;
 
@@ -23,6 +27,46 @@ pub(crate) enum Change {
         old: String,
         new: String,
     },
+}
+
+/// What an entry was that was taken back.
+#[derive(Debug, Clone, Copy, PartialEq, Eq)]
+pub(crate) enum Taken {
+    Begin,
+    End,
+    Change,
+}
+
+impl Taken {
+    /// How many groups it begins.
+    fn begins(self) -> usize
+        ensures { result ≡ opened_by self }
+    {
+        match self {
+            Taken::Begin => 1,
+            Taken::End | Taken::Change => 0,
+        }
+    }
+
+    /// How many groups it ends.
+    fn ends(self) -> usize
+        ensures { result ≡ closed_by self }
+    {
+        match self {
+            Taken::End => 1,
+            Taken::Begin | Taken::Change => 0,
+        }
+    }
+
+    /// Whether it changed the text.
+    fn is_change(self) -> bool
+        ensures { result ≡ is_text self }
+    {
+        match self {
+            Taken::Change => true,
+            Taken::Begin | Taken::End => false,
+        }
+    }
 }
 
 /// The changes of a line, by which it can be brought back, and how many groups of them are open.
@@ -90,6 +134,83 @@ impl Changeset {
         self.take_newest_begins();
         let outcome = self.add_ends();
         self.settled(outcome)
+    }
+
+    /// Takes `n` steps back, one for `n` = 0, or as many as there are: the newest entries are taken away and
+    /// what they tell is reversed in the line, which is the one that they tell of. An entry that was taken is
+    /// a step where no more ends than begins were taken by then. The cursor goes to where a text had come
+    /// in, or behind a text that came back. Answers whether a change of the text was taken back.
+    /// `OutOfMemory` comes where the text cannot grow; then the list is empty with no open group, and the
+    /// line is text with its cursor on a boundary.
+    pub fn undo(&mut self, line: &mut LineBuffer, n: RepeatCount) -> Result<bool, OutOfMemory>
+        requires { Tells self.old.entries line.old.text }
+        ensures answer { IfOk result (λ undone. undone ≡ list_any is_change (take (steps_len self.old.entries n) self.old.entries)) }
+        ensures line { OnOk result (line.new ≡ all_taken_back (take (steps_len self.old.entries n) self.old.entries) line.old) }
+        ensures changes { OnOk result (self.new ≡ with_entries self.old (drop (steps_len self.old.entries n) self.old.entries)) }
+        ensures err { OnErr result (self.new ≡ no_changes) }
+        ensures cursor { IsCharBoundary line.new.text line.new.cursor }
+    {
+        let outcome = self.take_steps(line, n.max(1));
+        self.settled(outcome)
+    }
+
+    fn take_steps(&mut self, line: &mut LineBuffer, n: RepeatCount) -> Result<bool, OutOfMemory>
+        requires count { 0 < n }
+        requires tells { Tells self.old.entries line.old.text }
+        ensures answer { IfOk result (λ undone. undone ≡ list_any is_change (take (steps_len self.old.entries n) self.old.entries)) }
+        ensures line { OnOk result (line.new ≡ all_taken_back (take (steps_len self.old.entries n) self.old.entries) line.old) }
+        ensures changes { OnOk result (self.new ≡ with_entries self.old (drop (steps_len self.old.entries n) self.old.entries)) }
+        ensures cursor { IsCharBoundary line.new.text line.new.cursor }
+    {
+        let _ = line.pos();
+        let mut left = n;
+        let (mut begins, mut ends, mut undone) = (0usize, 0usize, false);
+        for _ in 0..self.len() {
+            let Some(taken) = self.take_newest(line)? else {
+                return Ok(undone);
+            };
+            begins += taken.begins();
+            ends += taken.ends();
+            undone = undone | taken.is_change();
+            if ends <= begins {
+                if left == 1 {
+                    return Ok(undone);
+                }
+                left -= 1;
+            }
+        }
+        Ok(undone)
+    }
+
+    /// Takes the newest entry away and reverses in the line what it tells. Answers what it was, or `None`
+    /// where there is none.
+    fn take_newest(&mut self, line: &mut LineBuffer) -> Result<Option<Taken>, OutOfMemory>
+        requires { Tells self.old.entries line.old.text }
+        ensures taken { IfOk result (λ taken. taken ≡ newest_kind self.old.entries) }
+        ensures line { OnOk result (line.new ≡ all_taken_back (take 1 self.old.entries) line.old) }
+        ensures changes { OnOk result (self.new ≡ with_entries self.old (drop 1 self.old.entries)) }
+        ensures cursor { IsCharBoundary line.new.text line.new.cursor }
+    {
+        let _ = line.len();
+        let Some(change) = self.changes.pop() else {
+            return Ok(None);
+        };
+        match change {
+            Change::Begin => Ok(Some(Taken::Begin)),
+            Change::End => Ok(Some(Taken::End)),
+            Change::Insert { place, text } => {
+                line.remove_range(place, place + text.len())?;
+                Ok(Some(Taken::Change))
+            }
+            Change::Delete { place, text } => {
+                line.put(place, place, text.as_str())?;
+                Ok(Some(Taken::Change))
+            }
+            Change::Replace { place, old, new } => {
+                line.put(place, place + new.len(), old.as_str())?;
+                Ok(Some(Taken::Change))
+            }
+        }
     }
 
     /// A copy of the text that came in last: of the newest entry but ends, the text that was inserted or

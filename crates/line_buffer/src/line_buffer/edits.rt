@@ -75,7 +75,12 @@ impl LineBuffer {
     /// Inserts the text at byte `place`, a boundary at the cursor or after it. The cursor stays.
     /// `OutOfMemory` comes where the text or the list of changes cannot grow; then the list is empty with no
     /// open group, and the line is text with its cursor on a boundary.
-    pub fn insert_str(&mut self, place: usize, text: &str, changes: &mut Changeset) -> Result<(), OutOfMemory>
+    pub fn insert_str(
+        &mut self,
+        place: usize,
+        text: &str,
+        changes: &mut Changeset,
+    ) -> Result<(), OutOfMemory>
         requires boundary { IsCharBoundary self.old.text place }
         requires behind { self.old.cursor ≤ place }
         ensures line { OnOk result (self.new ≡ inserted_at self.old place text.now) }
@@ -87,7 +92,12 @@ impl LineBuffer {
         changes.settled(outcome)
     }
 
-    fn try_insert_str(&mut self, place: usize, text: &str, changes: &mut Changeset) -> Result<(), OutOfMemory>
+    fn try_insert_str(
+        &mut self,
+        place: usize,
+        text: &str,
+        changes: &mut Changeset,
+    ) -> Result<(), OutOfMemory>
         requires boundary { IsCharBoundary self.old.text place }
         requires behind { self.old.cursor ≤ place }
         ensures line { OnOk result (self.new ≡ inserted_at self.old place text.now) }
@@ -104,7 +114,12 @@ impl LineBuffer {
     /// text's end, or `None` for an empty text. `OutOfMemory` comes where the text or the list of changes
     /// cannot grow; then the list is empty with no open group, and the line is text with its cursor on a
     /// boundary.
-    pub fn yank(&mut self, text: &str, n: RepeatCount, changes: &mut Changeset) -> Result<Option<bool>, OutOfMemory>
+    pub fn yank(
+        &mut self,
+        text: &str,
+        n: RepeatCount,
+        changes: &mut Changeset,
+    ) -> Result<Option<bool>, OutOfMemory>
         ensures answer { IfOk result (λ at_end. at_end ≡ yanks self.old text.now) }
         ensures line { OnOk result (self.new ≡ yanked self.old text.now n) }
         ensures changes { OnOk result (changes.new ≡ with_entries changes.old (with_yank self.old.cursor text.now n changes.old.entries)) }
@@ -115,7 +130,12 @@ impl LineBuffer {
         changes.settled(outcome)
     }
 
-    fn try_yank(&mut self, text: &str, n: RepeatCount, changes: &mut Changeset) -> Result<Option<bool>, OutOfMemory>
+    fn try_yank(
+        &mut self,
+        text: &str,
+        n: RepeatCount,
+        changes: &mut Changeset,
+    ) -> Result<Option<bool>, OutOfMemory>
         ensures answer { IfOk result (λ at_end. at_end ≡ yanks self.old text.now) }
         ensures line { OnOk result (self.new ≡ yanked self.old text.now n) }
         ensures changes { OnOk result (changes.new ≡ with_entries changes.old (with_yank self.old.cursor text.now n changes.old.entries)) }
@@ -136,7 +156,12 @@ impl LineBuffer {
     /// bytes pass the text's start or cut a character: then nothing changes. `OutOfMemory` comes where the
     /// text or the list of changes cannot grow; then the list is empty with no open group, and the line is
     /// text with its cursor on a boundary.
-    pub fn yank_pop(&mut self, size: usize, text: &str, changes: &mut Changeset) -> Result<Option<bool>, OutOfMemory>
+    pub fn yank_pop(
+        &mut self,
+        size: usize,
+        text: &str,
+        changes: &mut Changeset,
+    ) -> Result<Option<bool>, OutOfMemory>
         ensures answer { IfOk result (λ at_end. at_end ≡ yank_pops self.old size text.now) }
         ensures line { OnOk result (self.new ≡ yank_popped self.old size text.now) }
         ensures changes { OnOk result (changes.new ≡ with_entries changes.old (with_yank_pop self.old size text.now changes.old.entries)) }
@@ -147,7 +172,12 @@ impl LineBuffer {
         changes.settled(outcome)
     }
 
-    fn try_yank_pop(&mut self, size: usize, text: &str, changes: &mut Changeset) -> Result<Option<bool>, OutOfMemory>
+    fn try_yank_pop(
+        &mut self,
+        size: usize,
+        text: &str,
+        changes: &mut Changeset,
+    ) -> Result<Option<bool>, OutOfMemory>
         ensures answer { IfOk result (λ at_end. at_end ≡ yank_pops self.old size text.now) }
         ensures line { OnOk result (self.new ≡ yank_popped self.old size text.now) }
         ensures changes { OnOk result (changes.new ≡ with_entries changes.old (with_yank_pop self.old size text.now changes.old.entries)) }
@@ -164,7 +194,12 @@ impl LineBuffer {
     /// Puts a text in place of the whole line, and the cursor at byte `pos` of it. `OutOfMemory` comes where
     /// the text or the list of changes cannot grow; then the list is empty with no open group, and the line
     /// is text with its cursor on a boundary.
-    pub fn update(&mut self, text: &str, pos: usize, changes: &mut Changeset) -> Result<(), OutOfMemory>
+    pub fn update(
+        &mut self,
+        text: &str,
+        pos: usize,
+        changes: &mut Changeset,
+    ) -> Result<(), OutOfMemory>
         requires { IsCharBoundary text.now pos }
         ensures line { OnOk result (self.new ≡ record { text = text.now; cursor = pos }) }
         ensures changes { OnOk result (changes.new ≡ with_entries changes.old (with_insert 0 text.now (with_delete 0 self.old.text changes.old.entries))) }
@@ -175,7 +210,12 @@ impl LineBuffer {
         changes.settled(outcome)
     }
 
-    fn try_update(&mut self, text: &str, pos: usize, changes: &mut Changeset) -> Result<(), OutOfMemory>
+    fn try_update(
+        &mut self,
+        text: &str,
+        pos: usize,
+        changes: &mut Changeset,
+    ) -> Result<(), OutOfMemory>
         requires { IsCharBoundary text.now pos }
         ensures line { OnOk result (self.new ≡ record { text = text.now; cursor = pos }) }
         ensures changes { OnOk result (changes.new ≡ with_entries changes.old (with_insert 0 text.now (with_delete 0 self.old.text changes.old.entries))) }
@@ -191,7 +231,12 @@ impl LineBuffer {
     /// Puts a text in place of a range of bytes, and the cursor behind it. The range begins and ends on
     /// boundaries. `OutOfMemory` comes where the text or the list of changes cannot grow; then the list is
     /// empty with no open group, and the line is text with its cursor on a boundary.
-    pub fn replace(&mut self, range: Range<usize>, text: &str, changes: &mut Changeset) -> Result<(), OutOfMemory>
+    pub fn replace(
+        &mut self,
+        range: Range<usize>,
+        text: &str,
+        changes: &mut Changeset,
+    ) -> Result<(), OutOfMemory>
         requires ordered { range.start ≤ range.end }
         requires start { IsCharBoundary self.old.text range.start }
         requires end { IsCharBoundary self.old.text range.end }
@@ -204,7 +249,13 @@ impl LineBuffer {
         changes.settled(outcome)
     }
 
-    pub(super) fn try_replace(&mut self, from: usize, to: usize, text: &str, changes: &mut Changeset) -> Result<(), OutOfMemory>
+    pub(super) fn try_replace(
+        &mut self,
+        from: usize,
+        to: usize,
+        text: &str,
+        changes: &mut Changeset,
+    ) -> Result<(), OutOfMemory>
         requires ordered { from ≤ to }
         requires start { IsCharBoundary self.old.text from }
         requires end { IsCharBoundary self.old.text to }
@@ -213,6 +264,17 @@ impl LineBuffer {
         ensures cursor { IsCharBoundary self.new.text self.new.cursor }
     {
         changes.replace(from, &self.buf.as_str()[from..to], text)?;
+        self.put(from, to, text)
+    }
+
+    /// Puts a text in place of a range, and the cursor behind it, without telling of it.
+    pub(crate) fn put(&mut self, from: usize, to: usize, text: &str) -> Result<(), OutOfMemory>
+        requires ordered { from ≤ to }
+        requires start { IsCharBoundary self.old.text from }
+        requires end { IsCharBoundary self.old.text to }
+        ensures line { OnOk result (self.new ≡ replaced_in self.old from to text.now) }
+        ensures cursor { IsCharBoundary self.new.text self.new.cursor }
+    {
         self.buf.replace_range(from..to, text)?;
         self.pos = from + text.len();
         Ok(())

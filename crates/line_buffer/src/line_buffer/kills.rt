@@ -70,7 +70,11 @@ impl LineBuffer {
     /// Takes `n` clusters after the cursor away, or as many as there are, and answers their text; `None`
     /// for `n` = 0 and at the text's end. `OutOfMemory` comes where a copy of the text cannot be made; then
     /// the list of changes is empty with no open group, and the line is text with its cursor on a boundary.
-    pub fn delete(&mut self, n: RepeatCount, changes: &mut Changeset) -> Result<Option<String>, OutOfMemory>
+    pub fn delete(
+        &mut self,
+        n: RepeatCount,
+        changes: &mut Changeset,
+    ) -> Result<Option<String>, OutOfMemory>
         ensures answer { IfOk result (λ r. option_map string_bytes r ≡ text_in self.old.text (from_cursor self.old (place_on self.old n))) }
         ensures line { OnOk result (self.new ≡ without self.old (from_cursor self.old (place_on self.old n))) }
         ensures changes { OnOk result (changes.new ≡ with_killed self.old (from_cursor self.old (place_on self.old n)) changes.old) }
@@ -97,7 +101,12 @@ impl LineBuffer {
     }
 
     /// Takes a range away, tells of it, and answers its text.
-    fn take_range(&mut self, from: usize, to: usize, changes: &mut Changeset) -> Result<Option<String>, OutOfMemory>
+    fn take_range(
+        &mut self,
+        from: usize,
+        to: usize,
+        changes: &mut Changeset,
+    ) -> Result<Option<String>, OutOfMemory>
         requires ordered { from ≤ to }
         requires start { IsCharBoundary self.old.text from }
         requires end { IsCharBoundary self.old.text to }
@@ -113,7 +122,12 @@ impl LineBuffer {
     }
 
     /// Takes a range away, and tells of it.
-    pub(super) fn delete_range(&mut self, from: usize, to: usize, changes: &mut Changeset) -> Result<(), OutOfMemory>
+    pub(super) fn delete_range(
+        &mut self,
+        from: usize,
+        to: usize,
+        changes: &mut Changeset,
+    ) -> Result<(), OutOfMemory>
         requires ordered { from ≤ to }
         requires start { IsCharBoundary self.old.text from }
         requires end { IsCharBoundary self.old.text to }
@@ -137,7 +151,7 @@ impl LineBuffer {
     }
 
     /// Takes the text from one byte to another away, and the cursor to its start.
-    fn remove_range(&mut self, from: usize, to: usize) -> Result<(), OutOfMemory>
+    pub(crate) fn remove_range(&mut self, from: usize, to: usize) -> Result<(), OutOfMemory>
         requires ordered { from ≤ to }
         requires start { IsCharBoundary self.old.text from }
         requires end { IsCharBoundary self.old.text to }
@@ -161,8 +175,14 @@ impl LineBuffer {
             Movement::WholeLine => Some((self.start_of_line(), self.end_of_line())),
             Movement::BeginningOfLine => self.up_to_cursor(Some(self.start_of_line())),
             Movement::EndOfLine => self.from_cursor(Some(self.end_of_line())),
+            Movement::BackwardWord(n, word) => self.up_to_cursor(self.prev_word_pos(*word, *n)),
+            Movement::ForwardWord(n, at, word) => {
+                self.from_cursor(self.next_word_pos(*at, *word, *n))
+            }
             Movement::BackwardChar(n) => self.up_to_cursor(self.prev_pos(*n)),
             Movement::ForwardChar(n) => self.from_cursor(self.next_pos(*n)),
+            Movement::LineUp(n) => self.lines_up(*n),
+            Movement::LineDown(n) => self.lines_down(*n),
             Movement::WholeBuffer => Some((0, len)),
             Movement::BeginningOfBuffer => self.up_to_cursor(Some(0)),
             Movement::EndOfBuffer => self.from_cursor(Some(len)),

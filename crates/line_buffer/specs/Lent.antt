@@ -1,0 +1,10 @@
+-- What a kill ring is once a text that it gave is let go.
+use Rattle.std.specs.Prelude.{◌≡◌}
+use Rattle.std.specs.Borrow.{Fml, MutBor}
+use Rattle.std.specs.Io.BufRead.{Rests}
+use Rattle.line_buffer.specs.KillRing.{Ring}
+use Rattle.line_buffer.specs.contracts.kill_ring.KillRing.{the_row}
+
+-- the lent ring ends as this one
+abbrev pub EndsAs : MutBor Ring → Ring → Fml
+EndsAs lent ring = Rests the_row lent (λ left. left ≡ ring)

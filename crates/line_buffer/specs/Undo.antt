@@ -1,0 +1,76 @@
+-- Taking changes back.
+use Rattle.std.specs.Prelude.{◌≡◌, ℕ, ◌+◌, max, nat_le, Bool, true, false, List, [], ◌∷◌, length, take, filter, count_by, unwrap_or, slice_range, IsCharBoundary}
+use Rattle.std.specs.List.{range_with_len, remove_range, insert_slice, replace_range}
+use Rattle.line_buffer.specs.Changes.{Entry, begins, ends, inserted, deleted, replaced}
+use Rattle.line_buffer.specs.Line.{Line}
+use Rattle.line_buffer.specs.Word.{nth}
+
+-- the text before an entry's change
+abbrev pub text_before : Entry → List ℕ → List ℕ
+text_before begins text = text
+text_before ends text = text
+text_before (inserted place t) text = remove_range text place (place + length t)
+text_before (deleted place t) text = insert_slice text place t
+text_before (replaced place old new) text = replace_range text place (place + length new) old
+
+-- where the cursor goes when an entry is taken back: to where a text came in, or behind the text that comes back
+abbrev pub cursor_before : Entry → ℕ → ℕ
+cursor_before begins cursor = cursor
+cursor_before ends cursor = cursor
+cursor_before (inserted place t) cursor = place
+cursor_before (deleted place t) cursor = place + length t
+cursor_before (replaced place old new) cursor = place + length old
+
+-- the line with an entry taken back
+abbrev pub taken_back : Entry → Line → Line
+taken_back e l = record { text = text_before e l.text; cursor = cursor_before e l.cursor }
+
+-- the line with entries taken back, the newest first
+abbrev pub all_taken_back : List Entry → Line → Line
+all_taken_back [] l = l
+all_taken_back (e ∷ entries) l = all_taken_back entries (taken_back e l)
+
+-- a text stands at a place of another
+pub record StandsAt (text : List ℕ) (place : ℕ) (t : List ℕ) : Type 0 where
+  pub is : slice_range text place (place + length t) ≡ t
+  pub start : IsCharBoundary text place
+  pub stop : IsCharBoundary text (place + length t)
+
+-- an entry's change can be taken back from a text
+abbrev pub Fits : Entry → List ℕ → Type 0
+Fits begins text = Unit {0}
+Fits ends text = Unit {0}
+Fits (inserted place t) text = StandsAt text place t
+Fits (deleted place t) text = IsCharBoundary text place
+Fits (replaced place old new) text = StandsAt text place new
+
+-- the entries tell how a text came from another: taken back, they give that one
+abbrev pub TellsOf : List Entry → List ℕ → List ℕ → Type 0
+TellsOf [] text start = text ≡ start
+TellsOf (e ∷ entries) text start = Fits e text × TellsOf entries (text_before e text) start
+
+-- the entries tell how a text came from some other
+abbrev pub Tells : List Entry → List ℕ → Type 0
+Tells entries text = (start : List ℕ) × TellsOf entries text start
+
+abbrev pub is_begin : Entry → Bool
+is_begin begins = true
+is_begin _ = false
+
+abbrev pub is_end : Entry → Bool
+is_end ends = true
+is_end _ = false
+
+-- the entry changed the text
+abbrev pub is_change : Entry → Bool
+is_change begins = false
+is_change ends = false
+is_change _ = true
+
+-- among the first k entries stand no more ends than begins
+abbrev pub is_step : List Entry → ℕ → Bool
+is_step entries k = nat_le (count_by is_end (take k entries)) (count_by is_begin (take k entries))
+
+-- how many entries make n steps, one for n = 0, or all of them where there are fewer steps
+abbrev pub steps_len : List Entry → ℕ → ℕ
+steps_len entries n = unwrap_or (nth (filter (is_step entries) (range_with_len 1 (length entries))) (max n 1)) (length entries)

@@ -1,0 +1,120 @@
+-- Words: longest runs of clusters of one kind, and the places of their starts and ends.
+use Rattle.std.specs.Prelude.{ℕ, ◌+◌, ◌-◌, ◌==◌, ◌||◌, nat_le, Bool, true, false, List, length, map, filter, take, drop, reverse, chars, slice_index_or, Option, Some, None, unwrap_or, option_map, if◌then◌else◌}
+use Rattle.std.specs.Char.{is_whitespace}
+use Rattle.std.specs.List.{concat, list_all, range_with_len, slice_get}
+use Rattle.line_buffer.specs.Character.{is_alphanumeric}
+use Rattle.line_buffer.specs.Cluster.{clusters}
+use Rattle.line_buffer.specs.Line.{Line, before, after}
+use Rattle.line_buffer.specs.declared.keymap.At.{At}
+use Rattle.line_buffer.specs.declared.keymap.At.TheVariants.{Start, BeforeEnd, AfterEnd}
+use Rattle.line_buffer.specs.declared.keymap.Word.TheVariants.{Big, Emacs, Vi}
+use Rattle.line_buffer.specs.declared.keymap.Word.{Word}
+use Rattle.line_buffer.specs.declared.words.Edge.TheVariants.{Begin, End}
+use Rattle.line_buffer.specs.declared.words.Edge.{Edge}
+use Rattle.line_buffer.specs.declared.words.Kind.TheVariants.{Gap, Inside, Mark}
+use Rattle.line_buffer.specs.declared.words.Kind.{Kind}
+
+-- all characters of the cluster are white space
+abbrev pub is_blank : List ℕ → Bool
+is_blank cluster = list_all is_whitespace (chars cluster)
+
+-- all characters of the cluster pass
+abbrev pub is_made_of : (ℕ → Bool) → List ℕ → Bool
+is_made_of passes cluster = list_all passes (chars cluster)
+
+-- an alphanumeric character or an underscore
+abbrev pub is_vi_letter : ℕ → Bool
+is_vi_letter c = is_alphanumeric c || (c == 95)
+
+-- what a cluster is to words: a gap between them, a part of one, or in Vi a part of one of marks
+abbrev pub kind_of : Word → List ℕ → Kind
+kind_of Big cluster = if is_blank cluster then Gap else Inside
+kind_of Emacs cluster = if is_made_of is_alphanumeric cluster then Inside else Gap
+kind_of Vi cluster = if is_blank cluster then Gap else if is_made_of is_vi_letter cluster then Inside else Mark
+
+abbrev pub kinds_of : Word → List (List ℕ) → List Kind
+kinds_of word cs = map (kind_of word) cs
+
+abbrev pub kind_at : List Kind → ℕ → Kind
+kind_at kinds i = slice_index_or kinds i Gap
+
+-- a word begins between two clusters of these kinds
+abbrev pub begins_word : Kind → Kind → Bool
+begins_word old Gap = false
+begins_word Inside Inside = false
+begins_word Mark Mark = false
+begins_word old new = true
+
+-- a word ends between two clusters of these kinds
+abbrev pub ends_word : Kind → Kind → Bool
+ends_word old new = begins_word new old
+
+-- the places inside a list of kinds, each counted in clusters before it, at which the kinds on both sides pass
+abbrev pub edges : (Kind → Kind → Bool) → List Kind → List ℕ
+edges test kinds = filter (λ i. test (kind_at kinds (i - 1)) (kind_at kinds i)) (range_with_len 1 (length kinds - 1))
+
+-- the n-th of a list, counted from 1
+abbrev pub nth : List ℕ → ℕ → Option ℕ
+nth places n = slice_get places (n - 1)
+
+-- the bytes of the first i clusters
+abbrev pub bytes_to : List (List ℕ) → ℕ → ℕ
+bytes_to cs i = length (concat (take i cs))
+
+-- the start of the n-th word before the cursor, or else the text's start; none for n = 0 or at the start
+abbrev pub word_back : Word → Line → ℕ → Option ℕ
+word_back word l n =
+    let cs = clusters (before l) in
+    if (n == 0) || (l.cursor == 0) then None
+    else Some (bytes_to cs (unwrap_or (nth (reverse (edges begins_word (kinds_of word cs))) n) 0))
+
+-- where there are fewer words, by the clusters from the cursor on: their end for Emacs, else the last cluster's start, none if that is the cursor's cluster
+abbrev pub past_words : Word → List (List ℕ) → Option ℕ
+past_words Emacs cs = Some (length (concat cs))
+past_words Big cs = if length cs == 1 then None else Some (bytes_to cs (length cs - 1))
+past_words Vi cs = if length cs == 1 then None else Some (bytes_to cs (length cs - 1))
+
+-- the bytes to a place among the clusters, or the rule for fewer words
+abbrev pub or_past : Word → List (List ℕ) → Option ℕ → Option ℕ
+or_past word cs (Some i) = Some (bytes_to cs i)
+or_past word cs None = past_words word cs
+
+-- of a word behind the cursor's cluster that ends so many clusters behind it: where its last cluster is, or for Emacs its end
+abbrev pub before_end : Word → ℕ → ℕ
+before_end Emacs i = i + 1
+before_end Big i = i
+before_end Vi i = i
+
+-- by the clusters from the cursor on: the n-th word start after it, the last cluster of the n-th word behind its cluster, the end of the n-th word
+abbrev pub on_by_words : At → Word → List (List ℕ) → ℕ → Option ℕ
+on_by_words Start word cs n = or_past word cs (nth (edges begins_word (kinds_of word cs)) n)
+on_by_words BeforeEnd word cs n = or_past word cs (option_map (before_end word) (nth (edges ends_word (kinds_of word (drop 1 cs))) n))
+on_by_words AfterEnd word cs n = Some (bytes_to cs (unwrap_or (nth (edges ends_word (kinds_of word cs)) n) (length cs)))
+
+-- the place of a movement by words; none for n = 0 or at the text's end
+abbrev pub word_on : At → Word → Line → ℕ → Option ℕ
+word_on place word l n =
+    if (n == 0) || nat_le (length l.text) l.cursor then None
+    else option_map (λ bytes. l.cursor + bytes) (on_by_words place word (clusters (after l)) n)
+
+-- the test of an edge
+abbrev pub edge_between : Edge → Kind → Kind → Bool
+edge_between Begin = begins_word
+edge_between End = ends_word
+
+-- the bytes to the cluster before an edge, and to the edge
+abbrev pub edge_bytes : List (List ℕ) → ℕ → ℕ × ℕ
+edge_bytes cs i = (bytes_to cs (i - 1), bytes_to cs i)
+
+-- the same where there is a cluster before, or behind
+abbrev pub edge_behind : (Kind → Kind → Bool) → Option Kind → Kind → Bool
+edge_behind test None new = false
+edge_behind test (Some old) new = test old new
+
+abbrev pub edge_before : (Kind → Kind → Bool) → Kind → Option Kind → Bool
+edge_before test old None = false
+edge_before test old (Some new) = test old new
+
+-- the same in all clusters, where the edge is counted behind the first
+abbrev pub edge_behind_first : List (List ℕ) → ℕ → ℕ × ℕ
+edge_behind_first cs i = (bytes_to cs i, bytes_to cs (i + 1))

@@ -1,0 +1,162 @@
+//! Movements of the cursor from line to line.
+ghost use Rattle.std.specs.Prelude.{◌≡◌, ◌≤◌, ◌+◌, length, drop, take, slice_range, is_some, IfSome, IsCharBoundary};
+ghost use Rattle.line_buffer.specs.Line.{moved_to, start_of_line};
+ghost use Rattle.line_buffer.specs.Lines.{column_in, down_by, fitting, line_from, line_stop, lines_above, lines_below, lines_down, lines_up, place_in_line, up_by};
+
+use super::LineBuffer;
+use crate::clusters::{first_line_len, line_above, next_line};
+use crate::keymap::RepeatCount;
+use crate::layout::Layout;
+use unicode_segmentation::UnicodeSegmentation;
+
+impl LineBuffer {
+    /// The start of the line `n` above the one that begins at `start`, or of the first.
+    fn start_above(&self, start: usize, n: RepeatCount) -> usize
+        requires { IsCharBoundary self.now.text start }
+        ensures place { result ≡ lines_above n self.now.text start }
+        ensures up { result ≤ start }
+        ensures boundary { IsCharBoundary self.now.text result }
+    {
+        let _ = &self.pos;
+        let mut place = start;
+        for _ in 0..n {
+            let Some(above) = line_above(self.text_to(place)) else {
+                return place;
+            };
+            place = above;
+        }
+        place
+    }
+
+    /// The start of the line `n` below the one that begins at `start`, or of the last.
+    fn start_below(&self, start: usize, n: RepeatCount) -> usize
+        requires { IsCharBoundary self.now.text start }
+        ensures place { result ≡ lines_below n self.now.text start }
+        ensures down { start ≤ result }
+        ensures boundary { IsCharBoundary self.now.text result }
+    {
+        let _ = &self.pos;
+        let mut place = start;
+        for _ in 0..n {
+            let Some(bytes) = next_line(self.text_from(place)) else {
+                return place;
+            };
+            place += bytes;
+        }
+        place
+    }
+
+    /// Behind the newline of the line that begins at `start`, or the text's end.
+    fn line_stop(&self, start: usize) -> usize
+        requires { IsCharBoundary self.now.text start }
+        ensures place { result ≡ line_stop self.now.text start }
+        ensures down { start ≤ result }
+        ensures boundary { IsCharBoundary self.now.text result }
+    {
+        let _ = &self.pos;
+        match next_line(self.text_from(start)) {
+            Some(bytes) => start + bytes,
+            None => self.buf.len(),
+        }
+    }
+
+    /// The range of the cursor's line and `n` lines above it.
+    pub(super) fn lines_up(&self, n: RepeatCount) -> Option<(usize, usize)>
+        ensures range { result ≡ lines_up self.now n }
+        ensures ordered { IfSome result (λ r. r.0 ≤ r.1) }
+        ensures start { IfSome result (λ r. IsCharBoundary self.now.text r.0) }
+        ensures end { IfSome result (λ r. IsCharBoundary self.now.text r.1) }
+    {
+        let start = self.start_of_line();
+        if start == 0 {
+            return None;
+        }
+        Some((self.start_above(start, n), self.line_stop(start)))
+    }
+
+    /// The range of the cursor's line and `n` lines below it.
+    pub(super) fn lines_down(&self, n: RepeatCount) -> Option<(usize, usize)>
+        ensures range { result ≡ lines_down self.now n }
+        ensures ordered { IfSome result (λ r. r.0 ≤ r.1) }
+        ensures start { IfSome result (λ r. IsCharBoundary self.now.text r.0) }
+        ensures end { IfSome result (λ r. IsCharBoundary self.now.text r.1) }
+    {
+        let start = self.start_of_line();
+        if self.end_of_line() == self.buf.len() {
+            return None;
+        }
+        Some((start, self.line_stop(self.start_below(start, n))))
+    }
+
+    /// Moves the cursor to the line `n` above, one for `n` = 0, or to the first: to the greatest place between
+    /// clusters whose column is not past the cursor's, or else to the line's start. Answers whether the
+    /// cursor's line is not the first; if it is, the cursor stays. Columns are those of the layout's mode, and
+    /// the first line begins behind its prompt.
+    pub fn move_to_line_up(&mut self, n: RepeatCount, layout: &Layout) -> bool
+        ensures answer { result ≡ is_some (up_by layout.now self.old n) }
+        ensures line { self.new ≡ moved_to self.old (up_by layout.now self.old n) }
+        ensures cursor { IsCharBoundary self.new.text self.new.cursor }
+    {
+        let start = self.start_of_line();
+        if start == 0 {
+            return self.move_to_place(None);
+        }
+        let above = self.start_above(start, n.max(1));
+        self.move_to_place(Some(self.place_in_line(layout, above)))
+    }
+
+    /// Moves the cursor to the line `n` below, one for `n` = 0, or to the last: to the greatest place between
+    /// clusters whose column is not past the cursor's, or else to the line's start. Answers whether the
+    /// cursor's line is not the last; if it is, the cursor stays. Columns are those of the layout's mode, and
+    /// the first line begins behind its prompt.
+    pub fn move_to_line_down(&mut self, n: RepeatCount, layout: &Layout) -> bool
+        ensures answer { result ≡ is_some (down_by layout.now self.old n) }
+        ensures line { self.new ≡ moved_to self.old (down_by layout.now self.old n) }
+        ensures cursor { IsCharBoundary self.new.text self.new.cursor }
+    {
+        let start = self.start_of_line();
+        if self.end_of_line() == self.len() {
+            return self.move_to_place(None);
+        }
+        let below = self.start_below(start, n.max(1));
+        self.move_to_place(Some(self.place_in_line(layout, below)))
+    }
+
+    /// The place in the line that begins at `start` whose column fits the cursor's.
+    fn place_in_line(&self, layout: &Layout, start: usize) -> usize
+        requires { IsCharBoundary self.now.text start }
+        ensures place { result ≡ place_in_line layout.now self.now start }
+        ensures boundary { IsCharBoundary self.now.text result }
+    {
+        let here = self.start_of_line();
+        let column = column_in(layout, here, &self.buf.as_str()[here..self.pos]);
+        let rest = self.text_from(start);
+        start + fitting(layout, start, &rest[..first_line_len(rest)], column)
+    }
+}
+
+/// The column of a text in a line that begins at `start`.
+fn column_in(layout: &Layout, start: usize, text: &str) -> usize
+    ensures { result ≡ column_in layout.now start text.now }
+{
+    let before = if start == 0 {
+        layout.prompt_size.col as usize
+    } else {
+        0
+    };
+    before + layout.width(text) as usize
+}
+
+/// The greatest place between clusters of the line whose column is not past `column`, or its start.
+fn fitting(layout: &Layout, start: usize, line: &str, column: usize) -> usize
+    ensures place { result ≡ fitting layout.now start line.now column }
+    ensures boundary { IsCharBoundary line.now result }
+{
+    let mut rest = line.graphemes(true);
+    while column_in(layout, start, rest.as_str()) > column {
+        let Some(_) = rest.next_back() else {
+            return 0;
+        };
+    }
+    rest.as_str().len()
+}

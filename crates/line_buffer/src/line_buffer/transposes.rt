@@ -1,0 +1,209 @@
+//! Calls that exchange characters or words, or change the case of letters.
+ghost use Rattle.std.specs.Prelude.{◌≡◌, ◌≤◌, true, map, if◌then◌else◌, is_some, string_bytes, slice_range, IfOk, IfSome, OnOk, OnErr, IsCharBoundary};
+ghost use Rattle.std.specs.Char.{to_ascii_lowercase, to_ascii_uppercase};
+ghost use Rattle.line_buffer.specs.Changes.{no_changes, with_entries};
+ghost use Rattle.line_buffer.specs.Line.{with_cursor};
+ghost use Rattle.line_buffer.specs.Transpose.{are_apart, between_chars, cased, chars_beside, exchanged, has_two_chars, next_alphanumeric, with_case, with_cased, with_exchange, with_exchanged, word_end_from, word_start_from, words_beside};
+ghost use Rattle.line_buffer.specs.Word.{word_back, word_on};
+
+use super::{LineBuffer, OutOfMemory, WordAction};
+use crate::clusters::{first_alphanumeric, first_len, has_two_clusters};
+use crate::keymap::{At, RepeatCount, Word};
+use crate::undo::Changeset;
+use std::alloc::Global;
+
+impl LineBuffer {
+    /// Exchanges the cluster before the cursor with the one at it, at the text's end the last two, and puts
+    /// the cursor behind both. Answers false, and changes nothing, at the text's start and where the text has
+    /// fewer than two clusters. `OutOfMemory` comes where the text or the list of changes cannot grow; then the
+    /// list is empty with no open group, and the line is text with its cursor on a boundary.
+    pub fn transpose_chars(&mut self, changes: &mut Changeset) -> Result<bool, OutOfMemory>
+        ensures answer { IfOk result (λ done. done ≡ has_two_chars self.old) }
+        ensures line { OnOk result (self.new ≡ (if has_two_chars self.old then with_exchanged self.old (chars_beside self.old (between_chars self.old)) else self.old)) }
+        ensures changes { OnOk result (changes.new ≡ with_entries changes.old (if has_two_chars self.old then with_exchange self.old.text (chars_beside self.old (between_chars self.old)) changes.old.entries else changes.old.entries)) }
+        ensures err { OnErr result (changes.new ≡ no_changes) }
+        ensures cursor { IsCharBoundary self.new.text self.new.cursor }
+    {
+        let _ = &self.pos;
+        if self.pos == 0 || !has_two_clusters(self.as_str()) {
+            return Ok(false);
+        }
+        if self.is_cursor_at_end() {
+            self.move_backward(1);
+        }
+        let outcome = self.exchange_chars(changes);
+        changes.settled(outcome)
+    }
+
+    /// Exchanges the clusters before and at the cursor.
+    fn exchange_chars(&mut self, changes: &mut Changeset) -> Result<bool, OutOfMemory>
+        ensures answer { IfOk result (λ done. done ≡ true) }
+        ensures line { OnOk result (self.new ≡ with_exchanged self.old (chars_beside self.old self.old.cursor)) }
+        ensures changes { OnOk result (changes.new ≡ with_entries changes.old (with_exchange self.old.text (chars_beside self.old self.old.cursor) changes.old.entries)) }
+        ensures cursor { IsCharBoundary self.new.text self.new.cursor }
+    {
+        let place = self.pos();
+        let before = self.prev_pos(1).unwrap_or(place);
+        let after = self.next_pos(1).unwrap_or(place);
+        self.exchange(before, place, place, after, changes)?;
+        Ok(true)
+    }
+
+    /// Exchanges two parts of the text, tells of one replace, and puts the cursor behind both.
+    fn exchange(
+        &mut self,
+        from1: usize,
+        to1: usize,
+        from2: usize,
+        to2: usize,
+        changes: &mut Changeset,
+    ) -> Result<(), OutOfMemory>
+        requires first { from1 ≤ to1 }
+        requires between { to1 ≤ from2 }
+        requires second { from2 ≤ to2 }
+        requires from1 { IsCharBoundary self.old.text from1 }
+        requires to1 { IsCharBoundary self.old.text to1 }
+        requires from2 { IsCharBoundary self.old.text from2 }
+        requires to2 { IsCharBoundary self.old.text to2 }
+        ensures line { OnOk result (self.new ≡ with_exchanged self.old (record { from1 = from1; to1 = to1; from2 = from2; to2 = to2 })) }
+        ensures changes { OnOk result (changes.new ≡ with_entries changes.old (with_exchange self.old.text (record { from1 = from1; to1 = to1; from2 = from2; to2 = to2 }) changes.old.entries)) }
+        ensures cursor { IsCharBoundary self.new.text self.new.cursor }
+    {
+        let _ = &self.pos;
+        let mut text = self.copy_range(from2, to2)?;
+        text.push_str(&self.buf.as_str()[to1..from2])?;
+        text.push_str(&self.buf.as_str()[from1..to1])?;
+        self.try_replace(from1, to2, text.as_str(), changes)
+    }
+
+    /// Exchanges words: the one that ends at the end of the `n`-th word from the cursor, and the `n`-th before
+    /// it, with the cursor behind both. Answers false where these are not two words; then the cursor goes
+    /// behind the first. `OutOfMemory` comes where the text or the list of changes cannot grow; then the list
+    /// is empty with no open group, and the line is text with its cursor on a boundary.
+    pub fn transpose_words(
+        &mut self,
+        n: RepeatCount,
+        changes: &mut Changeset,
+    ) -> Result<bool, OutOfMemory>
+        ensures answer { IfOk result (λ done. done ≡ are_apart (words_beside self.old n)) }
+        ensures line { OnOk result (self.new ≡ (if are_apart (words_beside self.old n) then with_exchanged self.old (words_beside self.old n) else with_cursor self.old (words_beside self.old n).to1)) }
+        ensures changes { OnOk result (changes.new ≡ with_entries changes.old (if are_apart (words_beside self.old n) then with_exchange self.old.text (words_beside self.old n) changes.old.entries else changes.old.entries)) }
+        ensures err { OnErr result (changes.new ≡ no_changes) }
+        ensures cursor { IsCharBoundary self.new.text self.new.cursor }
+    {
+        let to2 = self.word_end_from(self.pos(), n);
+        let from2 = self.word_start_from(to2, 1);
+        let from1 = self.word_start_from(from2, n);
+        let to1 = self.word_end_from(from1, 1);
+        self.set_pos(to1);
+        if from1 == from2 || from2 < to1 {
+            return Ok(false);
+        }
+        let outcome = self.exchange(from1, to1, from2, to2, changes);
+        changes.settled(outcome)?;
+        Ok(true)
+    }
+
+    /// The end of the `n`-th word on from a place, or that place. The cursor goes there.
+    fn word_end_from(&mut self, place: usize, n: RepeatCount) -> usize
+        requires { IsCharBoundary self.old.text place }
+        ensures place { result ≡ word_end_from self.old place n }
+        ensures on { place ≤ result }
+        ensures line { self.new ≡ with_cursor self.old result }
+        ensures boundary { IsCharBoundary self.old.text result }
+    {
+        self.pos = place;
+        let end = self
+            .next_word_pos(At::AfterEnd, Word::Emacs, n)
+            .unwrap_or(place);
+        self.pos = end;
+        end
+    }
+
+    /// The start of the `n`-th word back from a place, or that place. The cursor goes there.
+    fn word_start_from(&mut self, place: usize, n: RepeatCount) -> usize
+        requires { IsCharBoundary self.old.text place }
+        ensures place { result ≡ word_start_from self.old place n }
+        ensures back { result ≤ place }
+        ensures line { self.new ≡ with_cursor self.old result }
+        ensures boundary { IsCharBoundary self.old.text result }
+    {
+        self.pos = place;
+        let start = self.prev_word_pos(Word::Emacs, n).unwrap_or(place);
+        self.pos = start;
+        start
+    }
+
+    /// Changes the case of the ASCII letters from the first alphanumeric cluster at or after the cursor to
+    /// that word's end, and puts the cursor there. Answers false, and changes nothing, where there is no such
+    /// cluster. `OutOfMemory` comes where the text or the list of changes cannot grow; then the list is empty
+    /// with no open group, and the line is text with its cursor on a boundary.
+    pub fn edit_word(
+        &mut self,
+        action: WordAction,
+        changes: &mut Changeset,
+    ) -> Result<bool, OutOfMemory>
+        ensures answer { IfOk result (λ done. done ≡ is_some (next_alphanumeric self.old)) }
+        ensures line { OnOk result (self.new ≡ with_cased action self.old (next_alphanumeric self.old)) }
+        ensures changes { OnOk result (changes.new ≡ with_entries changes.old (with_case action self.old (next_alphanumeric self.old) changes.old.entries)) }
+        ensures err { OnErr result (changes.new ≡ no_changes) }
+        ensures cursor { IsCharBoundary self.new.text self.new.cursor }
+    {
+        let outcome = self.try_edit_word(action, changes);
+        changes.settled(outcome)
+    }
+
+    fn try_edit_word(
+        &mut self,
+        action: WordAction,
+        changes: &mut Changeset,
+    ) -> Result<bool, OutOfMemory>
+        ensures answer { IfOk result (λ done. done ≡ is_some (next_alphanumeric self.old)) }
+        ensures line { OnOk result (self.new ≡ with_cased action self.old (next_alphanumeric self.old)) }
+        ensures changes { OnOk result (changes.new ≡ with_entries changes.old (with_case action self.old (next_alphanumeric self.old) changes.old.entries)) }
+        ensures cursor { IsCharBoundary self.new.text self.new.cursor }
+    {
+        let from = match first_alphanumeric(self.after()) {
+            Some(bytes) => self.pos + bytes,
+            None => return Ok(false),
+        };
+        let to = self.word_end_from(from, 1);
+        let alloc = *self.buf.allocator();
+        let text = cased(alloc, action, &self.buf.as_str()[from..to])?;
+        self.try_replace(from, to, text.as_str(), changes)?;
+        Ok(true)
+    }
+}
+
+/// The text with the case of its ASCII letters changed.
+fn cased(alloc: Global, action: WordAction, text: &str) -> Result<String, OutOfMemory>
+    ensures { IfOk result (λ changed. string_bytes changed ≡ cased action text.now) }
+{
+    match action {
+        WordAction::Lowercase => lower(alloc, text),
+        WordAction::Uppercase => upper(alloc, text),
+        WordAction::Capitalize => {
+            let first = first_len(text, 1);
+            let mut changed = upper(alloc, &text[..first])?;
+            let rest = lower(alloc, &text[first..])?;
+            changed.push_str(rest.as_str())?;
+            Ok(changed)
+        }
+    }
+}
+
+fn upper(alloc: Global, text: &str) -> Result<String, OutOfMemory>
+    ensures { IfOk result (λ changed. string_bytes changed ≡ map to_ascii_uppercase text.now) }
+{
+    let mut changed = String::from_str(alloc, text)?;
+    changed.make_ascii_uppercase();
+    Ok(changed)
+}
+
+fn lower(alloc: Global, text: &str) -> Result<String, OutOfMemory>
+    ensures { IfOk result (λ changed. string_bytes changed ≡ map to_ascii_lowercase text.now) }
+{
+    let mut changed = String::from_str(alloc, text)?;
+    changed.make_ascii_lowercase();
+    Ok(changed)
+}
