@@ -1,7 +1,9 @@
 //! The keys that a program gives commands of its own.
-ghost use Rattle.std.specs.Prelude.{◌≡◌, Bool, false, ◌∷◌, [], IfOk, Option, option_copied, option_map, slice_get};
+ghost use Rattle.std.specs.Prelude.{◌≡◌, Bool, false, ◌∷◌, [], IfOk, None, Option, option_copied, option_map, slice_get};
 ghost use Rattle.line_config.specs.Error.{FaultsOnly, IoOnlyIf, MemoryOnly};
 ghost use Rattle.line_editor.specs.Asked.{Asked};
+ghost use Rattle.line_editor.specs.Binding.{answer_of};
+ghost use Rattle.line_editor.specs.declared.binding.EventHandler.TheVariants.{Simple};
 ghost use Rattle.line_editor.specs.Event.{chord_of, keys, event_keys};
 ghost use Rattle.line_editor.specs.Moment.{moment_of};
 ghost use Rattle.line_keys.specs.Command.{Command, command_of};
@@ -139,6 +141,8 @@ pub enum EventHandler {
 }
 
 impl From<Cmd> for EventHandler {
+    ghost from_gives = { λ command handler. handler ≡ Simple command };
+
     fn from(command: Cmd) -> EventHandler {
         EventHandler::Simple(command)
     }
@@ -152,7 +156,9 @@ pub struct Bindings {
 
 impl Bindings {
     /// No binding. The map grows from `alloc`.
-    pub fn new(alloc: Global) -> Bindings {
+    pub fn new(alloc: Global) -> Bindings
+        ensures { (asked : Asked) → answer_of result asked ≡ None }
+    {
         Bindings { alloc }
     }
 }
