@@ -184,6 +184,7 @@ pub trait Renderer {
         ensures faults { FaultsOnly result }
         ensures counts { failures self.old ≤ failures self.new }
     {
+        // Nothing is held back.
         Ok(())
     }
 
@@ -196,6 +197,7 @@ pub trait Renderer {
         ensures faults { FaultsOnly result }
         ensures counts { failures self.old ≤ failures self.new }
     {
+        // Nothing was held back.
         Ok(())
     }
 
