@@ -1,8 +1,10 @@
 -- Facts on edits.
-use Rattle.std.proofs.Common.{◌≡◌, ℕ, true, false, cond, Option, Some, None, is_some, unwrap_or, refl, ap}
+use Rattle.std.proofs.Common.{◌≡◌, ℕ, true, false, cond, Option, Some, None, is_some, option_map, unwrap_or, refl, ap}
 use Rattle.line_buffer.specs.Line.{Line, moved_to}
 use Rattle.line_keys.specs.Draft.{Draft, World, in_group, out_of_group}
+use Rattle.line_parts.specs.Hint.{Suggestion, suggestion_of}
 use Rattle.line_parts.specs.Verdict.{Verdict, valid}
+use Rattle.line_parts.specs.declared.hint.Hint.{Ghosts}
 use Rattle.line_editor.specs.Step.{verdict_on, validated, unhinted_by}
 
 -- a move keeps the text
@@ -23,3 +25,9 @@ not_validated world draft e = ap (λ b. cond b (unhinted_by (verdict_on world dr
 pub was_validated : (world : World) (draft : Draft) → is_some (world.verdict_at draft.line.text) ≡ true
     → validated world draft ≡ unhinted_by (verdict_on world draft) (out_of_group (in_group draft))
 was_validated world draft e = ap (λ b. cond b (unhinted_by (verdict_on world draft) (out_of_group (in_group draft))) draft) e
+
+-- what is shown of a hint is what it displays
+pub shown_hint : {T : Type 0} → (words : Ghosts T) → (hint : Option T)
+    → option_map (λ s. s.display) (option_map (suggestion_of words) hint) ≡ option_map words.display_text hint
+shown_hint words None = refl
+shown_hint words (Some h) = refl

@@ -610,6 +610,7 @@ impl<'out, 'prompt, W: Renderer, H: Helper, P: Prompt, S: History> Refresher
 
     ghost redraws = { λ s. W.redraws s.out.now };
 
+    #[tactic(auto, using(crate::proofs::EditLemmas::shown_hint))]
     fn refresh_line(&mut self) -> Result<()> {
         self.hint()?;
         let _ = self.ask_highlight(CmdKind::Other);
@@ -622,6 +623,7 @@ impl<'out, 'prompt, W: Renderer, H: Helper, P: Prompt, S: History> Refresher
         self.redraw(self.prompt, self.prompt_size, true, Info::Message(msg))
     }
 
+    #[tactic(auto, using(crate::proofs::EditLemmas::shown_hint))]
     fn refresh_prompt_and_line(&mut self, prompt: &str) -> Result<()> {
         let prompt_size = self
             .out

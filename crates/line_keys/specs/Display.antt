@@ -69,6 +69,14 @@ pub record IsFullRedraw (measure : Measure) (prompt_end : Position) (line : Line
   pub ends : layout.end ≡ shown_end measure prompt_end line.text info
   pub has_info : layout.has_info ≡ is_some info
 
+-- a full redraw has been made: the kept layout is measured from scratch, and the screen shows the line from the prompt's end, with its
+-- cursor where the kept one is
+pub record IsRedrawn (display : Display) (prompt_end : Position) (line : Line) (info : Option (List ℕ)) : Type 0 where
+  pub layout : IsFullRedraw display.surface.measure prompt_end line info display.layout
+  pub place : display.screen.place ≡ display.layout.cursor
+  pub shows : display.screen.text ≡ line.text
+  pub origin : display.screen.origin ≡ prompt_end
+
 -- the text is drawn: the screen shows it from the prompt's end, its cursor stands where the kept one is, and without a hint or
 -- message behind the text the kept end is a full redraw's
 pub record IsDrawn (display : Display) (text : List ℕ) : Type 0 where

@@ -1,5 +1,5 @@
 -- The line that is being edited, and what answers for it.
-use Rattle.std.specs.Prelude.{◌≡◌, ℕ, List, [], Option, None}
+use Rattle.std.specs.Prelude.{◌≡◌, ℕ, List, [], Option, None, option_map}
 use Rattle.line_buffer.specs.Changes.{Changes, begun, ended, no_changes}
 use Rattle.line_buffer.specs.Line.{Line}
 use Rattle.line_parts.specs.Hint.{Suggestion, visible}
@@ -38,6 +38,10 @@ shown world draft =
 -- the hint asked again
 abbrev pub hinted : World → Draft → Draft
 hinted world draft = record draft { hint = visible (world.hint_at (shown world draft)) }
+
+-- what is shown of the hint, if there is one
+abbrev pub hint_shown : Draft → Option (List ℕ)
+hint_shown draft = option_map (λ hint. hint.display) draft.hint
 
 -- the hint taken away
 abbrev pub unhinted : Draft → Draft

@@ -1,9 +1,9 @@
 //! What the keys' tables ask of the editor.
-ghost use Rattle.std.specs.Prelude.{◌≡◌, ℕ, ◌≤◌, ◌↔◌, Bool, true, List, IfOk, OnOk, OnErr, IsTrue, is_some, option_map, option_and_then, length, string_bytes, IsCharBoundary};
+ghost use Rattle.std.specs.Prelude.{◌≡◌, ℕ, ◌≤◌, ◌↔◌, Bool, true, false, List, IfOk, OnOk, OnErr, IsTrue, is_some, option_map, option_and_then, length, string_bytes, IsCharBoundary};
 ghost use Rattle.line_config.specs.Error.{FaultsOnly, IoOnlyIf, IsOneMore, MemoryOnly, Rose};
-ghost use Rattle.line_keys.specs.Display.{Display, IsRight};
+ghost use Rattle.line_keys.specs.Display.{Display, IsRedrawn, IsRight, corner};
 ghost use Rattle.line_buffer.specs.Changes.{last_insert_of, no_changes};
-ghost use Rattle.line_keys.specs.Draft.{Draft, World, KeepsText, hinted, unhinted, in_group, out_of_group};
+ghost use Rattle.line_keys.specs.Draft.{Draft, World, KeepsText, hint_shown, hinted, unhinted, in_group, out_of_group};
 
 use line_config::Result;
 use line_parts::CmdKind;
@@ -62,6 +62,8 @@ pub trait Refresher {
         ensures draft { OnOk result (draft self.new ≡ hinted (world self.old) (draft self.old)) }
         ensures kept { KeepsText (draft self.old) (draft self.new) }
         ensures right { OnOk result (IsRight (display self.new) (draft self.new).line) }
+        ensures shown { OnOk result (IsRedrawn (display self.new) (display self.new).prompt_end (draft self.new).line (hint_shown (draft self.new))) }
+        ensures own_prompt { OnOk result ((display self.new).layout.default_prompt ≡ true) }
         ensures redraws { OnOk result (IsOneMore (redraws self.old) (redraws self.new)) }
         ensures world { world self.new ≡ world self.old }
         ensures fixed { fixed self.new ≡ fixed self.old }
@@ -77,7 +79,8 @@ pub trait Refresher {
         ensures draft { OnOk result (draft self.new ≡ unhinted (draft self.old)) }
         ensures kept { KeepsText (draft self.old) (draft self.new) }
         ensures right { OnOk result (IsRight (display self.new) (draft self.new).line) }
-        ensures message { OnOk result ((display self.new).layout.has_info ≡ is_some msg.entry) }
+        ensures message { OnOk result (IsRedrawn (display self.new) (display self.new).prompt_end (draft self.new).line (option_map (λ s. s.now) msg.entry)) }
+        ensures own_prompt { OnOk result ((display self.new).layout.default_prompt ≡ true) }
         ensures redraws { OnOk result (IsOneMore (redraws self.old) (redraws self.new)) }
         ensures world { world self.new ≡ world self.old }
         ensures fixed { fixed self.new ≡ fixed self.old }
@@ -92,6 +95,8 @@ pub trait Refresher {
     fn refresh_prompt_and_line(&mut self, prompt: &str) -> Result<()>
         ensures draft { OnOk result (draft self.new ≡ hinted (world self.old) (draft self.old)) }
         ensures kept { KeepsText (draft self.old) (draft self.new) }
+        ensures shown { OnOk result (IsRedrawn (display self.new) ((display self.new).surface.measure prompt.now corner) (draft self.new).line (hint_shown (draft self.new))) }
+        ensures other_prompt { OnOk result ((display self.new).layout.default_prompt ≡ false) }
         ensures redraws { OnOk result (IsOneMore (redraws self.old) (redraws self.new)) }
         ensures world { world self.new ≡ world self.old }
         ensures fixed { fixed self.new ≡ fixed self.old }
