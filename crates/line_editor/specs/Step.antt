@@ -69,6 +69,12 @@ abbrev pub is_valid : Verdict → Bool
 is_valid (valid _) = true
 is_valid _ = false
 
+-- the message of a verdict, if it has one
+abbrev pub message_of : Verdict → Option (List ℕ)
+message_of (valid message) = message
+message_of (invalid message) = message
+message_of incomplete = None
+
 abbrev pub has_message : Verdict → Bool
 has_message (valid message) = is_some message
 has_message (invalid message) = is_some message

@@ -5,14 +5,14 @@ ghost use Rattle.line_buffer.specs.declared.layout.Position.{Position};
 ghost use Rattle.line_config.specs.Error.{FaultsOnly, IoOnlyIf, IsOneMore, MemoryOnly, Rose};
 ghost use Rattle.line_keys.specs.Display.{IsDrawn, IsFullRedraw, IsRight, undrawn};
 ghost use Rattle.line_keys.specs.Draft.{Draft, KeepsText, empty_draft, hinted, unhinted};
-ghost use Rattle.line_keys.specs.Refresher.{FailsByDrawing, FailsByParty, HoldsRight, StandsAtEnd, Stays, StaysRight};
+ghost use Rattle.line_keys.specs.Refresher.{FailsByDrawing, FailsByParty, HoldsRight, Shows, StandsAtEnd, Stays, StaysRight};
 ghost use Rattle.line_buffer.specs.Line.{Line, ends_in_white_space, moved_to, with_cursor, start_of_line, end_of_line};
 ghost use Rattle.line_buffer.specs.Cluster.{place_on, place_back};
 ghost use Rattle.line_editor.specs.Info.{shown_info};
 ghost use Rattle.line_editor.specs.Fault.{FailsByReading};
 ghost use Rattle.line_editor.specs.InputState.{input_of, keymap_of};
 ghost use Rattle.line_editor.specs.Phrase.{Phrase, IsBeginning};
-ghost use Rattle.line_editor.specs.Step.{grouped, killed_by, typed, validated, verdict_on, unhinted_by};
+ghost use Rattle.line_editor.specs.Step.{grouped, killed_by, message_of, typed, validated, verdict_on, unhinted_by};
 ghost use Rattle.line_buffer.specs.Kill.{killed_range};
 ghost use Rattle.line_keys.specs.Command.{command_of};
 ghost use Rattle.line_keys.specs.Item.{Item};
@@ -427,6 +427,7 @@ impl<'out, 'prompt, W: Renderer, H: Helper, P: Prompt, S: History> State<
     #[tactic(auto, using(crate::proofs::EditLemmas::no_verdict, crate::proofs::EditLemmas::not_validated, crate::proofs::EditLemmas::was_validated))]
     pub fn validate(&mut self) -> Result<ValidationResult>
         ensures verdict { IfOk result (λ r. verdict_of r ≡ verdict_on (⟦<Self as Refresher>⟧.world self.old) (⟦<Self as Refresher>⟧.draft self.old)) }
+        ensures message { IfOk result (λ r. (text : List ℕ) → message_of (verdict_of r) ≡ Some text → Shows ⟦<State<'out, 'prompt, W, H, P, S> as Refresher>⟧ self.new (Some text)) }
         ensures draft { OnOk result ((⟦<Self as Refresher>⟧.draft self.new) ≡ validated (⟦<Self as Refresher>⟧.world self.old) (⟦<Self as Refresher>⟧.draft self.old)) }
         ensures right { OnOk result (StaysRight ⟦<Self as Refresher>⟧ self.old self.new) }
         ensures stays { Stays ⟦<Self as Refresher>⟧ self.old self.new }
@@ -446,6 +447,7 @@ impl<'out, 'prompt, W: Renderer, H: Helper, P: Prompt, S: History> State<
     // Draws the line with a verdict's message, where there is something to show or to take away.
     fn show_verdict(&mut self, verdict: &ValidationResult, corrected: bool) -> Result<()>
         ensures draft { OnOk result ((⟦<Self as Refresher>⟧.draft self.new) ≡ unhinted_by (verdict_of verdict.now) (⟦<Self as Refresher>⟧.draft self.old)) }
+        ensures message { OnOk result ((text : List ℕ) → message_of (verdict_of verdict.now) ≡ Some text → Shows ⟦<State<'out, 'prompt, W, H, P, S> as Refresher>⟧ self.new (Some text)) }
         ensures right { OnOk result (StaysRight ⟦<Self as Refresher>⟧ self.old self.new) }
         ensures stays { Stays ⟦<Self as Refresher>⟧ self.old self.new }
         ensures io { FailsByParty ⟦<Self as Refresher>⟧ result self.old self.new }

@@ -1,8 +1,8 @@
 -- What is said of an editor by what it shows to those that read its keys.
-use Rattle.std.specs.Prelude.{◌≡◌, ◌≤◌, true, Result}
+use Rattle.std.specs.Prelude.{◌≡◌, ◌≤◌, true, List, Option, Result, ℕ}
 use Rattle.line_config.specs.Error.{IoOnlyIf, Rose}
 use Rattle.line_config.specs.declared.error.ReadlineError.{ReadlineError}
-use Rattle.line_keys.specs.Display.{IsRight}
+use Rattle.line_keys.specs.Display.{IsRedrawn, IsRight}
 use Rattle.line_keys.specs.declared.keymap.Refresher.{Ghosts}
 
 -- what answers for the line stays, and what can't change of the screen; the count of failures never falls
@@ -21,6 +21,10 @@ HoldsRight r editor = IsRight (r.display editor) (r.draft editor).line
 -- a kept layout that was right is right
 abbrev pub StaysRight : {X : Type 0} → Ghosts X → X → X → Type 0
 StaysRight r old new = HoldsRight r old → HoldsRight r new
+
+-- the line has been drawn in full behind the editor's prompt, with an info behind it if there is one
+abbrev pub Shows : {X : Type 0} → Ghosts X → X → Option (List ℕ) → Type 0
+Shows r editor info = IsRedrawn (r.display editor) (r.display editor).prompt_end (r.draft editor).line info
 
 -- the kept cursor is at the end of what is shown
 abbrev pub StandsAtEnd : {X : Type 0} → Ghosts X → X → Type 0
