@@ -1,5 +1,5 @@
 -- What is said of an editor by what it shows to those that read its keys.
-use Rattle.std.specs.Prelude.{◌≡◌, ℕ, ◌≤◌, true, List, Option, Result}
+use Rattle.std.specs.Prelude.{◌≡◌, ◌≤◌, true, List, Option, Result, ℕ}
 use Rattle.line_config.specs.Error.{IoOnlyIf, Rose}
 use Rattle.line_config.specs.declared.error.ReadlineError.{ReadlineError}
 use Rattle.line_keys.specs.Display.{IsRedrawn, IsRight}
