@@ -6,6 +6,7 @@ pub mod LineLemmas
 pub mod ListLemmas
 pub mod RingLemmas
 pub mod SkipLemmas
+pub mod TellsLemmas
 pub mod UndoLemmas
 pub mod WidthLemmas
 pub mod WordBackLemmas

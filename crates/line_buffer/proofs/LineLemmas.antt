@@ -1,5 +1,5 @@
 -- Where the first and the last line of a text lie.
-use Rattle.std.proofs.Common.{◌≡◌, ℕ, ◌+◌, ◌-◌, ◌<◌, ◌≤◌, ◌≢◌, Bool, true, false, not, List, length, get_or, reverse, sym, ap, ◌∙◌, subst, arith, eqb, rules, zero, suc, [], ◌∷◌, ◌++◌, take, drop, Option, Some, None, inl, inr, refl}
+use Rattle.std.proofs.Common.{◌≡◌, ℕ, ◌+◌, ◌-◌, ◌<◌, ◌≤◌, ◌≢◌, Bool, List, length, get_or, reverse, sym, ap, ◌∙◌, arith, eqb, zero, suc, [], ◌∷◌, ◌++◌, take, drop, Some, None, inl, inr, refl}
 use Rattle.std.proofs.lemmas.Bool.Decides.{nat_tests, eqb_tells}
 use Rattle.std.proofs.lemmas.List.{get_or-reverse, length-reverse, take_all, take_more}
 use Rattle.std.proofs.lemmas.List.Sums.{position_or_len_is, passes_at_first}

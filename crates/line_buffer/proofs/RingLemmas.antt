@@ -4,7 +4,7 @@ use Rattle.std.proofs.lemmas.Bool.Decides.{nat_tests}
 use Rattle.std.proofs.lemmas.List.{map-set, get_or-map, length-map}
 use Rattle.std.specs.String.{string_bytes}
 use Rattle.std.specs.declared.alloc.Global.{Global}
-use Rattle.line_buffer.specs.KillRing.{Ring, LastAction, with_slot, joined}
+use Rattle.line_buffer.specs.KillRing.{Ring, with_slot, joined}
 use Rattle.line_buffer.specs.declared.kill_ring.Mode.{Mode}
 
 with_slot-held : (slot : ℕ) (text : List ℕ) (slots : List (List ℕ)) → slot ≢ length slots → with_slot slot text slots ≡ set slots slot text

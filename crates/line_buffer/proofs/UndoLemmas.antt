@@ -1,14 +1,14 @@
 -- Taking changes back, one by one.
-use Rattle.std.proofs.Common.{nat_le, max, ◌≡◌, ℕ, ◌+◌, ◌-◌, ◌<◌, ◌≤◌, ◌≢◌, zero, suc, min, Bool, true, false, cond, ◌||◌, List, [], ◌∷◌, ◌++◌, length, take, drop, filter, Option, Some, None, unwrap_or, refl, sym, ap, ap₂, ◌∙◌, subst, arith, string_bytes, add-one}
+use Rattle.std.proofs.Common.{replicate, nat_le, max, ◌≡◌, ℕ, ◌+◌, ◌-◌, ◌<◌, ◌≤◌, ◌≢◌, zero, suc, Bool, true, false, cond, ◌||◌, List, [], ◌∷◌, ◌++◌, length, take, drop, filter, Some, None, unwrap_or, refl, sym, ap, ap₂, ◌∙◌, subst, arith, add-one}
 use Rattle.std.specs.List.{range_with_len, slice_get, list_any, count_by}
 use Rattle.std.proofs.lemmas.List.Folds.{list_any-append}
 use Rattle.std.proofs.lemmas.List.Sums.{sum_by_push, count_by-le-length}
 use Rattle.std.proofs.lemmas.List.{length-take}
 use Rattle.line_buffer.specs.declared.undo.Change.{Change}
-use Rattle.line_buffer.specs.Changes.{Entry, Changes, with_entries, begins, ends, inserted, deleted, replaced}
+use Rattle.line_buffer.specs.Changes.{Entry, Changes, with_entries, closed, ended, begins, ends, inserted, deleted, replaced}
 use Rattle.line_buffer.specs.Line.{Line}
 use Rattle.line_buffer.specs.Told.{entry_of, entries_of}
-use Rattle.line_buffer.specs.Undo.{Tells, TellsOf, Fits, text_before, taken_back, all_taken_back, is_begin, is_end, is_change, is_step, steps_len}
+use Rattle.line_buffer.specs.Undo.{StillTells, Tells, TellsOf, taken_back, all_taken_back, is_begin, is_end, is_change, is_step, steps_len}
 use Rattle.line_buffer.specs.Taken.{closed_by, is_text, newest_kind, opened_by, taken_kind}
 use Rattle.line_buffer.specs.Word.{nth}
 use Rattle.line_buffer.specs.declared.undo.Taken.{Taken}
@@ -189,3 +189,32 @@ pub changes-left : (old mid new : Changes) (k : ℕ) → new ≡ with_entries mi
     → new ≡ with_entries old (drop k old.entries)
 changes-left old mid new k e g d =
     e ∙ ap₂ (λ es gs. let c : Changes = record { entries = es; open_groups = gs } in c) d g
+
+-- ---- what is left still tells
+
+tells-ends : (n : ℕ) (entries : List Entry) (text start : List ℕ) → TellsOf entries text start → TellsOf (replicate n ends ++ entries) text start
+tells-ends zero entries text start told = told
+tells-ends (suc n) entries text start told = (tt, tells-ends n entries text start told)
+
+tells-closed : (n : ℕ) (entries : List Entry) (text start : List ℕ) → TellsOf entries text start → TellsOf (closed n entries) text start
+tells-closed zero entries text start told = told
+tells-closed (suc n) [] text start told = tells-ends (suc n) [] text start told
+tells-closed (suc n) (begins ∷ entries) text start told = tells-closed n entries text start told.1
+tells-closed (suc n) (ends ∷ entries) text start told = tells-ends (suc n) (ends ∷ entries) text start told
+tells-closed (suc n) (inserted x y ∷ entries) text start told = tells-ends (suc n) (inserted x y ∷ entries) text start told
+tells-closed (suc n) (deleted x y ∷ entries) text start told = tells-ends (suc n) (deleted x y ∷ entries) text start told
+tells-closed (suc n) (replaced x y z ∷ entries) text start told = tells-ends (suc n) (replaced x y z ∷ entries) text start told
+
+pub still-ended : (old new : Changes) → new ≡ ended old → (text : List ℕ) → StillTells old.entries text new.entries text
+still-ended old new e text = record { tells = λ start told. subst (λ (c : Changes). TellsOf c.entries text start) (sym e) (tells-closed old.open_groups old.entries text start told) }
+
+tells-undone : (k : ℕ) (entries : List Entry) (l : Line) (start : List ℕ) → TellsOf entries l.text start → TellsOf (drop k entries) (all_taken_back (take k entries) l).text start
+tells-undone zero entries l start told = told
+tells-undone (suc k) [] l start told = told
+tells-undone (suc k) (e ∷ entries) l start told = tells-undone k entries (taken_back e l) start told.1
+
+pub still-undone : (k : ℕ) (old new : Changes) (line line' : Line) → new ≡ with_entries old (drop k old.entries) → line' ≡ all_taken_back (take k old.entries) line
+    → StillTells old.entries line.text new.entries line'.text
+still-undone k old new line line' e l = record {
+  tells = λ start told. rw (ap (λ (c : Changes). c.entries) e, ap (λ (m : Line). m.text) l) (tells-undone k old.entries line start told);
+}

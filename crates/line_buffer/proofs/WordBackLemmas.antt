@@ -1,12 +1,12 @@
 -- Walks over clusters from their end that look for the edges of words.
-use Rattle.std.proofs.Common.{◌≡◌, ℕ, ◌+◌, ◌-◌, ◌<◌, ◌≤◌, ◌≢◌, zero, suc, min, Bool, true, false, List, [], ◌∷◌, ◌++◌, length, map, filter, reverse, take, get_or, Option, Some, None, unwrap_or, refl, sym, ap, ap₂, ◌∙◌, subst, arith, length-append, append-nil, add-one}
+use Rattle.std.proofs.Common.{◌≡◌, ℕ, ◌+◌, ◌-◌, ◌<◌, ◌≤◌, ◌≢◌, zero, suc, min, Bool, true, false, List, [], ◌∷◌, ◌++◌, length, map, filter, reverse, take, get_or, Option, Some, None, unwrap_or, refl, sym, ap, ◌∙◌, arith, length-append, append-nil}
 use Rattle.std.specs.List.{concat, range_with_len, slice_get}
 use Rattle.std.proofs.lemmas.List.{length-map, length-take, reverse-append, take_all}
 use Rattle.std.proofs.lemmas.List.Elements.{filter-append}
 use Rattle.std.proofs.lemmas.Option.{get_or_from_slice_get, slice_get_within, slice_get_past}
 use Rattle.line_buffer.proofs.ListLemmas.{take_one_less}
 use Rattle.line_buffer.specs.Word.{kind_at, edges, nth, bytes_to, edge_before}
-use Rattle.line_buffer.specs.declared.words.Kind.TheVariants.{Gap, Inside, Mark}
+use Rattle.line_buffer.specs.declared.words.Kind.TheVariants.{Gap}
 use Rattle.line_buffer.specs.declared.words.Kind.{Kind}
 
 -- the first m places at which there may be an edge, and those where there is one

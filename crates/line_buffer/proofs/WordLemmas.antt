@@ -1,11 +1,11 @@
 -- Walks over clusters that look for the edges of words.
-use Rattle.std.proofs.Common.{◌≡◌, ℕ, ◌+◌, ◌-◌, ◌<◌, ◌≤◌, zero, suc, max, Bool, true, false, cond, List, [], ◌∷◌, ◌++◌, length, map, filter, take, drop, get_or, Option, Some, None, refl, sym, ap, ap₂, ◌∙◌, subst, arith, length-append, add-one, ◌≢◌}
+use Rattle.std.proofs.Common.{◌≡◌, ℕ, ◌+◌, ◌-◌, ◌<◌, ◌≤◌, zero, suc, max, Bool, true, false, List, [], ◌∷◌, length, map, filter, take, drop, get_or, Option, Some, None, refl, sym, ap, ap₂, ◌∙◌, arith, length-append, add-one, ◌≢◌}
 use Rattle.std.specs.Option.{option_map}
 use Rattle.std.specs.List.{concat, range_with_len, slice_get}
 use Rattle.std.proofs.lemmas.List.{length-map}
-use Rattle.line_buffer.proofs.ListLemmas.{drop_one_more, concat-append, concat-cut}
+use Rattle.line_buffer.proofs.ListLemmas.{drop_one_more, concat-cut}
 use Rattle.line_buffer.specs.Word.{kind_at, edges, nth, bytes_to, edge_bytes, edge_behind}
-use Rattle.line_buffer.specs.declared.words.Kind.TheVariants.{Gap, Inside, Mark}
+use Rattle.line_buffer.specs.declared.words.Kind.TheVariants.{Gap}
 use Rattle.line_buffer.specs.declared.words.Kind.{Kind}
 
 -- the kind before a place, if there is one

@@ -1,5 +1,5 @@
 -- Places of the edges of words.
-use Rattle.std.proofs.Common.{◌≡◌, ℕ, ◌+◌, ◌-◌, ◌<◌, ◌≤◌, zero, suc, Bool, true, false, cond, List, [], ◌∷◌, ◌++◌, length, filter, take, drop, Option, Some, None, refl, sym, ap, ap₂, add-one, ◌∙◌, subst, arith, length-append}
+use Rattle.std.proofs.Common.{◌≡◌, ℕ, ◌+◌, ◌-◌, ◌<◌, ◌≤◌, zero, suc, Bool, true, false, cond, List, ◌∷◌, length, filter, take, Option, Some, None, refl, sym, ap, ap₂, add-one, ◌∙◌, subst, arith, length-append}
 use Rattle.std.specs.Option.{option_map}
 use Rattle.std.specs.List.{concat, range_with_len, slice_get}
 use Rattle.std.specs.Str.{IsCharBoundary, IsUtf8}

@@ -4,6 +4,7 @@ pub mod Character
 pub mod Cluster
 pub mod Kill
 pub mod KillRing
+pub mod Laws
 pub mod Lent
 pub mod Line
 pub mod Lines

@@ -1,5 +1,5 @@
 -- A line: a text and a cursor in it.
-use Rattle.std.specs.Prelude.{ℕ, ◌+◌, ◌-◌, ◌==◌, Bool, not, List, ◌++◌, length, take, drop, reverse, chars, IsCharBoundary, Option, Some, None, slice_range, MatchOption}
+use Rattle.std.specs.Prelude.{ℕ, ◌+◌, ◌-◌, ◌==◌, Bool, not, List, length, take, drop, chars, Option, Some, None}
 use Rattle.std.specs.Char.{is_whitespace}
 use Rattle.std.specs.List.{list_all, prefix_len, suffix_len, remove_range, insert_slice, replace_range}
 

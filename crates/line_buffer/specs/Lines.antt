@@ -1,8 +1,8 @@
 -- The lines of a text, and moves from one to another.
-use Rattle.std.specs.Prelude.{ℕ, zero, suc, ◌+◌, ◌-◌, max, nat_le, Bool, not, ◌==◌, List, length, take, drop, slice_index, slice_range, Option, Some, None, unwrap_or, option_map, if◌then◌else◌}
+use Rattle.std.specs.Prelude.{ℕ, zero, suc, ◌+◌, ◌-◌, max, nat_le, Bool, ◌==◌, List, length, take, drop, slice_index, slice_range, Option, Some, None, unwrap_or, option_map, if◌then◌else◌}
 use Rattle.std.specs.List.{concat, prefix_len, suffix_len}
 use Rattle.line_buffer.specs.Cluster.{clusters}
-use Rattle.line_buffer.specs.Line.{Line, start_of_line, end_of_line, is_no_newline, with_cursor}
+use Rattle.line_buffer.specs.Line.{Line, start_of_line, end_of_line, is_no_newline}
 use Rattle.line_buffer.specs.Width.{unit_width}
 use Rattle.line_buffer.specs.Word.{bytes_to}
 use Rattle.line_buffer.specs.declared.layout.Layout.{Layout}

@@ -1,5 +1,5 @@
 -- Texts that change places, and words whose letters change case.
-use Rattle.std.specs.Prelude.{ℕ, ◌+◌, ◌==◌, ◌&&◌, ◌||◌, not, nat_le, nat_lt, Bool, true, false, List, ◌++◌, length, take, drop, map, slice_range, unwrap_or, option_map, Option, Some, None, if◌then◌else◌}
+use Rattle.std.specs.Prelude.{ℕ, ◌+◌, ◌==◌, ◌&&◌, ◌||◌, not, nat_le, nat_lt, Bool, List, ◌++◌, length, take, drop, map, slice_range, unwrap_or, option_map, Option, Some, None, if◌then◌else◌}
 use Rattle.std.specs.Char.{to_ascii_lowercase, to_ascii_uppercase}
 use Rattle.std.specs.List.{position}
 use Rattle.line_buffer.specs.Changes.{Entry, with_replace}

@@ -1,5 +1,5 @@
 -- Taking changes back.
-use Rattle.std.specs.Prelude.{◌≡◌, ℕ, ◌+◌, max, nat_le, Bool, true, false, List, [], ◌∷◌, length, take, filter, count_by, unwrap_or, slice_range, IsCharBoundary}
+use Rattle.std.specs.Prelude.{◌≡◌, ℕ, ◌+◌, ◌≤◌, max, nat_le, Bool, true, false, List, [], ◌∷◌, length, take, filter, count_by, unwrap_or, slice_range, IsCharBoundary}
 use Rattle.std.specs.List.{range_with_len, remove_range, insert_slice, replace_range}
 use Rattle.line_buffer.specs.Changes.{Entry, begins, ends, inserted, deleted, replaced}
 use Rattle.line_buffer.specs.Line.{Line}
@@ -74,3 +74,11 @@ is_step entries k = nat_le (count_by is_end (take k entries)) (count_by is_begin
 -- how many entries make n steps, one for n = 0, or all of them where there are fewer steps
 abbrev pub steps_len : List Entry → ℕ → ℕ
 steps_len entries n = unwrap_or (nth (filter (is_step entries) (range_with_len 1 (length entries))) (max n 1)) (length entries)
+
+-- what old entries tell of a text, new ones tell of another: both lead back to the same start
+pub record StillTells (old : List Entry) (text : List ℕ) (new : List Entry) (text' : List ℕ) : Type 0 where
+  pub tells : (start : List ℕ) → TellsOf old text start → TellsOf new text' start
+
+-- the boundaries of a text up to a place are boundaries of another
+pub record KeepsFront (text text' : List ℕ) (place : ℕ) : Type 0 where
+  pub keeps : (i : ℕ) → IsCharBoundary text i → i ≤ place → IsCharBoundary text' i

@@ -5,6 +5,7 @@
 mod clusters;
 pub mod keymap;
 pub mod kill_ring;
+pub mod laws;
 pub mod layout;
 pub mod line_buffer;
 pub mod undo;

@@ -1,8 +1,8 @@
-ghost use Rattle.std.specs.Prelude.{◌≡◌, ◌+◌, ◌==◌, ◌++◌, ◌∷◌, length, replicate, not, string_bytes, option_copied, option_map, ◌<◌, drop, take, max, IsCharBoundary, IfOk, OnOk, OnErr};
+ghost use Rattle.std.specs.Prelude.{ℕ, List, ◌≡◌, ◌+◌, ◌==◌, ◌++◌, ◌∷◌, length, encode_utf8, replicate, not, string_bytes, option_copied, option_map, ◌<◌, drop, take, max, IsCharBoundary, IfOk, OnOk, OnErr};
 ghost use Rattle.std.specs.List.{list_any};
 ghost use Rattle.line_buffer.specs.Taken.{closed_by, is_text, newest_kind, opened_by};
-ghost use Rattle.line_buffer.specs.Undo.{Tells, all_taken_back, is_change, steps_len};
-ghost use Rattle.line_buffer.specs.Changes.{ends, last_insert_of, newest_begins, inserted, deleted, replaced, no_changes, with_entries, begun, ended, closed, adds_end, with_insert, with_joined_insert, with_joined_delete, with_delete, with_replace};
+ghost use Rattle.line_buffer.specs.Undo.{StillTells, Tells, all_taken_back, is_change, steps_len};
+ghost use Rattle.line_buffer.specs.Changes.{ends, last_insert_of, newest_begins, inserted, deleted, replaced, no_changes, with_entries, begun, ended, closed, adds_end, with_insert, with_joined_insert, with_joined_delete, with_delete, with_replace, with_typed};
 
 use crate::clusters::{is_alphanumeric, is_one_alphanumeric};
 use crate::keymap::RepeatCount;
@@ -117,6 +117,7 @@ impl Changeset {
     /// group.
     pub fn begin(&mut self) -> Result<(), OutOfMemory>
         ensures changes { OnOk result (self.new ≡ begun self.old) }
+        ensures tells { OnOk result ((text : List ℕ) → StillTells self.old.entries text self.new.entries text) }
         ensures err { OnErr result (self.new ≡ no_changes) }
     {
         self.open_groups = self.open_groups.saturating_add(1);
@@ -129,11 +130,17 @@ impl Changeset {
     pub fn end(&mut self) -> Result<bool, OutOfMemory>
         ensures answer { IfOk result (λ added. added ≡ adds_end self.old.open_groups self.old.entries) }
         ensures changes { OnOk result (self.new ≡ ended self.old) }
+        ensures tells { OnOk result ((text : List ℕ) → StillTells self.old.entries text self.new.entries text) }
         ensures err { OnErr result (self.new ≡ no_changes) }
     {
         self.take_newest_begins();
-        let outcome = self.add_ends();
-        self.settled(outcome)
+        match self.add_ends() {
+            Ok(added) => Ok(added),
+            Err(error) => {
+                self.clear();
+                Err(error)
+            }
+        }
     }
 
     /// Takes `n` steps back, one for `n` = 0, or as many as there are: the newest entries are taken away and
@@ -147,11 +154,17 @@ impl Changeset {
         ensures answer { IfOk result (λ undone. undone ≡ list_any is_change (take (steps_len self.old.entries n) self.old.entries)) }
         ensures line { OnOk result (line.new ≡ all_taken_back (take (steps_len self.old.entries n) self.old.entries) line.old) }
         ensures changes { OnOk result (self.new ≡ with_entries self.old (drop (steps_len self.old.entries n) self.old.entries)) }
+        ensures tells { OnOk result (StillTells self.old.entries line.old.text self.new.entries line.new.text) }
         ensures err { OnErr result (self.new ≡ no_changes) }
         ensures cursor { IsCharBoundary line.new.text line.new.cursor }
     {
-        let outcome = self.take_steps(line, n.max(1));
-        self.settled(outcome)
+        match self.take_steps(line, n.max(1)) {
+            Ok(undone) => Ok(undone),
+            Err(error) => {
+                self.clear();
+                Err(error)
+            }
+        }
     }
 
     fn take_steps(&mut self, line: &mut LineBuffer, n: RepeatCount) -> Result<bool, OutOfMemory>
@@ -320,6 +333,22 @@ impl Changeset {
         self.add_insert(place, text)
     }
 
+    /// Tells that the character, whose text is `text`, came in at `place`.
+    pub(crate) fn insert_char(
+        &mut self,
+        place: usize,
+        c: char,
+        text: &str,
+    ) -> Result<(), OutOfMemory>
+        requires { text.now ≡ encode_utf8 c }
+        ensures { OnOk result (self.new ≡ with_entries self.old (with_typed place c 1 self.old.entries)) }
+    {
+        if is_alphanumeric(c) {
+            return self.insert_joined(place, text);
+        }
+        self.insert_str(place, text)
+    }
+
     fn add_insert(&mut self, place: usize, text: &str) -> Result<(), OutOfMemory>
         ensures { OnOk result (self.new ≡ with_entries self.old (inserted place text.now ∷ self.old.entries)) }
     {
@@ -332,7 +361,7 @@ impl Changeset {
 
     /// Tells that the alphanumeric character `text` came in at `place`: it joins a newest insert that ends
     /// there.
-    pub(crate) fn insert_joined(&mut self, place: usize, text: &str) -> Result<(), OutOfMemory>
+    fn insert_joined(&mut self, place: usize, text: &str) -> Result<(), OutOfMemory>
         ensures { OnOk result (self.new ≡ with_entries self.old (with_joined_insert place text.now self.old.entries)) }
     {
         match self.changes.pop() {

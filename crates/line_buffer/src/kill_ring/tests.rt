@@ -26,3 +26,22 @@ fn kills_join_or_take_the_next_slot(rt: HostRuntime) -> Result<(), Fail> {
     }
     Ok(())
 }
+
+#[test]
+fn yanks_turn_the_ring_back(rt: HostRuntime) -> Result<(), Fail> {
+    let mut ring = KillRing::new(rt.alloc(), 3);
+    assert_eq!(rt; ring.yank(), None);
+    assert_eq!(rt; ring.yank_pop(), None);
+    for text in ["a", "bc", "def"] {
+        ring.kill(text, Mode::Append)?;
+        ring.reset();
+    }
+    assert_eq!(rt; ring.yank_pop(), None);
+    assert_eq!(rt; ring.yank(), Some("def"));
+    assert_eq!(rt; ring.yank_pop(), Some((3, "bc")));
+    assert_eq!(rt; ring.yank_pop(), Some((2, "a")));
+    assert_eq!(rt; ring.yank_pop(), Some((1, "def")));
+    ring.kill("g", Mode::Prepend)?;
+    assert_eq!(rt; (ring.current_text(), ring.current), (Some("g"), 0));
+    Ok(())
+}

@@ -2,11 +2,11 @@
 ghost use Rattle.std.specs.Prelude.{◌≡◌, ◌≢◌, ◌≤◌, ◌==◌, length, encode_utf8, slice_range, string_bytes, IfOk, OnOk, OnErr, IsCharBoundary};
 ghost use Rattle.std.specs.List.{repeat};
 ghost use Rattle.line_buffer.specs.Changes.{no_changes, with_delete, with_entries, with_insert, with_replace, with_typed};
+ghost use Rattle.line_buffer.specs.Undo.{KeepsFront, StillTells};
 ghost use Rattle.line_buffer.specs.Yank.{with_yank, with_yank_pop, yank_popped, yank_pops, yanked, yanks};
 ghost use Rattle.line_buffer.specs.Line.{inserted_at, inserted_at_cursor, replaced_in};
 
 use super::{LineBuffer, OutOfMemory};
-use crate::clusters::is_alphanumeric;
 use crate::keymap::RepeatCount;
 use crate::undo::Changeset;
 use std::alloc::Global;
@@ -26,6 +26,7 @@ impl LineBuffer {
         ensures line { OnOk result (self.new ≡ inserted_at_cursor self.old (repeat n (encode_utf8 c))) }
         ensures changes { OnOk result (changes.new ≡ with_entries changes.old (with_typed self.old.cursor c n changes.old.entries)) }
         ensures err { OnErr result (changes.new ≡ no_changes) }
+        ensures tells { OnOk result (StillTells changes.old.entries self.old.text changes.new.entries self.new.text) }
         ensures cursor { IsCharBoundary self.new.text self.new.cursor }
     {
         let outcome = if n == 1 {
@@ -40,17 +41,15 @@ impl LineBuffer {
         ensures answer { IfOk result (λ at_end. at_end ≡ (self.old.cursor == length self.old.text)) }
         ensures line { OnOk result (self.new ≡ inserted_at_cursor self.old (encode_utf8 c)) }
         ensures changes { OnOk result (changes.new ≡ with_entries changes.old (with_typed self.old.cursor c 1 changes.old.entries)) }
+        ensures tells { OnOk result (StillTells changes.old.entries self.old.text changes.new.entries self.new.text) }
         ensures cursor { IsCharBoundary self.new.text self.new.cursor }
     {
         let mut bytes = [0; 4];
         let text = c.encode_utf8(&mut bytes);
         let place = self.pos;
-        if is_alphanumeric(c) {
-            changes.insert_joined(place, text)?;
-        } else {
-            changes.insert_str(place, text)?;
-        }
-        self.insert_text(text)
+        changes.insert_char(place, c, text)?;
+        let at_end = self.insert_text(text)?;
+        Ok(at_end)
     }
 
     fn insert_copies(
@@ -63,13 +62,12 @@ impl LineBuffer {
         ensures answer { IfOk result (λ at_end. at_end ≡ (self.old.cursor == length self.old.text)) }
         ensures line { OnOk result (self.new ≡ inserted_at_cursor self.old (repeat n (encode_utf8 c))) }
         ensures changes { OnOk result (changes.new ≡ with_entries changes.old (with_typed self.old.cursor c n changes.old.entries)) }
+        ensures tells { OnOk result (StillTells changes.old.entries self.old.text changes.new.entries self.new.text) }
         ensures cursor { IsCharBoundary self.new.text self.new.cursor }
     {
         let mut bytes = [0; 4];
         let text = repeated(*self.buf.allocator(), c.encode_utf8(&mut bytes), n)?;
-        let place = self.pos;
-        changes.insert_str(place, text.as_str())?;
-        self.insert_text(text.as_str())
+        self.insert_told(text.as_str(), changes)
     }
 
     /// Inserts the text at byte `place`, a boundary at the cursor or after it. The cursor stays.
@@ -86,6 +84,7 @@ impl LineBuffer {
         ensures line { OnOk result (self.new ≡ inserted_at self.old place text.now) }
         ensures changes { OnOk result (changes.new ≡ with_entries changes.old (with_insert place text.now changes.old.entries)) }
         ensures err { OnErr result (changes.new ≡ no_changes) }
+        ensures tells { OnOk result (StillTells changes.old.entries self.old.text changes.new.entries self.new.text) }
         ensures cursor { IsCharBoundary self.new.text self.new.cursor }
     {
         let outcome = self.try_insert_str(place, text, changes);
@@ -102,6 +101,7 @@ impl LineBuffer {
         requires behind { self.old.cursor ≤ place }
         ensures line { OnOk result (self.new ≡ inserted_at self.old place text.now) }
         ensures changes { OnOk result (changes.new ≡ with_entries changes.old (with_insert place text.now changes.old.entries)) }
+        ensures tells { OnOk result (StillTells changes.old.entries self.old.text changes.new.entries self.new.text) }
         ensures cursor { IsCharBoundary self.new.text self.new.cursor }
     {
         let _ = &self.pos;
@@ -124,6 +124,7 @@ impl LineBuffer {
         ensures line { OnOk result (self.new ≡ yanked self.old text.now n) }
         ensures changes { OnOk result (changes.new ≡ with_entries changes.old (with_yank self.old.cursor text.now n changes.old.entries)) }
         ensures err { OnErr result (changes.new ≡ no_changes) }
+        ensures tells { OnOk result (StillTells changes.old.entries self.old.text changes.new.entries self.new.text) }
         ensures cursor { IsCharBoundary self.new.text self.new.cursor }
     {
         let outcome = self.try_yank(text, n, changes);
@@ -139,15 +140,15 @@ impl LineBuffer {
         ensures answer { IfOk result (λ at_end. at_end ≡ yanks self.old text.now) }
         ensures line { OnOk result (self.new ≡ yanked self.old text.now n) }
         ensures changes { OnOk result (changes.new ≡ with_entries changes.old (with_yank self.old.cursor text.now n changes.old.entries)) }
+        ensures tells { OnOk result (StillTells changes.old.entries self.old.text changes.new.entries self.new.text) }
         ensures cursor { IsCharBoundary self.new.text self.new.cursor }
     {
-        let place = self.pos;
+        let _ = &self.pos;
         if text.is_empty() {
             return Ok(None);
         }
         let copies = repeated(*self.buf.allocator(), text, n)?;
-        changes.insert_str(place, copies.as_str())?;
-        let at_end = self.insert_text(copies.as_str())?;
+        let at_end = self.insert_told(copies.as_str(), changes)?;
         Ok(Some(at_end))
     }
 
@@ -166,6 +167,7 @@ impl LineBuffer {
         ensures line { OnOk result (self.new ≡ yank_popped self.old size text.now) }
         ensures changes { OnOk result (changes.new ≡ with_entries changes.old (with_yank_pop self.old size text.now changes.old.entries)) }
         ensures err { OnErr result (changes.new ≡ no_changes) }
+        ensures tells { OnOk result (StillTells changes.old.entries self.old.text changes.new.entries self.new.text) }
         ensures cursor { IsCharBoundary self.new.text self.new.cursor }
     {
         let outcome = self.try_yank_pop(size, text, changes);
@@ -181,6 +183,7 @@ impl LineBuffer {
         ensures answer { IfOk result (λ at_end. at_end ≡ yank_pops self.old size text.now) }
         ensures line { OnOk result (self.new ≡ yank_popped self.old size text.now) }
         ensures changes { OnOk result (changes.new ≡ with_entries changes.old (with_yank_pop self.old size text.now changes.old.entries)) }
+        ensures tells { OnOk result (StillTells changes.old.entries self.old.text changes.new.entries self.new.text) }
         ensures cursor { IsCharBoundary self.new.text self.new.cursor }
     {
         let end = self.pos;
@@ -204,6 +207,7 @@ impl LineBuffer {
         ensures line { OnOk result (self.new ≡ record { text = text.now; cursor = pos }) }
         ensures changes { OnOk result (changes.new ≡ with_entries changes.old (with_insert 0 text.now (with_delete 0 self.old.text changes.old.entries))) }
         ensures err { OnErr result (changes.new ≡ no_changes) }
+        ensures tells { OnOk result (StillTells changes.old.entries self.old.text changes.new.entries self.new.text) }
         ensures cursor { IsCharBoundary self.new.text self.new.cursor }
     {
         let outcome = self.try_update(text, pos, changes);
@@ -219,6 +223,7 @@ impl LineBuffer {
         requires { IsCharBoundary text.now pos }
         ensures line { OnOk result (self.new ≡ record { text = text.now; cursor = pos }) }
         ensures changes { OnOk result (changes.new ≡ with_entries changes.old (with_insert 0 text.now (with_delete 0 self.old.text changes.old.entries))) }
+        ensures tells { OnOk result (StillTells changes.old.entries self.old.text changes.new.entries self.new.text) }
         ensures cursor { IsCharBoundary self.new.text self.new.cursor }
     {
         changes.delete(0, self.buf.as_str())?;
@@ -243,6 +248,7 @@ impl LineBuffer {
         ensures line { OnOk result (self.new ≡ replaced_in self.old range.start range.end text.now) }
         ensures changes { OnOk result (changes.new ≡ with_entries changes.old (with_replace range.start (slice_range self.old.text range.start range.end) text.now changes.old.entries)) }
         ensures err { OnErr result (changes.new ≡ no_changes) }
+        ensures tells { OnOk result (StillTells changes.old.entries self.old.text changes.new.entries self.new.text) }
         ensures cursor { IsCharBoundary self.new.text self.new.cursor }
     {
         let outcome = self.try_replace(range.start, range.end, text, changes);
@@ -261,10 +267,12 @@ impl LineBuffer {
         requires end { IsCharBoundary self.old.text to }
         ensures line { OnOk result (self.new ≡ replaced_in self.old from to text.now) }
         ensures changes { OnOk result (changes.new ≡ with_entries changes.old (with_replace from (slice_range self.old.text from to) text.now changes.old.entries)) }
+        ensures tells { OnOk result (StillTells changes.old.entries self.old.text changes.new.entries self.new.text) }
         ensures cursor { IsCharBoundary self.new.text self.new.cursor }
     {
         changes.replace(from, &self.buf.as_str()[from..to], text)?;
-        self.put(from, to, text)
+        self.put(from, to, text)?;
+        Ok(())
     }
 
     /// Puts a text in place of a range, and the cursor behind it, without telling of it.
@@ -273,6 +281,7 @@ impl LineBuffer {
         requires start { IsCharBoundary self.old.text from }
         requires end { IsCharBoundary self.old.text to }
         ensures line { OnOk result (self.new ≡ replaced_in self.old from to text.now) }
+        ensures front { OnOk result (KeepsFront self.old.text self.new.text from) }
         ensures cursor { IsCharBoundary self.new.text self.new.cursor }
     {
         self.buf.replace_range(from..to, text)?;
@@ -280,11 +289,27 @@ impl LineBuffer {
         Ok(())
     }
 
+    /// Inserts the text at the cursor, which goes behind it, tells of it, and answers whether the cursor was at
+    /// the text's end.
+    fn insert_told(&mut self, text: &str, changes: &mut Changeset) -> Result<bool, OutOfMemory>
+        ensures answer { IfOk result (λ at_end. at_end ≡ (self.old.cursor == length self.old.text)) }
+        ensures line { OnOk result (self.new ≡ inserted_at_cursor self.old text.now) }
+        ensures changes { OnOk result (changes.new ≡ with_entries changes.old (with_insert self.old.cursor text.now changes.old.entries)) }
+        ensures tells { OnOk result (StillTells changes.old.entries self.old.text changes.new.entries self.new.text) }
+        ensures cursor { IsCharBoundary self.new.text self.new.cursor }
+    {
+        let place = self.pos;
+        changes.insert_str(place, text)?;
+        let at_end = self.insert_text(text)?;
+        Ok(at_end)
+    }
+
     /// Inserts the text at the cursor, which goes behind it, and answers whether it was at the text's end.
     pub(super) fn insert_text(&mut self, text: &str) -> Result<bool, OutOfMemory>
         ensures answer { IfOk result (λ at_end. at_end ≡ (self.old.cursor == length self.old.text)) }
         ensures line { OnOk result (self.new ≡ inserted_at_cursor self.old text.now) }
         ensures err { OnErr result (self.new ≡ self.old) }
+        ensures front { OnOk result (KeepsFront self.old.text self.new.text self.old.cursor) }
         ensures cursor { IsCharBoundary self.new.text self.new.cursor }
     {
         let at_end = self.pos == self.buf.len();

@@ -4,6 +4,7 @@ ghost use Rattle.line_buffer.specs.Changes.{no_changes, with_entries, with_delet
 ghost use Rattle.line_buffer.specs.Cluster.{place_on};
 ghost use Rattle.line_buffer.specs.Kill.{direction_of, killed, killed_range, killed_of, mode_of, neighbour_of, ring_mode, ring_with_killed, with_killed};
 ghost use Rattle.line_buffer.specs.Line.{without};
+ghost use Rattle.line_buffer.specs.Undo.{KeepsFront, StillTells};
 ghost use Rattle.line_buffer.specs.Range.{from_cursor, range_of, text_in, unless_empty, up_to_cursor};
 
 use super::{Direction, LineBuffer, OutOfMemory};
@@ -29,6 +30,7 @@ impl LineBuffer {
         ensures changes { OnOk result (changes.new ≡ with_killed self.old (killed_range self.old mvt.now) changes.old) }
         ensures ring { OnOk result (kill_ring.new ≡ ring_with_killed self.old mvt.now (killed_range self.old mvt.now) kill_ring.old) }
         ensures err { OnErr result (changes.new ≡ no_changes) }
+        ensures tells { OnOk result (StillTells changes.old.entries self.old.text changes.new.entries self.new.text) }
         ensures cursor { IsCharBoundary self.new.text self.new.cursor }
         ensures size { kill_ring.new.size ≡ kill_ring.old.size }
         ensures bound { OnErr result (length kill_ring.new.slots ≤ kill_ring.new.size) }
@@ -55,15 +57,14 @@ impl LineBuffer {
         ensures line { OnOk result (self.new ≡ without self.old (Some (from, to))) }
         ensures changes { OnOk result (changes.new ≡ with_killed self.old (Some (from, to)) changes.old) }
         ensures ring { OnOk result (kill_ring.new ≡ ring_with_killed self.old mvt.now (Some (from, to)) kill_ring.old) }
+        ensures tells { OnOk result (StillTells changes.old.entries self.old.text changes.new.entries self.new.text) }
         ensures cursor { IsCharBoundary self.new.text self.new.cursor }
         ensures size { kill_ring.new.size ≡ kill_ring.old.size }
         ensures bound { length kill_ring.new.slots ≤ kill_ring.new.size }
     {
-        let gone = &self.buf.as_str()[from..to];
-        kill_ring.keep(gone, ring_mode(mvt))?;
-        changes.delete(from, gone)?;
+        kill_ring.keep(&self.buf.as_str()[from..to], ring_mode(mvt))?;
         let text = self.copy_range(from, to)?;
-        self.remove_range(from, to)?;
+        self.delete_range(from, to, changes)?;
         Ok(Some((from, text, direction_of(mvt))))
     }
 
@@ -79,6 +80,7 @@ impl LineBuffer {
         ensures line { OnOk result (self.new ≡ without self.old (from_cursor self.old (place_on self.old n))) }
         ensures changes { OnOk result (changes.new ≡ with_killed self.old (from_cursor self.old (place_on self.old n)) changes.old) }
         ensures err { OnErr result (changes.new ≡ no_changes) }
+        ensures tells { OnOk result (StillTells changes.old.entries self.old.text changes.new.entries self.new.text) }
         ensures cursor { IsCharBoundary self.new.text self.new.cursor }
     {
         let _ = &self.pos;
@@ -113,6 +115,7 @@ impl LineBuffer {
         ensures answer { IfOk result (λ r. option_map string_bytes r ≡ text_in self.old.text (Some (from, to))) }
         ensures line { OnOk result (self.new ≡ without self.old (Some (from, to))) }
         ensures changes { OnOk result (changes.new ≡ with_killed self.old (Some (from, to)) changes.old) }
+        ensures tells { OnOk result (StillTells changes.old.entries self.old.text changes.new.entries self.new.text) }
         ensures cursor { IsCharBoundary self.new.text self.new.cursor }
     {
         let _ = &self.pos;
@@ -133,10 +136,12 @@ impl LineBuffer {
         requires end { IsCharBoundary self.old.text to }
         ensures line { OnOk result (self.new ≡ without self.old (Some (from, to))) }
         ensures changes { OnOk result (changes.new ≡ with_killed self.old (Some (from, to)) changes.old) }
+        ensures tells { OnOk result (StillTells changes.old.entries self.old.text changes.new.entries self.new.text) }
         ensures cursor { IsCharBoundary self.new.text self.new.cursor }
     {
         changes.delete(from, &self.buf.as_str()[from..to])?;
-        self.remove_range(from, to)
+        self.remove_range(from, to)?;
+        Ok(())
     }
 
     /// A copy of the text from one byte to another.
@@ -156,6 +161,7 @@ impl LineBuffer {
         requires start { IsCharBoundary self.old.text from }
         requires end { IsCharBoundary self.old.text to }
         ensures line { OnOk result (self.new ≡ without self.old (Some (from, to))) }
+        ensures front { OnOk result (KeepsFront self.old.text self.new.text from) }
         ensures cursor { IsCharBoundary self.new.text self.new.cursor }
     {
         self.buf.replace_range(from..to, "")?;

@@ -1,6 +1,7 @@
 use super::*;
-use crate::keymap::Movement;
+use crate::keymap::{At, Movement, Word};
 use crate::kill_ring::KillRing;
+use crate::layout::{GraphemeClusterMode, Layout};
 use crate::undo::Changeset;
 use std::process::Abort;
 use std::test::Fail;
@@ -261,5 +262,194 @@ fn refused_memory_leaves_an_empty_list(rt: HostRuntime) -> Result<(), Fail> {
         }
         assert!(rt; line.as_str().is_char_boundary(line.pos()));
     }
+    Ok(())
+}
+
+#[test]
+fn moves_by_words(rt: HostRuntime) -> Result<(), Fail> {
+    use At::*;
+    use Word::*;
+    let text = "foo bar-baz  qux";
+    for (word, at, pos, n, place) in [
+        (Emacs, AfterEnd, 0, 1, Some(3)),
+        (Emacs, AfterEnd, 0, 3, Some(11)),
+        (Emacs, AfterEnd, 0, 9, Some(16)),
+        (Emacs, Start, 0, 2, Some(8)),
+        (Emacs, Start, 0, 4, Some(16)),
+        (Emacs, BeforeEnd, 0, 1, Some(3)),
+        (Emacs, BeforeEnd, 2, 1, Some(7)),
+        (Emacs, Start, 15, 1, Some(16)),
+        (Big, AfterEnd, 0, 2, Some(11)),
+        (Big, Start, 0, 2, Some(13)),
+        (Big, Start, 0, 3, Some(15)),
+        (Big, BeforeEnd, 0, 1, Some(2)),
+        (Big, BeforeEnd, 0, 2, Some(10)),
+        (Big, BeforeEnd, 2, 1, Some(10)),
+        (Big, BeforeEnd, 15, 1, None),
+        (Vi, Start, 0, 2, Some(7)),
+        (Vi, Start, 0, 3, Some(8)),
+        (Vi, BeforeEnd, 0, 3, Some(7)),
+        (Vi, AfterEnd, 4, 1, Some(7)),
+        (Vi, AfterEnd, 4, 2, Some(8)),
+        (Vi, Start, 15, 1, None),
+        (Vi, Start, 0, 0, None),
+        (Vi, AfterEnd, 16, 1, None),
+    ] {
+        let mut line = line_at(&rt, rt.alloc(), text, pos)?;
+        assert_eq!(rt; line.move_to_next_word(at, word, n), place.is_some());
+        assert_eq!(rt;
+            line.pos(),
+            place.unwrap_or(pos),
+            "{n} {word:?} {at:?} from {pos}"
+        );
+    }
+    for (word, pos, n, place) in [
+        (Emacs, 16, 2, 8),
+        (Emacs, 16, 4, 0),
+        (Emacs, 13, 1, 8),
+        (Big, 16, 2, 4),
+        (Big, 5, 1, 4),
+        (Vi, 16, 2, 8),
+        (Vi, 16, 3, 7),
+        (Vi, 16, 9, 0),
+    ] {
+        let mut line = line_at(&rt, rt.alloc(), text, pos)?;
+        assert!(rt; line.move_to_prev_word(word, n));
+        assert_eq!(rt; line.pos(), place, "{n} {word:?} back from {pos}");
+        assert!(rt; !line.move_to_prev_word(word, 0));
+    }
+    let mut line = line_at(&rt, rt.alloc(), "e\u{301}日\u{3000}_x", 0)?;
+    assert!(rt; line.move_to_next_word(AfterEnd, Vi, 1));
+    assert_eq!(rt; line.pos(), 6);
+    assert!(rt; line.move_to_next_word(AfterEnd, Vi, 1));
+    assert_eq!(rt; line.pos(), 11);
+    Ok(())
+}
+
+#[test]
+fn moves_by_lines(rt: HostRuntime) -> Result<(), Fail> {
+    let mut layout = Layout::new(GraphemeClusterMode::Unicode);
+    layout.prompt_size.col = 2;
+    let text = "abc\nde\nf日hij";
+    for (pos, n, up, down) in [
+        (13, 1, Some(6), None),
+        (13, 0, Some(6), None),
+        (12, 2, Some(2), None),
+        (7, 9, Some(0), None),
+        (8, 1, Some(5), None),
+        (2, 1, None, Some(6)),
+        (1, 2, None, Some(11)),
+        (0, 2, None, Some(8)),
+        (4, 1, Some(0), Some(7)),
+    ] {
+        let mut line = line_at(&rt, rt.alloc(), text, pos)?;
+        assert_eq!(rt; line.move_to_line_up(n, &layout), up.is_some());
+        assert_eq!(rt; line.pos(), up.unwrap_or(pos), "{n} up from {pos}");
+        line = line_at(&rt, rt.alloc(), text, pos)?;
+        assert_eq!(rt; line.move_to_line_down(n, &layout), down.is_some());
+        assert_eq!(rt; line.pos(), down.unwrap_or(pos), "{n} down from {pos}");
+    }
+    for (mvt, gone) in [
+        (Movement::LineUp(1), Some("abc\nde\n")),
+        (Movement::LineUp(0), Some("de\n")),
+        (Movement::LineDown(0), Some("de\n")),
+        (Movement::LineDown(7), Some("de\nf日hij")),
+        (Movement::BackwardWord(1, Word::Emacs), Some("d")),
+        (Movement::ForwardWord(1, At::Start, Word::Vi), Some("e\n")),
+        (Movement::ForwardChar(0), None),
+    ] {
+        let line = line_at(&rt, rt.alloc(), text, 5)?;
+        let copied = line.copy(&mvt)?;
+        match (&copied, gone) {
+            (Some(copied), Some(gone)) => assert_eq!(rt; copied.as_str(), gone),
+            (None, None) => {}
+            _ => panic!(rt; "{mvt:?} gave {copied:?}"),
+        }
+    }
+    Ok(())
+}
+
+#[test]
+fn exchanges_characters_and_words(rt: HostRuntime) -> Result<(), Fail> {
+    for (text, pos, done, after, cursor) in [
+        ("abc", 1, true, "bac", 2),
+        ("abc", 3, true, "acb", 3),
+        ("abc", 0, false, "abc", 0),
+        ("a", 1, false, "a", 1),
+        ("日e\u{301}x", 3, true, "e\u{301}日x", 6),
+    ] {
+        let mut line = line_at(&rt, rt.alloc(), text, pos)?;
+        let mut changes = Changeset::new(rt.alloc());
+        assert_eq!(rt; line.transpose_chars(&mut changes)?, done);
+        assert_eq!(rt; (line.as_str(), line.pos()), (after, cursor));
+        assert_eq!(rt; changes.len(), done as usize);
+    }
+    for (pos, n, done, after, cursor) in [
+        (5, 1, true, "bar foo baz", 7),
+        (5, 2, true, "baz bar foo", 11),
+        (3, 1, true, "bar foo baz", 7),
+        (0, 1, false, "foo bar baz", 3),
+    ] {
+        let mut line = line_at(&rt, rt.alloc(), "foo bar baz", pos)?;
+        let mut changes = Changeset::new(rt.alloc());
+        assert_eq!(rt; line.transpose_words(n, &mut changes)?, done);
+        assert_eq!(rt;
+            (line.as_str(), line.pos()),
+            (after, cursor),
+            "{n} from {pos}"
+        );
+        assert_eq!(rt; changes.len(), done as usize);
+    }
+    Ok(())
+}
+
+#[test]
+fn changes_the_case_of_a_word(rt: HostRuntime) -> Result<(), Fail> {
+    use WordAction::*;
+    for (text, pos, action, done, after, cursor) in [
+        ("foo bar", 3, Uppercase, true, "foo BAR", 7),
+        ("FOO-BAR", 0, Lowercase, true, "foo-BAR", 3),
+        ("- éfOO x", 0, Capitalize, true, "- éfoo x", 7),
+        ("- xfOO", 1, Capitalize, true, "- Xfoo", 6),
+        (" - ", 0, Uppercase, false, " - ", 0),
+    ] {
+        let mut line = line_at(&rt, rt.alloc(), text, pos)?;
+        let mut changes = Changeset::new(rt.alloc());
+        assert_eq!(rt; line.edit_word(action, &mut changes)?, done);
+        assert_eq!(rt; (line.as_str(), line.pos()), (after, cursor));
+        assert_eq!(rt; changes.len(), done as usize);
+    }
+    Ok(())
+}
+
+#[test]
+fn puts_texts_in(rt: HostRuntime) -> Result<(), Fail> {
+    let mut changes = Changeset::new(rt.alloc());
+    let mut line = line_at(&rt, rt.alloc(), "aéb", 1)?;
+    assert!(rt; line.as_str().is_char_boundary(1));
+    assert!(rt; line.pos() <= 1);
+    line.insert_str(1, "xy", &mut changes)?;
+    assert_eq!(rt; (line.as_str(), line.pos()), ("axyéb", 1));
+    assert_eq!(rt; line.yank("", 3, &mut changes)?, None);
+    assert_eq!(rt; line.yank("-", 2, &mut changes)?, Some(false));
+    assert_eq!(rt; (line.as_str(), line.pos()), ("a--xyéb", 3));
+    assert_eq!(rt; line.yank_pop(4, "q", &mut changes)?, None);
+    assert_eq!(rt; line.yank_pop(2, "q", &mut changes)?, Some(false));
+    assert_eq!(rt; (line.as_str(), line.pos()), ("aqxyéb", 2));
+    assert_eq!(rt; changes.len(), 4);
+    assert!(rt; "éz".is_char_boundary(2));
+    line.update("éz", 2, &mut changes)?;
+    assert_eq!(rt; line.yank_pop(1, "q", &mut changes)?, None);
+    assert_eq!(rt; (line.as_str(), line.pos(), changes.len()), ("éz", 2, 6));
+    let gone = line.delete(1, &mut changes)?;
+    assert!(rt; gone.is_some_and(|text| text.as_str() == "z"));
+    assert!(rt; line.delete(1, &mut changes)?.is_none());
+    assert!(rt; line.as_str().is_char_boundary(0));
+    assert!(rt; line.as_str().is_char_boundary(2));
+    line.replace(0..2, "uvw", &mut changes)?;
+    assert_eq!(rt; line.pos(), 3);
+    assert_eq!(rt; changes.len(), 8);
+    let last = changes.last_insert()?;
+    assert!(rt; last.is_some_and(|text| text.as_str() == "uvw"));
     Ok(())
 }

@@ -4,6 +4,7 @@ ghost use Rattle.std.specs.Char.{to_ascii_lowercase, to_ascii_uppercase};
 ghost use Rattle.line_buffer.specs.Changes.{no_changes, with_entries};
 ghost use Rattle.line_buffer.specs.Line.{with_cursor};
 ghost use Rattle.line_buffer.specs.Transpose.{are_apart, between_chars, cased, chars_beside, exchanged, has_two_chars, next_alphanumeric, with_case, with_cased, with_exchange, with_exchanged, word_end_from, word_start_from, words_beside};
+ghost use Rattle.line_buffer.specs.Undo.{StillTells};
 ghost use Rattle.line_buffer.specs.Word.{word_back, word_on};
 
 use super::{LineBuffer, OutOfMemory, WordAction};
@@ -22,6 +23,7 @@ impl LineBuffer {
         ensures line { OnOk result (self.new ≡ (if has_two_chars self.old then with_exchanged self.old (chars_beside self.old (between_chars self.old)) else self.old)) }
         ensures changes { OnOk result (changes.new ≡ with_entries changes.old (if has_two_chars self.old then with_exchange self.old.text (chars_beside self.old (between_chars self.old)) changes.old.entries else changes.old.entries)) }
         ensures err { OnErr result (changes.new ≡ no_changes) }
+        ensures tells { OnOk result (StillTells changes.old.entries self.old.text changes.new.entries self.new.text) }
         ensures cursor { IsCharBoundary self.new.text self.new.cursor }
     {
         let _ = &self.pos;
@@ -40,6 +42,7 @@ impl LineBuffer {
         ensures answer { IfOk result (λ done. done ≡ true) }
         ensures line { OnOk result (self.new ≡ with_exchanged self.old (chars_beside self.old self.old.cursor)) }
         ensures changes { OnOk result (changes.new ≡ with_entries changes.old (with_exchange self.old.text (chars_beside self.old self.old.cursor) changes.old.entries)) }
+        ensures tells { OnOk result (StillTells changes.old.entries self.old.text changes.new.entries self.new.text) }
         ensures cursor { IsCharBoundary self.new.text self.new.cursor }
     {
         let place = self.pos();
@@ -67,6 +70,7 @@ impl LineBuffer {
         requires to2 { IsCharBoundary self.old.text to2 }
         ensures line { OnOk result (self.new ≡ with_exchanged self.old (record { from1 = from1; to1 = to1; from2 = from2; to2 = to2 })) }
         ensures changes { OnOk result (changes.new ≡ with_entries changes.old (with_exchange self.old.text (record { from1 = from1; to1 = to1; from2 = from2; to2 = to2 }) changes.old.entries)) }
+        ensures tells { OnOk result (StillTells changes.old.entries self.old.text changes.new.entries self.new.text) }
         ensures cursor { IsCharBoundary self.new.text self.new.cursor }
     {
         let _ = &self.pos;
@@ -89,6 +93,7 @@ impl LineBuffer {
         ensures line { OnOk result (self.new ≡ (if are_apart (words_beside self.old n) then with_exchanged self.old (words_beside self.old n) else with_cursor self.old (words_beside self.old n).to1)) }
         ensures changes { OnOk result (changes.new ≡ with_entries changes.old (if are_apart (words_beside self.old n) then with_exchange self.old.text (words_beside self.old n) changes.old.entries else changes.old.entries)) }
         ensures err { OnErr result (changes.new ≡ no_changes) }
+        ensures tells { OnOk result (StillTells changes.old.entries self.old.text changes.new.entries self.new.text) }
         ensures cursor { IsCharBoundary self.new.text self.new.cursor }
     {
         let to2 = self.word_end_from(self.pos(), n);
@@ -147,6 +152,7 @@ impl LineBuffer {
         ensures line { OnOk result (self.new ≡ with_cased action self.old (next_alphanumeric self.old)) }
         ensures changes { OnOk result (changes.new ≡ with_entries changes.old (with_case action self.old (next_alphanumeric self.old) changes.old.entries)) }
         ensures err { OnErr result (changes.new ≡ no_changes) }
+        ensures tells { OnOk result (StillTells changes.old.entries self.old.text changes.new.entries self.new.text) }
         ensures cursor { IsCharBoundary self.new.text self.new.cursor }
     {
         let outcome = self.try_edit_word(action, changes);
@@ -161,6 +167,7 @@ impl LineBuffer {
         ensures answer { IfOk result (λ done. done ≡ is_some (next_alphanumeric self.old)) }
         ensures line { OnOk result (self.new ≡ with_cased action self.old (next_alphanumeric self.old)) }
         ensures changes { OnOk result (changes.new ≡ with_entries changes.old (with_case action self.old (next_alphanumeric self.old) changes.old.entries)) }
+        ensures tells { OnOk result (StillTells changes.old.entries self.old.text changes.new.entries self.new.text) }
         ensures cursor { IsCharBoundary self.new.text self.new.cursor }
     {
         let from = match first_alphanumeric(self.after()) {

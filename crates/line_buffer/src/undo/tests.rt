@@ -48,3 +48,41 @@ fn groups_close_together(rt: HostRuntime) -> Result<(), Fail> {
     assert!(rt; !changes.end()?);
     Ok(())
 }
+
+#[test]
+fn a_joined_entry_is_one_step(rt: HostRuntime) -> Result<(), Fail> {
+    let mut line = LineBuffer::new(rt.alloc());
+    let mut changes = Changeset::new(rt.alloc());
+    assert!(rt; !changes.undo(&mut line, 9)?);
+    line.insert('a', 1, &mut changes)?;
+    line.insert('b', 1, &mut changes)?;
+    assert!(rt; changes.undo(&mut line, 0)?);
+    assert_eq!(rt; (line.as_str(), line.pos(), changes.len()), ("", 0, 0));
+    Ok(())
+}
+
+#[test]
+fn a_group_is_one_step(rt: HostRuntime) -> Result<(), Fail> {
+    let mut line = LineBuffer::new(rt.alloc());
+    let mut changes = Changeset::new(rt.alloc());
+    line.insert('-', 1, &mut changes)?;
+    changes.begin()?;
+    line.insert('c', 1, &mut changes)?;
+    changes.end()?;
+    assert!(rt; changes.undo(&mut line, 1)?);
+    assert_eq!(rt; (line.as_str(), line.pos(), changes.len()), ("-", 1, 1));
+    Ok(())
+}
+
+#[test]
+fn an_open_group_counts_for_the_steps_after_it(rt: HostRuntime) -> Result<(), Fail> {
+    let mut line = LineBuffer::new(rt.alloc());
+    let mut changes = Changeset::new(rt.alloc());
+    changes.begin()?;
+    line.insert('a', 1, &mut changes)?;
+    changes.end()?;
+    changes.begin()?;
+    assert!(rt; !changes.undo(&mut line, 2)?);
+    assert_eq!(rt; (line.as_str(), changes.len()), ("a", 2));
+    Ok(())
+}

@@ -1,4 +1,4 @@
-use Rattle.std.proofs.Common.{◌≡◌, ℕ, ◌+◌, ◌-◌, ◌∙◌, length, sym, ap, arith, take}
+use Rattle.std.proofs.Common.{◌≡◌, ◌+◌, ◌-◌, ◌∙◌, length, sym, arith}
 use Rattle.line_buffer.specs.Cluster.{clusters}
 use Rattle.line_buffer.proofs.ListLemmas.{take_one_less}
 use Rattle.line_buffer.proofs.clusters.before_last.Goals as goal

@@ -1,4 +1,4 @@
-use Rattle.std.proofs.Common.{◌≡◌, List, ℕ, [], ◌∙◌, sym, ap, arith, drop}
+use Rattle.std.proofs.Common.{◌≡◌, [], ◌∙◌, sym, ap, arith, drop}
 use Rattle.std.specs.List.{concat}
 use Rattle.line_buffer.specs.Cluster.{clusters}
 use Rattle.line_buffer.proofs.ListLemmas.{drop_one_more, drop_nothing_more}

@@ -1,4 +1,4 @@
-use Rattle.std.proofs.Common.{Some, None, sym, ◌∙◌, lit<}
+use Rattle.std.proofs.Common.{Some, None, sym, lit<}
 use Rattle.std.proofs.lemmas.Str.Pattern.{find_char}
 use Rattle.line_buffer.proofs.LineLemmas.{prefix_len-at, prefix_len-none}
 use Rattle.line_buffer.proofs.clusters.first_line_len.Goals as goal

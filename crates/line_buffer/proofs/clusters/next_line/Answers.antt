@@ -1,4 +1,4 @@
-use Rattle.std.proofs.Common.{sym, ap, ◌∙◌, arith}
+use Rattle.std.proofs.Common.{◌∙◌, arith}
 use Rattle.line_buffer.proofs.LineLemmas.{behind_newline}
 use Rattle.line_buffer.proofs.clusters.next_line.Goals as goal
 

@@ -1,4 +1,4 @@
-use Rattle.std.proofs.Common.{◌≡◌, ◌+◌, min, sym, ap, ◌∙◌, arith}
+use Rattle.std.proofs.Common.{sym, ◌∙◌}
 use Rattle.line_buffer.proofs.WidthLemmas.{behind_is_text, fewer_columns, last_columns}
 use Rattle.line_buffer.proofs.layout.columns_between_joiners.Goals as goal
 

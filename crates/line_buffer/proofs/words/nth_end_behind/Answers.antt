@@ -1,10 +1,9 @@
-use Rattle.std.proofs.Common.{◌≡◌, ℕ, ◌+◌, ◌-◌, ◌≤◌, List, ◌∷◌, ◌++◌, Option, Some, true, length, drop, sym, ap, ◌∙◌, arith}
-use Rattle.std.specs.List.{concat}
+use Rattle.std.proofs.Common.{drop, sym, ap, ◌∙◌, arith}
 use Rattle.std.specs.Option.{option_map}
 use Rattle.unicode_segmentation.specs.Iter.{graphemes_left}
 use Rattle.line_buffer.specs.Cluster.{clusters}
 use Rattle.line_buffer.specs.Word.{kinds_of, ends_word, edges, nth, edge_behind_first}
-use Rattle.line_buffer.proofs.WordPlaces.{Behind, edges_positive, behind_places, text_behind}
+use Rattle.line_buffer.proofs.WordPlaces.{edges_positive, behind_places, text_behind}
 use Rattle.line_buffer.proofs.words.nth_end_behind.Goals as goal
 
 pub overflow_sub-start : goal.overflow_sub-start

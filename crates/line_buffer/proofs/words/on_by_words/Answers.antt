@@ -1,4 +1,4 @@
-use Rattle.std.proofs.Common.{◌≡◌, sym, ◌∙◌}
+use Rattle.std.proofs.Common.{sym, ◌∙◌}
 use Rattle.line_buffer.specs.Cluster.{clusters}
 use Rattle.line_buffer.specs.Word.{kinds_of, begins_word, ends_word, edges, nth}
 use Rattle.line_buffer.proofs.WordPlaces.{edge_boundaries}

@@ -1,4 +1,4 @@
-use Rattle.std.proofs.Common.{◌≡◌, ◌<◌, length, refl, ap, arith}
+use Rattle.std.proofs.Common.{◌<◌, length, refl, ap, arith}
 use Rattle.std.proofs.lemmas.List.{length-map}
 use Rattle.std.specs.String.{string_bytes}
 use Rattle.line_buffer.specs.KillRing.{Ring}

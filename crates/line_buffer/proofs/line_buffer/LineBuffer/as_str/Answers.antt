@@ -1,6 +1,4 @@
-use Rattle.std.proofs.Common.{ap}
 use Rattle.std.proofs.lemmas.Str.{IsCharBoundary-start}
-use Rattle.line_buffer.specs.Line.{Line}
 use Rattle.line_buffer.proofs.line_buffer.LineBuffer.as_str.Goals as goal
 
 pub returns-clause-start : goal.returns-clause-start

@@ -1,4 +1,4 @@
-use Rattle.std.proofs.Common.{◌≡◌, ◌-◌, ◌≤◌, string_bytes}
+use Rattle.std.proofs.Common.{◌≡◌, ◌-◌, ◌≤◌}
 use Rattle.std.specs.Str.{IsCharBoundary}
 use Rattle.line_buffer.specs.Lines.{lines_above}
 use Rattle.line_buffer.proofs.line_buffer.LineBuffer.start_above.Given as goal

@@ -1,10 +1,9 @@
-use Rattle.std.proofs.Common.{◌≡◌, ◌<◌, ◌≤◌, length, sym, ap, ◌∙◌, arith}
+use Rattle.std.proofs.Common.{length, ap, ◌∙◌, arith}
 use Rattle.std.proofs.lemmas.Str.{IsCharBoundary-start}
-use Rattle.std.specs.List.{concat}
 use Rattle.unicode_segmentation.specs.Iter.{graphemes_left}
 use Rattle.line_buffer.specs.Lines.{column_in}
 use Rattle.line_buffer.proofs.ClusterLemmas.{boundary-bytes_to}
-use Rattle.line_buffer.proofs.FittingLemmas.{fitted-next, fitted-found, fitted-none}
+use Rattle.line_buffer.proofs.FittingLemmas.{fitted-next, fitted-found}
 use Rattle.line_buffer.proofs.line_buffer.lines.fitting.Goals as goal
 
 pub loop-rest-preserved : goal.loop-rest-preserved

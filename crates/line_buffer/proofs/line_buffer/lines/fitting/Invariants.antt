@@ -1,4 +1,4 @@
-use Rattle.std.proofs.Common.{◌≡◌, ◌≤◌, ℕ, length}
+use Rattle.std.proofs.Common.{length}
 use Rattle.unicode_segmentation.specs.Iter.{graphemes_left}
 use Rattle.line_buffer.proofs.FittingLemmas.{Fitted}
 use Rattle.line_buffer.proofs.line_buffer.lines.fitting.Given as goal

@@ -1,4 +1,4 @@
-use Rattle.std.proofs.Common.{◌≡◌, string_bytes, ap, ◌∙◌, arith}
+use Rattle.std.proofs.Common.{string_bytes, ap, arith}
 use Rattle.line_buffer.specs.Changes.{Changes}
 use Rattle.line_buffer.specs.Told.{entry_of}
 use Rattle.line_buffer.proofs.UndoLemmas.{insert_within, replace_within, newest_is}

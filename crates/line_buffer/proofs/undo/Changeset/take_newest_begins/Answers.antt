@@ -1,5 +1,5 @@
-use Rattle.std.proofs.Common.{◌≡◌, ◌<◌, List, ◌∷◌, true, sym, ap, ◌∙◌, arith}
-use Rattle.line_buffer.specs.Changes.{Changes, Entry, begins, newest_begins}
+use Rattle.std.proofs.Common.{◌≡◌, ◌<◌, true, sym, ap, ◌∙◌, arith}
+use Rattle.line_buffer.specs.Changes.{Changes, newest_begins}
 use Rattle.line_buffer.specs.Told.{entries_of}
 use Rattle.line_buffer.proofs.ChangeLemmas.{newest_taken, closed-begins, adds_end-begins}
 use Rattle.line_buffer.proofs.undo.Changeset.take_newest_begins.Goals as goal

@@ -1,10 +1,8 @@
-use Rattle.std.proofs.Common.{◌≡◌, ℕ, ◌+◌, ◌-◌, ◌<◌, ◌≤◌, max, ◌||◌, true, false, nat_le, length, unwrap_or, take, drop, sym, ap, ◌∙◌, arith}
+use Rattle.std.proofs.Common.{◌≡◌, ◌+◌, ◌<◌, ◌||◌, true, false, length, sym, ap, ◌∙◌, arith}
 use Rattle.std.proofs.lemmas.Bool.Decides.{nat_tests}
-use Rattle.std.specs.List.{list_any, slice_get}
-use Rattle.line_buffer.specs.Changes.{Changes, with_entries}
-use Rattle.line_buffer.specs.Undo.{all_taken_back, is_change, is_step, steps_len}
-use Rattle.line_buffer.specs.Word.{nth}
-use Rattle.line_buffer.proofs.UndoLemmas.{Took, took-next, took-none, took-step, steps-no, steps-past, steps-found, steps_len-is, steps_from, changes-left}
+use Rattle.line_buffer.specs.Changes.{Changes}
+use Rattle.line_buffer.specs.Undo.{is_step, steps_len}
+use Rattle.line_buffer.proofs.UndoLemmas.{took-next, took-none, took-step, steps-no, steps-past, steps-found, steps_len-is, changes-left}
 use Rattle.line_buffer.proofs.undo.Changeset.take_steps.Goals as goal
 use Rattle.line_buffer.proofs.undo.Changeset.take_steps.Goals.{then-ends-begins+else-left-eq1, else-ends-begins}
 

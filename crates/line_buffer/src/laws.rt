@@ -1,0 +1,17 @@
+//! Laws over the definitions that the contracts cite.
+ghost use Rattle.line_buffer.specs.Laws.{KilledIsYanked, PlacesAreBetweenClusters, TakingAllBack};
+
+/// Taking back a whole list of changes gives the text that it tells of.
+pub fn taking_all_back()
+    ensures { TakingAllBack }
+{}
+
+/// After a reset of the kill ring, what is killed is what a yank gives.
+pub fn killed_is_yanked()
+    ensures { KilledIsYanked }
+{}
+
+/// A place by clusters or back by words lies between clusters of the text on that side of the cursor.
+pub fn places_are_between_clusters()
+    ensures { PlacesAreBetweenClusters }
+{}
