@@ -1,11 +1,14 @@
 -- Boundaries of a text that is changed behind them.
-use Rattle.std.proofs.Common.{◌<◌, get_or, inl, inr, ◌≡◌, ℕ, ◌+◌, ◌≤◌, List, ◌++◌, length, take, drop, ap, sym, ◌∙◌, subst, arith, length-append}
+use Rattle.std.proofs.Common.{◌<◌, get_or, inl, inr, ◌≡◌, ℕ, ◌+◌, ◌≤◌, zero, suc, nat_lt, nat_le, ◌||◌, true≢false, Bool, true, false, refl, List, ◌++◌, length, take, drop, ap, sym, ◌∙◌, subst, arith, length-append}
 use Rattle.std.proofs.lemmas.Bool.{cases_lt}
-use Rattle.std.proofs.lemmas.List.{get_or-take, length-take-le, take-append-le}
+use Rattle.std.proofs.lemmas.Bool.Decides.{nat_tests}
+use Rattle.std.proofs.lemmas.List.{get_or_past, get_or-take, length-take-le, take-append-le}
 use Rattle.std.proofs.lemmas.Str.{IsCharBoundary-from_take, IsUtf8-take}
 use Rattle.std.specs.List.{insert_slice}
 use Rattle.std.specs.Str.{IsCharBoundary, IsUtf8}
 use Rattle.line_buffer.proofs.ListLemmas.{take_within_take}
+use Rattle.line_buffer.specs.Lines.{greatest}
+use Rattle.line_buffer.specs.Yank.{is_boundary}
 
 -- a boundary of a text is one of each text that begins alike up to it
 pub boundary_of_same_front : (s s' : List ℕ) (i : ℕ) → IsUtf8 s → IsUtf8 s' → IsCharBoundary s i → i ≤ length s' → take i s' ≡ take i s → IsCharBoundary s' i
@@ -36,3 +39,38 @@ boundary_in_front s i k there here =
           let same : k ≡ i = omega (arith, here.0, length-take-le i s there.0) in
           subst (IsCharBoundary s) (sym same) there
     ]
+
+bytes_at : (b : ℕ) → (128 ≤ b → 192 ≤ b) → (nat_lt b 128 || nat_le 192 b) ≡ true
+bytes_at b h = elim (cases_lt b 128) [
+  | inl low ↦ grind (arith, nat_tests)
+  | inr high ↦ let lead : 192 ≤ b = h high in grind (arith, nat_tests)
+]
+
+at_bytes : (b : ℕ) → (nat_lt b 128 || nat_le 192 b) ≡ true → 128 ≤ b → 192 ≤ b
+at_bytes b h high = grind (arith, nat_tests)
+
+-- a boundary passes the test of one
+is_boundary-yes : (text : List ℕ) (k : ℕ) → IsCharBoundary text k → is_boundary text k ≡ true
+is_boundary-yes text k b = elim (cases_lt k (length text)) [
+  | inl within ↦ bytes_at (get_or text k 0) (b.1 within)
+  | inr past ↦ let none : get_or text k 0 ≡ 0 = get_or_past text k 0 past in bytes_at (get_or text k 0) (λ high. absurd (omega arith))
+]
+
+-- the nearest boundary at or before a place is the greatest that passes the test
+pub greatest_boundary : (text : List ℕ) (m k : ℕ) → m ≤ length text → k ≤ m → IsCharBoundary text k → ((i : ℕ) → k < i → i ≤ m → IsCharBoundary text i → ⊥)
+    → greatest (is_boundary text) m ≡ k
+greatest_boundary text zero k fits le b none = omega arith
+greatest_boundary text (suc m) k fits le b none =
+    by (is_boundary text (suc m)) refl (λ before. greatest_boundary text m k (omega arith) (omega arith) b (λ i after within. none i after (omega arith)))
+  where
+    by : (r : Bool) → is_boundary text (suc m) ≡ r → (k < suc m → greatest (is_boundary text) m ≡ k) → greatest (is_boundary text) (suc m) ≡ k
+    by true t less =
+        elim (cases_lt k (suc m)) [
+          | inl before ↦ absurd (none (suc m) before (omega arith) (fits, λ h. at_bytes (get_or text (suc m) 0) t))
+          | inr here ↦ let same : suc m ≡ k = omega arith in rw t same
+        ]
+    by false t less =
+        elim (cases_lt k (suc m)) [
+          | inl before ↦ rw t (less before)
+          | inr here ↦ let same : k ≡ suc m = omega arith in absurd (true≢false (sym (is_boundary-yes text k b) ∙ ap (is_boundary text) same ∙ t))
+        ]

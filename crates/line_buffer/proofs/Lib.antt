@@ -5,6 +5,7 @@ pub mod FittingLemmas
 pub mod LineLemmas
 pub mod ListLemmas
 pub mod RingLemmas
+pub mod SearchLemmas
 pub mod SkipLemmas
 pub mod TellsLemmas
 pub mod UndoLemmas

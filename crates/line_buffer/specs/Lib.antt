@@ -8,8 +8,8 @@ pub mod Laws
 pub mod Lent
 pub mod Line
 pub mod Lines
-pub mod Movement
 pub mod Range
+pub mod Search
 pub mod Taken
 pub mod Told
 pub mod Transpose

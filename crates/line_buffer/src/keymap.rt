@@ -1,5 +1,5 @@
 ghost use Rattle.std.specs.Prelude.{◌≡◌};
-ghost use Rattle.line_buffer.specs.Movement.{opposite};
+ghost use Rattle.line_buffer.specs.Search.{opposite};
 
 /// How many times a command or a movement is repeated.
 pub type RepeatCount = u16;

@@ -185,6 +185,7 @@ impl LineBuffer {
             Movement::ForwardWord(n, at, word) => {
                 self.from_cursor(self.next_word_pos(*at, *word, *n))
             }
+            Movement::ViCharSearch(n, search) => self.searched(*search, *n),
             Movement::BackwardChar(n) => self.up_to_cursor(self.prev_pos(*n)),
             Movement::ForwardChar(n) => self.from_cursor(self.next_pos(*n)),
             Movement::LineUp(n) => self.lines_up(*n),
@@ -192,12 +193,12 @@ impl LineBuffer {
             Movement::WholeBuffer => Some((0, len)),
             Movement::BeginningOfBuffer => self.up_to_cursor(Some(0)),
             Movement::EndOfBuffer => self.from_cursor(Some(len)),
-            _ => None,
+            Movement::ViFirstPrint => None,
         }
     }
 
     /// From a place before the cursor to the cursor.
-    fn up_to_cursor(&self, place: Option<usize>) -> Option<(usize, usize)>
+    pub(super) fn up_to_cursor(&self, place: Option<usize>) -> Option<(usize, usize)>
         requires { IfSome place (λ p. (p ≤ self.now.cursor) × IsCharBoundary self.now.text p) }
         ensures range { result ≡ up_to_cursor self.now place }
         ensures ordered { IfSome result (λ r. r.0 ≤ r.1) }
@@ -211,7 +212,7 @@ impl LineBuffer {
     }
 
     /// From the cursor to a place after it.
-    fn from_cursor(&self, place: Option<usize>) -> Option<(usize, usize)>
+    pub(super) fn from_cursor(&self, place: Option<usize>) -> Option<(usize, usize)>
         requires { IfSome place (λ p. (self.now.cursor ≤ p) × IsCharBoundary self.now.text p) }
         ensures range { result ≡ from_cursor self.now place }
         ensures ordered { IfSome result (λ r. r.0 ≤ r.1) }

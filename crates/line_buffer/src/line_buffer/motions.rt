@@ -1,10 +1,14 @@
-//! Movements of the cursor by words.
-ghost use Rattle.std.specs.Prelude.{◌≡◌, ◌≤◌, is_some, IfSome, IsCharBoundary};
+//! Movements of the cursor by words and to characters.
+ghost use Rattle.std.specs.Prelude.{◌≡◌, ◌≤◌, ◌<◌, ◌^◌, is_some, IfSome, IsCharBoundary};
 ghost use Rattle.line_buffer.specs.Line.{moved_to};
+ghost use Rattle.line_buffer.specs.Range.{searched};
+ghost use Rattle.line_buffer.specs.Search.{behind_char, char_before, found_back, found_on, search_place};
 ghost use Rattle.line_buffer.specs.Word.{word_back, word_on};
 
 use super::LineBuffer;
-use crate::keymap::{At, RepeatCount, Word};
+use crate::clusters::first_len;
+use crate::keymap::{At, CharSearch, RepeatCount, Word};
+use crate::search::{nth_char, nth_char_back};
 use crate::words::{nth_start_back, on_by_words};
 
 impl LineBuffer {
@@ -53,5 +57,93 @@ impl LineBuffer {
         ensures cursor { IsCharBoundary self.new.text self.new.cursor }
     {
         self.move_to_place(self.prev_word_pos(word, n))
+    }
+
+    /// Moves the cursor to the `n`-th place that the search leads to, or to the last where there are fewer.
+    /// A search on begins behind the cluster after the cursor. Answers whether there is such a place; if
+    /// not, and for `n` = 0, the cursor stays.
+    pub fn move_to(&mut self, search: CharSearch, n: RepeatCount) -> bool
+        ensures answer { result ≡ is_some (search_place search self.old n) }
+        ensures line { self.new ≡ moved_to self.old (search_place search self.old n) }
+        ensures cursor { IsCharBoundary self.new.text self.new.cursor }
+    {
+        self.move_to_place(self.search_pos(search, n))
+    }
+
+    /// The place that the search leads to.
+    fn search_pos(&self, search: CharSearch, n: RepeatCount) -> Option<usize>
+        ensures place { result ≡ search_place search self.now n }
+        ensures boundary { IfSome result (λ place. IsCharBoundary self.now.text place) }
+    {
+        match search {
+            CharSearch::Forward(c) => self.next_char_pos(c, n),
+            CharSearch::ForwardBefore(c) => match self.next_char_pos(c, n) {
+                Some(place) => Some(self.char_before(place)),
+                None => None,
+            },
+            CharSearch::Backward(c) => self.prev_char_pos(c, n),
+            CharSearch::BackwardAfter(c) => match self.prev_char_pos(c, n) {
+                Some(place) => Some(place + c.len_utf8()),
+                None => None,
+            },
+        }
+    }
+
+    /// The range of the search.
+    pub(super) fn searched(&self, search: CharSearch, n: RepeatCount) -> Option<(usize, usize)>
+        ensures range { result ≡ searched self.now search n }
+        ensures ordered { IfSome result (λ r. r.0 ≤ r.1) }
+        ensures start { IfSome result (λ r. IsCharBoundary self.now.text r.0) }
+        ensures end { IfSome result (λ r. IsCharBoundary self.now.text r.1) }
+    {
+        match search {
+            CharSearch::Forward(c) => match self.next_char_pos(c, n) {
+                Some(place) => self.from_cursor(Some(place + c.len_utf8())),
+                None => None,
+            },
+            CharSearch::ForwardBefore(c) => self.from_cursor(self.next_char_pos(c, n)),
+            CharSearch::Backward(c) => self.up_to_cursor(self.prev_char_pos(c, n)),
+            CharSearch::BackwardAfter(c) => match self.prev_char_pos(c, n) {
+                Some(place) => self.up_to_cursor(Some(place + c.len_utf8())),
+                None => None,
+            },
+        }
+    }
+
+    /// The place of the `n`-th `c` behind the cluster after the cursor.
+    fn next_char_pos(&self, c: char, n: RepeatCount) -> Option<usize>
+        ensures place { result ≡ found_on c self.now n }
+        ensures on { IfSome result (λ place. self.now.cursor ≤ place) }
+        ensures fits { IfSome result (λ place. behind_char c place < 2 ^ 64) }
+        ensures boundary { IfSome result (λ place. IsCharBoundary self.now.text place) }
+        ensures behind { IfSome result (λ place. IsCharBoundary self.now.text (behind_char c place)) }
+    {
+        let start = self.pos + first_len(self.after(), 1);
+        match nth_char(self.text_from(start), c, n) {
+            Some(bytes) => Some(start + bytes),
+            None => None,
+        }
+    }
+
+    /// The place of the `n`-th `c` before the cursor, counted back.
+    fn prev_char_pos(&self, c: char, n: RepeatCount) -> Option<usize>
+        ensures place { result ≡ found_back c self.now n }
+        ensures back { IfSome result (λ place. behind_char c place ≤ self.now.cursor) }
+        ensures fits { IfSome result (λ place. behind_char c place < 2 ^ 64) }
+        ensures boundary { IfSome result (λ place. IsCharBoundary self.now.text place) }
+        ensures behind { IfSome result (λ place. IsCharBoundary self.now.text (behind_char c place)) }
+    {
+        nth_char_back(self.before(), c, n)
+    }
+
+    /// Where the character before a place begins.
+    fn char_before(&self, place: usize) -> usize
+        requires { IsCharBoundary self.now.text place }
+        ensures place { result ≡ char_before self.now.text place }
+        ensures boundary { IsCharBoundary self.now.text result }
+    {
+        self.buf
+            .as_str()
+            .floor_char_boundary(place.saturating_sub(1))
     }
 }

@@ -1,5 +1,5 @@
 use super::*;
-use crate::keymap::{At, Movement, Word};
+use crate::keymap::{At, CharSearch, Movement, Word};
 use crate::kill_ring::KillRing;
 use crate::layout::{GraphemeClusterMode, Layout};
 use crate::undo::Changeset;
@@ -220,6 +220,48 @@ fn kills_by_movements(rt: HostRuntime) -> Result<(), Fail> {
         ),
         ("ab\ncd", 5, Movement::EndOfBuffer, "ab\ncd", None),
         ("ab", 1, Movement::ViFirstPrint, "ab", None),
+        (
+            "axbxcx",
+            0,
+            Movement::ViCharSearch(2, CharSearch::Forward('x')),
+            "cx",
+            Some((0, "axbx", Forward)),
+        ),
+        (
+            "axbxcx",
+            0,
+            Movement::ViCharSearch(2, CharSearch::ForwardBefore('x')),
+            "xcx",
+            Some((0, "axb", Forward)),
+        ),
+        (
+            "axbxcx",
+            4,
+            Movement::ViCharSearch(1, CharSearch::Backward('x')),
+            "axbcx",
+            Some((3, "x", Backward)),
+        ),
+        (
+            "axbxcx",
+            4,
+            Movement::ViCharSearch(2, CharSearch::BackwardAfter('x')),
+            "axcx",
+            Some((2, "bx", Backward)),
+        ),
+        (
+            "axbxcx",
+            4,
+            Movement::ViCharSearch(1, CharSearch::BackwardAfter('x')),
+            "axbxcx",
+            None,
+        ),
+        (
+            "axb",
+            1,
+            Movement::ViCharSearch(1, CharSearch::Forward('x')),
+            "axb",
+            None,
+        ),
     ] {
         let mut line = line_at(&rt, rt.alloc(), text, pos)?;
         let mut changes = Changeset::new(rt.alloc());
@@ -323,6 +365,60 @@ fn moves_by_words(rt: HostRuntime) -> Result<(), Fail> {
     assert_eq!(rt; line.pos(), 6);
     assert!(rt; line.move_to_next_word(AfterEnd, Vi, 1));
     assert_eq!(rt; line.pos(), 11);
+    Ok(())
+}
+
+const MIXED: &str = "日é日e\u{301}é";
+
+#[test]
+fn moves_to_characters(rt: HostRuntime) -> Result<(), Fail> {
+    use CharSearch::*;
+    for (text, pos, search, n, place) in [
+        ("axbxcx", 0, Forward('x'), 0, None),
+        ("axbxcx", 0, Forward('x'), 1, Some(1)),
+        ("axbxcx", 0, Forward('x'), 2, Some(3)),
+        ("axbxcx", 0, Forward('x'), 65535, Some(5)),
+        ("axbxcx", 1, Forward('x'), 1, Some(3)),
+        ("axbxcx", 5, Forward('x'), 1, None),
+        ("axbxcx", 6, Forward('x'), 1, None),
+        ("axbxcx", 0, Forward('z'), 1, None),
+        ("axbxcx", 0, ForwardBefore('x'), 1, Some(0)),
+        ("axbxcx", 0, ForwardBefore('x'), 2, Some(2)),
+        ("axbxcx", 1, ForwardBefore('x'), 9, Some(4)),
+        ("axbxcx", 4, Backward('x'), 0, None),
+        ("axbxcx", 4, Backward('x'), 1, Some(3)),
+        ("axbxcx", 4, Backward('x'), 2, Some(1)),
+        ("axbxcx", 4, Backward('x'), 65535, Some(1)),
+        ("axbxcx", 3, Backward('x'), 1, Some(1)),
+        ("axbxcx", 1, Backward('x'), 1, None),
+        ("axbxcx", 6, Backward('x'), 1, Some(5)),
+        ("axbxcx", 4, BackwardAfter('x'), 1, Some(4)),
+        ("axbxcx", 4, BackwardAfter('x'), 2, Some(2)),
+        ("axbxcx", 4, BackwardAfter('b'), 5, Some(3)),
+        ("", 0, Forward('x'), 1, None),
+        ("", 0, Backward('x'), 1, None),
+        (MIXED, 0, Forward('é'), 1, Some(3)),
+        (MIXED, 0, Forward('é'), 2, Some(11)),
+        (MIXED, 0, ForwardBefore('é'), 2, Some(9)),
+        (MIXED, 5, Forward('\u{301}'), 1, Some(9)),
+        (MIXED, 8, Forward('\u{301}'), 1, None),
+        (MIXED, 13, Backward('é'), 2, Some(3)),
+        (MIXED, 11, BackwardAfter('日'), 1, Some(8)),
+        (MIXED, 11, BackwardAfter('日'), 2, Some(3)),
+        (FAMILY, 0, Forward('👧'), 1, Some(15)),
+        (FAMILY, 0, ForwardBefore('👧'), 1, Some(12)),
+        (FAMILY, 1, Forward('👧'), 1, None),
+        (FAMILY, 1, ForwardBefore('b'), 1, Some(15)),
+        (FAMILY, 20, Backward('👧'), 1, Some(15)),
+    ] {
+        let mut line = line_at(&rt, rt.alloc(), text, pos)?;
+        assert_eq!(rt; line.move_to(search, n), place.is_some());
+        assert_eq!(rt;
+            line.pos(),
+            place.unwrap_or(pos),
+            "{n} times {search:?} from {pos} in {text:?}"
+        );
+    }
     Ok(())
 }
 
