@@ -7,6 +7,7 @@ pub mod ListLemmas
 pub mod RingLemmas
 pub mod SearchLemmas
 pub mod SkipLemmas
+pub mod StepLemmas
 pub mod TellsLemmas
 pub mod UndoLemmas
 pub mod WidthLemmas

@@ -1,10 +1,11 @@
 -- Laws over the definitions.
 use Rattle.std.specs.Prelude.{◌≡◌, ℕ, ◌+◌, ◌<◌, ◌≤◌, List, length, Some}
+use Rattle.std.specs.Fn.{iterate}
 use Rattle.line_buffer.specs.Changes.{Entry}
 use Rattle.line_buffer.specs.Cluster.{clusters, place_back, place_on}
 use Rattle.line_buffer.specs.KillRing.{Ring, after_kill, other, with_last, yanked_text}
 use Rattle.line_buffer.specs.Line.{Line, before, after}
-use Rattle.line_buffer.specs.Undo.{TellsOf, all_taken_back}
+use Rattle.line_buffer.specs.Undo.{NoGroupOpen, TellsOf, after_undo, all_taken_back}
 use Rattle.line_buffer.specs.Word.{bytes_to, word_back}
 use Rattle.line_buffer.specs.declared.keymap.Word.{Word}
 use Rattle.line_buffer.specs.declared.kill_ring.Mode.{Mode}
@@ -12,6 +13,11 @@ use Rattle.line_buffer.specs.declared.kill_ring.Mode.{Mode}
 -- entries that tell how a text came from another give that one when all are taken back
 abbrev pub TakingAllBack : Type 0
 TakingAllBack = (entries : List Entry) (l : Line) (start : List ℕ) → TellsOf entries l.text start → (all_taken_back entries l).text ≡ start
+
+-- where no group is open, so many steps at once are as many single steps, and no group is open behind them
+abbrev pub UndoingStepByStep : Type 0
+UndoingStepByStep = (entries : List Entry) (l : Line) (n : ℕ) → NoGroupOpen entries → 0 < n
+    → (after_undo n (entries, l) ≡ iterate (after_undo 1) n (entries, l)) × NoGroupOpen (after_undo n (entries, l)).0
 
 -- the ring holds no more than its slots, and its current slot is one that it holds
 abbrev pub IsRing : Ring → Type 0

@@ -1,5 +1,5 @@
 -- Taking changes back.
-use Rattle.std.specs.Prelude.{◌≡◌, ℕ, ◌+◌, ◌≤◌, max, nat_le, Bool, true, false, List, [], ◌∷◌, length, take, filter, count_by, unwrap_or, slice_range, IsCharBoundary}
+use Rattle.std.specs.Prelude.{◌≡◌, ℕ, ◌+◌, ◌≤◌, max, nat_le, Bool, true, false, List, [], ◌∷◌, length, take, drop, filter, count_by, unwrap_or, slice_range, IsCharBoundary}
 use Rattle.std.specs.List.{range_with_len, remove_range, insert_slice, replace_range}
 use Rattle.line_buffer.specs.Changes.{Entry, begins, ends, inserted, deleted, replaced}
 use Rattle.line_buffer.specs.Line.{Line}
@@ -74,6 +74,14 @@ is_step entries k = nat_le (count_by is_end (take k entries)) (count_by is_begin
 -- how many entries make n steps, one for n = 0, or all of them where there are fewer steps
 abbrev pub steps_len : List Entry → ℕ → ℕ
 steps_len entries n = unwrap_or (nth (filter (is_step entries) (range_with_len 1 (length entries))) (max n 1)) (length entries)
+
+-- n steps taken back: the entries that are left, and the line
+abbrev pub after_undo : ℕ → List Entry × Line → List Entry × Line
+after_undo n s = (drop (steps_len s.0 n) s.0, all_taken_back (take (steps_len s.0 n) s.0) s.1)
+
+-- no group is open: among the newest entries never stand more begins than ends
+abbrev pub NoGroupOpen : List Entry → Type 0
+NoGroupOpen entries = (k : ℕ) → count_by is_begin (take k entries) ≤ count_by is_end (take k entries)
 
 -- what old entries tell of a text, new ones tell of another: both lead back to the same start
 pub record StillTells (old : List Entry) (text : List ℕ) (new : List Entry) (text' : List ℕ) : Type 0 where

@@ -1,9 +1,14 @@
 //! Laws over the definitions that the contracts cite.
-ghost use Rattle.line_buffer.specs.Laws.{KilledIsYanked, PlacesAreBetweenClusters, TakingAllBack};
+ghost use Rattle.line_buffer.specs.Laws.{KilledIsYanked, PlacesAreBetweenClusters, TakingAllBack, UndoingStepByStep};
 
 /// Taking back a whole list of changes gives the text that it tells of.
 pub fn taking_all_back()
     ensures { TakingAllBack }
+{}
+
+/// Where no group is open, taking so many steps back at once is taking one step back as often.
+pub fn undoing_step_by_step()
+    ensures { UndoingStepByStep }
 {}
 
 /// After a reset of the kill ring, what is killed is what a yank gives.

@@ -86,3 +86,57 @@ fn an_open_group_counts_for_the_steps_after_it(rt: HostRuntime) -> Result<(), Fa
     assert_eq!(rt; (line.as_str(), changes.len()), ("a", 2));
     Ok(())
 }
+
+#[test]
+fn two_steps_are_taken_at_once(rt: HostRuntime) -> Result<(), Fail> {
+    let mut line = LineBuffer::new(rt.alloc());
+    let mut changes = Changeset::new(rt.alloc());
+    line.insert('-', 1, &mut changes)?;
+    changes.begin()?;
+    line.insert('a', 1, &mut changes)?;
+    changes.end()?;
+    assert!(rt; changes.undo(&mut line, 2)?);
+    assert_eq!(rt; (line.as_str(), line.pos(), changes.len()), ("", 0, 0));
+    Ok(())
+}
+
+#[test]
+fn two_steps_are_taken_one_by_one(rt: HostRuntime) -> Result<(), Fail> {
+    let mut line = LineBuffer::new(rt.alloc());
+    let mut changes = Changeset::new(rt.alloc());
+    line.insert('-', 1, &mut changes)?;
+    changes.begin()?;
+    line.insert('a', 1, &mut changes)?;
+    changes.end()?;
+    assert!(rt; changes.undo(&mut line, 1)?);
+    assert_eq!(rt; (line.as_str(), line.pos(), changes.len()), ("-", 1, 1));
+    assert!(rt; changes.undo(&mut line, 1)?);
+    assert_eq!(rt; (line.as_str(), line.pos(), changes.len()), ("", 0, 0));
+    Ok(())
+}
+
+#[test]
+fn two_steps_at_once_are_not_two_single_steps_where_a_group_is_open(
+    rt: HostRuntime,
+) -> Result<(), Fail> {
+    let mut line = LineBuffer::new(rt.alloc());
+    let mut changes = Changeset::new(rt.alloc());
+    changes.begin()?;
+    line.insert('a', 1, &mut changes)?;
+    changes.end()?;
+    changes.begin()?;
+    assert!(rt; !changes.undo(&mut line, 2)?);
+    assert_eq!(rt; (line.as_str(), line.pos(), changes.len()), ("a", 1, 2));
+
+    let mut line = LineBuffer::new(rt.alloc());
+    let mut changes = Changeset::new(rt.alloc());
+    changes.begin()?;
+    line.insert('a', 1, &mut changes)?;
+    changes.end()?;
+    changes.begin()?;
+    assert!(rt; !changes.undo(&mut line, 1)?);
+    assert_eq!(rt; (line.as_str(), line.pos(), changes.len()), ("a", 1, 3));
+    assert!(rt; changes.undo(&mut line, 1)?);
+    assert_eq!(rt; (line.as_str(), line.pos(), changes.len()), ("", 0, 0));
+    Ok(())
+}
