@@ -6,7 +6,8 @@ use Rattle.line_buffer.specs.Cluster.{clusters, place_back, place_on}
 use Rattle.line_buffer.specs.KillRing.{Ring, after_kill, other, with_last, yanked_text}
 use Rattle.line_buffer.specs.Line.{Line, before, after}
 use Rattle.line_buffer.specs.Undo.{NoGroupOpen, TellsOf, after_undo, all_taken_back}
-use Rattle.line_buffer.specs.Word.{bytes_to, word_back}
+use Rattle.line_buffer.specs.Word.{bytes_to, word_back, word_on}
+use Rattle.line_buffer.specs.declared.keymap.At.{At}
 use Rattle.line_buffer.specs.declared.keymap.Word.{Word}
 use Rattle.line_buffer.specs.declared.kill_ring.Mode.{Mode}
 
@@ -27,9 +28,10 @@ IsRing r = (length r.slots ≤ r.size) × (0 < length r.slots → r.current < le
 abbrev pub KilledIsYanked : Type 0
 KilledIsYanked = (r : Ring) (text : List ℕ) (mode : Mode) → IsRing r → 0 < r.size → yanked_text (after_kill (with_last r other) text mode) ≡ Some text
 
--- a place by clusters on, or back by clusters or words, lies between clusters of the text on that side of the cursor
+-- a place by clusters or words lies between clusters of the text on that side of the cursor
 abbrev pub PlacesAreBetweenClusters : Type 0
 PlacesAreBetweenClusters = (l : Line) (n place : ℕ) →
     (place_on l n ≡ Some place → (i : ℕ) × (place ≡ l.cursor + bytes_to (clusters (after l)) i))
     × (place_back l n ≡ Some place → (i : ℕ) × (place ≡ bytes_to (clusters (before l)) i))
     × ((word : Word) → word_back word l n ≡ Some place → (i : ℕ) × (place ≡ bytes_to (clusters (before l)) i))
+    × ((at : At) (word : Word) → word_on at word l n ≡ Some place → (i : ℕ) × (place ≡ l.cursor + bytes_to (clusters (after l)) i))

@@ -16,7 +16,7 @@ pub fn killed_is_yanked()
     ensures { KilledIsYanked }
 {}
 
-/// A place by clusters or back by words lies between clusters of the text on that side of the cursor.
+/// A place by clusters or words lies between clusters of the text on that side of the cursor.
 pub fn places_are_between_clusters()
     ensures { PlacesAreBetweenClusters }
 {}
