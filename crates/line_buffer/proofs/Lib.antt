@@ -1,7 +1,10 @@
+pub mod BlankLemmas
 pub mod BoundaryLemmas
 pub mod ChangeLemmas
 pub mod ClusterLemmas
 pub mod FittingLemmas
+pub mod FrontLemmas
+pub mod IndentLemmas
 pub mod LineLemmas
 pub mod ListLemmas
 pub mod RingLemmas

@@ -1,5 +1,6 @@
 -- Parts of a list that lose an element at one end.
 use Rattle.std.specs.List.{concat, repeat}
+use Rattle.std.specs.Prelude.{replicate}
 use Rattle.std.proofs.Common.{append-nil, append_assoc, ◌≡◌, ℕ, ◌+◌, ◌-◌, ◌≤◌, zero, suc, List, [], ◌∷◌, ◌++◌, length, take, drop, refl, ap, sym, ◌∙◌, arith, add-one, length-append}
 use Rattle.std.proofs.Math.Seq.{take-append_seam}
 use Rattle.std.proofs.lemmas.List.{length-take, take-append-drop}
@@ -52,3 +53,7 @@ repeat-past (suc n) xs = ap (λ ys. xs ++ ys) (repeat-past n xs) ∙ sym (append
 
 pub repeat_one_more : (n : ℕ) (xs : List ℕ) → repeat (n + 1) xs ≡ repeat n xs ++ xs
 repeat_one_more n xs = rw add-one (repeat-past n xs)
+
+pub repeat_one : (n x : ℕ) → repeat n (x ∷ []) ≡ replicate n x
+repeat_one zero x = refl
+repeat_one (suc n) x = ap (λ xs. x ∷ xs) (repeat_one n x)

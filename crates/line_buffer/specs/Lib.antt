@@ -2,6 +2,7 @@ pub mod Acted
 pub mod Changes
 pub mod Character
 pub mod Cluster
+pub mod Indent
 pub mod Kill
 pub mod KillRing
 pub mod Laws

@@ -3,6 +3,7 @@ ghost use Rattle.line_buffer.specs.Cluster.{place_on, place_back};
 ghost use Rattle.line_buffer.specs.Line.{before, after, with_cursor, moved_to, start_of_line, end_of_line, ends_in_white_space};
 
 mod edits;
+mod indents;
 mod kills;
 mod lines;
 mod motions;

@@ -291,7 +291,11 @@ impl LineBuffer {
 
     /// Inserts the text at the cursor, which goes behind it, tells of it, and answers whether the cursor was at
     /// the text's end.
-    fn insert_told(&mut self, text: &str, changes: &mut Changeset) -> Result<bool, OutOfMemory>
+    pub(super) fn insert_told(
+        &mut self,
+        text: &str,
+        changes: &mut Changeset,
+    ) -> Result<bool, OutOfMemory>
         ensures answer { IfOk result (λ at_end. at_end ≡ (self.old.cursor == length self.old.text)) }
         ensures line { OnOk result (self.new ≡ inserted_at_cursor self.old text.now) }
         ensures changes { OnOk result (changes.new ≡ with_entries changes.old (with_insert self.old.cursor text.now changes.old.entries)) }

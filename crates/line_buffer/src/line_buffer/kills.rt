@@ -173,6 +173,7 @@ impl LineBuffer {
     pub(super) fn range(&self, mvt: &Movement) -> Option<(usize, usize)>
         ensures range { result ≡ range_of self.now mvt.now }
         ensures ordered { IfSome result (λ r. r.0 ≤ r.1) }
+        ensures before { IfSome result (λ r. r.0 ≤ self.now.cursor) }
         ensures start { IfSome result (λ r. IsCharBoundary self.now.text r.0) }
         ensures end { IfSome result (λ r. IsCharBoundary self.now.text r.1) }
     {
@@ -202,6 +203,7 @@ impl LineBuffer {
         requires { IfSome place (λ p. (p ≤ self.now.cursor) × IsCharBoundary self.now.text p) }
         ensures range { result ≡ up_to_cursor self.now place }
         ensures ordered { IfSome result (λ r. r.0 ≤ r.1) }
+        ensures before { IfSome result (λ r. r.0 ≤ self.now.cursor) }
         ensures start { IfSome result (λ r. IsCharBoundary self.now.text r.0) }
         ensures end { IfSome result (λ r. IsCharBoundary self.now.text r.1) }
     {
@@ -216,6 +218,7 @@ impl LineBuffer {
         requires { IfSome place (λ p. (self.now.cursor ≤ p) × IsCharBoundary self.now.text p) }
         ensures range { result ≡ from_cursor self.now place }
         ensures ordered { IfSome result (λ r. r.0 ≤ r.1) }
+        ensures before { IfSome result (λ r. r.0 ≤ self.now.cursor) }
         ensures start { IfSome result (λ r. IsCharBoundary self.now.text r.0) }
         ensures end { IfSome result (λ r. IsCharBoundary self.now.text r.1) }
     {

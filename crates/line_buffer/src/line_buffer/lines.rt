@@ -47,7 +47,7 @@ impl LineBuffer {
     }
 
     /// Behind the newline of the line that begins at `start`, or the text's end.
-    fn line_stop(&self, start: usize) -> usize
+    pub(super) fn line_stop(&self, start: usize) -> usize
         requires { IsCharBoundary self.now.text start }
         ensures place { result ≡ line_stop self.now.text start }
         ensures down { start ≤ result }
@@ -64,6 +64,7 @@ impl LineBuffer {
     pub(super) fn lines_up(&self, n: RepeatCount) -> Option<(usize, usize)>
         ensures range { result ≡ lines_up self.now n }
         ensures ordered { IfSome result (λ r. r.0 ≤ r.1) }
+        ensures before { IfSome result (λ r. r.0 ≤ self.now.cursor) }
         ensures start { IfSome result (λ r. IsCharBoundary self.now.text r.0) }
         ensures end { IfSome result (λ r. IsCharBoundary self.now.text r.1) }
     {
@@ -78,6 +79,7 @@ impl LineBuffer {
     pub(super) fn lines_down(&self, n: RepeatCount) -> Option<(usize, usize)>
         ensures range { result ≡ lines_down self.now n }
         ensures ordered { IfSome result (λ r. r.0 ≤ r.1) }
+        ensures before { IfSome result (λ r. r.0 ≤ self.now.cursor) }
         ensures start { IfSome result (λ r. IsCharBoundary self.now.text r.0) }
         ensures end { IfSome result (λ r. IsCharBoundary self.now.text r.1) }
     {
