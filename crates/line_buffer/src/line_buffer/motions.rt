@@ -93,6 +93,7 @@ impl LineBuffer {
     pub(super) fn searched(&self, search: CharSearch, n: RepeatCount) -> Option<(usize, usize)>
         ensures range { result ≡ searched self.now search n }
         ensures ordered { IfSome result (λ r. r.0 ≤ r.1) }
+        ensures before { IfSome result (λ r. r.0 ≤ self.now.cursor) }
         ensures start { IfSome result (λ r. IsCharBoundary self.now.text r.0) }
         ensures end { IfSome result (λ r. IsCharBoundary self.now.text r.1) }
     {
