@@ -8,9 +8,26 @@ fn line_at(rt: &impl Abort, alloc: Global, text: &str, pos: usize) -> Result<Lin
     Ok(LineBuffer::init(alloc, text, pos)?)
 }
 
+/// A text with its cursor, a movement and an amount; then the text, the cursor and how many entries come of them.
+type Case<'a> = (&'a str, usize, Movement, usize, &'a str, usize, usize);
+
+fn shifts(rt: &impl Abort, alloc: Global, dedent: bool, case: Case<'_>) -> Result<(), Fail> {
+    let (text, pos, mvt, amount, after, cursor, entries) = case;
+    let mut line = line_at(rt, alloc, text, pos)?;
+    let mut changes = Changeset::new(alloc);
+    let done = line.indent(&mvt, amount, dedent, &mut changes)?;
+    assert!(rt; done);
+    assert_eq!(rt; line.as_str(), after, "{mvt:?} from {pos} in {text:?}");
+    assert_eq!(rt; line.pos(), cursor, "{mvt:?} from {pos} in {text:?}");
+    assert_eq!(rt; changes.len(), entries);
+    let undone = changes.undo(&mut line, 9)?;
+    assert_eq!(rt; (line.as_str(), undone), (text, entries > 0));
+    Ok(())
+}
+
 #[test]
 fn indents_the_cursors_line(rt: HostRuntime) -> Result<(), Fail> {
-    for (text, pos, mvt, amount, after, cursor, entries) in [
+    for case in [
         ("ab", 0, Movement::WholeLine, 2, "  ab", 2, 1),
         ("ab", 1, Movement::WholeLine, 2, "  ab", 3, 1),
         ("ab", 2, Movement::WholeLine, 2, "  ab", 4, 1),
@@ -34,14 +51,7 @@ fn indents_the_cursors_line(rt: HostRuntime) -> Result<(), Fail> {
         ("a\nb\nc", 0, Movement::LineUp(1), 1, " a\nb\nc", 1, 1),
         ("a\nb\nc", 4, Movement::LineDown(1), 1, "a\nb\n c", 5, 1),
     ] {
-        let mut line = line_at(&rt, rt.alloc(), text, pos)?;
-        let mut changes = Changeset::new(rt.alloc());
-        assert!(rt; line.indent(&mvt, amount, false, &mut changes)?);
-        assert_eq!(rt; line.as_str(), after, "{mvt:?} from {pos} in {text:?}");
-        assert_eq!(rt; line.pos(), cursor, "{mvt:?} from {pos} in {text:?}");
-        assert_eq!(rt; changes.len(), entries);
-        assert_eq!(rt; changes.undo(&mut line, 9)?, entries > 0);
-        assert_eq!(rt; line.as_str(), text);
+        shifts(&rt, rt.alloc(), false, case)?;
     }
     Ok(())
 }
@@ -50,7 +60,7 @@ fn indents_the_cursors_line(rt: HostRuntime) -> Result<(), Fail> {
 fn indents_each_line_of_a_range(rt: HostRuntime) -> Result<(), Fail> {
     use At::*;
     use Word::*;
-    for (text, pos, mvt, amount, after, cursor, entries) in [
+    for case in [
         (
             "a\n\nbc",
             4,
@@ -123,21 +133,14 @@ fn indents_each_line_of_a_range(rt: HostRuntime) -> Result<(), Fail> {
         ),
         ("ab\ncd", 4, Movement::WholeBuffer, 0, "ab\ncd", 4, 0),
     ] {
-        let mut line = line_at(&rt, rt.alloc(), text, pos)?;
-        let mut changes = Changeset::new(rt.alloc());
-        assert!(rt; line.indent(&mvt, amount, false, &mut changes)?);
-        assert_eq!(rt; line.as_str(), after, "{mvt:?} from {pos} in {text:?}");
-        assert_eq!(rt; line.pos(), cursor, "{mvt:?} from {pos} in {text:?}");
-        assert_eq!(rt; changes.len(), entries);
-        assert_eq!(rt; changes.undo(&mut line, 9)?, entries > 0);
-        assert_eq!(rt; line.as_str(), text);
+        shifts(&rt, rt.alloc(), false, case)?;
     }
     Ok(())
 }
 
 #[test]
 fn dedents_lines(rt: HostRuntime) -> Result<(), Fail> {
-    for (text, pos, mvt, amount, after, cursor, entries) in [
+    for case in [
         ("   ab", 4, Movement::WholeLine, 2, " ab", 2, 1),
         ("  ab", 3, Movement::WholeLine, 5, "ab", 1, 1),
         ("  ab", 3, Movement::WholeLine, usize::MAX, "ab", 1, 1),
@@ -163,14 +166,7 @@ fn dedents_lines(rt: HostRuntime) -> Result<(), Fail> {
             1,
         ),
     ] {
-        let mut line = line_at(&rt, rt.alloc(), text, pos)?;
-        let mut changes = Changeset::new(rt.alloc());
-        assert!(rt; line.indent(&mvt, amount, true, &mut changes)?);
-        assert_eq!(rt; line.as_str(), after, "{mvt:?} from {pos} in {text:?}");
-        assert_eq!(rt; line.pos(), cursor, "{mvt:?} from {pos} in {text:?}");
-        assert_eq!(rt; changes.len(), entries);
-        assert_eq!(rt; changes.undo(&mut line, 9)?, entries > 0);
-        assert_eq!(rt; line.as_str(), text);
+        shifts(&rt, rt.alloc(), true, case)?;
     }
     Ok(())
 }
@@ -183,17 +179,12 @@ fn each_line_is_taken_back_by_itself(rt: HostRuntime) -> Result<(), Fail> {
     assert_eq!(rt; line.as_str(), "  a\n  \n   b");
     let last = changes.last_insert()?;
     assert!(rt; last.is_some_and(|text| text.as_str() == "  "));
-    for (text, cursor) in [("  a\n  \n b", 7), ("  a\n\n b", 4), ("a\n\n b", 0)] {
-        assert!(rt; changes.undo(&mut line, 1)?);
-        assert_eq!(rt; (line.as_str(), line.pos()), (text, cursor));
-    }
-    line.indent(&Movement::WholeBuffer, 2, true, &mut changes)?;
-    assert_eq!(rt;
-        (line.as_str(), line.pos(), changes.len()),
-        ("a\n\nb", 0, 1)
-    );
     assert!(rt; changes.undo(&mut line, 1)?);
-    assert_eq!(rt; (line.as_str(), line.pos()), ("a\n\n b", 4));
+    assert_eq!(rt; (line.as_str(), line.pos()), ("  a\n  \n b", 7));
+    assert!(rt; changes.undo(&mut line, 1)?);
+    assert_eq!(rt; (line.as_str(), line.pos()), ("  a\n\n b", 4));
+    assert!(rt; changes.undo(&mut line, 1)?);
+    assert_eq!(rt; (line.as_str(), line.pos()), ("a\n\n b", 0));
     Ok(())
 }
 
