@@ -6,7 +6,7 @@ use Rattle.std.proofs.lemmas.List.{take_at, drop_at, drop-drop, length-map, leng
 use Rattle.std.proofs.lemmas.List.Edits.{split_between}
 use Rattle.std.proofs.lemmas.List.Splits.{slice_split-cons_yes, slice_split-cons_no, length-slice_split}
 use Rattle.std.specs.Char.{is_newline}
-use Rattle.std.specs.List.{count_by, join_with_byte, onto_first, prefix_len, slice_range}
+use Rattle.std.specs.List.{join_with_byte, onto_first, prefix_len, slice_range}
 use Rattle.std.specs.Prelude.{nat_lt, ◌⊎◌, replicate, if◌then◌else◌}
 use Rattle.std.specs.Str.{NonePass}
 use Rattle.line_buffer.specs.Changes.{Entry}

@@ -1,4 +1,4 @@
-use Rattle.std.proofs.Common.{◌≡◌, ◌+◌, ◌-◌, ◌≤◌, ℕ, max, List, [], ◌∷◌, ◌++◌, true, length, take, drop, ap, ap₂, ◌∙◌, sym, refl, arith}
+use Rattle.std.proofs.Common.{◌≡◌, ◌+◌, ◌-◌, ◌≤◌, max, [], ◌∷◌, true, length, take, drop, ap, ◌∙◌, sym, refl, arith}
 use Rattle.std.specs.List.{remove_range}
 use Rattle.std.specs.Str.{IsCharBoundary}
 use Rattle.line_buffer.specs.Changes.{with_delete, with_entries}

@@ -1,4 +1,4 @@
-use Rattle.std.proofs.Common.{◌≡◌, ◌+◌, ◌-◌, ℕ, List, [], ◌∷◌, ◌++◌, false, length, ap, ◌∙◌, sym, refl, arith}
+use Rattle.std.proofs.Common.{◌≡◌, ◌+◌, [], ◌∷◌, ◌++◌, false, length, ap, ◌∙◌, sym, refl, arith}
 use Rattle.std.specs.List.{insert_slice}
 use Rattle.line_buffer.specs.Line.{Line, end_of_line, inserted_at_cursor, with_cursor}
 use Rattle.line_buffer.specs.Lines.{line_from}

@@ -1,5 +1,4 @@
-use Rattle.std.proofs.Common.{◌≡◌, ◌-◌, ◌≤◌, ◌==◌, false, length, drop, replicate, string_bytes, if◌then◌else◌}
-use Rattle.std.specs.Prelude.{[]}
+use Rattle.std.proofs.Common.{◌≡◌, ◌-◌, length, drop}
 use Rattle.std.specs.Str.{IsCharBoundary}
 use Rattle.line_buffer.proofs.IndentLemmas.{Shifting}
 use Rattle.line_buffer.specs.Indent.{indented, with_indents}
