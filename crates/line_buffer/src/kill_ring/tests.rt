@@ -45,3 +45,16 @@ fn yanks_turn_the_ring_back(rt: HostRuntime) -> Result<(), Fail> {
     assert_eq!(rt; (ring.current_text(), ring.current), (Some("g"), 0));
     Ok(())
 }
+
+#[test]
+fn a_refused_kill_leaves_no_more_than_the_size(rt: HostRuntime) -> Result<(), Fail> {
+    let mut ring = KillRing::new(rt.alloc(), 2);
+    for text in ["a", "bc", "def"] {
+        match ring.kill(text, Mode::Append) {
+            Ok(()) => assert!(rt; texts(&ring) > 0),
+            Err(OutOfMemory) => assert!(rt; texts(&ring) <= 2),
+        }
+        ring.reset();
+    }
+    Ok(())
+}

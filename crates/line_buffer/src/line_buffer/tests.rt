@@ -6,6 +6,9 @@ use crate::undo::Changeset;
 use std::process::Abort;
 use std::test::Fail;
 
+mod refusals;
+mod words;
+
 fn line_at(rt: &impl Abort, alloc: Global, text: &str, pos: usize) -> Result<LineBuffer, Fail> {
     assert!(rt; text.is_char_boundary(pos), "{pos} in {text:?}");
     Ok(LineBuffer::init(alloc, text, pos)?)
@@ -278,93 +281,6 @@ fn kills_by_movements(rt: HostRuntime) -> Result<(), Fail> {
             _ => panic!(rt; "{mvt:?} from {pos} in {text:?} gave {killed:?}"),
         }
     }
-    Ok(())
-}
-
-#[test]
-fn refused_memory_leaves_an_empty_list(rt: HostRuntime) -> Result<(), Fail> {
-    let mut line = line_at(&rt, rt.alloc(), "aé日", 3)?;
-    let mut changes = Changeset::new(rt.alloc());
-    let mut ring = KillRing::new(rt.alloc(), 1);
-    for n in [1, 40] {
-        match line.insert('本', n, &mut changes) {
-            Ok(at_end) => assert!(rt; !at_end),
-            Err(OutOfMemory) => assert_eq!(rt; changes.len(), 0),
-        }
-        assert!(rt; line.as_str().is_char_boundary(line.pos()));
-    }
-    for mvt in [
-        Movement::BackwardChar(2),
-        Movement::EndOfLine,
-        Movement::WholeBuffer,
-    ] {
-        match line.kill(&mvt, &mut changes, &mut ring) {
-            Ok(_) => {}
-            Err(OutOfMemory) => assert_eq!(rt; changes.len(), 0),
-        }
-        assert!(rt; line.as_str().is_char_boundary(line.pos()));
-    }
-    Ok(())
-}
-
-#[test]
-fn moves_by_words(rt: HostRuntime) -> Result<(), Fail> {
-    use At::*;
-    use Word::*;
-    let text = "foo bar-baz  qux";
-    for (word, at, pos, n, place) in [
-        (Emacs, AfterEnd, 0, 1, Some(3)),
-        (Emacs, AfterEnd, 0, 3, Some(11)),
-        (Emacs, AfterEnd, 0, 9, Some(16)),
-        (Emacs, Start, 0, 2, Some(8)),
-        (Emacs, Start, 0, 4, Some(16)),
-        (Emacs, BeforeEnd, 0, 1, Some(3)),
-        (Emacs, BeforeEnd, 2, 1, Some(7)),
-        (Emacs, Start, 15, 1, Some(16)),
-        (Big, AfterEnd, 0, 2, Some(11)),
-        (Big, Start, 0, 2, Some(13)),
-        (Big, Start, 0, 3, Some(15)),
-        (Big, BeforeEnd, 0, 1, Some(2)),
-        (Big, BeforeEnd, 0, 2, Some(10)),
-        (Big, BeforeEnd, 2, 1, Some(10)),
-        (Big, BeforeEnd, 15, 1, None),
-        (Vi, Start, 0, 2, Some(7)),
-        (Vi, Start, 0, 3, Some(8)),
-        (Vi, BeforeEnd, 0, 3, Some(7)),
-        (Vi, AfterEnd, 4, 1, Some(7)),
-        (Vi, AfterEnd, 4, 2, Some(8)),
-        (Vi, Start, 15, 1, None),
-        (Vi, Start, 0, 0, None),
-        (Vi, AfterEnd, 16, 1, None),
-    ] {
-        let mut line = line_at(&rt, rt.alloc(), text, pos)?;
-        assert_eq!(rt; line.move_to_next_word(at, word, n), place.is_some());
-        assert_eq!(rt;
-            line.pos(),
-            place.unwrap_or(pos),
-            "{n} {word:?} {at:?} from {pos}"
-        );
-    }
-    for (word, pos, n, place) in [
-        (Emacs, 16, 2, 8),
-        (Emacs, 16, 4, 0),
-        (Emacs, 13, 1, 8),
-        (Big, 16, 2, 4),
-        (Big, 5, 1, 4),
-        (Vi, 16, 2, 8),
-        (Vi, 16, 3, 7),
-        (Vi, 16, 9, 0),
-    ] {
-        let mut line = line_at(&rt, rt.alloc(), text, pos)?;
-        assert!(rt; line.move_to_prev_word(word, n));
-        assert_eq!(rt; line.pos(), place, "{n} {word:?} back from {pos}");
-        assert!(rt; !line.move_to_prev_word(word, 0));
-    }
-    let mut line = line_at(&rt, rt.alloc(), "e\u{301}日\u{3000}_x", 0)?;
-    assert!(rt; line.move_to_next_word(AfterEnd, Vi, 1));
-    assert_eq!(rt; line.pos(), 6);
-    assert!(rt; line.move_to_next_word(AfterEnd, Vi, 1));
-    assert_eq!(rt; line.pos(), 11);
     Ok(())
 }
 

@@ -140,3 +140,32 @@ fn two_steps_at_once_are_not_two_single_steps_where_a_group_is_open(
     assert_eq!(rt; (line.as_str(), line.pos(), changes.len()), ("", 0, 0));
     Ok(())
 }
+
+#[test]
+fn joined_replacements_are_one_step(rt: HostRuntime) -> Result<(), Fail> {
+    let mut line = LineBuffer::new(rt.alloc());
+    let mut changes = Changeset::new(rt.alloc());
+    line.insert('a', 2, &mut changes)?;
+    assert!(rt; line.as_str().is_char_boundary(1));
+    line.replace(0..1, "x", &mut changes)?;
+    assert!(rt; line.as_str().is_char_boundary(1));
+    assert!(rt; line.as_str().is_char_boundary(2));
+    line.replace(1..2, "yz", &mut changes)?;
+    assert_eq!(rt; (line.as_str(), line.pos(), changes.len()), ("xyz", 3, 2));
+    assert!(rt; changes.undo(&mut line, 1)?);
+    assert_eq!(rt; (line.as_str(), line.pos(), changes.len()), ("aa", 2, 1));
+    Ok(())
+}
+
+#[test]
+fn joined_deletions_are_one_step(rt: HostRuntime) -> Result<(), Fail> {
+    assert!(rt; "aaa".is_char_boundary(0));
+    let mut line = LineBuffer::init(rt.alloc(), "aaa", 0)?;
+    let mut changes = Changeset::new(rt.alloc());
+    line.delete(1, &mut changes)?;
+    line.delete(1, &mut changes)?;
+    assert_eq!(rt; (line.as_str(), changes.len()), ("a", 1));
+    assert!(rt; changes.undo(&mut line, 1)?);
+    assert_eq!(rt; (line.as_str(), line.pos(), changes.len()), ("aaa", 2, 0));
+    Ok(())
+}

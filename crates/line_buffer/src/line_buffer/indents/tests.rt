@@ -189,9 +189,13 @@ fn each_line_is_taken_back_by_itself(rt: HostRuntime) -> Result<(), Fail> {
 }
 
 #[test]
-fn refused_memory_leaves_an_empty_list(rt: HostRuntime) -> Result<(), Fail> {
+fn a_refused_indent_leaves_an_empty_list(rt: HostRuntime) -> Result<(), Fail> {
+    let text = "  é\n\n \u{3000}日";
+    assert!(rt; text.is_char_boundary(6));
     for dedent in [false, true] {
-        let mut line = line_at(&rt, rt.alloc(), "  é\n\n \u{3000}日", 7)?;
+        let Ok(mut line) = LineBuffer::init(rt.alloc(), text, 6) else {
+            return Ok(());
+        };
         let mut changes = Changeset::new(rt.alloc());
         match line.indent(&Movement::WholeBuffer, 40, dedent, &mut changes) {
             Ok(done) => assert!(rt; done),
