@@ -146,6 +146,3 @@ impl Completer for () {
         Ok(())
     }
 }
-
-#[cfg(test)]
-mod tests;

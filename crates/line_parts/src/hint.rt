@@ -102,20 +102,3 @@ impl Hinter for () {
         Ok(None)
     }
 }
-
-#[cfg(test)]
-mod tests {
-    use super::*;
-    use std::test::Fail;
-
-    fn displays<H: Hint>(hint: &H, text: &str) -> bool {
-        hint.display() == text && hint.completion() == Some(text)
-    }
-
-    #[test]
-    fn a_text_hints_itself(rt: HostRuntime) -> std::result::Result<(), Fail> {
-        assert!(rt; displays(&" status", " status"));
-        assert!(rt; displays(&String::from_str(rt.alloc(), "é")?, "é"));
-        Ok(())
-    }
-}

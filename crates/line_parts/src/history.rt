@@ -59,17 +59,3 @@ impl History for MemHistory {
         self.entries.len()
     }
 }
-
-#[cfg(test)]
-mod tests {
-    use super::*;
-
-    fn count<S: History>(history: &S) -> (usize, bool) {
-        (history.len(), history.is_empty())
-    }
-
-    #[test]
-    fn a_new_history_is_empty(rt: HostRuntime) {
-        assert_eq!(rt; count(&MemHistory::new(rt.alloc())), (0, true));
-    }
-}

@@ -89,26 +89,3 @@ impl Validator for () {
         Ok(ValidationResult::Valid(None))
     }
 }
-
-#[cfg(test)]
-mod tests {
-    use super::*;
-
-    fn is_taken<V: Validator>(validator: &V, alloc: Global, text: &str) -> Result<bool> {
-        let context = ValidationContext::new(text);
-        Ok(matches!(
-            validator.validate(alloc, &context)?,
-            ValidationResult::Valid(None)
-        ))
-    }
-
-    #[test]
-    fn the_unit_validator_takes_each_text(rt: HostRuntime) -> Result<()> {
-        for text in ["", "(", "a\nb"] {
-            assert_eq!(rt; ValidationContext::new(text).input(), text);
-            assert!(rt; is_taken(&(), rt.alloc(), text)?);
-        }
-        assert!(rt; !().validate_while_typing());
-        Ok(())
-    }
-}
