@@ -3,16 +3,16 @@ use Rattle.std.specs.Prelude.{ℕ, List}
 use Rattle.line_parts.specs.Shown.{Shown}
 use Rattle.line_parts.specs.declared.history.History.{Ghosts}
 
--- the history, and the place in it: its length is the place of the line that is being written
-pub record Standing (S : Type 0) : Type 0 where
+-- a history, and an index in it: the number of its lines is the index of the line that is being written
+pub record HistoryPosition (S : Type 0) : Type 0 where
   pub history : S
-  pub place : ℕ
+  pub index : ℕ
 
--- a text with its cursor, at its place in a history, as it is shown
-abbrev pub shown_in : {S : Type 0} → Ghosts S → Standing S → List ℕ → ℕ → Shown
+-- what is shown of a text with its cursor, at a history index
+abbrev pub shown_in : {S : Type 0} → Ghosts S → HistoryPosition S → List ℕ → ℕ → Shown
 shown_in history at text cursor = record {
   text = text;
   cursor = cursor;
-  place = at.place;
+  index = at.index;
   lines = history.lines at.history;
 }

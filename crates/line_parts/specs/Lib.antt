@@ -1,5 +1,7 @@
 pub mod Candidate
+pub mod Consulted
 pub mod Context
+pub mod Environment
 pub mod Helped
 pub mod Hint
 pub mod Shown

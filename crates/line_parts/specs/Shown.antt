@@ -1,11 +1,11 @@
 -- What is shown to those who are asked about a line.
 use Rattle.std.specs.Prelude.{◌≡◌, ℕ, Bool, true, List}
 
--- the text, the cursor in it, the place in the history, and the history's lines, oldest first
+-- the text, the cursor in it, the history index, and the history's lines, oldest first
 pub record Shown : Type 0 where
   pub text : List ℕ
   pub cursor : ℕ
-  pub place : ℕ
+  pub index : ℕ
   pub lines : List (List ℕ)
 
 -- not both are sure

@@ -13,11 +13,11 @@ pub struct Context<'h, S: History> {
 
 impl<'h, S: History> Model for Context<'h, S> {
     ghost use Rattle.std.specs.Prelude.{◌≤◌, length};
-    ghost use Rattle.line_parts.specs.Context.{Standing};
+    ghost use Rattle.line_parts.specs.Context.{HistoryPosition};
 
-    ghost Value = { Standing S };
+    ghost Value = { HistoryPosition S };
 
-    ghost view = { λ c. record { history = c.history.now; place = c.history_index } };
+    ghost view = { λ c. record { history = c.history.now; index = c.history_index } };
 
     ghost invariant = { λ c. c.history_index ≤ length (S.lines c.history.now) };
 }
@@ -34,7 +34,7 @@ impl<S: History> Drop for Context<'_, S> {
 impl<'h, S: History> Context<'h, S> {
     /// The place of the line that is being written.
     pub fn new(history: &'h S) -> Self
-        ensures { result ≡ record { history = history.now; place = length (S.lines history.now) } }
+        ensures { result ≡ record { history = history.now; index = length (S.lines history.now) } }
     {
         let history_index = history.len();
         Context {
@@ -52,7 +52,7 @@ impl<'h, S: History> Context<'h, S> {
 
     /// The place in the history, at most its length.
     pub fn history_index(&self) -> usize
-        ensures value { result ≡ self.now.place }
+        ensures value { result ≡ self.now.index }
         ensures within { result ≤ length (S.lines self.now.history) }
     {
         self.history_index
@@ -61,23 +61,8 @@ impl<'h, S: History> Context<'h, S> {
     /// Goes to a place of the history.
     pub fn set_history_index(&mut self, index: usize)
         requires { index ≤ length (S.lines self.old.history) }
-        ensures { self.new ≡ record self.old { place = index } }
+        ensures { self.new ≡ record self.old { index = index } }
     {
         self.history_index = index;
-    }
-}
-
-#[cfg(test)]
-mod tests {
-    use super::*;
-    use crate::history::MemHistory;
-
-    #[test]
-    fn a_line_that_is_being_written_stands_at_the_end(rt: HostRuntime) {
-        let history = MemHistory::new(rt.alloc());
-        let mut ctx = Context::new(&history);
-        assert_eq!(rt; ctx.history_index(), 0);
-        ctx.set_history_index(0);
-        assert_eq!(rt; ctx.history_index(), ctx.history().len());
     }
 }

@@ -2,17 +2,21 @@
 #![tactic(auto)]
 
 pub mod completion;
+pub mod consulted;
 pub mod context;
 pub mod helper;
 pub mod highlight;
 pub mod hint;
 pub mod history;
+pub mod parties;
 pub mod validate;
 
 pub use completion::{Candidate, Completer};
+pub use consulted::Consulted;
 pub use context::Context;
 pub use helper::Helper;
 pub use highlight::{CmdKind, Highlighter};
 pub use hint::{Hint, Hinter};
 pub use history::{History, MemHistory};
+pub use parties::Parties;
 pub use validate::{ValidationContext, ValidationResult, Validator};

@@ -1,0 +1,9 @@
+-- What is said of those who are asked about a line.
+use Rattle.std.specs.Prelude.{◌≡◌}
+use Rattle.line_parts.specs.declared.consulted.Consulted.{Ghosts}
+
+-- they answer as before, at the same history index
+pub record Unchanged {X : Type 0} (parties : Ghosts X) (old new : X) : Type 0 where
+  pub environment : parties.environment new ≡ parties.environment old
+  pub index : parties.index new ≡ parties.index old
+  pub sure : parties.sure new ≡ parties.sure old

@@ -1,0 +1,236 @@
+//! Who is asked about a line: the helper, if there is one, and the history.
+ghost use Rattle.std.specs.Prelude.{◌≡◌, ◌≤◌, ◌&&◌, Bool, List, Option, is_some, length, option_map, true, false, IfOk};
+ghost use Rattle.line_config.specs.Error.{FaultsOnly, IoOnlyIf};
+ghost use Rattle.line_parts.specs.Consulted.{Unchanged};
+ghost use Rattle.line_parts.specs.Context.{shown_in};
+ghost use Rattle.line_parts.specs.Environment.{Environment, hint_for, verdict_on};
+ghost use Rattle.line_parts.specs.Helped.{hint_by, is_sure_by, lights_by, verdict_by};
+ghost use Rattle.line_parts.specs.Hint.{suggestion_of, visible};
+ghost use Rattle.line_parts.specs.Shown.{NotBoth};
+ghost use Rattle.line_parts.specs.Verdict.{verdict_of};
+
+use crate::consulted::Consulted;
+use crate::context::Context;
+use crate::helper::Helper;
+use crate::highlight::{CmdKind, Highlighter};
+use crate::hint::{Hint, Hinter};
+use crate::history::History;
+use crate::validate::{ValidationContext, ValidationResult, Validator};
+use line_buffer::LineBuffer;
+use line_config::Result;
+use std::alloc::Global;
+
+/// Those who are asked about a line: the helper, if there is one, and the history with the index
+/// of the line in it.
+pub struct Parties<'out, H: Helper, S: History> {
+    helper: Option<&'out mut H>,
+    ctx: Context<'out, S>,
+}
+
+impl<H: Helper, S: History> Drop for Parties<'_, H, S> {
+    fn drop(self) {
+        let Parties { helper: _, ctx: _ } = self;
+    }
+}
+
+impl<'out, H: Helper, S: History> Consulted for Parties<'out, H, S> {
+    ghost environment = { λ p. record {
+      hint_at = hint_by H.hint_at p.helper;
+      verdict_at = verdict_by H.verdict_at p.helper;
+      lights = lights_by H.lights p.helper;
+      lines = S.lines p.ctx.history;
+    } };
+
+    ghost index = { λ p. p.ctx.index };
+
+    ghost sure = { λ p. is_sure_by H.Hinter.sure p.helper
+        && is_sure_by H.Validator.sure p.helper && S.sure p.ctx.history };
+}
+
+// Returns the helper's hint for the line.
+#[tactic(auto, unfolding(crate::specs::Helped::hint_by, crate::specs::Helped::is_sure_by))]
+fn hint_of<'a, 'out, H: Helper, S: History>(
+    alloc: Global,
+    helper: &'a Option<&'out mut H>,
+    line: &LineBuffer,
+    ctx: &Context<'_, S>,
+) -> Result<Option<H::Hint>>
+    ensures answer { IfOk result (λ hint. option_map (suggestion_of H.Hint.Hint) hint
+        ≡ hint_by H.hint_at helper.now (shown_in S.History ctx.now line.now.text line.now.cursor)) }
+    ensures io { IoOnlyIf result
+        (NotBoth (is_sure_by H.Hinter.sure helper.now) (S.sure ctx.now.history)) }
+    ensures faults { FaultsOnly result }
+{
+    match helper {
+        Some(h) => h.hint(alloc, line.as_str(), line.pos(), ctx),
+        None => Ok(None),
+    }
+}
+
+// Returns the hint, or None where it displays nothing.
+fn visible_hint<T: Hint + Drop>(hint: Option<T>) -> Option<T>
+    ensures { option_map (suggestion_of T.Hint) result
+        ≡ visible (option_map (suggestion_of T.Hint) hint) }
+{
+    match hint {
+        Some(h) if h.display().is_empty() => None,
+        other => other,
+    }
+}
+
+// Returns whether there is a helper.
+#[tactic(auto, unfolding(crate::specs::Helped::verdict_by))]
+fn is_there<'a, 'out, H: Helper>(helper: &'a Option<&'out mut H>) -> bool
+    ensures { result ≡ is_some (verdict_by H.verdict_at helper.now) }
+{
+    helper.is_some()
+}
+
+// Returns the helper's verdict on a text; without a helper the text is valid.
+#[tactic(auto, unfolding(crate::specs::Helped::is_sure_by, crate::specs::Helped::verdict_by))]
+fn verdict_of_helper<'a, 'out, H: Helper>(
+    alloc: Global,
+    helper: &'a Option<&'out mut H>,
+    text: &str,
+) -> Result<Option<ValidationResult>>
+    ensures answer { IfOk result (λ r. option_map verdict_of r
+        ≡ option_map (λ verdict. verdict text.now) (verdict_by H.verdict_at helper.now)) }
+    ensures io { IoOnlyIf result (is_sure_by H.Validator.sure helper.now ≡ false) }
+    ensures faults { FaultsOnly result }
+{
+    match helper {
+        Some(h) => Ok(Some(h.validate(alloc, &ValidationContext::new(text))?)),
+        None => Ok(None),
+    }
+}
+
+// Asks the helper whether the line has to be drawn in full.
+#[tactic(auto, unfolding(crate::specs::Helped::hint_by, crate::specs::Helped::is_sure_by, crate::specs::Helped::lights_by, crate::specs::Helped::verdict_by))]
+fn lights<'out, H: Helper>(
+    helper: &mut Option<&'out mut H>,
+    line: &LineBuffer,
+    kind: CmdKind,
+) -> bool
+    ensures lit { result ≡ lights_by H.lights helper.old line.now.text line.now.cursor kind }
+    ensures hints { hint_by H.hint_at helper.new ≡ hint_by H.hint_at helper.old }
+    ensures verdicts { verdict_by H.verdict_at helper.new ≡ verdict_by H.verdict_at helper.old }
+    ensures lights { lights_by H.lights helper.new ≡ lights_by H.lights helper.old }
+    ensures hinter { is_sure_by H.Hinter.sure helper.new ≡ is_sure_by H.Hinter.sure helper.old }
+    ensures validator { is_sure_by H.Validator.sure helper.new ≡ is_sure_by H.Validator.sure helper.old }
+{
+    match helper {
+        Some(h) => h.highlight_char(line.as_str(), line.pos(), kind),
+        None => false,
+    }
+}
+
+// Returns the helper as a highlighter where colors are on.
+#[tactic(auto, unfolding(crate::specs::Helped::verdict_by))]
+fn highlighter_of<'a, 'out, H: Helper>(
+    helper: &'a Option<&'out mut H>,
+    colors: bool,
+) -> Option<&'a H>
+    ensures { is_some result ≡ (colors && is_some (verdict_by H.verdict_at helper.now)) }
+{
+    match helper {
+        Some(h) if colors => Some(h),
+        _ => None,
+    }
+}
+
+impl<'out, H: Helper, S: History> Parties<'out, H, S> {
+    /// Returns the parties that are asked about a line whose history and history index `ctx` has.
+    pub fn new(helper: Option<&'out mut H>, ctx: Context<'out, S>) -> Self
+        ensures environment { ⟦<Self as Consulted>⟧.environment result ≡ record {
+          hint_at = hint_by H.hint_at helper.entry;
+          verdict_at = verdict_by H.verdict_at helper.entry;
+          lights = lights_by H.lights helper.entry;
+          lines = S.lines ctx.entry.history;
+        } }
+        ensures index { ⟦<Self as Consulted>⟧.index result ≡ ctx.entry.index }
+        ensures sure { ⟦<Self as Consulted>⟧.sure result
+            ≡ (is_sure_by H.Hinter.sure helper.entry && is_sure_by H.Validator.sure helper.entry
+            && S.sure ctx.entry.history) }
+    {
+        Parties { helper, ctx }
+    }
+
+    /// Returns the helper's hint for `line` at the history index, or None where there is none that
+    /// displays something.
+    ///
+    /// # Errors
+    /// `Io`, only where one of the parties is not sure, and `Memory`.
+    pub fn hint(&self, alloc: Global, line: &LineBuffer) -> Result<Option<H::Hint>>
+        ensures answer { let p = ⟦<Self as Consulted>⟧ in IfOk result (λ hint.
+            option_map (suggestion_of H.Hint.Hint) hint
+            ≡ hint_for (p.environment self.now) line.now.text line.now.cursor (p.index self.now)) }
+        ensures io { IoOnlyIf result (⟦<Self as Consulted>⟧.sure self.now ≡ false) }
+        ensures faults { FaultsOnly result }
+    {
+        Ok(visible_hint(hint_of(alloc, &self.helper, line, &self.ctx)?))
+    }
+
+    /// Returns whether there is a helper, which validates the line.
+    pub fn has_validator(&self) -> bool
+        ensures { result ≡ is_some (⟦<Self as Consulted>⟧.environment self.now).verdict_at }
+    {
+        is_there(&self.helper)
+    }
+
+    /// Returns the helper's verdict on the text of `line`. Without a helper the text is valid.
+    ///
+    /// # Errors
+    /// `Io`, only where one of the parties is not sure, and `Memory`.
+    pub fn validate(&self, alloc: Global, line: &LineBuffer) -> Result<ValidationResult>
+        ensures answer { IfOk result (λ r. verdict_of r
+            ≡ verdict_on (⟦<Self as Consulted>⟧.environment self.now) line.now.text) }
+        ensures io { IoOnlyIf result (⟦<Self as Consulted>⟧.sure self.now ≡ false) }
+        ensures faults { FaultsOnly result }
+    {
+        let verdict = verdict_of_helper(alloc, &self.helper, line.as_str())?;
+        Ok(verdict.unwrap_or(ValidationResult::Valid(None)))
+    }
+
+    /// Returns whether the helper asks for a full drawing of `line` for its colors, after what
+    /// `kind` says. Without a helper nothing does. Each answer stays what it was.
+    pub fn highlight_char(&mut self, line: &LineBuffer, kind: CmdKind) -> bool
+        ensures lit { result ≡ (⟦<Self as Consulted>⟧.environment self.old).lights
+            line.now.text line.now.cursor kind }
+        ensures unchanged { Unchanged ⟦<Self as Consulted>⟧ self.old self.new }
+    {
+        lights(&mut self.helper, line, kind)
+    }
+
+    /// Returns the helper as a highlighter, where there is one and colors are on.
+    pub fn highlighter(&self, colors: bool) -> Option<&H>
+        ensures { is_some result
+            ≡ (colors && is_some (⟦<Self as Consulted>⟧.environment self.now).verdict_at) }
+    {
+        highlighter_of(&self.helper, colors)
+    }
+
+    /// Returns the history.
+    pub fn history(&self) -> &'out S
+        ensures { S.lines result.now ≡ (⟦<Self as Consulted>⟧.environment self.now).lines }
+    {
+        self.ctx.history()
+    }
+
+    /// Returns the history index, which is at most the number of the history's lines.
+    pub fn history_index(&self) -> usize
+        ensures value { result ≡ ⟦<Self as Consulted>⟧.index self.now }
+        ensures within { result ≤ length (⟦<Self as Consulted>⟧.environment self.now).lines }
+    {
+        self.ctx.history_index()
+    }
+
+    /// Sets the history index.
+    pub fn set_history_index(&mut self, index: usize)
+        requires { index ≤ length (⟦<Self as Consulted>⟧.environment self.old).lines }
+        ensures index { ⟦<Self as Consulted>⟧.index self.new ≡ index }
+        ensures environment { let p = ⟦<Self as Consulted>⟧ in p.environment self.new ≡ p.environment self.old }
+        ensures sure { let p = ⟦<Self as Consulted>⟧ in p.sure self.new ≡ p.sure self.old }
+    {
+        self.ctx.set_history_index(index);
+    }
+}
