@@ -1,5 +1,5 @@
 -- Entries that tell of a text still do once the text changed and an entry was added.
-use Rattle.std.proofs.Common.{◌≡◌, ℕ, ◌+◌, ◌-◌, ◌≤◌, Bool, true, false, cond, List, [], ◌∷◌, ◌++◌, length, take, drop, sym, ap, ap₂, ◌∙◌, subst, arith, inl, inr, append_assoc, append-nil, length-append, length-drop}
+use Rattle.std.proofs.Common.{◌≡◌, ℕ, ◌+◌, ◌-◌, ◌≤◌, Bool, true, false, cond, List, [], ◌∷◌, ◌++◌, length, take, drop, Result, Ok, Err, OnOk, OnErr, refl, sym, ap, ap₂, ◌∙◌, subst, arith, inl, inr, append_assoc, append-nil, length-append, length-drop}
 use Rattle.std.proofs.Math.Seq.{take-append_seam, drop-append_seam, drop-append-add, drop-length}
 use Rattle.std.proofs.lemmas.Bool.Decides.{eqb_tells}
 use Rattle.std.proofs.lemmas.List.{length-take-le, take-append-drop, drop-drop, take_all}
@@ -11,8 +11,9 @@ use Rattle.std.specs.Str.{IsCharBoundary, IsUtf8}
 use Rattle.line_buffer.proofs.BoundaryLemmas.{boundary_of_same_front}
 use Rattle.line_buffer.proofs.ListLemmas.{take_within_take}
 use Rattle.line_buffer.specs.Character.{is_alphanumeric, is_one_alphanumeric}
-use Rattle.line_buffer.specs.Changes.{Entry, begins, ends, inserted, deleted, replaced, with_insert, with_joined_insert, with_delete, with_joined_delete, with_replace, with_typed}
-use Rattle.line_buffer.specs.Undo.{TellsOf, StillTells, KeepsFront}
+use Rattle.line_buffer.specs.Changes.{Changes, Entry, no_changes, begins, ends, inserted, deleted, replaced, with_insert, with_joined_insert, with_delete, with_joined_delete, with_replace, with_typed}
+use Rattle.line_buffer.specs.Line.{Line}
+use Rattle.line_buffer.specs.Undo.{KeepsFront, KeepsTold, KeepsToldAnywhere, StillTells, Tells, TellsOf}
 
 -- ---- cutting a text in three
 
@@ -287,3 +288,16 @@ pub behind_insert : (text text' t : List ℕ) (p : ℕ) → IsUtf8 text → IsCh
 behind_insert text text' t p u b e =
     let len : length (take p text ++ t) ≡ p + length t = omega (arith, length-append (take p text) t, length-take-le p text b.0) in
     subst (IsCharBoundary text') len (IsCharBoundary-at_seam text' (take p text ++ t) (drop p text) e (IsUtf8-drop text p u b))
+
+-- ---- for what holds a line and its changes: after any call, an error too, the entries tell of the line
+
+told_on : {T E : Type 0} (r : Result T E) (old new : Changes) (line line' : Line) → OnOk r (StillTells old.entries line.text new.entries line'.text) → OnErr r (new ≡ no_changes)
+    → Tells old.entries line.text → Tells new.entries line'.text
+told_on (Ok x) old new line line' t n h = record { start = h.start; told = t.tells h.start h.told }
+told_on (Err e) old new line line' t n h = rw n (record { start = line'.text; told = refl })
+
+pub told_kept : {T E : Type 0} (r : Result T E) (old new : Changes) (line line' : Line) → KeepsTold r old line new line' → Tells old.entries line.text → Tells new.entries line'.text
+told_kept r old new line line' k h = told_on r old new line line' k.tells k.err h
+
+pub told_kept_anywhere : {T E : Type 0} (r : Result T E) (old new : Changes) (line : Line) → KeepsToldAnywhere r old new → Tells old.entries line.text → Tells new.entries line.text
+told_kept_anywhere r old new line k h = told_kept r old new line line (k.of line) h

@@ -18,11 +18,11 @@ use Rattle.line_buffer.proofs.WordLemmas.{drop_within, drop_end, filter-yes, fil
 use Rattle.line_buffer.proofs.ChangeLemmas.{entries_of-push}
 
 pub insert_within : (entries rest : List Entry) (text : List ℕ) (place : ℕ) (t : List ℕ) → Tells entries text → entries ≡ inserted place t ∷ rest → place + length t ≤ length text
-insert_within entries rest text place t h e = let told = subst (λ es. Tells es text) e h in told.1.0.stop.0
+insert_within entries rest text place t h e = let here = subst (λ es. Tells es text) e h in here.told.0.stop.0
 
 pub replace_within : (entries rest : List Entry) (text : List ℕ) (place : ℕ) (old new : List ℕ) → Tells entries text → entries ≡ replaced place old new ∷ rest
     → place + length new ≤ length text
-replace_within entries rest text place old new h e = let told = subst (λ es. Tells es text) e h in told.1.0.stop.0
+replace_within entries rest text place old new h e = let here = subst (λ es. Tells es text) e h in here.told.0.stop.0
 
 -- the newest entry of a list whose newest change was taken
 pub newest_is : (items left : List Change) (entries : List Entry) (c : Change) (e : Entry) → entries_of items ≡ entries → items ≡ left ++ c ∷ [] → entry_of c ≡ e
@@ -74,12 +74,12 @@ pub took-one : (all : List Entry) (start : Line) (k : ℕ) (left left' : List En
     → Took all start (k + 1) left' line' opened' closed' undone'
 took-one all start k left left' line line' e opened closed opened' closed' undone undone' t l i b n u =
     let more = take_one_more k all left' e (sym t.left_is ∙ l) in
-    let told = subst (λ es. Tells es line.text) l t.tells in
+    let here = subst (λ es. Tells es line.text) l t.tells in
     record {
       within = rw add-one (drop_within k all left' e (sym t.left_is ∙ l));
       left_is = sym (drop_one_more k all left' e (sym t.left_is ∙ l));
       line_is = i ∙ ap (taken_back e) t.line_is ∙ sym (ap (λ es. all_taken_back es start) more ∙ all_taken_back-push (take k all) e start);
-      tells = subst (λ (m : Line). Tells left' m.text) (sym i) (told.0, told.1.1);
+      tells = subst (λ (m : Line). Tells left' m.text) (sym i) (record { start = here.start; told = here.told.1 });
       begins_is = b ∙ ap (λ c. c + one_if (is_begin e)) t.begins_is ∙ sym (ap (count_by is_begin) more ∙ count_by-push is_begin (take k all) e);
       ends_is = n ∙ ap (λ c. c + one_if (is_end e)) t.ends_is ∙ sym (ap (count_by is_end) more ∙ count_by-push is_end (take k all) e);
       undone_is = u ∙ ap (λ c. c || is_change e) t.undone_is ∙ sym (ap (list_any is_change) more ∙ list_any-push is_change (take k all) e);

@@ -1,7 +1,7 @@
 -- Taking changes back.
-use Rattle.std.specs.Prelude.{◌≡◌, ℕ, ◌+◌, ◌≤◌, max, nat_le, Bool, true, false, List, [], ◌∷◌, length, take, drop, filter, count_by, unwrap_or, slice_range, IsCharBoundary}
+use Rattle.std.specs.Prelude.{◌≡◌, ℕ, ◌+◌, ◌≤◌, max, Result, OnOk, OnErr, nat_le, Bool, true, false, List, [], ◌∷◌, length, take, drop, filter, count_by, unwrap_or, slice_range, IsCharBoundary}
 use Rattle.std.specs.List.{range_with_len, remove_range, insert_slice, replace_range}
-use Rattle.line_buffer.specs.Changes.{Entry, begins, ends, inserted, deleted, replaced}
+use Rattle.line_buffer.specs.Changes.{Changes, Entry, no_changes, begins, ends, inserted, deleted, replaced}
 use Rattle.line_buffer.specs.Line.{Line}
 use Rattle.line_buffer.specs.Word.{nth}
 
@@ -50,8 +50,9 @@ TellsOf [] text start = text ≡ start
 TellsOf (e ∷ entries) text start = Fits e text × TellsOf entries (text_before e text) start
 
 -- the entries tell how a text came from some other
-abbrev pub Tells : List Entry → List ℕ → Type 0
-Tells entries text = (start : List ℕ) × TellsOf entries text start
+pub record Tells (entries : List Entry) (text : List ℕ) : Type 0 where
+  pub start : List ℕ
+  pub told : TellsOf entries text start
 
 abbrev pub is_begin : Entry → Bool
 is_begin begins = true
@@ -86,6 +87,15 @@ NoGroupOpen entries = (k : ℕ) → count_by is_begin (take k entries) ≤ count
 -- what old entries tell of a text, new ones tell of another: both lead back to the same start
 pub record StillTells (old : List Entry) (text : List ℕ) (new : List Entry) (text' : List ℕ) : Type 0 where
   pub tells : (start : List ℕ) → TellsOf old text start → TellsOf new text' start
+
+-- after a call's success the changes tell of the new text what they told of the old one; after its error there are none
+pub record KeepsTold {T E : Type 0} (result : Result T E) (old : Changes) (line : Line) (new : Changes) (line' : Line) : Type 0 where
+  pub tells : OnOk result (StillTells old.entries line.text new.entries line'.text)
+  pub err : OnErr result (new ≡ no_changes)
+
+-- the same of a call that leaves the text, whichever it is
+pub record KeepsToldAnywhere {T E : Type 0} (result : Result T E) (old new : Changes) : Type 0 where
+  pub of : (line : Line) → KeepsTold result old line new line
 
 -- the boundaries of a text up to a place are boundaries of another
 pub record KeepsFront (text text' : List ℕ) (place : ℕ) : Type 0 where

@@ -1,7 +1,7 @@
 ghost use Rattle.std.specs.Prelude.{ℕ, List, ◌≡◌, ◌+◌, ◌==◌, ◌++◌, ◌∷◌, length, encode_utf8, replicate, not, string_bytes, option_copied, option_map, ◌<◌, drop, take, max, IsCharBoundary, IfOk, OnOk, OnErr};
 ghost use Rattle.std.specs.List.{list_any};
 ghost use Rattle.line_buffer.specs.Taken.{closed_by, is_text, newest_kind, opened_by};
-ghost use Rattle.line_buffer.specs.Undo.{StillTells, Tells, all_taken_back, is_change, steps_len};
+ghost use Rattle.line_buffer.specs.Undo.{KeepsTold, KeepsToldAnywhere, Tells, all_taken_back, is_change, steps_len};
 ghost use Rattle.line_buffer.specs.Changes.{ends, last_insert_of, newest_begins, inserted, deleted, replaced, no_changes, with_entries, begun, ended, closed, adds_end, with_insert, with_joined_insert, with_joined_delete, with_delete, with_replace, with_typed};
 
 use crate::clusters::{is_alphanumeric, is_one_alphanumeric};
@@ -117,8 +117,7 @@ impl Changeset {
     /// group.
     pub fn begin(&mut self) -> Result<(), OutOfMemory>
         ensures changes { OnOk result (self.new ≡ begun self.old) }
-        ensures tells { OnOk result ((text : List ℕ) → StillTells self.old.entries text self.new.entries text) }
-        ensures err { OnErr result (self.new ≡ no_changes) }
+        ensures told { KeepsToldAnywhere result self.old self.new }
     {
         self.open_groups = self.open_groups.saturating_add(1);
         let outcome = self.add(Change::Begin);
@@ -130,8 +129,7 @@ impl Changeset {
     pub fn end(&mut self) -> Result<bool, OutOfMemory>
         ensures answer { IfOk result (λ added. added ≡ adds_end self.old.open_groups self.old.entries) }
         ensures changes { OnOk result (self.new ≡ ended self.old) }
-        ensures tells { OnOk result ((text : List ℕ) → StillTells self.old.entries text self.new.entries text) }
-        ensures err { OnErr result (self.new ≡ no_changes) }
+        ensures told { KeepsToldAnywhere result self.old self.new }
     {
         self.take_newest_begins();
         match self.add_ends() {
@@ -154,8 +152,7 @@ impl Changeset {
         ensures answer { IfOk result (λ undone. undone ≡ list_any is_change (take (steps_len self.old.entries n) self.old.entries)) }
         ensures line { OnOk result (line.new ≡ all_taken_back (take (steps_len self.old.entries n) self.old.entries) line.old) }
         ensures changes { OnOk result (self.new ≡ with_entries self.old (drop (steps_len self.old.entries n) self.old.entries)) }
-        ensures tells { OnOk result (StillTells self.old.entries line.old.text self.new.entries line.new.text) }
-        ensures err { OnErr result (self.new ≡ no_changes) }
+        ensures told { KeepsTold result self.old line.old self.new line.new }
         ensures cursor { IsCharBoundary line.new.text line.new.cursor }
     {
         match self.take_steps(line, n.max(1)) {

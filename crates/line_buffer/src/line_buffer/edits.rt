@@ -1,8 +1,8 @@
 //! Calls that put text into the line.
 ghost use Rattle.std.specs.Prelude.{◌≡◌, ◌≢◌, ◌≤◌, ◌==◌, length, encode_utf8, slice_range, string_bytes, IfOk, OnOk, OnErr, IsCharBoundary};
 ghost use Rattle.std.specs.List.{repeat};
-ghost use Rattle.line_buffer.specs.Changes.{no_changes, with_delete, with_entries, with_insert, with_replace, with_typed};
-ghost use Rattle.line_buffer.specs.Undo.{KeepsFront, StillTells};
+ghost use Rattle.line_buffer.specs.Changes.{with_delete, with_entries, with_insert, with_replace, with_typed};
+ghost use Rattle.line_buffer.specs.Undo.{KeepsFront, KeepsTold, StillTells};
 ghost use Rattle.line_buffer.specs.Yank.{with_yank, with_yank_pop, yank_popped, yank_pops, yanked, yanks};
 ghost use Rattle.line_buffer.specs.Line.{inserted_at, inserted_at_cursor, replaced_in};
 
@@ -25,8 +25,7 @@ impl LineBuffer {
         ensures answer { IfOk result (λ at_end. at_end ≡ (self.old.cursor == length self.old.text)) }
         ensures line { OnOk result (self.new ≡ inserted_at_cursor self.old (repeat n (encode_utf8 c))) }
         ensures changes { OnOk result (changes.new ≡ with_entries changes.old (with_typed self.old.cursor c n changes.old.entries)) }
-        ensures err { OnErr result (changes.new ≡ no_changes) }
-        ensures tells { OnOk result (StillTells changes.old.entries self.old.text changes.new.entries self.new.text) }
+        ensures told { KeepsTold result changes.old self.old changes.new self.new }
         ensures cursor { IsCharBoundary self.new.text self.new.cursor }
     {
         let outcome = if n == 1 {
@@ -83,8 +82,7 @@ impl LineBuffer {
         requires behind { self.old.cursor ≤ place }
         ensures line { OnOk result (self.new ≡ inserted_at self.old place text.now) }
         ensures changes { OnOk result (changes.new ≡ with_entries changes.old (with_insert place text.now changes.old.entries)) }
-        ensures err { OnErr result (changes.new ≡ no_changes) }
-        ensures tells { OnOk result (StillTells changes.old.entries self.old.text changes.new.entries self.new.text) }
+        ensures told { KeepsTold result changes.old self.old changes.new self.new }
         ensures cursor { IsCharBoundary self.new.text self.new.cursor }
     {
         let outcome = self.try_insert_str(place, text, changes);
@@ -123,8 +121,7 @@ impl LineBuffer {
         ensures answer { IfOk result (λ at_end. at_end ≡ yanks self.old text.now) }
         ensures line { OnOk result (self.new ≡ yanked self.old text.now n) }
         ensures changes { OnOk result (changes.new ≡ with_entries changes.old (with_yank self.old.cursor text.now n changes.old.entries)) }
-        ensures err { OnErr result (changes.new ≡ no_changes) }
-        ensures tells { OnOk result (StillTells changes.old.entries self.old.text changes.new.entries self.new.text) }
+        ensures told { KeepsTold result changes.old self.old changes.new self.new }
         ensures cursor { IsCharBoundary self.new.text self.new.cursor }
     {
         let outcome = self.try_yank(text, n, changes);
@@ -166,8 +163,7 @@ impl LineBuffer {
         ensures answer { IfOk result (λ at_end. at_end ≡ yank_pops self.old size text.now) }
         ensures line { OnOk result (self.new ≡ yank_popped self.old size text.now) }
         ensures changes { OnOk result (changes.new ≡ with_entries changes.old (with_yank_pop self.old size text.now changes.old.entries)) }
-        ensures err { OnErr result (changes.new ≡ no_changes) }
-        ensures tells { OnOk result (StillTells changes.old.entries self.old.text changes.new.entries self.new.text) }
+        ensures told { KeepsTold result changes.old self.old changes.new self.new }
         ensures cursor { IsCharBoundary self.new.text self.new.cursor }
     {
         let outcome = self.try_yank_pop(size, text, changes);
@@ -206,8 +202,7 @@ impl LineBuffer {
         requires { IsCharBoundary text.now pos }
         ensures line { OnOk result (self.new ≡ record { text = text.now; cursor = pos }) }
         ensures changes { OnOk result (changes.new ≡ with_entries changes.old (with_insert 0 text.now (with_delete 0 self.old.text changes.old.entries))) }
-        ensures err { OnErr result (changes.new ≡ no_changes) }
-        ensures tells { OnOk result (StillTells changes.old.entries self.old.text changes.new.entries self.new.text) }
+        ensures told { KeepsTold result changes.old self.old changes.new self.new }
         ensures cursor { IsCharBoundary self.new.text self.new.cursor }
     {
         let outcome = self.try_update(text, pos, changes);
@@ -247,8 +242,7 @@ impl LineBuffer {
         requires end { IsCharBoundary self.old.text range.end }
         ensures line { OnOk result (self.new ≡ replaced_in self.old range.start range.end text.now) }
         ensures changes { OnOk result (changes.new ≡ with_entries changes.old (with_replace range.start (slice_range self.old.text range.start range.end) text.now changes.old.entries)) }
-        ensures err { OnErr result (changes.new ≡ no_changes) }
-        ensures tells { OnOk result (StillTells changes.old.entries self.old.text changes.new.entries self.new.text) }
+        ensures told { KeepsTold result changes.old self.old changes.new self.new }
         ensures cursor { IsCharBoundary self.new.text self.new.cursor }
     {
         let outcome = self.try_replace(range.start, range.end, text, changes);

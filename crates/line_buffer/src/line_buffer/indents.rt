@@ -1,11 +1,11 @@
 //! Calls that move lines to the right or to the left.
 ghost use Rattle.std.specs.Prelude.{◌≡◌, ◌+◌, ◌-◌, ◌≤◌, ◌<◌, [], true, false, length, drop, take, replicate, string_bytes, if◌then◌else◌, IfOk, IfSome, OnOk, OnErr, IsCharBoundary};
 ghost use Rattle.std.specs.List.{prefix_len};
-ghost use Rattle.line_buffer.specs.Changes.{no_changes, with_entries};
+ghost use Rattle.line_buffer.specs.Changes.{with_entries};
 ghost use Rattle.line_buffer.specs.Indent.{blank_front, indented, indented_range, range_by_lines, shifted, with_indents, with_line_shifted, with_shift};
 ghost use Rattle.line_buffer.specs.Line.{end_of_line, is_no_newline, with_cursor};
 ghost use Rattle.line_buffer.specs.Lines.{line_from};
-ghost use Rattle.line_buffer.specs.Undo.{StillTells};
+ghost use Rattle.line_buffer.specs.Undo.{KeepsTold, StillTells};
 
 use super::{LineBuffer, OutOfMemory};
 use crate::clusters::{first_line_len, last_line_start};
@@ -31,8 +31,7 @@ impl LineBuffer {
         ensures answer { IfOk result (λ done. done ≡ true) }
         ensures line { OnOk result (self.new ≡ indented dedent amount self.old (indented_range self.old mvt.now)) }
         ensures changes { OnOk result (changes.new ≡ with_entries changes.old (with_indents dedent amount self.old.text (indented_range self.old mvt.now) changes.old.entries)) }
-        ensures err { OnErr result (changes.new ≡ no_changes) }
-        ensures tells { OnOk result (StillTells changes.old.entries self.old.text changes.new.entries self.new.text) }
+        ensures told { KeepsTold result changes.old self.old changes.new self.new }
         ensures cursor { IsCharBoundary self.new.text self.new.cursor }
     {
         let (start, end) = self.indented_range(mvt);

@@ -1,10 +1,10 @@
 //! Calls that take text out of the line.
 ghost use Rattle.std.specs.Prelude.{◌≡◌, ◌≤◌, ◌<◌, List, length, string_bytes, option_map, slice_range, Option, Some, None, IfOk, IfSome, OnOk, OnErr, IsCharBoundary};
-ghost use Rattle.line_buffer.specs.Changes.{no_changes, with_entries, with_delete};
+ghost use Rattle.line_buffer.specs.Changes.{with_entries, with_delete};
 ghost use Rattle.line_buffer.specs.Cluster.{place_on};
 ghost use Rattle.line_buffer.specs.Kill.{direction_of, killed, killed_range, killed_of, mode_of, neighbour_of, ring_mode, ring_with_killed, with_killed};
 ghost use Rattle.line_buffer.specs.Line.{without};
-ghost use Rattle.line_buffer.specs.Undo.{KeepsFront, StillTells};
+ghost use Rattle.line_buffer.specs.Undo.{KeepsFront, KeepsTold, StillTells};
 ghost use Rattle.line_buffer.specs.Range.{from_cursor, range_of, text_in, unless_empty, up_to_cursor};
 
 use super::{Direction, LineBuffer, OutOfMemory};
@@ -29,8 +29,7 @@ impl LineBuffer {
         ensures line { OnOk result (self.new ≡ without self.old (killed_range self.old mvt.now)) }
         ensures changes { OnOk result (changes.new ≡ with_killed self.old (killed_range self.old mvt.now) changes.old) }
         ensures ring { OnOk result (kill_ring.new ≡ ring_with_killed self.old mvt.now (killed_range self.old mvt.now) kill_ring.old) }
-        ensures err { OnErr result (changes.new ≡ no_changes) }
-        ensures tells { OnOk result (StillTells changes.old.entries self.old.text changes.new.entries self.new.text) }
+        ensures told { KeepsTold result changes.old self.old changes.new self.new }
         ensures cursor { IsCharBoundary self.new.text self.new.cursor }
         ensures size { kill_ring.new.size ≡ kill_ring.old.size }
         ensures bound { OnErr result (length kill_ring.new.slots ≤ kill_ring.new.size) }
@@ -79,8 +78,7 @@ impl LineBuffer {
         ensures answer { IfOk result (λ r. option_map string_bytes r ≡ text_in self.old.text (from_cursor self.old (place_on self.old n))) }
         ensures line { OnOk result (self.new ≡ without self.old (from_cursor self.old (place_on self.old n))) }
         ensures changes { OnOk result (changes.new ≡ with_killed self.old (from_cursor self.old (place_on self.old n)) changes.old) }
-        ensures err { OnErr result (changes.new ≡ no_changes) }
-        ensures tells { OnOk result (StillTells changes.old.entries self.old.text changes.new.entries self.new.text) }
+        ensures told { KeepsTold result changes.old self.old changes.new self.new }
         ensures cursor { IsCharBoundary self.new.text self.new.cursor }
     {
         let _ = &self.pos;

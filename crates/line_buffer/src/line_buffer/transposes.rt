@@ -1,10 +1,10 @@
 //! Calls that exchange characters or words, or change the case of letters.
 ghost use Rattle.std.specs.Prelude.{◌≡◌, ◌≤◌, true, map, if◌then◌else◌, is_some, string_bytes, slice_range, IfOk, IfSome, OnOk, OnErr, IsCharBoundary};
 ghost use Rattle.std.specs.Char.{to_ascii_lowercase, to_ascii_uppercase};
-ghost use Rattle.line_buffer.specs.Changes.{no_changes, with_entries};
+ghost use Rattle.line_buffer.specs.Changes.{with_entries};
 ghost use Rattle.line_buffer.specs.Line.{with_cursor};
 ghost use Rattle.line_buffer.specs.Transpose.{are_apart, between_chars, cased, chars_beside, exchanged, has_two_chars, next_alphanumeric, with_case, with_cased, with_exchange, with_exchanged, word_end_from, word_start_from, words_beside};
-ghost use Rattle.line_buffer.specs.Undo.{StillTells};
+ghost use Rattle.line_buffer.specs.Undo.{KeepsTold, StillTells};
 ghost use Rattle.line_buffer.specs.Word.{word_back, word_on};
 
 use super::{LineBuffer, OutOfMemory, WordAction};
@@ -22,8 +22,7 @@ impl LineBuffer {
         ensures answer { IfOk result (λ done. done ≡ has_two_chars self.old) }
         ensures line { OnOk result (self.new ≡ (if has_two_chars self.old then with_exchanged self.old (chars_beside self.old (between_chars self.old)) else self.old)) }
         ensures changes { OnOk result (changes.new ≡ with_entries changes.old (if has_two_chars self.old then with_exchange self.old.text (chars_beside self.old (between_chars self.old)) changes.old.entries else changes.old.entries)) }
-        ensures err { OnErr result (changes.new ≡ no_changes) }
-        ensures tells { OnOk result (StillTells changes.old.entries self.old.text changes.new.entries self.new.text) }
+        ensures told { KeepsTold result changes.old self.old changes.new self.new }
         ensures cursor { IsCharBoundary self.new.text self.new.cursor }
     {
         let _ = &self.pos;
@@ -92,8 +91,7 @@ impl LineBuffer {
         ensures answer { IfOk result (λ done. done ≡ are_apart (words_beside self.old n)) }
         ensures line { OnOk result (self.new ≡ (if are_apart (words_beside self.old n) then with_exchanged self.old (words_beside self.old n) else with_cursor self.old (words_beside self.old n).to1)) }
         ensures changes { OnOk result (changes.new ≡ with_entries changes.old (if are_apart (words_beside self.old n) then with_exchange self.old.text (words_beside self.old n) changes.old.entries else changes.old.entries)) }
-        ensures err { OnErr result (changes.new ≡ no_changes) }
-        ensures tells { OnOk result (StillTells changes.old.entries self.old.text changes.new.entries self.new.text) }
+        ensures told { KeepsTold result changes.old self.old changes.new self.new }
         ensures cursor { IsCharBoundary self.new.text self.new.cursor }
     {
         let to2 = self.word_end_from(self.pos(), n);
@@ -151,8 +149,7 @@ impl LineBuffer {
         ensures answer { IfOk result (λ done. done ≡ is_some (next_alphanumeric self.old)) }
         ensures line { OnOk result (self.new ≡ with_cased action self.old (next_alphanumeric self.old)) }
         ensures changes { OnOk result (changes.new ≡ with_entries changes.old (with_case action self.old (next_alphanumeric self.old) changes.old.entries)) }
-        ensures err { OnErr result (changes.new ≡ no_changes) }
-        ensures tells { OnOk result (StillTells changes.old.entries self.old.text changes.new.entries self.new.text) }
+        ensures told { KeepsTold result changes.old self.old changes.new self.new }
         ensures cursor { IsCharBoundary self.new.text self.new.cursor }
     {
         let outcome = self.try_edit_word(action, changes);

@@ -8,7 +8,12 @@ use Rattle.line_buffer.proofs.undo.Changeset.end.Goals as goal
 abbrev shut : List Entry → Changes
 shut entries = record { entries = entries; open_groups = 0 }
 
-pub returns-in-Ok-clause-tells : goal.returns-in-Ok-clause-tells
-returns-in-Ok-clause-tells c =
-    still-ended c.args.self.now c.add_ends.new.self
-    (c.in-Ok.ensures.changes ∙ ap shut (sym c.take_newest_begins.ensures.done ∙ c.take_newest_begins.ensures.closed))
+pub returns-in-Ok-clause-told : goal.returns-in-Ok-clause-told
+returns-in-Ok-clause-told c =
+    record {
+      of = λ line. record {
+        tells = still-ended c.args.self.now c.add_ends.new.self
+            (c.in-Ok.ensures.changes ∙ ap shut (sym c.take_newest_begins.ensures.done ∙ c.take_newest_begins.ensures.closed)) line.text;
+        err = tt;
+      };
+    }

@@ -2,7 +2,10 @@ use Rattle.line_buffer.specs.Undo.{steps_len}
 use Rattle.line_buffer.proofs.UndoLemmas.{still-undone}
 use Rattle.line_buffer.proofs.undo.Changeset.undo.Goals as goal
 
-pub returns-in-Ok-clause-tells : goal.returns-in-Ok-clause-tells
-returns-in-Ok-clause-tells c =
-    still-undone (steps_len c.args.self.now.entries c.max.result) c.args.self.now c.take_steps.new.self c.args.line.now c.take_steps.new.line
-    c.in-Ok.ensures.changes c.in-Ok.ensures.line
+pub returns-in-Ok-clause-told : goal.returns-in-Ok-clause-told
+returns-in-Ok-clause-told c =
+    record {
+      tells = still-undone (steps_len c.args.self.now.entries c.max.result) c.args.self.now c.take_steps.new.self c.args.line.now c.take_steps.new.line
+          c.in-Ok.ensures.changes c.in-Ok.ensures.line;
+      err = tt;
+    }
