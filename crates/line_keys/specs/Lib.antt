@@ -4,9 +4,10 @@ pub mod Item
 pub mod Table
 pub mod Draft
 pub mod Display
-pub mod Refresher
+pub mod EditorState
 pub use Rattle.line_parts.specs.Shown
 pub use Rattle.line_parts.specs.Context
+pub use Rattle.line_parts.specs.Environment
 pub use Rattle.line_parts.specs.Helped
 pub use Rattle.line_parts.specs.Hint
 pub use Rattle.line_parts.specs.Verdict

@@ -3,6 +3,7 @@
 #![tactic(auto)]
 
 pub mod command;
+pub mod editor_state;
 pub mod keymap;
 pub mod keys;
 pub mod laws;

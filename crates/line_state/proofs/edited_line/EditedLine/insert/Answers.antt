@@ -1,0 +1,11 @@
+use Rattle.line_state.proofs.EditedLemmas.{edited_is, first_stays}
+use Rattle.line_state.proofs.edited_line.EditedLine.insert.Goals as goal
+
+pub returns : goal.returns
+returns c =
+    rw (← c.self.view_is)
+    (record {
+      edited = edited_is _ _ _ _ c.in_ok-insert.ensures.line c.in_ok-insert.ensures.changes;
+      first = first_stays c.self.inside.changes c.insert.new.changes _ _ c.in_ok-insert.ensures.told.tells c.self.invariant;
+      err = tt;
+    })

@@ -1,0 +1,11 @@
+use Rattle.line_state.proofs.EditedLemmas.{edited_is, first_stays}
+use Rattle.line_state.proofs.edited_line.EditedLine.kill.Goals as goal
+
+pub returns-clause-edit : goal.returns-clause-edit
+returns-clause-edit c =
+    rw (← c.self.view_is)
+    (record {
+      edited = edited_is _ _ _ _ c.in_ok-killed.ensures.line c.in_ok-killed.ensures.changes;
+      first = first_stays c.self.inside.changes c.kill.new.changes _ _ c.in_ok-killed.ensures.told.tells c.self.invariant;
+      err = tt;
+    })

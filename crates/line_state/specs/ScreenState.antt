@@ -1,0 +1,52 @@
+-- What is said of a renderer by what contracts see of it.
+use Rattle.std.specs.Prelude.{◌≡◌, ℕ, ◌≤◌, ◌+◌, ◌++◌, ◌∷◌, ◌<◌, [], Bool, true, List, length, Option, IfSome, Result, OnOk}
+use Rattle.line_buffer.specs.Line.{Line}
+use Rattle.line_buffer.specs.declared.layout.Layout.{Layout}
+use Rattle.line_buffer.specs.declared.layout.Position.{Position}
+use Rattle.line_config.specs.Error.{Rose}
+use Rattle.line_config.specs.declared.error.ReadlineError.{ReadlineError}
+use Rattle.line_keys.specs.Display.{Surface, Screen, IsFullRedraw, corner}
+use Rattle.line_keys.specs.EditorState.{FailsOnlyIf}
+use Rattle.line_state.specs.declared.screen_state.ScreenState.{Ghosts}
+
+-- what is handed over for a full redraw agrees: the prompt ends at the layout's prompt end, the layout is a full redraw's, the old
+-- layout's cursor is the drawn one, and a highlighter comes only with colours
+pub record Agrees (surface : Surface) (screen : Screen) (prompt : List ℕ) (line : Line) (trailing : Option (List ℕ)) (old : Option Layout) (layout : Layout) (highlighted : Bool) : Type 0 where
+  pub prompt_end : layout.prompt_size ≡ surface.measure prompt corner
+  pub full : IsFullRedraw surface layout.prompt_size line trailing layout
+  pub drawn : IfSome old (λ l. l.cursor ≡ screen.position)
+  pub colored : highlighted ≡ true → surface.colors ≡ true
+
+-- the line is shown by its layout
+abbrev pub shown_by : Layout → Line → Screen
+shown_by layout line = record { position = layout.cursor; text = line.text; origin = layout.prompt_size }
+
+-- the cursor stands where the shown text ends, and a column is free behind it
+abbrev pub HasRoom : Surface → Screen → Type 0
+HasRoom surface screen =
+    (screen.position ≡ surface.measure screen.text screen.origin) × (screen.position.col + 1 < surface.columns)
+
+-- the screen with one more character behind the shown text
+abbrev pub with_shown : Screen → ℕ → Screen
+with_shown screen c = record {
+  position = record { row = screen.position.row; col = screen.position.col + 1 };
+  text = screen.text ++ c ∷ [];
+  origin = screen.origin;
+}
+
+-- the shown text ends on the cursor's row, so many columns behind it
+abbrev pub EndsBehind : Surface → Screen → ℕ → Type 0
+EndsBehind surface screen columns =
+    ((surface.measure screen.text screen.origin).row ≡ screen.position.row)
+    × (screen.position.col + columns ≡ (surface.measure screen.text screen.origin).col)
+
+-- a call that may fail: the surface stays, and an error of input or output raises the count of failures, which never falls
+pub record Tries {X T : Type 0} (r : Ghosts X) (result : Result T ReadlineError) (old new : X) : Type 0 where
+  pub surface : r.surface new ≡ r.surface old
+  pub counts : r.failures old ≤ r.failures new
+  pub fails : FailsOnlyIf result (Rose (r.failures old) (r.failures new))
+
+-- such a call that draws nothing in full
+pub record DrawsPart {X T : Type 0} (r : Ghosts X) (result : Result T ReadlineError) (old new : X) : Type 0 where
+  pub redraws : r.redraws new ≡ r.redraws old
+  pub tries : Tries r result old new

@@ -1,0 +1,147 @@
+//! The line with its changes.
+ghost use Rattle.std.specs.Prelude.{◌≡◌, ◌==◌, ◌≤◌, not, [], ℕ, List, Option, IfOk, OnOk, OnErr, option_map, string_bytes, is_some, length};
+ghost use Rattle.line_buffer.specs.Changes.{adds_end, begun, ended, last_insert_of, no_changes};
+ghost use Rattle.line_buffer.specs.Cluster.{place_on, place_back};
+ghost use Rattle.line_buffer.specs.Kill.{killed_range, ring_with_killed};
+ghost use Rattle.line_buffer.specs.Line.{moved_to, with_cursor, start_of_line, end_of_line};
+ghost use Rattle.line_state.specs.Edited.{EditsTo, undone, with_copies, without_range};
+
+use line_buffer::{Changeset, KillRing, LineBuffer, Movement, OutOfMemory, RepeatCount};
+use std::alloc::Global;
+use std::marker::Model;
+
+/// A line and its changes, which tell of the line at all times: taken back, they give the text that it began with.
+///
+/// # Errors
+/// Each call that grows the text or the changes may run out of memory. Then there are no changes any more, and the line is
+/// text with its cursor on a boundary.
+#[derive(Drop)]
+pub struct EditedLine {
+    line: LineBuffer,
+    changes: Changeset,
+}
+
+impl Model for EditedLine {
+    ghost use Rattle.line_buffer.specs.Undo.{Tells};
+    ghost use Rattle.line_state.specs.Edited.{Edited};
+
+    ghost Value = { Edited };
+
+    ghost view = { λ e. record { line = e.line; changes = e.changes } };
+
+    ghost invariant = { λ e. Tells e.changes.entries e.line.text };
+}
+
+#[tactic(auto, using(crate::proofs::EditedLemmas::kept, crate::proofs::EditedLemmas::first_kept, crate::proofs::EditedLemmas::first_stays, crate::proofs::EditedLemmas::kept_anywhere, crate::proofs::EditedLemmas::first_kept_anywhere))]
+impl EditedLine {
+    /// Returns an empty line with no changes.
+    pub fn new(alloc: Global) -> Self
+        ensures { result ≡ record { line = record { text = []; cursor = 0 }; changes = no_changes } }
+    {
+        EditedLine {
+            line: LineBuffer::new(alloc),
+            changes: Changeset::new(alloc),
+        }
+    }
+
+    /// Returns the line.
+    pub fn line(&self) -> &LineBuffer
+        ensures { result.now ≡ self.now.line }
+    {
+        &self.line
+    }
+
+    /// Inserts `n` copies of a character at the cursor, which goes behind them.
+    pub fn insert(&mut self, c: char, n: RepeatCount) -> Result<(), OutOfMemory>
+        ensures { EditsTo result self.old self.new (with_copies n c self.old) }
+    {
+        let _ = self.line.insert(c, n, &mut self.changes)?;
+        Ok(())
+    }
+
+    /// Kills the text of a movement, with the kill ring as the line buffer has it. Returns whether there was a text to kill.
+    pub fn kill(
+        &mut self,
+        movement: &Movement,
+        kill_ring: &mut KillRing,
+    ) -> Result<bool, OutOfMemory>
+        ensures answer { IfOk result (λ found.
+            found ≡ is_some (killed_range self.old.line movement.now)) }
+        ensures edit { EditsTo result self.old self.new
+            (without_range (killed_range self.old.line movement.now) self.old) }
+        ensures ring { OnOk result (kill_ring.new ≡ ring_with_killed self.old.line movement.now
+            (killed_range self.old.line movement.now) kill_ring.old) }
+        ensures size { kill_ring.new.size ≡ kill_ring.old.size }
+        ensures bound { OnErr result (length kill_ring.new.slots ≤ kill_ring.new.size) }
+    {
+        let killed = self.line.kill(movement, &mut self.changes, kill_ring)?;
+        Ok(killed.is_some())
+    }
+
+    /// Takes `n` steps back, one for `n` = 0, or as many as there are.
+    pub fn undo(&mut self, n: RepeatCount) -> Result<bool, OutOfMemory>
+        ensures { EditsTo result self.old self.new (undone n self.old) }
+    {
+        self.changes.undo(&mut self.line, n)
+    }
+
+    /// Opens a group of changes.
+    pub fn begin_group(&mut self) -> Result<(), OutOfMemory>
+        ensures edit { EditsTo result self.old self.new (record self.old { changes = begun self.old.changes }) }
+        ensures line { self.new.line ≡ self.old.line }
+    {
+        self.changes.begin()
+    }
+
+    /// Closes every open group of changes. Returns whether an entry was added for it.
+    pub fn end_groups(&mut self) -> Result<bool, OutOfMemory>
+        ensures answer { IfOk result (λ added.
+            added ≡ adds_end self.old.changes.open_groups self.old.changes.entries) }
+        ensures edit { EditsTo result self.old self.new (record self.old { changes = ended self.old.changes }) }
+        ensures line { self.new.line ≡ self.old.line }
+    {
+        self.changes.end()
+    }
+
+    /// Returns the text that came in last: that of the newest insert or replacement, unless a group was begun or a text
+    /// deleted since.
+    pub fn last_insert(&self) -> Result<Option<String>, OutOfMemory>
+        ensures { IfOk result (λ r. option_map string_bytes r ≡ last_insert_of self.now.changes.entries) }
+    {
+        self.changes.last_insert()
+    }
+
+    /// Moves the cursor `n` clusters back, or as many as there are. Returns whether it moved.
+    pub fn move_backward(&mut self, n: RepeatCount) -> bool
+        ensures answer { result ≡ is_some (place_back self.old.line n) }
+        ensures line { self.new ≡ record self.old { line = moved_to self.old.line (place_back self.old.line n) } }
+    {
+        self.line.move_backward(n)
+    }
+
+    /// Moves the cursor `n` clusters on, or as many as there are. Returns whether it moved.
+    pub fn move_forward(&mut self, n: RepeatCount) -> bool
+        ensures answer { result ≡ is_some (place_on self.old.line n) }
+        ensures line { self.new ≡ record self.old { line = moved_to self.old.line (place_on self.old.line n) } }
+    {
+        self.line.move_forward(n)
+    }
+
+    /// Moves the cursor to the start of its line. Returns whether it moved.
+    pub fn move_home(&mut self) -> bool
+        ensures answer { result ≡ not (start_of_line self.old.line == self.old.line.cursor) }
+        ensures line { self.new
+            ≡ record self.old { line = with_cursor self.old.line (start_of_line self.old.line) } }
+    {
+        self.line.move_home()
+    }
+
+    /// Moves the cursor to the end of its line. Returns whether it moved.
+    pub fn move_end(&mut self) -> bool
+        ensures answer { result ≡ not (end_of_line self.old.line == self.old.line.cursor) }
+        ensures line { self.new
+            ≡ record self.old { line = with_cursor self.old.line (end_of_line self.old.line) } }
+    {
+        self.line.move_end()
+    }
+}

@@ -1,0 +1,228 @@
+//! What is drawn of a line: the renderer, the prompt, and the layout that is kept of them.
+ghost use Rattle.std.specs.Prelude.{◌≡◌, ◌↔◌, if◌then◌else◌, Some, None, ℕ, Bool, true, false, List, Option, is_some, option_map, OnOk, IsTrue};
+ghost use Rattle.line_buffer.specs.declared.layout.Position.{Position};
+ghost use Rattle.line_config.specs.Error.{Rose};
+ghost use Rattle.line_keys.specs.Display.{corner, cursor_position, undrawn};
+ghost use Rattle.line_keys.specs.EditorState.{FailsOnlyIf};
+ghost use Rattle.line_state.specs.Drawn.{DrawsInFull, KeepsSurface};
+
+use crate::drawn::Drawn;
+use crate::screen_state::ScreenState;
+use crate::tty::Renderer;
+use line_buffer::{Layout, LineBuffer, Position};
+use line_config::{Prompt, Result};
+use line_parts::Highlighter;
+
+/// The drawn line: the renderer and the prompt, the layout of what is drawn, and whether characters are highlighted that
+/// the next drawing has to show without their colours.
+pub struct View<'out, 'prompt, W: Renderer, P: Prompt> {
+    out: &'out mut W,
+    prompt: &'prompt P,
+    prompt_size: Position,
+    layout: Layout,
+    // Whether the renderer stands at the kept cursor, with the line drawn.
+    in_place: bool,
+    highlight_char: bool,
+    ghost measured: { (W.surface out.now).measure (P.raw_text prompt.now) corner ≡ prompt_size },
+    ghost placed: { in_place ≡ true → (W.screen out.now).position ≡ layout.cursor },
+}
+
+impl<W: Renderer, P: Prompt> Drop for View<'_, '_, W, P> {
+    fn drop(self) {
+        let View {
+            out: _,
+            prompt: _,
+            prompt_size: _,
+            layout: _,
+            in_place: _,
+            highlight_char: _,
+        } = self;
+    }
+}
+
+impl<'out, 'prompt, W: Renderer, P: Prompt> Drawn for View<'out, 'prompt, W, P> {
+    ghost display = { λ v. record {
+      surface = W.surface v.out.now;
+      prompt_end = v.prompt_size;
+      layout = v.layout;
+      screen = W.screen v.out.now;
+      lit = v.highlight_char;
+    } };
+
+    ghost redraws = { λ v. W.redraws v.out.now };
+
+    ghost failures = { λ v. W.failures v.out.now };
+
+    ghost loan = { λ v. v.out.ghost_name };
+}
+
+// Returns the layout, where it is drawn.
+fn if_drawn(drawn: bool, layout: &Layout) -> Option<&Layout>
+    ensures { option_map (λ l. l.now) result ≡ if drawn then Some layout.now else None }
+{
+    if drawn { Some(layout) } else { None }
+}
+
+impl<'out, 'prompt, W: Renderer, P: Prompt> View<'out, 'prompt, W, P> {
+    /// Returns the view of a renderer and a prompt, with nothing drawn yet.
+    pub fn new(out: &'out mut W, prompt: &'prompt P) -> Self
+        ensures display { ⟦<Self as Drawn>⟧.display result
+            ≡ undrawn (W.surface out.old) (W.screen out.old) (P.raw_text prompt.now) }
+        ensures redraws { ⟦<Self as Drawn>⟧.redraws result ≡ W.redraws out.old }
+        ensures failures { ⟦<Self as Drawn>⟧.failures result ≡ W.failures out.old }
+        ensures loan { ⟦<Self as Drawn>⟧.loan result ≡ out.entry.ghost_name }
+    {
+        let prompt_size = out.calculate_position(prompt.raw(), Position { row: 0, col: 0 });
+        let mut layout = Layout::new(out.grapheme_cluster_mode());
+        layout.prompt_size = prompt_size;
+        View {
+            out,
+            prompt,
+            prompt_size,
+            layout,
+            in_place: false,
+            highlight_char: false,
+        }
+    }
+
+    /// Draws the line in full behind the prompt, with `info` behind it, if there is one.
+    ///
+    /// # Errors
+    /// Those of the renderer.
+    pub fn refresh_line<H: Highlighter>(
+        &mut self,
+        line: &LineBuffer,
+        info: Option<&str>,
+        highlighter: Option<&H>,
+    ) -> Result<()>
+        requires { let d = ⟦<Self as Drawn>⟧ in
+            is_some highlighter ≡ true → (d.display self.old).surface.colors ≡ true }
+        ensures { let d = ⟦<Self as Drawn>⟧ in DrawsInFull d result self.old self.new
+            (d.display self.old).prompt_end true line.now (option_map (λ s. s.now) info.entry) }
+    {
+        self.redraw(self.prompt, self.prompt_size, true, line, info, highlighter)
+    }
+
+    /// Draws the line in full behind another prompt, with `info` behind it, if there is one.
+    ///
+    /// # Errors
+    /// Those of the renderer.
+    pub fn refresh_prompt_and_line<H: Highlighter>(
+        &mut self,
+        prompt: &str,
+        line: &LineBuffer,
+        info: Option<&str>,
+        highlighter: Option<&H>,
+    ) -> Result<()>
+        requires { let d = ⟦<Self as Drawn>⟧ in
+            is_some highlighter ≡ true → (d.display self.old).surface.colors ≡ true }
+        ensures { let d = ⟦<Self as Drawn>⟧ in DrawsInFull d result self.old self.new
+            ((d.display self.old).surface.measure prompt.now corner) false line.now
+            (option_map (λ s. s.now) info.entry) }
+    {
+        let corner = Position { row: 0, col: 0 };
+        let prompt_size = self.out.calculate_position(prompt, corner);
+        self.redraw(&prompt, prompt_size, false, line, info, highlighter)
+    }
+
+    // Draws all again, and keeps the layout that is drawn.
+    fn redraw<Q: Prompt, H: Highlighter>(
+        &mut self,
+        prompt: &Q,
+        prompt_size: Position,
+        default_prompt: bool,
+        line: &LineBuffer,
+        info: Option<&str>,
+        highlighter: Option<&H>,
+    ) -> Result<()>
+        requires measured { let d = ⟦<Self as Drawn>⟧ in
+            (d.display self.old).surface.measure (Q.raw_text prompt.now) corner ≡ prompt_size }
+        requires colored { let d = ⟦<Self as Drawn>⟧ in
+            is_some highlighter ≡ true → (d.display self.old).surface.colors ≡ true }
+        ensures { let d = ⟦<Self as Drawn>⟧ in DrawsInFull d result self.old self.new
+            prompt_size default_prompt line.now (option_map (λ s. s.now) info.entry) }
+    {
+        let new_layout = self
+            .out
+            .compute_layout(prompt_size, default_prompt, line, info);
+        let old_layout = if_drawn(self.in_place, &self.layout);
+        self.in_place = false;
+        self.out
+            .refresh_line(prompt, line, info, old_layout, &new_layout, highlighter)?;
+        self.layout = new_layout;
+        self.in_place = true;
+        Ok(())
+    }
+
+    /// Returns whether the kept cursor is where a full redraw would have the line's.
+    pub fn is_cursor_drawn(&self, line: &LineBuffer) -> bool
+        ensures { let d = ⟦<Self as Drawn>⟧.display self.now in IsTrue result
+            ↔ (d.layout.cursor ≡ cursor_position d.surface.measure d.prompt_end line.now) }
+    {
+        let before = &line.as_str()[..line.pos()];
+        self.layout.cursor == self.out.calculate_position(before, self.prompt_size)
+    }
+
+    /// Takes the drawn cursor to where what is shown ends, a text behind the line included.
+    ///
+    /// # Errors
+    /// Those of the renderer.
+    pub fn move_cursor_to_end(&mut self) -> Result<()>
+        ensures layout { let d = ⟦<Self as Drawn>⟧.display in OnOk result ((d self.new).layout
+            ≡ record (d self.old).layout { cursor = (d self.old).layout.end }) }
+        ensures position { let d = ⟦<Self as Drawn>⟧.display in
+            (d self.old).screen.position ≡ (d self.old).layout.cursor
+            → OnOk result ((d self.new).screen.position ≡ (d self.new).layout.cursor) }
+        ensures text { let d = ⟦<Self as Drawn>⟧.display in
+            (d self.new).screen.text ≡ (d self.old).screen.text }
+        ensures origin { let d = ⟦<Self as Drawn>⟧.display in
+            (d self.new).screen.origin ≡ (d self.old).screen.origin }
+        ensures lit { let d = ⟦<Self as Drawn>⟧.display in (d self.new).lit ≡ (d self.old).lit }
+        ensures redraws { ⟦<Self as Drawn>⟧.redraws self.new ≡ ⟦<Self as Drawn>⟧.redraws self.old }
+        ensures keeps { KeepsSurface ⟦<Self as Drawn>⟧ self.old self.new }
+        ensures fails { let d = ⟦<Self as Drawn>⟧ in
+            FailsOnlyIf result (Rose (d.failures self.old) (d.failures self.new)) }
+    {
+        if self.layout.cursor == self.layout.end {
+            return Ok(());
+        }
+        let in_place = self.in_place;
+        self.in_place = false;
+        self.out.move_cursor(self.layout.cursor, self.layout.end)?;
+        self.layout.cursor = self.layout.end;
+        self.in_place = in_place;
+        Ok(())
+    }
+
+    /// Returns whether colours are shown.
+    pub fn colors_enabled(&self) -> bool
+        ensures { result ≡ (⟦<Self as Drawn>⟧.display self.now).surface.colors }
+    {
+        self.out.colors_enabled()
+    }
+
+    /// Returns whether characters are highlighted that the next drawing has to show without their colours.
+    pub fn is_lit(&self) -> bool
+        ensures { result ≡ (⟦<Self as Drawn>⟧.display self.now).lit }
+    {
+        self.highlight_char
+    }
+
+    /// Keeps whether characters are highlighted.
+    pub fn set_lit(&mut self, lit: bool)
+        ensures display { let d = ⟦<Self as Drawn>⟧.display in
+            d self.new ≡ record (d self.old) { lit = lit } }
+        ensures redraws { ⟦<Self as Drawn>⟧.redraws self.new ≡ ⟦<Self as Drawn>⟧.redraws self.old }
+        ensures failures { let d = ⟦<Self as Drawn>⟧ in d.failures self.new ≡ d.failures self.old }
+        ensures loan { ⟦<Self as Drawn>⟧.loan self.new ≡ ⟦<Self as Drawn>⟧.loan self.old }
+    {
+        self.highlight_char = lit;
+    }
+
+    /// Returns the kept layout: where the prompt ends, and where the cursor and the end of what is shown are.
+    pub fn layout(&self) -> &Layout
+        ensures { result.now ≡ (⟦<Self as Drawn>⟧.display self.now).layout }
+    {
+        &self.layout
+    }
+}
