@@ -1,7 +1,8 @@
 -- Facts on edits.
 use Rattle.std.proofs.Common.{◌≡◌, ℕ, true, false, cond, Option, Some, None, is_some, option_map, unwrap_or, refl, ap}
 use Rattle.line_buffer.specs.Line.{Line, moved_to}
-use Rattle.line_keys.specs.Draft.{Draft, World, in_group, out_of_group}
+use Rattle.line_parts.specs.Environment.{Environment}
+use Rattle.line_keys.specs.Draft.{Draft, in_group, out_of_group}
 use Rattle.line_parts.specs.Hint.{Suggestion, suggestion_of}
 use Rattle.line_parts.specs.Verdict.{Verdict, valid}
 use Rattle.line_parts.specs.declared.hint.Hint.{Ghosts}
@@ -18,13 +19,13 @@ no_verdict None e = refl
 no_verdict (Some verdict) e = absurd (cc)
 
 -- without a helper nothing is validated
-pub not_validated : (world : World) (draft : Draft) → is_some (world.verdict_at draft.line.text) ≡ false → validated world draft ≡ draft
-not_validated world draft e = ap (λ b. cond b (unhinted_by (verdict_on world draft) (out_of_group (in_group draft))) draft) e
+pub not_validated : (environment : Environment) (draft : Draft) → is_some (environment.verdict_at draft.line.text) ≡ false → validated environment draft ≡ draft
+not_validated environment draft e = ap (λ b. cond b (unhinted_by (verdict_on environment draft) (out_of_group (in_group draft))) draft) e
 
 -- with a helper the draft is validated
-pub was_validated : (world : World) (draft : Draft) → is_some (world.verdict_at draft.line.text) ≡ true
-    → validated world draft ≡ unhinted_by (verdict_on world draft) (out_of_group (in_group draft))
-was_validated world draft e = ap (λ b. cond b (unhinted_by (verdict_on world draft) (out_of_group (in_group draft))) draft) e
+pub was_validated : (environment : Environment) (draft : Draft) → is_some (environment.verdict_at draft.line.text) ≡ true
+    → validated environment draft ≡ unhinted_by (verdict_on environment draft) (out_of_group (in_group draft))
+was_validated environment draft e = ap (λ b. cond b (unhinted_by (verdict_on environment draft) (out_of_group (in_group draft))) draft) e
 
 -- what is shown of a hint is what it displays
 pub shown_hint : {T : Type 0} → (words : Ghosts T) → (hint : Option T)

@@ -1,3 +1,4 @@
+pub mod DrawnLemmas
 pub mod EditLemmas
 pub mod PhraseLemmas
 pub mod RunLaws

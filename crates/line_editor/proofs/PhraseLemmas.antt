@@ -1,7 +1,8 @@
 -- Facts on phrases.
 use Rattle.std.proofs.Common.{◌≡◌, List, [], ◌∷◌, ◌++◌, map, Option, Some, None, refl, sym, ◌∙◌, ap, subst}
+use Rattle.line_parts.specs.Environment.{Environment}
 use Rattle.line_keys.specs.Command.{Command, plain}
-use Rattle.line_keys.specs.Draft.{Draft, World}
+use Rattle.line_keys.specs.Draft.{Draft}
 use Rattle.line_keys.specs.Item.{Item, key}
 use Rattle.line_keys.specs.Table.{Row, Tail, nothing, row_of, command_at, one, IsCount}
 use Rattle.line_keys.specs.Key.{event}
@@ -30,16 +31,16 @@ Answers-fit (Some b) row count tail more c c' h k = (nothing-behind tail more h.
 Answers-fit None row count tail more c c' h k = (Tailed-fits row.tail tail more h.0 k.0, h.1 ∙ sym k.1)
 
 -- two phrases of which one begins the other, part by part
-parts-fit : (keymap : Keymap) (world : World) (draft : Draft) (input : Input) (typed typed' : List KeyEvent)
+parts-fit : (keymap : Keymap) (environment : Environment) (draft : Draft) (input : Input) (typed typed' : List KeyEvent)
     → (count count' : Count) (last last' : KeyEvent) (tail tail' items more : List Item) (c c' : Command)
     → items ≡ map key typed ++ (key last ∷ tail)
     → IsCount input.style input.mode typed count
-    → Keyed keymap (after_count world typed draft) input count last tail c
+    → Keyed keymap (after_count environment typed draft) input count last tail c
     → items ++ more ≡ map key typed' ++ (key last' ∷ tail')
     → IsCount input.style input.mode typed' count'
-    → Keyed keymap (after_count world typed' draft) input count' last' tail' c'
+    → Keyed keymap (after_count environment typed' draft) input count' last' tail' c'
     → (more ≡ []) × (c ≡ c') × (typed ≡ typed')
-parts-fit keymap world draft input [] [] count count' last last' tail tail' items more c c' cut counted keyed cut' counted' keyed' =
+parts-fit keymap environment draft input [] [] count count' last last' tail tail' items more c c' cut counted keyed cut' counted' keyed' =
     let whole : key last' ∷ tail' ≡ key last ∷ (tail ++ more) = sym cut' ∙ ap (λ x. x ++ more) cut in
     let same_last : last' ≡ last = cc in
     let same_tail : tail' ≡ tail ++ more = cc in
@@ -50,24 +51,24 @@ parts-fit keymap world draft input [] [] count count' last last' tail tail' item
     let there = subst R same_count (subst Q same_tail (subst P same_last keyed')) in
     let fit = Answers-fit (bound_command keymap draft input count last) (row_of input.style input.mode last (seen_of draft)) count tail more c c' keyed there in
     (fit.0, fit.1, refl)
-parts-fit keymap world draft input (k ∷ ks) typed' count count' last last' tail tail' items more c c' cut counted keyed cut' counted' keyed' = absurd counted
-parts-fit keymap world draft input [] (k ∷ ks) count count' last last' tail tail' items more c c' cut counted keyed cut' counted' keyed' = absurd counted'
+parts-fit keymap environment draft input (k ∷ ks) typed' count count' last last' tail tail' items more c c' cut counted keyed cut' counted' keyed' = absurd counted
+parts-fit keymap environment draft input [] (k ∷ ks) count count' last last' tail tail' items more c c' cut counted keyed cut' counted' keyed' = absurd counted'
 
 -- no phrase is a proper beginning of another, and one list of items has one command
 pub phrases-fit : IsPrefixFree
-phrases-fit keymap world draft input items more c c' d d' i i' p q =
-    let fit = parts-fit keymap world draft input p.typed q.typed p.count q.count p.last q.last p.tail q.tail items more c c' p.cut p.counted p.keyed q.cut q.counted q.keyed in
-    (fit.0, fit.1, p.draft_left ∙ ap (λ t. after_count world t draft) fit.2 ∙ sym q.draft_left, p.input_left ∙ sym q.input_left)
+phrases-fit keymap environment draft input items more c c' d d' i i' p q =
+    let fit = parts-fit keymap environment draft input p.typed q.typed p.count q.count p.last q.last p.tail q.tail items more c c' p.cut p.counted p.keyed q.cut q.counted q.keyed in
+    (fit.0, fit.1, p.draft_left ∙ ap (λ t. after_count environment t draft) fit.2 ∙ sym q.draft_left, p.input_left ∙ sym q.input_left)
 
 -- each kind of tail may end at once
 Tailed-ends : (t : Tail) → Tailed t []
 Tailed-ends nothing = refl
 
 -- a key with a binding is a phrase
-pub bound-phrase : (keymap : Keymap) (world : World) (draft : Draft) (input : Input) (k : KeyEvent) (command : Command)
+pub bound-phrase : (keymap : Keymap) (environment : Environment) (draft : Draft) (input : Input) (k : KeyEvent) (command : Command)
     → bound_command keymap draft input one k ≡ Some command
-    → Phrase keymap world draft input (key k ∷ []) command draft input
-bound-phrase keymap world draft input k command e = record {
+    → Phrase keymap environment draft input (key k ∷ []) command draft input
+bound-phrase keymap environment draft input k command e = record {
   typed = [];
   count = one;
   last = k;
@@ -82,10 +83,10 @@ bound-phrase keymap world draft input k command e = record {
 }
 
 -- a key without a binding is a phrase
-pub row-phrase : (keymap : Keymap) (world : World) (draft : Draft) (input : Input) (k : KeyEvent)
+pub row-phrase : (keymap : Keymap) (environment : Environment) (draft : Draft) (input : Input) (k : KeyEvent)
     → bound_command keymap draft input one k ≡ None
-    → Phrase keymap world draft input (key k ∷ []) (plain (command_at (row_of input.style input.mode k (seen_of draft)) one)) draft input
-row-phrase keymap world draft input k e = record {
+    → Phrase keymap environment draft input (key k ∷ []) (plain (command_at (row_of input.style input.mode k (seen_of draft)) one)) draft input
+row-phrase keymap environment draft input k e = record {
   typed = [];
   count = one;
   last = k;
@@ -101,28 +102,28 @@ row-phrase keymap world draft input k e = record {
 }
 
 -- where no item is left, a phrase may begin: each key is one
-begins-with : (keymap : Keymap) (world : World) (draft : Draft) (input : Input) (k : KeyEvent) (bound : Option Command)
+begins-with : (keymap : Keymap) (environment : Environment) (draft : Draft) (input : Input) (k : KeyEvent) (bound : Option Command)
     → bound_command keymap draft input one k ≡ bound
-    → IsBeginning keymap world draft input []
-begins-with keymap world draft input k (Some command) e = record {
+    → IsBeginning keymap environment draft input []
+begins-with keymap environment draft input k (Some command) e = record {
   rest = key k ∷ [];
   command = command;
   draft' = draft;
   input' = input;
   proper = λ empty. cc;
-  phrase = bound-phrase keymap world draft input k command e;
+  phrase = bound-phrase keymap environment draft input k command e;
 }
-begins-with keymap world draft input k None e = record {
+begins-with keymap environment draft input k None e = record {
   rest = key k ∷ [];
   command = plain (command_at (row_of input.style input.mode k (seen_of draft)) one);
   draft' = draft;
   input' = input;
   proper = λ empty. cc;
-  phrase = row-phrase keymap world draft input k e;
+  phrase = row-phrase keymap environment draft input k e;
 }
 
-pub nothing-begins : (keymap : Keymap) (world : World) (draft : Draft) (input : Input) (items : List Item)
-    → items ≡ [] → IsBeginning keymap world draft input items
-nothing-begins keymap world draft input items e =
-    let P : List Item → Type 0 = λ i. IsBeginning keymap world draft input i in
-    subst P (sym e) (begins-with keymap world draft input (event Enter NONE) (bound_command keymap draft input one (event Enter NONE)) refl)
+pub nothing-begins : (keymap : Keymap) (environment : Environment) (draft : Draft) (input : Input) (items : List Item)
+    → items ≡ [] → IsBeginning keymap environment draft input items
+nothing-begins keymap environment draft input items e =
+    let P : List Item → Type 0 = λ i. IsBeginning keymap environment draft input i in
+    subst P (sym e) (begins-with keymap environment draft input (event Enter NONE) (bound_command keymap draft input one (event Enter NONE)) refl)

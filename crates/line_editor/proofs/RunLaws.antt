@@ -1,7 +1,8 @@
 -- A run has one end.
 use Rattle.std.proofs.Common.{◌≡◌, ◌⊎◌, inl, inr, List, [], ◌∷◌, ◌++◌, append_assoc, refl, sym, ◌∙◌, ap, subst}
+use Rattle.line_parts.specs.Environment.{Environment}
 use Rattle.line_keys.specs.Command.{Command}
-use Rattle.line_keys.specs.Draft.{Draft, World}
+use Rattle.line_keys.specs.Draft.{Draft}
 use Rattle.line_keys.specs.Item.{Item}
 use Rattle.line_editor.specs.Input.{Input}
 use Rattle.line_editor.specs.Keymap.{Keymap}
@@ -41,15 +42,15 @@ record SamePhrase (p q m n : List Item) (c c' : Command) (d d' : Draft) (i i' : 
   draft : d ≡ d'
   input : i ≡ i'
 
-module _ (keymap : Keymap) (world : World) where
+module _ (keymap : Keymap) (environment : Environment) where
   -- a phrase that begins another one is the other
   begins-same : (draft : Draft) (input : Input) (p q m n d : List Item) (c c' : Command) (l l' : Draft) (i i' : Input)
-      → Phrase keymap world draft input p c l i → Phrase keymap world draft input q c' l' i'
+      → Phrase keymap environment draft input p c l i → Phrase keymap environment draft input q c' l' i'
       → q ≡ p ++ d → m ≡ d ++ n
       → SamePhrase p q m n c c' l l' i i'
   begins-same draft input p q m n d c c' l l' i i' one other front rest =
-      let P : List Item → Type 0 = λ x. Phrase keymap world draft input x c' l' i' in
-      let fit = phrases-fit keymap world draft input p d c c' l l' i i' one (subst P front other) in
+      let P : List Item → Type 0 = λ x. Phrase keymap environment draft input x c' l' i' in
+      let fit = phrases-fit keymap environment draft input p d c c' l l' i i' one (subst P front other) in
       record { more = rest ∙ ap (λ x. x ++ n) fit.0; command = fit.1; draft = fit.2; input = fit.3 }
 
   flipped : (p q m n : List Item) (c c' : Command) (l l' : Draft) (i i' : Input)
@@ -59,7 +60,7 @@ module _ (keymap : Keymap) (world : World) where
 
   -- two phrases at the front of one list are the same
   one-phrase : (draft : Draft) (input : Input) (p q m n : List Item) (c c' : Command) (l l' : Draft) (i i' : Input)
-      → Phrase keymap world draft input p c l i → Phrase keymap world draft input q c' l' i'
+      → Phrase keymap environment draft input p c l i → Phrase keymap environment draft input q c' l' i'
       → p ++ m ≡ q ++ n
       → SamePhrase p q m n c c' l l' i i'
   one-phrase draft input p q m n c c' l l' i i' one other e =
@@ -76,12 +77,12 @@ module _ (keymap : Keymap) (world : World) where
     answer : a ≡ a'
 
   one-turn : (editor left left' : Editor) (input i i' : Input) (items m n : List Item) (a a' : Answer)
-      → Turn keymap world editor input items left i m a
-      → Turn keymap world editor input items left' i' n a'
+      → Turn keymap environment editor input items left i m a
+      → Turn keymap environment editor input items left' i' n a'
       → SameTurn left left' i i' m n a a'
   one-turn editor left left' input i i' items m n a a' one other =
       let s = one-phrase editor.draft input one.phrase other.phrase m n one.command other.command one.draft other.draft i i' one.reads other.reads (sym one.cut ∙ other.cut) in
-      let done : Input → Command → Draft → Step = λ j c d. step world j (ready c d editor.kills) c in
+      let done : Input → Command → Draft → Step = λ j c d. step environment j (ready c d editor.kills) c in
       let same : done i one.command one.draft ≡ done i' other.command other.draft =
       ap (λ j. done j one.command one.draft) s.input ∙ ap (λ c. done i' c one.draft) s.command ∙ ap (λ d. done i' other.command d) s.draft in
       record {
@@ -93,24 +94,24 @@ module _ (keymap : Keymap) (world : World) where
 
   -- where a turn is made the items don't run dry
   not-dry : {B : Type 0} (editor left : Editor) (input i : Input) (items m : List Item) (a : Answer)
-      → Turn keymap world editor input items left i m a
-      → IsBeginning keymap world editor.draft input items
+      → Turn keymap environment editor input items left i m a
+      → IsBeginning keymap environment editor.draft input items
       → B
   not-dry editor left input i items m a turn begins =
-      let P : List Item → Type 0 = λ x. Phrase keymap world editor.draft input x begins.command begins.draft' begins.input' in
+      let P : List Item → Type 0 = λ x. Phrase keymap environment editor.draft input x begins.command begins.draft' begins.input' in
       let whole = subst P (ap (λ x. x ++ begins.rest) turn.cut ∙ append_assoc turn.phrase m begins.rest) begins.phrase in
-      let fit = phrases-fit keymap world editor.draft input turn.phrase (m ++ begins.rest) turn.command begins.command turn.draft begins.draft' i begins.input' turn.reads whole in
+      let fit = phrases-fit keymap environment editor.draft input turn.phrase (m ++ begins.rest) turn.command begins.command turn.draft begins.draft' i begins.input' turn.reads whole in
       absurd (begins.proper (nothing-in m begins.rest fit.0))
 
   one-end : (editor last last' : Editor) (input : Input) (items rest rest' inside inside' : List Item) (answer answer' : Answer)
-      → Run keymap world editor input items last rest inside answer
-      → Run keymap world editor input items last' rest' inside' answer'
+      → Run keymap environment editor input items last rest inside answer
+      → Run keymap environment editor input items last' rest' inside' answer'
       → SameEnd last last' rest rest' inside inside' answer answer'
   one-end editor last last' input items rest rest' inside inside' answer answer' (goes_on {middle = middle} {input' = i} {more = m} turn run) (goes_on {middle = middle'} {input' = i'} {more = n} turn' run') =
       let s = one-turn editor middle middle' input i i' items m n proceeds proceeds turn turn' in
-      let P : Editor → Type 0 = λ e. Run keymap world e i' n last' rest' inside' answer' in
-      let Q : Input → Type 0 = λ j. Run keymap world middle j n last' rest' inside' answer' in
-      let R : List Item → Type 0 = λ x. Run keymap world middle i x last' rest' inside' answer' in
+      let P : Editor → Type 0 = λ e. Run keymap environment e i' n last' rest' inside' answer' in
+      let Q : Input → Type 0 = λ j. Run keymap environment middle j n last' rest' inside' answer' in
+      let R : List Item → Type 0 = λ x. Run keymap environment middle i x last' rest' inside' answer' in
       one-end middle last last' i m rest rest' inside inside' answer answer' run
       (subst R (sym s.more) (subst Q (sym s.input) (subst P (sym s.editor) run')))
   one-end editor last last' input items rest rest' inside inside' answer answer' (goes_on {middle = middle} {input' = i} {more = m} turn run) (ends {input' = i'} turn' other) =
@@ -149,5 +150,5 @@ module _ (keymap : Keymap) (world : World) where
 
 -- a run has one end
 pub runs-fit : HasOneEnd
-runs-fit keymap world editor last last' input items rest rest' inside inside' answer answer' =
-    one-end keymap world editor last last' input items rest rest' inside inside' answer answer'
+runs-fit keymap environment editor last last' input items rest rest' inside inside' answer answer' =
+    one-end keymap environment editor last last' input items rest rest' inside inside' answer answer'

@@ -1,8 +1,9 @@
 -- Facts on runs.
 use Rattle.std.proofs.Common.{◌≡◌, ◌≢◌, List, [], ◌++◌, refl, sym, subst}
 use Rattle.line_buffer.specs.KillRing.{Ring}
+use Rattle.line_parts.specs.Environment.{Environment}
 use Rattle.line_keys.specs.Command.{Command, command_of, resets_kill_ring}
-use Rattle.line_keys.specs.Draft.{Draft, World}
+use Rattle.line_keys.specs.Draft.{Draft}
 use Rattle.line_keys.specs.Item.{Item}
 use Rattle.line_keys.specs.declared.command.Cmd.{Cmd}
 use Rattle.line_keys.specs.declared.command.Cmd.TheVariants.{Insert, Replace}
@@ -19,19 +20,19 @@ ends_kills_of (Replace movement text) = refl
 ends_kills_of _ = refl
 
 -- a phrase read and its command executed are a turn
-pub turn-of : (keymap : Keymap) (world world' : World) (editor left : Editor) (input input' : Input) (items more phrase : List Item)
+pub turn-of : (keymap : Keymap) (environment environment' : Environment) (editor left : Editor) (input input' : Input) (items more phrase : List Item)
     → (command : Command) (read before : Draft) (kills : Ring) (answer : Answer)
     → items ≡ phrase ++ more
-    → Phrase keymap world editor.draft input phrase command read input'
+    → Phrase keymap environment editor.draft input phrase command read input'
     → before ≡ grouped command read
     → kills ≡ kills_before command editor.kills
-    → world' ≡ world
-    → Leaves (step world' input' (record { draft = before; kills = kills }) command) left answer
-    → Turn keymap world editor input items left input' more answer
-turn-of keymap world world' editor left input input' items more phrase command read before kills answer cut reads group reset same leaves =
-    let P : World → Type 0 = λ w. Leaves (step w input' (record { draft = before; kills = kills }) command) left answer in
-    let Q : Draft → Type 0 = λ d. Leaves (step world input' (record { draft = d; kills = kills }) command) left answer in
-    let R : Ring → Type 0 = λ k. Leaves (step world input' (record { draft = grouped command read; kills = k }) command) left answer in
+    → environment' ≡ environment
+    → Leaves (step environment' input' (record { draft = before; kills = kills }) command) left answer
+    → Turn keymap environment editor input items left input' more answer
+turn-of keymap environment environment' editor left input input' items more phrase command read before kills answer cut reads group reset same leaves =
+    let P : Environment → Type 0 = λ w. Leaves (step w input' (record { draft = before; kills = kills }) command) left answer in
+    let Q : Draft → Type 0 = λ d. Leaves (step environment input' (record { draft = d; kills = kills }) command) left answer in
+    let R : Ring → Type 0 = λ k. Leaves (step environment input' (record { draft = grouped command read; kills = k }) command) left answer in
     record {
       phrase = phrase;
       command = command;
@@ -41,44 +42,44 @@ turn-of keymap world world' editor left input input' items more phrase command r
       leaves = subst R reset (subst Q group (subst P same leaves));
     }
 
--- the tables and the world of two moments of a run are the same
-module _ (keymap keymap' : Keymap) (world world' : World) (same_keymap : keymap' ≡ keymap) (same_world : world' ≡ world) where
+-- the tables and the environment of two moments of a run are the same
+module _ (keymap keymap' : Keymap) (environment environment' : Environment) (same_keymap : keymap' ≡ keymap) (same_world : environment' ≡ environment) where
   retold : (editor left : Editor) (input input' : Input) (items more : List Item) (answer : Answer)
-      → Turn keymap' world' editor input items left input' more answer
-      → Turn keymap world editor input items left input' more answer
+      → Turn keymap' environment' editor input items left input' more answer
+      → Turn keymap environment editor input items left input' more answer
   retold editor left input input' items more answer turn =
-      let P : Keymap → Type 0 = λ k. Turn k world' editor input items left input' more answer in
-      let Q : World → Type 0 = λ w. Turn keymap w editor input items left input' more answer in
+      let P : Keymap → Type 0 = λ k. Turn k environment' editor input items left input' more answer in
+      let Q : Environment → Type 0 = λ w. Turn keymap w editor input items left input' more answer in
       subst Q same_world (subst P same_keymap turn)
 
   -- a turn that proceeds and a run behind it are a run
   pub run-goes : (editor left last : Editor) (input input' : Input) (items more rest inside : List Item) (answer answer' : Answer)
       → answer' ≡ proceeds
-      → Turn keymap' world' editor input items left input' more answer'
-      → Run keymap world left input' more last rest inside answer
-      → Run keymap world editor input items last rest inside answer
+      → Turn keymap' environment' editor input items left input' more answer'
+      → Run keymap environment left input' more last rest inside answer
+      → Run keymap environment editor input items last rest inside answer
   run-goes editor left last input input' items more rest inside answer answer' proceeded turn run =
-      let P : Answer → Type 0 = λ a. Turn keymap world editor input items left input' more a in
+      let P : Answer → Type 0 = λ a. Turn keymap environment editor input items left input' more a in
       goes_on (subst P proceeded (retold editor left input input' items more answer' turn)) run
 
   -- a turn that doesn't proceed ends a run
   pub run-ends : (editor left : Editor) (input input' : Input) (items more : List Item) (answer answer' : Answer)
       → answer' ≡ answer
       → answer ≢ proceeds
-      → Turn keymap' world' editor input items left input' more answer'
-      → Run keymap world editor input items left more [] answer
+      → Turn keymap' environment' editor input items left input' more answer'
+      → Run keymap environment editor input items left more [] answer
   run-ends editor left input input' items more answer answer' same other turn =
-      let P : Answer → Type 0 = λ a. Turn keymap world editor input items left input' more a in
+      let P : Answer → Type 0 = λ a. Turn keymap environment editor input items left input' more a in
       ends (subst P same (retold editor left input input' items more answer' turn)) other
 
   -- items that run dry end a run
   pub run-dry : (editor left : Editor) (input : Input) (items more : List Item)
-      → IsBeginning keymap' world' editor.draft input items
+      → IsBeginning keymap' environment' editor.draft input items
       → Stands editor left
       → more ≡ []
-      → Run keymap world editor input items left more items ended
+      → Run keymap environment editor input items left more items ended
   run-dry editor left input items more begins stands dry =
-      let P : Keymap → Type 0 = λ k. IsBeginning k world' editor.draft input items in
-      let Q : World → Type 0 = λ w. IsBeginning keymap w editor.draft input items in
-      let R : List Item → Type 0 = λ m. Run keymap world editor input items left m items ended in
+      let P : Keymap → Type 0 = λ k. IsBeginning k environment' editor.draft input items in
+      let Q : Environment → Type 0 = λ w. IsBeginning keymap w editor.draft input items in
+      let R : List Item → Type 0 = λ m. Run keymap environment editor input items left m items ended in
       subst R (sym dry) (runs_dry (subst Q same_world (subst P same_keymap begins)) stands)

@@ -2,7 +2,7 @@
 use Rattle.line_keys.specs.Command.{Command, command_of}
 use Rattle.line_keys.specs.declared.keys.KeyEvent.{KeyEvent}
 use Rattle.std.specs.Prelude.{Option}
-use Rattle.line_editor.specs.Binding.{answer_of}
+use Rattle.line_editor.specs.Binding.{bound_answer}
 use Rattle.line_editor.specs.Input.{Input}
 use Rattle.line_editor.specs.Keymap.{Keymap}
 use Rattle.line_editor.specs.declared.keymap.InputState.{InputState}
@@ -18,4 +18,4 @@ input_of state = record {
 
 -- the commands that keys have by its bindings and by a reader
 abbrev pub keymap_of : InputState → (KeyEvent → Option Command) → Keymap
-keymap_of state own = record { bound = answer_of state.bindings.now; own = own }
+keymap_of state own = record { bound = bound_answer state.bindings.now; own = own }

@@ -3,12 +3,12 @@ pub mod Event
 pub mod Moment
 pub mod Info
 pub mod Binding
-pub mod Fault
+pub mod Reading
 pub mod Input
 pub mod InputState
 pub mod Keymap
 pub mod Phrase
-pub mod Printable
+pub mod Verdict
 pub mod Run
 pub mod Runs
 pub mod Status

@@ -1,7 +1,8 @@
 -- Phrases: the items that one command is read from.
 use Rattle.std.specs.Prelude.{◌≡◌, ◌≢◌, List, [], ◌∷◌, ◌++◌, map, length, ◌==◌, Option, Some, None}
+use Rattle.line_parts.specs.Environment.{Environment}
 use Rattle.line_keys.specs.Command.{Command, plain}
-use Rattle.line_keys.specs.Draft.{Draft, World, hinted}
+use Rattle.line_keys.specs.Draft.{Draft, hinted}
 use Rattle.line_keys.specs.Item.{Item, key}
 use Rattle.line_keys.specs.Table.{Row, Tail, nothing, row_of, command_at, IsCount}
 use Rattle.line_keys.specs.declared.keys.KeyEvent.{KeyEvent}
@@ -11,9 +12,9 @@ use Rattle.line_editor.specs.Input.{Input}
 use Rattle.line_editor.specs.Keymap.{Keymap, bound_command}
 
 -- the hint is asked again where a count was typed
-abbrev pub after_count : World → List KeyEvent → Draft → Draft
-after_count world [] draft = draft
-after_count world (_ ∷ _) draft = hinted world draft
+abbrev pub after_count : Environment → List KeyEvent → Draft → Draft
+after_count environment [] draft = draft
+after_count environment (_ ∷ _) draft = hinted environment draft
 
 -- what the tables look at of a draft
 abbrev pub seen_of : Draft → Seen
@@ -34,22 +35,22 @@ Keyed keymap draft input count last tail command =
     Answers (bound_command keymap draft input count last) (row_of input.style input.mode last (seen_of draft)) count tail command
 
 -- The items are one phrase: an optional count, a key and its tail. They give the command, and leave the draft and the input.
-pub record Phrase (keymap : Keymap) (world : World) (draft : Draft) (input : Input) (items : List Item) (command : Command) (draft' : Draft) (input' : Input) : Type 0 where
+pub record Phrase (keymap : Keymap) (environment : Environment) (draft : Draft) (input : Input) (items : List Item) (command : Command) (draft' : Draft) (input' : Input) : Type 0 where
   pub typed : List KeyEvent
   pub count : Count
   pub last : KeyEvent
   pub tail : List Item
   pub cut : items ≡ map key typed ++ (key last ∷ tail)
   pub counted : IsCount input.style input.mode typed count
-  pub keyed : Keyed keymap (after_count world typed draft) input count last tail command
-  pub draft_left : draft' ≡ after_count world typed draft
+  pub keyed : Keyed keymap (after_count environment typed draft) input count last tail command
+  pub draft_left : draft' ≡ after_count environment typed draft
   pub input_left : input' ≡ input
 
 -- the items begin a phrase, and are none
-pub record IsBeginning (keymap : Keymap) (world : World) (draft : Draft) (input : Input) (items : List Item) : Type 0 where
+pub record IsBeginning (keymap : Keymap) (environment : Environment) (draft : Draft) (input : Input) (items : List Item) : Type 0 where
   pub rest : List Item
   pub command : Command
   pub draft' : Draft
   pub input' : Input
   pub proper : rest ≢ []
-  pub phrase : Phrase keymap world draft input (items ++ rest) command draft' input'
+  pub phrase : Phrase keymap environment draft input (items ++ rest) command draft' input'

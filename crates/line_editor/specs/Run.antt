@@ -1,12 +1,14 @@
 -- A run: commands read from the items and executed, one after another.
 use Rattle.std.specs.Prelude.{◌≡◌, ◌≢◌, Bool, true, false, if◌then◌else◌, List, [], ◌++◌}
 use Rattle.line_buffer.specs.KillRing.{Ring, with_last, other}
+use Rattle.line_parts.specs.Environment.{Environment}
 use Rattle.line_keys.specs.Command.{Command, plain, insertion, replacement, resets_kill_ring}
-use Rattle.line_keys.specs.Draft.{Draft, World}
+use Rattle.line_keys.specs.Draft.{Draft}
 use Rattle.line_keys.specs.Item.{Item}
 use Rattle.line_editor.specs.Input.{Input}
 use Rattle.line_editor.specs.Keymap.{Keymap}
 use Rattle.line_editor.specs.Phrase.{Phrase, IsBeginning}
+use Rattle.line_editor.specs.Reading.{LeftByCut}
 use Rattle.line_editor.specs.Step.{Editor, Answer, Leaves, proceeds, ended, step, grouped}
 
 -- whether a command ends a row of kills
@@ -25,33 +27,44 @@ ready command draft kills = record { draft = grouped command draft; kills = kill
 
 -- One turn of a run: the items begin with a phrase, whose command is executed. It leaves an editor, an input and the items past the
 -- phrase, and answers.
-pub record Turn (keymap : Keymap) (world : World) (editor : Editor) (input : Input) (items : List Item) (editor' : Editor) (input' : Input) (more : List Item) (answer : Answer) : Type 0 where
+pub record Turn (keymap : Keymap) (environment : Environment) (editor : Editor) (input : Input) (items : List Item) (editor' : Editor) (input' : Input) (more : List Item) (answer : Answer) : Type 0 where
   pub phrase : List Item
   pub command : Command
   pub draft : Draft
   pub cut : items ≡ phrase ++ more
-  pub reads : Phrase keymap world editor.draft input phrase command draft input'
-  pub leaves : Leaves (step world input' (ready command draft editor.kills) command) editor' answer
+  pub reads : Phrase keymap environment editor.draft input phrase command draft input'
+  pub leaves : Leaves (step environment input' (ready command draft editor.kills) command) editor' answer
 
--- the line, the place in the history and the kills of two editors are the same
-pub record Stands (old new : Editor) : Type 0 where
-  pub line : new.draft.line ≡ old.draft.line
-  pub place : new.draft.place ≡ old.draft.place
+-- turns that proceed, one after another, lead from the first editor, input and items to the last
+pub data Turns (keymap : Keymap) (environment : Environment) : Editor → Input → List Item → Editor → Input → List Item → Type 0 where
+  none : {editor : Editor} {input : Input} {items : List Item} → Turns keymap environment editor input items editor input items
+  first : {editor middle last : Editor} {input input' input'' : Input} {items more rest : List Item}
+      → Turn keymap environment editor input items middle input' more proceeds
+      → Turns keymap environment middle input' more last input'' rest
+      → Turns keymap environment editor input items last input'' rest
+
+-- what items that run dry leave: the draft, with its hint as it was or asked again, and the kills
+pub record CutShort (environment : Environment) (old new : Editor) : Type 0 where
+  pub draft : LeftByCut environment old.draft new.draft
   pub kills : new.kills ≡ old.kills
 
--- A run from an editor and an input over items: what it leaves of the editor and of the items, the items read of a phrase that
--- was cut short, and its answer. Turns follow one another until one doesn't proceed; or the items run dry before a phrase, or
--- inside of one.
-pub data Run (keymap : Keymap) (world : World) : Editor → Input → List Item → Editor → List Item → List Item → Answer → Type 0 where
-  goes_on : {editor middle last : Editor} {input input' : Input} {items more rest inside : List Item} {answer : Answer}
-      → Turn keymap world editor input items middle input' more proceeds
-      → Run keymap world middle input' more last rest inside answer
-      → Run keymap world editor input items last rest inside answer
+-- how a run ends: with an answer of its last turn and the items left unread; or dry, with the items read of a phrase cut short
+pub data End : Type 0 where
+  stopped : Answer → List Item → End
+  dry : List Item → End
+
+-- A run from an editor and an input over items: what it leaves of the editor and of the input, and how it ends. Turns follow one
+-- another until one doesn't proceed; or the items run dry before a phrase, or inside of one.
+pub data Run (keymap : Keymap) (environment : Environment) : Editor → Input → List Item → Editor → Input → End → Type 0 where
+  goes_on : {editor middle last : Editor} {input input' input'' : Input} {items more : List Item} {end : End}
+      → Turn keymap environment editor input items middle input' more proceeds
+      → Run keymap environment middle input' more last input'' end
+      → Run keymap environment editor input items last input'' end
   ends : {editor last : Editor} {input input' : Input} {items rest : List Item} {answer : Answer}
-      → Turn keymap world editor input items last input' rest answer
+      → Turn keymap environment editor input items last input' rest answer
       → answer ≢ proceeds
-      → Run keymap world editor input items last rest [] answer
+      → Run keymap environment editor input items last input' (stopped answer rest)
   runs_dry : {editor last : Editor} {input : Input} {items : List Item}
-      → IsBeginning keymap world editor.draft input items
-      → Stands editor last
-      → Run keymap world editor input items last [] items ended
+      → IsBeginning keymap environment editor.draft input items
+      → CutShort environment editor last
+      → Run keymap environment editor input items last input (dry items)

@@ -1,43 +1,133 @@
 -- Steps, turns and runs of a program's state, input state, reader and kill ring.
-use Rattle.std.specs.Prelude.{◌≡◌, List, []}
+use Rattle.std.specs.Prelude.{◌≡◌, ◌⊎◌, ℕ, ◌+◌, ◌-◌, ◌*◌, List, [], length, Result, Ok, IfOk, OnOk, IsErrOf}
 use Rattle.line_buffer.specs.KillRing.{Ring}
+use Rattle.line_config.specs.declared.error.ReadlineError.{ReadlineError}
+use Rattle.line_config.specs.declared.error.ReadlineError.TheVariants.{Eof, Interrupted}
 use Rattle.line_keys.specs.Command.{Command}
 use Rattle.line_keys.specs.Draft.{hinted}
+use Rattle.line_keys.specs.EditorState.{Frame, HasRightLayout, IsAtEnd, IsInPlace, KeepsDrawn, KeepsLayoutRight, PartyFailed, Redraws, ShowsLine, ShowsNoHint}
 use Rattle.line_keys.specs.Item.{Item}
-use Rattle.line_keys.specs.declared.keymap.Refresher as editors
+use Rattle.line_keys.specs.declared.editor_state.EditorState as editors
 use Rattle.line_keys.specs.declared.tty.RawReader as readers
+use Rattle.line_config.specs.Error.{IoOnlyIf}
 use Rattle.line_editor.specs.InputState.{input_of, keymap_of}
-use Rattle.line_editor.specs.Input.{Input}
 use Rattle.line_editor.specs.Phrase.{IsBeginning}
-use Rattle.line_editor.specs.Run.{Run, Stands, Turn}
-use Rattle.line_editor.specs.Step.{Answer, Leaves, step}
+use Rattle.line_editor.specs.Reading.{KeepsReading, RunsOut}
+use Rattle.line_editor.specs.Run.{CutShort, End, Run, Turn, dry, stopped}
+use Rattle.line_editor.specs.Status.{answer_of, answer_of_turn}
+use Rattle.line_editor.specs.Step.{Answer, Editor, Leaves, ended, interrupted, proceeds, step, submitted}
+use Rattle.line_editor.specs.declared.command.Status.{Status}
+use Rattle.line_editor.specs.declared.command.Status.TheVariants.{Submit}
 use Rattle.line_editor.specs.declared.keymap.InputState.{InputState}
+use Rattle.line_editor.specs.declared.run.Turned.{Turned}
+use Rattle.line_editor.specs.declared.run.Turned.TheVariants as Turned
 
--- from a state, an input and a kill ring the command leads to a state and a kill ring with this answer
-abbrev pub StepsTo : {X : Type 0} → editors.Ghosts X → X → Input → Ring → Command → X → Ring → Answer → Type 0
-StepsTo e state input kills command state' kills' answer =
-    Leaves (step (e.world state) input (record { draft = e.draft state; kills = kills }) command)
-    (record { draft = e.draft state'; kills = kills' }) answer
+module _ {X : Type 0} (e : editors.Ghosts X) where
+  -- the abstract editor of a state and a kill ring
+  abbrev pub editor_of : X → Ring → Editor
+  editor_of state kills = record { draft = e.draft state; kills = kills }
+
+  -- from a state, an input and a kill ring the command leads to a state and a kill ring with this answer
+  abbrev pub StepsTo : X → InputState → Ring → Command → X → Ring → Answer → Type 0
+  StepsTo state input kills command state' kills' answer =
+      Leaves (step (e.environment state) (input_of input) (editor_of state kills) command) (editor_of state' kills') answer
+
+  -- what is drawn stays good, and no hint stands behind the line any more
+  pub record LosesHint (state state' : X) : Type 0 where
+    pub right : KeepsLayoutRight e state state'
+    pub no_hint : ShowsLine e state → ShowsNoHint e state'
+
+  -- the kept cursor is at the end of what is shown, and the renderer stands there if it stood at the kept cursor
+  pub record GoesToEnd (state state' : X) : Type 0 where
+    pub at_end : IsAtEnd e state'
+    pub in_place : IsInPlace e state → IsInPlace e state'
+
+  -- what is drawn after an answer: a submitted line and one that ended the input have no hint, an interrupt goes to the end
+  abbrev pub DrawnAfter : Answer → X → X → Type 0
+  DrawnAfter proceeds state state' = KeepsDrawn e state state'
+  DrawnAfter submitted state state' = LosesHint state state'
+  DrawnAfter ended state state' = LosesHint state state'
+  DrawnAfter interrupted state state' = GoesToEnd state state'
+
+  -- a command that is executed: the step, what is drawn after it, with three full redraws at most, and the frame
+  pub record Executes (result : Result Status ReadlineError) (state : X) (input : InputState) (kills : Ring) (command : Command) (state' : X) (kills' : Ring) : Type 0 where
+    pub steps : IfOk result (λ status. StepsTo state input kills command state' kills' (answer_of status))
+    pub steps_at_eof : IsErrOf result Eof → StepsTo state input kills command state' kills' ended
+    pub steps_at_interrupt : IsErrOf result Interrupted → StepsTo state input kills command state' kills' interrupted
+    pub drawn : IfOk result (λ status. DrawnAfter (answer_of status) state state')
+    pub drawn_at_eof : IsErrOf result Eof → DrawnAfter ended state state'
+    pub drawn_at_interrupt : IsErrOf result Interrupted → DrawnAfter interrupted state state'
+    pub redraws : OnOk result (Redraws e 0 3 state state')
+    pub redraws_at_eof : IsErrOf result Eof → Redraws e 0 3 state state'
+    pub redraws_at_interrupt : IsErrOf result Interrupted → Redraws e 0 3 state state'
+    pub frame : Frame e state state'
+    pub io : IoOnlyIf result (PartyFailed e state state')
 
 module _ {X Y : Type 0} (e : editors.Ghosts X) (r : readers.Ghosts Y) where
   -- from the first four values to the last four there is a turn with this answer
   abbrev pub TurnsTo : X → InputState → Y → Ring → X → InputState → Y → Ring → Answer → Type 0
   TurnsTo state input reader kills state' input' reader' kills' answer =
-      Turn (keymap_of input (r.own_binding reader)) (e.world state)
-      (record { draft = e.draft state; kills = kills }) (input_of input) (r.rest reader)
-      (record { draft = e.draft state'; kills = kills' }) (input_of input') (r.rest reader') answer
+      Turn (keymap_of input (r.own_binding reader)) (e.environment state)
+      (editor_of e state kills) (input_of input) (r.rest reader)
+      (editor_of e state' kills') (input_of input') (r.rest reader') answer
 
-  -- the items that the reader has left begin a phrase and end in it: all are read, and the line, its place and the kills stand
-  abbrev pub DriesUp : X → InputState → Y → Ring → X → Y → Ring → Type 0
-  DriesUp state input reader kills state' reader' kills' =
-      IsBeginning (keymap_of input (r.own_binding reader)) (e.world state) (e.draft state) (input_of input) (r.rest reader)
-      × Stands (record { draft = e.draft state; kills = kills }) (record { draft = e.draft state'; kills = kills' })
-      × (r.rest reader' ≡ [])
+  -- a turn that was made: it draws what its answer says, in at most three full redraws and one for each item read
+  pub record TakesTurn (state : X) (input : InputState) (reader : Y) (kills : Ring) (state' : X) (input' : InputState) (reader' : Y) (kills' : Ring) (answer : Answer) : Type 0 where
+    pub turn : TurnsTo state input reader kills state' input' reader' kills' answer
+    pub drawn : DrawnAfter e answer state state'
+    pub redraws : Redraws e 0 (3 + (length (r.rest reader) - length (r.rest reader'))) state state'
 
-  -- from the first four values, once the hint was asked, to the last three there is a run with this answer, and these items of
-  -- a phrase that was cut short
-  abbrev pub RunsTo : X → InputState → Y → Ring → X → Y → Ring → List Item → Answer → Type 0
-  RunsTo state input reader kills state' reader' kills' inside answer =
-      Run (keymap_of input (r.own_binding reader)) (e.world state)
-      (record { draft = hinted (e.world state) (e.draft state); kills = kills }) (input_of input) (r.rest reader)
-      (record { draft = e.draft state'; kills = kills' }) (r.rest reader') inside answer
+  -- the items run dry before a phrase or inside of one: the kills and the input value stay, and where none was read all stays
+  pub record DriesUp (state : X) (input : InputState) (reader : Y) (kills : Ring) (state' : X) (input' : InputState) (reader' : Y) (kills' : Ring) : Type 0 where
+    pub out : RunsOut e r state input reader state' reader'
+    pub input_left : input_of input' ≡ input_of input
+    pub kills_left : kills' ≡ kills
+    pub nothing_read : r.rest reader ≡ [] → KeepsDrawn e state state'
+
+  -- what a turn leaves, by the way in which it ended
+  abbrev pub TurnedTo : Turned → X → InputState → Y → Ring → X → InputState → Y → Ring → Type 0
+  TurnedTo Turned.NeedsMore state input reader kills state' input' reader' kills' =
+      DriesUp state input reader kills state' input' reader' kills'
+  TurnedTo turned state input reader kills state' input' reader' kills' =
+      TakesTurn state input reader kills state' input' reader' kills' (answer_of_turn turned)
+
+  -- from the first four values, once the hint was asked, to the next three there is a run with this end
+  abbrev pub RunsTo : X → InputState → Y → Ring → X → InputState → Ring → End → Type 0
+  RunsTo state input reader kills state' input' kills' end =
+      Run (keymap_of input (r.own_binding reader)) (e.environment state)
+      (record { draft = hinted (e.environment state) (e.draft state); kills = kills }) (input_of input) (r.rest reader)
+      (editor_of e state' kills') (input_of input') end
+
+  -- the redraws of a run: the first one, and at most four for each item read
+  abbrev pub RedrawsOfRun : X → Y → X → Y → Type 0
+  RedrawsOfRun state reader state' reader' =
+      Redraws e 1 (1 + 4 * (length (r.rest reader) - length (r.rest reader'))) state state'
+
+  -- a run that was submitted: no hint stands behind the line
+  pub record RunsToSubmit (state : X) (input : InputState) (reader : Y) (kills : Ring) (state' : X) (input' : InputState) (reader' : Y) (kills' : Ring) : Type 0 where
+    pub run : RunsTo state input reader kills state' input' kills' (stopped submitted (r.rest reader'))
+    pub right : HasRightLayout e state'
+    pub no_hint : ShowsNoHint e state'
+    pub redraws : RedrawsOfRun state reader state' reader'
+
+  -- a run that the command for the end of the input ended, on an empty line: no hint stands behind it
+  pub record RunsToEnd (state : X) (input : InputState) (reader : Y) (kills : Ring) (state' : X) (input' : InputState) (reader' : Y) (kills' : Ring) : Type 0 where
+    pub run : RunsTo state input reader kills state' input' kills' (stopped ended (r.rest reader'))
+    pub right : HasRightLayout e state'
+    pub no_hint : ShowsNoHint e state'
+    pub redraws : RedrawsOfRun state reader state' reader'
+
+  -- a run whose items ran dry: all are read, and where no phrase was cut short what is drawn is right
+  pub record RunsDry (state : X) (input : InputState) (reader : Y) (kills : Ring) (state' : X) (input' : InputState) (reader' : Y) (kills' : Ring) : Type 0 where
+    pub inside : List Item
+    pub run : RunsTo state input reader kills state' input' kills' (dry inside)
+    pub empty : r.rest reader' ≡ []
+    pub right : inside ≡ [] → HasRightLayout e state'
+    pub shown : inside ≡ [] → ShowsLine e state'
+
+  -- an interrupted run: the kept cursor is at the end of what is shown, and the renderer stands there
+  pub record RunsToInterrupt (state : X) (input : InputState) (reader : Y) (kills : Ring) (state' : X) (input' : InputState) (reader' : Y) (kills' : Ring) : Type 0 where
+    pub run : RunsTo state input reader kills state' input' kills' (stopped interrupted (r.rest reader'))
+    pub at_end : IsAtEnd e state'
+    pub in_place : IsInPlace e state'
+    pub redraws : RedrawsOfRun state reader state' reader'

@@ -1,20 +1,20 @@
 -- What a command does to the editor.
-use Rattle.std.specs.Prelude.{◌≡◌, ℕ, Bool, true, false, not, ◌&&◌, ◌||◌, if◌then◌else◌, List, [], ◌∷◌, Option, Some, None, is_some, unwrap_or, encode_utf8}
-use Rattle.std.specs.List.{repeat}
-use Rattle.line_buffer.specs.Changes.{with_entries, with_typed}
+use Rattle.std.specs.Prelude.{◌≡◌, ℕ, Bool, true, false, ◌||◌, if◌then◌else◌, List, [], ◌∷◌, Option, Some, None, is_some}
 use Rattle.line_buffer.specs.Cluster.{place_on, place_back}
-use Rattle.line_buffer.specs.Kill.{killed_range, with_killed, ring_with_killed}
+use Rattle.line_buffer.specs.Kill.{killed_range, ring_with_killed}
 use Rattle.line_buffer.specs.KillRing.{Ring}
-use Rattle.line_buffer.specs.Line.{Line, moved_to, with_cursor, start_of_line, end_of_line, ends_in_white_space, inserted_at_cursor, without}
+use Rattle.line_buffer.specs.Line.{Line, moved_to, with_cursor, start_of_line, end_of_line, ends_in_white_space}
 use Rattle.line_buffer.specs.declared.keymap.Movement.{Movement}
 use Rattle.line_buffer.specs.declared.keymap.Movement.TheVariants.{BackwardChar, ForwardChar, BeginningOfLine, EndOfLine}
 use Rattle.line_config.specs.declared.config.EditMode.{EditMode}
 use Rattle.line_config.specs.declared.config.EditMode.TheVariants.{Emacs, Vi}
 use Rattle.line_keys.specs.Command.{Command, plain, replacement}
-use Rattle.line_keys.specs.Draft.{Draft, World, hinted, unhinted, in_group, out_of_group}
+use Rattle.line_keys.specs.Draft.{Draft, hinted, unhinted, in_group, out_of_group}
 use Rattle.line_keys.specs.declared.command.Cmd.{Cmd}
 use Rattle.line_keys.specs.declared.command.Cmd.TheVariants.{SelfInsert, Move, Kill, Newline, Repaint, EndOfFile, AcceptLine, AcceptOrInsertLine, Interrupt}
+use Rattle.line_parts.specs.Environment.{Environment, verdict_on}
 use Rattle.line_parts.specs.Verdict.{Verdict, incomplete, invalid, valid}
+use Rattle.line_state.specs.Edited.{Edited, with_copies, without_range}
 use Rattle.line_editor.specs.Input.{Input}
 
 -- the abstract editor: the draft and the killed texts
@@ -34,13 +34,16 @@ pub record Step : Type 0 where
   pub editor : Editor
   pub answer : Answer
 
+-- the line of a draft with its changes, and a draft with another one
+abbrev pub edited_of : Draft → Edited
+edited_of draft = record { line = draft.line; changes = draft.changes }
+
+abbrev pub with_edited : Draft → Edited → Draft
+with_edited draft edited = record draft { line = edited.line; changes = edited.changes }
+
 -- n copies of a character are typed, and the hint is asked again
-abbrev pub typed : World → ℕ → ℕ → Draft → Draft
-typed world n c draft =
-    hinted world (record draft {
-      line = inserted_at_cursor draft.line (repeat n (encode_utf8 c));
-      changes = with_entries draft.changes (with_typed draft.line.cursor c n draft.changes.entries);
-    })
+abbrev pub typed_in : Environment → ℕ → ℕ → Draft → Draft
+typed_in environment n c draft = hinted environment (with_edited draft (with_copies n c (edited_of draft)))
 
 -- the line with its cursor moved; a movement that isn't there yet leaves it
 abbrev pub moved : Movement → Line → Line
@@ -51,32 +54,12 @@ moved EndOfLine line = with_cursor line (end_of_line line)
 moved _ line = line
 
 -- a range is killed, and the hint is asked again; without a range nothing happens
-abbrev pub killed_by : World → Movement → Editor → Option (ℕ × ℕ) → Editor
-killed_by world movement editor None = editor
-killed_by world movement editor (Some range) = record {
-  draft = hinted world (record editor.draft {
-    line = without editor.draft.line (Some range);
-    changes = with_killed editor.draft.line (Some range) editor.draft.changes;
-  });
+abbrev pub killed_by : Environment → Movement → Editor → Option (ℕ × ℕ) → Editor
+killed_by environment movement editor None = editor
+killed_by environment movement editor (Some range) = record {
+  draft = hinted environment (with_edited editor.draft (without_range (Some range) (edited_of editor.draft)));
   kills = ring_with_killed editor.draft.line movement (Some range) editor.kills;
 }
-
--- the verdict on a line: without a helper it is valid
-abbrev pub verdict_on : World → Draft → Verdict
-verdict_on world draft = unwrap_or (world.verdict_at draft.line.text) (valid None)
-
-abbrev pub is_valid : Verdict → Bool
-is_valid (valid _) = true
-is_valid _ = false
-
--- the message of a verdict, if it has one
-abbrev pub message_of : Verdict → Option (List ℕ)
-message_of (valid message) = message
-message_of (invalid message) = message
-message_of incomplete = None
-
-abbrev pub has_message : Verdict → Bool
-has_message verdict = is_some (message_of verdict)
 
 -- a verdict other than that the line goes on takes the hint away
 abbrev pub unhinted_by : Verdict → Draft → Draft
@@ -84,18 +67,24 @@ unhinted_by incomplete draft = draft
 unhinted_by _ draft = unhinted draft
 
 -- a helper is asked for its verdict inside a group of changes
-abbrev pub validated : World → Draft → Draft
-validated world draft =
-    if is_some (world.verdict_at draft.line.text) then unhinted_by (verdict_on world draft) (out_of_group (in_group draft))
+abbrev pub validated : Environment → Draft → Draft
+validated environment draft =
+    if is_some environment.verdict_at
+    then unhinted_by (verdict_on environment draft.line.text) (out_of_group (in_group draft))
     else draft
 
--- a valid line is submitted, in its middle only where that is allowed; another one gets a newline, unless a message says why it
--- is refused
-abbrev pub accepted : World → Bool → Draft → Draft × Answer
-accepted world in_the_middle draft =
-    if is_valid (verdict_on world draft) && (in_the_middle || ends_in_white_space draft.line) then (validated world draft, submitted)
-    else if is_valid (verdict_on world draft) || not (has_message (verdict_on world draft)) then (typed world 1 10 (validated world draft), proceeds)
-    else (validated world draft, proceeds)
+-- by a verdict, with the line whole or not: it is submitted, it gets a newline, or a message says why it is refused
+abbrev pub accepted_as : Verdict → Bool → Draft → Draft → Draft × Answer
+accepted_as (valid message) whole left longer = if whole then (left, submitted) else (longer, proceeds)
+accepted_as (invalid (Some message)) whole left longer = (left, proceeds)
+accepted_as (invalid None) whole left longer = (longer, proceeds)
+accepted_as incomplete whole left longer = (longer, proceeds)
+
+-- a line is accepted by its verdict; in its middle it is whole only where that is allowed
+abbrev pub accepted : Environment → Bool → Draft → Draft × Answer
+accepted environment in_the_middle draft =
+    accepted_as (verdict_on environment draft.line.text) (in_the_middle || ends_in_white_space draft.line)
+    (validated environment draft) (typed_in environment 1 10 (validated environment draft))
 
 -- the end of the input ends the run on an empty line; another one is submitted by Vi alone
 abbrev pub answer_at_end : EditMode → List ℕ → Answer
@@ -108,32 +97,34 @@ abbrev pub with_draft : Editor → Draft → Editor
 with_draft editor draft = record { draft = draft; kills = editor.kills }
 
 -- the next command is to be read
-abbrev pub goes_on : Editor → Step
-goes_on editor = record { editor = editor; answer = proceeds }
+abbrev pub proceeding : Editor → Step
+proceeding editor = record { editor = editor; answer = proceeds }
 
 -- what a command does that holds no text; one that isn't there yet does nothing
-abbrev pub plain_step : World → Input → Editor → Cmd → Step
-plain_step world input editor (SelfInsert n c) = goes_on (with_draft editor (typed world n c editor.draft))
-plain_step world input editor (Move movement) =
-    goes_on (with_draft editor (record editor.draft { line = moved movement editor.draft.line }))
-plain_step world input editor (Kill movement) =
-    goes_on (killed_by world movement editor (killed_range editor.draft.line movement))
-plain_step world input editor Newline = goes_on (with_draft editor (typed world 1 10 (unhinted editor.draft)))
-plain_step world input editor Repaint = goes_on (with_draft editor (hinted world editor.draft))
-plain_step world input editor EndOfFile =
+abbrev pub plain_step : Environment → Input → Editor → Cmd → Step
+plain_step environment input editor (SelfInsert n c) =
+    proceeding (with_draft editor (typed_in environment n c editor.draft))
+plain_step environment input editor (Move movement) =
+    proceeding (with_draft editor (record editor.draft { line = moved movement editor.draft.line }))
+plain_step environment input editor (Kill movement) =
+    proceeding (killed_by environment movement editor (killed_range editor.draft.line movement))
+plain_step environment input editor Newline =
+    proceeding (with_draft editor (typed_in environment 1 10 (unhinted editor.draft)))
+plain_step environment input editor Repaint = proceeding (with_draft editor (hinted environment editor.draft))
+plain_step environment input editor EndOfFile =
     record { editor = with_draft editor (unhinted editor.draft); answer = answer_at_end input.style editor.draft.line.text }
-plain_step world input editor AcceptLine =
-    record { editor = with_draft editor (validated world (unhinted editor.draft)); answer = submitted }
-plain_step world input editor (AcceptOrInsertLine in_the_middle) =
-    let left = accepted world in_the_middle (unhinted editor.draft) in
+plain_step environment input editor AcceptLine =
+    record { editor = with_draft editor (validated environment (unhinted editor.draft)); answer = submitted }
+plain_step environment input editor (AcceptOrInsertLine in_the_middle) =
+    let left = accepted environment in_the_middle (unhinted editor.draft) in
     record { editor = with_draft editor left.0; answer = left.1 }
-plain_step world input editor Interrupt = record { editor = editor; answer = interrupted }
-plain_step world input editor _ = goes_on editor
+plain_step environment input editor Interrupt = record { editor = editor; answer = interrupted }
+plain_step environment input editor _ = proceeding editor
 
 -- what a command does
-abbrev pub step : World → Input → Editor → Command → Step
-step world input editor (plain cmd) = plain_step world input editor cmd
-step world input editor _ = goes_on editor
+abbrev pub step : Environment → Input → Editor → Command → Step
+step environment input editor (plain cmd) = plain_step environment input editor cmd
+step environment input editor _ = proceeding editor
 
 -- a group of changes begins for each replacement
 abbrev pub grouped : Command → Draft → Draft

@@ -2,7 +2,7 @@
 ghost use Rattle.std.specs.Prelude.{◌≡◌, Bool, false, ◌∷◌, [], IfOk, None, Option, option_copied, option_map, slice_get};
 ghost use Rattle.line_config.specs.Error.{FaultsOnly, IoOnlyIf, MemoryOnly};
 ghost use Rattle.line_editor.specs.Asked.{Asked};
-ghost use Rattle.line_editor.specs.Binding.{answer_of};
+ghost use Rattle.line_editor.specs.Binding.{bound_answer};
 ghost use Rattle.line_editor.specs.declared.binding.EventHandler.TheVariants.{Simple};
 ghost use Rattle.line_editor.specs.Event.{chord_of, keys, event_keys};
 ghost use Rattle.line_editor.specs.Moment.{moment_of};
@@ -157,7 +157,7 @@ pub struct Bindings {
 impl Bindings {
     /// No binding. The map grows from `alloc`.
     pub fn new(alloc: Global) -> Bindings
-        ensures { (asked : Asked) → answer_of result asked ≡ None }
+        ensures { (asked : Asked) → bound_answer result asked ≡ None }
     {
         Bindings { alloc }
     }

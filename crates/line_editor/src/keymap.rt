@@ -1,23 +1,20 @@
 //! Reads keys, and gives the commands that they stand for.
-ghost use Rattle.std.specs.Prelude.{◌≡◌, ◌<◌, ◌≤◌, ◌↔◌, ◌+◌, true, Bool, List, [], ◌∷◌, ◌++◌, length, Option, Some, None, option_map, IfOk, OnOk, OnErr, IsErrOf, IsTrue};
-ghost use Rattle.line_config.specs.Error.{FaultsOnly, IoOnlyIf, Rose};
-ghost use Rattle.line_editor.specs.Binding.{answer_of};
-ghost use Rattle.line_editor.specs.Fault.{FailsByReading};
+ghost use Rattle.std.specs.Prelude.{◌≡◌, ◌↔◌, List, [], Option, option_map, IfOk, IsErrOf, IsTrue};
+ghost use Rattle.line_editor.specs.Binding.{bound_answer};
 ghost use Rattle.line_editor.specs.Keymap.{on_line};
 ghost use Rattle.line_editor.specs.Input.{first_input};
 ghost use Rattle.line_editor.specs.InputState.{input_of, keymap_of};
-ghost use Rattle.line_editor.specs.Phrase.{Phrase, IsBeginning, seen_of};
+ghost use Rattle.line_editor.specs.Phrase.{seen_of};
+ghost use Rattle.line_editor.specs.Reading.{ReadsOn, ReadsPhrase, RunsOut};
 ghost use Rattle.line_keys.specs.Command.{Command, command_of};
 ghost use Rattle.line_keys.specs.Draft.{KeepsText};
-ghost use Rattle.line_keys.specs.Display.{IsRight};
-ghost use Rattle.line_keys.specs.Item.{Item};
 ghost use Rattle.line_keys.specs.declared.keys.KeyEvent.{KeyEvent};
-ghost use Rattle.line_keys.specs.Refresher.{Stays, StaysRight};
 
 use crate::binding::Bindings;
 use line_buffer::CharSearch;
 use line_config::{Config, EditMode, ReadlineError, Result};
 use line_keys::command::Cmd;
+use line_keys::editor_state::EditorState;
 use line_keys::keymap::{InputMode, Refresher};
 use line_keys::keys::KeyEvent;
 use line_keys::tables::{Count, Seen, table_command};
@@ -35,11 +32,11 @@ pub struct InputState<'b> {
 }
 
 impl<'b> InputState<'b> {
-    /// The state before the first key, in the configured style; the Vi style begins in insert mode.
+    /// Returns the state before the first key, in the configured style; the Vi style begins in insert mode.
     pub fn new(config: &Config, bindings: &'b Bindings) -> Self
         ensures input { input_of result ≡ first_input config.now.edit_mode }
         ensures bindings { (own : KeyEvent → Option Command)
-            → keymap_of result own ≡ record { bound = answer_of bindings.now; own = own } }
+            → keymap_of result own ≡ record { bound = bound_answer bindings.now; own = own } }
     {
         InputState {
             mode: config.edit_mode(),
@@ -50,47 +47,45 @@ impl<'b> InputState<'b> {
         }
     }
 
-    /// Whether the style is that of Emacs.
+    /// Returns whether the style is that of Emacs.
     pub fn is_emacs_mode(&self) -> bool
         ensures { IsTrue result ↔ ((input_of self.now).style ≡ EditMode.Emacs) }
     {
         self.mode == EditMode::Emacs
     }
 
-    /// Whether the style is that of Vi, and its keys are commands.
+    /// Returns whether the style is that of Vi, and its keys are commands.
     pub fn is_vi_cmd_mode(&self) -> bool
-        ensures { IsTrue result ↔ (((input_of self.now).style ≡ EditMode.Vi) × ((input_of self.now).mode ≡ InputMode.Command)) }
+        ensures { IsTrue result ↔ (((input_of self.now).style ≡ EditMode.Vi)
+            × ((input_of self.now).mode ≡ InputMode.Command)) }
     {
         self.mode == EditMode::Vi && self.input_mode == InputMode::Command
     }
 
     /// Reads the keys of one phrase, and nothing past it, and gives the command that they stand for.
     ///
-    /// `single_esc_abort` is handed on to the reader in the Emacs style. `Eof` comes where the items ended inside a phrase or
-    /// before one; another error is one of input or output, where the reader or a party has failed, or that memory ran
-    /// out. After an error the line and its cursor stand as they were.
+    /// `single_esc_abort` is handed on to the reader in the Emacs style.
+    ///
+    /// # Errors
+    /// `Eof` where the items ended inside a phrase or before one; then a phrase that was cut short can be read again with
+    /// more items behind it. Another error is one of input or output, where the reader or a party has failed, or that
+    /// memory ran out. After an error the line, its cursor and what is remembered of the keys stand as they were.
     pub fn next_cmd<R: RawReader, W: Refresher>(
         &mut self,
         rdr: &mut R,
         wrt: &mut W,
         single_esc_abort: bool,
     ) -> Result<Cmd>
-        ensures phrase { IfOk result (λ c. (items : List Item) × (R.rest rdr.old ≡ items ++ R.rest rdr.new)
-            × Phrase (keymap_of self.old (R.own_binding rdr.old)) (W.world wrt.old) (W.draft wrt.old) (input_of self.old)
-            items (command_of c) (W.draft wrt.new) (input_of self.new)) }
-        ensures eof { IsErrOf result ReadlineError.Eof → (R.rest rdr.new ≡ [])
-            × IsBeginning (keymap_of self.old (R.own_binding rdr.old)) (W.world wrt.old) (W.draft wrt.old) (input_of self.old) (R.rest rdr.old) }
-        ensures not_interrupted { IsErrOf result ReadlineError.Interrupted → ⊥ }
+        ensures phrase { IfOk result (λ c. ReadsPhrase W.EditorState R.RawReader
+            wrt.old self.old rdr.old rdr.new (command_of c) (W.draft wrt.new) self.new) }
+        ensures eof { IsErrOf result ReadlineError.Eof
+            → RunsOut W.EditorState R.RawReader wrt.old self.old rdr.old wrt.new rdr.new }
         // Where nothing was left to read, nothing changes.
-        ensures dry { R.rest rdr.old ≡ [] → (W.draft wrt.new ≡ W.draft wrt.old) × (W.display wrt.new ≡ W.display wrt.old) }
+        ensures dry { R.rest rdr.old ≡ []
+            → (W.draft wrt.new ≡ W.draft wrt.old) × (W.display wrt.new ≡ W.display wrt.old) }
         ensures text { KeepsText (W.draft wrt.old) (W.draft wrt.new) }
-        ensures right { OnOk result (StaysRight W.Refresher wrt.old wrt.new) }
-        ensures stays { Stays W.Refresher wrt.old wrt.new }
-        ensures own { R.own_binding rdr.new ≡ R.own_binding rdr.old }
-        ensures keymap { keymap_of self.new (R.own_binding rdr.old) ≡ keymap_of self.old (R.own_binding rdr.old) }
-        ensures reads { OnOk result (length (R.rest rdr.new) < length (R.rest rdr.old)) }
-        ensures counts { R.failures rdr.old ≤ R.failures rdr.new }
-        ensures io { FailsByReading W.Refresher R.RawReader result wrt.old rdr.old wrt.new rdr.new }
+        ensures reading { ReadsOn W.EditorState R.RawReader result
+            wrt.old self.old rdr.old wrt.new self.new rdr.new }
     {
         let key = rdr.next_key(single_esc_abort && self.is_emacs_mode())?;
         let count = Count::one();
@@ -108,7 +103,8 @@ impl<'b> InputState<'b> {
 
 // The command that the reader itself gives the key.
 fn own_command<R: RawReader, W: Refresher>(rdr: &R, wrt: &W, key: &KeyEvent) -> Option<Cmd>
-    ensures { option_map command_of result ≡ on_line (W.draft wrt.now).line.text (R.own_binding rdr.now key.now) }
+    ensures { option_map command_of result
+        ≡ on_line (W.draft wrt.now).line.text (R.own_binding rdr.now key.now) }
 {
     match rdr.find_binding(key) {
         Some(Cmd::EndOfFile) if !wrt.line().is_empty() => None,

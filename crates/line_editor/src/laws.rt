@@ -1,13 +1,29 @@
 //! Laws of the definitions that the contracts cite. No call of the editor is made here.
-ghost use Rattle.line_editor.specs.Laws.{HasOneEnd, IsPrefixFree};
+ghost use Rattle.line_editor.specs.Laws.{HasOneEnd, IsPrefixFree, ReadingAgain, TurnsAndRun, TurnsFollow};
 
 /// No phrase is a proper beginning of another, and one list of items has one command.
 pub fn phrases_are_prefix_free()
     ensures { IsPrefixFree }
 {}
 
-/// From one editor, one input and one list of items there is one run: it leaves one line, place and kill ring, answers
-/// once, and leaves the same items unread.
+/// From one editor, one input and one list of items there is one run: it ends in one way, and leaves one line, history
+/// index, kill ring and input value, and the same items unread.
 pub fn runs_have_one_end()
     ensures { HasOneEnd }
+{}
+
+/// Turns that proceed, and more such turns behind them, are one list of turns.
+pub fn turns_follow_each_other()
+    ensures { TurnsFollow }
+{}
+
+/// Turns that proceed, and a run behind them, are one run.
+pub fn turns_and_a_run_are_a_run()
+    ensures { TurnsAndRun }
+{}
+
+/// Where a phrase was cut short, reading it again with more items behind it gives the whole phrase's turn: where the cut
+/// left the hint as it was, or the phrase began with a count.
+pub fn reading_again_gives_the_turn()
+    ensures { ReadingAgain }
 {}

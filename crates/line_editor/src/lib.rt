@@ -7,4 +7,14 @@ pub mod edit;
 pub mod keymap;
 pub mod laws;
 pub mod run;
-pub mod tty;
+
+pub use binding::{Bindings, ConditionalEventHandler, Event, EventContext, EventHandler};
+pub use command::{Status, execute};
+pub use edit::State;
+pub use keymap::InputState;
+pub use line_config as config;
+pub use line_keys as keys;
+pub use line_parts as parts;
+pub use line_state::tty;
+pub use line_state::{Drawn, EditedLine, Renderer, ScreenState, View};
+pub use run::{Turned, advance};

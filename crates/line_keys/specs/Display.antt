@@ -66,6 +66,10 @@ abbrev pub shown_end : Measure → Position → List ℕ → Option (List ℕ) �
 shown_end measure prompt_end text None = end_position measure prompt_end text
 shown_end measure prompt_end text (Some trailing) = measure trailing (end_position measure prompt_end text)
 
+-- the kept cursor is that of a full redraw of a line
+abbrev pub HasCursorAt : Display → Line → Type 0
+HasCursorAt display line = display.layout.cursor ≡ cursor_position display.surface.measure display.prompt_end line
+
 -- the layout of a full redraw: each position measured from scratch, clusters counted as the screen counts them
 pub record IsFullRedraw (surface : Surface) (prompt_end : Position) (line : Line) (trailing : Option (List ℕ)) (layout : Layout) : Type 0 where
   pub prompt : layout.prompt_size ≡ prompt_end
@@ -95,7 +99,7 @@ pub record ShowsText (display : Display) (text : List ℕ) : Type 0 where
 -- the kept layout is right: the text is drawn, and the kept cursor is a full redraw's
 pub record IsRight (display : Display) (line : Line) : Type 0 where
   pub drawn : ShowsText display line.text
-  pub cursor : display.layout.cursor ≡ cursor_position display.surface.measure display.prompt_end line
+  pub cursor : HasCursorAt display line
 
 -- the last answer of `highlight_char` once it was asked, which is done with colours alone
 abbrev pub lit_after : Environment → Display → Line → CmdKind → Bool

@@ -53,3 +53,9 @@ pub record KeepsText (old new : Draft) : Type 0 where
   pub saved : new.saved ≡ old.saved
   pub index : new.index ≡ old.index
   pub changes : new.changes ≡ old.changes
+
+-- the lines and the history index stay
+pub record KeepsLine (old new : Draft) : Type 0 where
+  pub line : new.line ≡ old.line
+  pub saved : new.saved ≡ old.saved
+  pub index : new.index ≡ old.index

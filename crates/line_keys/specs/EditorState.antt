@@ -1,12 +1,15 @@
 -- What is said of an editor by what contracts see of it.
-use Rattle.std.specs.Prelude.{◌≡◌, ◌+◌, ◌≤◌, ◌⊎◌, true, Bool, List, Option, None, OnOk, Result, ℕ, option_map}
+use Rattle.std.specs.Prelude.{◌≡◌, ◌+◌, ◌≤◌, ◌⊎◌, true, Bool, MatchBool, List, Option, None, OnOk, Result, ℕ}
 use Rattle.line_buffer.specs.Line.{Line}
 use Rattle.line_config.specs.Error.{FaultsOnly, IoOnlyIf, Rose, greatest}
 use Rattle.line_config.specs.declared.error.ReadlineError.{ReadlineError}
-use Rattle.line_keys.specs.Display.{ShowsInFull, IsRight, lit_after}
-use Rattle.line_keys.specs.Draft.{Draft, KeepsText}
+use Rattle.line_keys.specs.Display.{HasCursorAt, ShowsInFull, IsRight, lit_after}
+use Rattle.line_keys.specs.Draft.{Draft, KeepsText, hint_shown}
 use Rattle.line_keys.specs.declared.editor_state.EditorState.{Ghosts}
+use Rattle.line_parts.specs.Environment.{Environment, verdict_on}
+use Rattle.line_parts.specs.Verdict.{message_of}
 use Rattle.line_parts.specs.declared.highlight.CmdKind.{CmdKind}
+use Rattle.line_parts.specs.declared.highlight.CmdKind.TheVariants.{MoveCursor, Other}
 
 -- the frame: what no call of an editor changes; the count of failures never falls
 pub record Frame {X : Type 0} (e : Ghosts X) (old new : X) : Type 0 where
@@ -51,33 +54,64 @@ RendererFailed e old new = Rose (e.failures old) (e.failures new)
 abbrev pub PartyFailed : {X : Type 0} → Ghosts X → X → X → Type 0
 PartyFailed e old new = e.sure old ≡ true → Rose (e.failures old) (e.failures new)
 
--- what each refresh leaves: the draft, all of it but the hint in any case, one full redraw, and whether the line is lit
-pub record Refreshes {X T : Type 0} (e : Ghosts X) (result : Result T ReadlineError) (old new : X) (left : Draft) (kind : CmdKind) : Type 0 where
+-- the line was drawn in full with this behind it, once, and `highlight_char` was asked for this kind
+pub record Drew {X : Type 0} (e : Ghosts X) (old new : X) (trailing : Option (List ℕ)) (kind : CmdKind) : Type 0 where
+  pub shows : Shows e new trailing
+  pub right : HasRightLayout e new
+  pub lit : (e.display new).lit ≡ lit_after (e.environment old) (e.display old) (e.draft new).line kind
+  pub redraws : Redraws e 1 1 old new
+
+-- nothing was drawn
+pub record DrewNothing {X : Type 0} (e : Ghosts X) (old new : X) : Type 0 where
+  pub display : e.display new ≡ e.display old
+  pub redraws : e.redraws new ≡ e.redraws old
+
+-- the line was drawn in full with this behind it where that is needed, and else nothing was drawn
+abbrev pub DrewIf : {X : Type 0} → Ghosts X → Bool → X → X → Option (List ℕ) → CmdKind → Type 0
+DrewIf e needed old new trailing kind = MatchBool needed (Drew e old new trailing kind) (DrewNothing e old new)
+
+-- a text may trail the line: its hint, its verdict's message, or none
+abbrev pub MayTrail : Environment → Draft → Option (List ℕ) → Type 0
+MayTrail environment draft trailing =
+    (trailing ≡ hint_shown draft) ⊎ (trailing ≡ message_of (verdict_on environment draft.line.text)) ⊎ (trailing ≡ None)
+
+-- what is shown is the line with a text behind it that may trail it
+pub record ShowsLine {X : Type 0} (e : Ghosts X) (editor : X) : Type 0 where
+  pub trailing : Option (List ℕ)
+  pub shows : Shows e editor trailing
+  pub trails : MayTrail (e.environment editor) (e.draft editor) trailing
+
+-- what is shown is the line with at most its verdict's message behind it
+pub record ShowsNoHint {X : Type 0} (e : Ghosts X) (editor : X) : Type 0 where
+  pub trailing : Option (List ℕ)
+  pub shows : Shows e editor trailing
+  pub trails : (trailing ≡ message_of (verdict_on (e.environment editor) (e.draft editor).line.text)) ⊎ (trailing ≡ None)
+
+-- what is drawn stays good: a right layout, and a line with what may trail it
+pub record KeepsDrawn {X : Type 0} (e : Ghosts X) (old new : X) : Type 0 where
+  pub right : KeepsLayoutRight e old new
+  pub line : ShowsLine e old → ShowsLine e new
+
+-- what each refresh leaves: the draft, and all of it but the hint in any case
+pub record Refreshes {X T : Type 0} (e : Ghosts X) (result : Result T ReadlineError) (old new : X) (left : Draft) : Type 0 where
   pub draft : OnOk result (e.draft new ≡ left)
   pub text : KeepsText (e.draft old) (e.draft new)
-  pub lit : OnOk result ((e.display new).lit ≡ lit_after (e.environment old) (e.display old) (e.draft old).line kind)
-  pub redraws : OnOk result (Redraws e 1 1 old new)
   pub frame : Frame e old new
   pub fails : FailsOnlyIf result (PartyFailed e old new)
 
--- what an edit leaves that draws in full: the draft, drawn with its hint, and the frame
+-- what an edit leaves: the draft, drawn with its hint
 pub record DrawsEdit {X T : Type 0} (e : Ghosts X) (result : Result T ReadlineError) (old new : X) (left : Draft) : Type 0 where
   pub draft : OnOk result (e.draft new ≡ left)
-  pub shown : OnOk result (Shows e new (option_map (λ hint. hint.display) (e.draft new).hint))
-  pub redraws : OnOk result (Redraws e 1 1 old new)
+  pub drew : OnOk result (Drew e old new (hint_shown (e.draft new)) Other)
+  pub keeps : OnOk result (KeepsDrawn e old new)
   pub frame : Frame e old new
   pub fails : FailsOnlyIf result (PartyFailed e old new)
 
--- what is drawn stays, or the line was drawn in full with this behind it
-abbrev pub StaysOrShows : {X : Type 0} → Ghosts X → X → X → Option (List ℕ) → Type 0
-StaysOrShows e old new trailing = (e.display new ≡ e.display old) ⊎ Shows e new trailing
-
--- what a move of the cursor leaves: the line, a right layout, and what is drawn or the line with nothing behind it
+-- what a move of the cursor leaves: the line, and where the cursor has to be drawn elsewhere the line with nothing behind it
 pub record MovesTo {X T : Type 0} (e : Ghosts X) (result : Result T ReadlineError) (old new : X) (line : Line) : Type 0 where
   pub draft : e.draft new ≡ record (e.draft old) { line = line }
-  pub right : OnOk result (KeepsLayoutRight e old new)
-  pub shown : OnOk result (StaysOrShows e old new None)
-  pub redraws : OnOk result (Redraws e 0 1 old new)
+  pub keeps : OnOk result (KeepsDrawn e old new)
+  pub drew : OnOk result (Drew e old new None MoveCursor ⊎ DrewNothing e old new)
   pub frame : Frame e old new
   pub fails : FailsOnlyIf result (RendererFailed e old new)
 
@@ -85,13 +119,16 @@ pub record MovesTo {X T : Type 0} (e : Ghosts X) (result : Result T ReadlineErro
 abbrev pub IsAtEnd : {X : Type 0} → Ghosts X → X → Type 0
 IsAtEnd e editor = (e.display editor).layout.cursor ≡ (e.display editor).layout.end
 
+-- the kept cursor is that of a full redraw of the line
+abbrev pub HasCursorDrawn : {X : Type 0} → Ghosts X → X → Type 0
+HasCursorDrawn e editor = HasCursorAt (e.display editor) (e.draft editor).line
+
 -- the renderer stands at the kept cursor
 abbrev pub IsInPlace : {X : Type 0} → Ghosts X → X → Type 0
 IsInPlace e editor = (e.display editor).screen.position ≡ (e.display editor).layout.cursor
 
--- a draft changes and nothing is drawn: all else stays
+-- nothing is drawn and no one is asked: only the draft may change
 pub record Undrawn {X : Type 0} (e : Ghosts X) (old new : X) : Type 0 where
-  pub display : e.display new ≡ e.display old
-  pub redraws : e.redraws new ≡ e.redraws old
+  pub drew : DrewNothing e old new
   pub failures : e.failures new ≡ e.failures old
   pub frame : Frame e old new

@@ -1,5 +1,5 @@
 -- What a validator says of a text.
-use Rattle.std.specs.Prelude.{ℕ, List, Option, option_map, string_bytes}
+use Rattle.std.specs.Prelude.{ℕ, List, Option, None, option_map, string_bytes}
 use Rattle.line_parts.specs.declared.validate.ValidationResult.{ValidationResult}
 use Rattle.line_parts.specs.declared.validate.ValidationResult.TheVariants as Said
 
@@ -14,3 +14,9 @@ abbrev pub verdict_of : ValidationResult → Verdict
 verdict_of Said.Incomplete = incomplete
 verdict_of (Said.Invalid message) = invalid (option_map string_bytes message)
 verdict_of (Said.Valid message) = valid (option_map string_bytes message)
+
+-- the message of a verdict, if it has one
+abbrev pub message_of : Verdict → Option (List ℕ)
+message_of (valid message) = message
+message_of (invalid message) = message
+message_of incomplete = None

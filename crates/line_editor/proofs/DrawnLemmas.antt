@@ -1,0 +1,77 @@
+-- Facts on what is drawn of a line.
+use Rattle.std.proofs.Common.{◌≡◌, ◌⊎◌, inl, inr, ℕ, Bool, true, false, List, Option, None, option_map, refl, sym, ◌∙◌, ap, subst}
+use Rattle.std.specs.Prelude.{MatchBool}
+use Rattle.line_buffer.specs.Line.{Line}
+use Rattle.line_keys.specs.Display.{Display, HasCursorAt, ShowsInFull, IsFullRedraw, IsRight, shown_end}
+use Rattle.line_keys.specs.Draft.{Draft, hint_shown}
+use Rattle.line_keys.specs.EditorState.{Shows, ShowsLine, ShowsNoHint, Drew, DrewNothing, HasCursorDrawn, HasRightLayout, KeepsDrawn, MayTrail}
+use Rattle.line_keys.specs.declared.editor_state.EditorState.{Ghosts}
+use Rattle.line_parts.specs.Environment.{Environment, verdict_on}
+use Rattle.line_parts.specs.Verdict.{message_of}
+use Rattle.line_parts.specs.declared.highlight.CmdKind.{CmdKind}
+
+-- a line that was drawn with its hint is shown
+pub hint_trails : {X : Type 0} (e : Ghosts X) (editor : X) → Shows e editor (hint_shown (e.draft editor)) → ShowsLine e editor
+hint_trails e editor shows = record { trailing = _; shows = shows; trails = inl refl }
+
+-- so is one with nothing behind it
+pub nothing_trails : {X : Type 0} (e : Ghosts X) (editor : X) → Shows e editor None → ShowsLine e editor
+nothing_trails e editor shows = record { trailing = None; shows = shows; trails = inr (inr refl) }
+
+pub no_hint_behind : {X : Type 0} (e : Ghosts X) (editor : X) → Shows e editor None → ShowsNoHint e editor
+no_hint_behind e editor shows = record { trailing = None; shows = shows; trails = inr refl }
+
+-- with at most a message behind it the line is shown
+pub no_hint_line : {X : Type 0} (e : Ghosts X) (editor : X) → ShowsNoHint e editor → ShowsLine e editor
+no_hint_line e editor s = record { trailing = s.trailing; shows = s.shows; trails = inr s.trails }
+
+-- a full redraw's display shows another cursor of the same text where its cursor is the kept one
+shows_at : (d d' : Display) (l l' : Line) (trailing : Option (List ℕ)) → d' ≡ d → l'.text ≡ l.text → HasCursorAt d' l'
+    → ShowsInFull d d.prompt_end l trailing → ShowsInFull d' d'.prompt_end l' trailing
+shows_at d d' l l' trailing same text cursor full =
+    let P : Display → Type 0 = λ x. ShowsInFull x x.prompt_end l trailing in
+    let there : ShowsInFull d' d'.prompt_end l trailing = subst P (sym same) full in
+    record {
+      layout = record {
+        prompt = there.layout.prompt;
+        cursor = cursor;
+        ends = there.layout.ends ∙ ap (λ t. shown_end d'.surface.measure d'.prompt_end t trailing) (sym text);
+        has_info = there.layout.has_info;
+        mode = there.layout.mode;
+      };
+      position = there.position;
+      shows = there.shows ∙ sym text;
+      origin = there.origin;
+    }
+
+-- what may trail a line may trail it with another cursor
+trails_on : (environment environment' : Environment) (draft draft' : Draft) (trailing : Option (List ℕ))
+    → environment' ≡ environment → draft'.line.text ≡ draft.line.text → draft'.hint ≡ draft.hint
+    → MayTrail environment draft trailing → MayTrail environment' draft' trailing
+trails_on environment environment' draft draft' trailing same text hint trails =
+    elim trails [
+      | inl e ↦ inl (e ∙ ap (λ h. option_map (λ s. s.display) h) (sym hint))
+      | inr t ↦ elim t [
+        | inl e ↦ inr (inl (e ∙ ap (λ w. message_of (verdict_on w draft.line.text)) (sym same) ∙ ap (λ x. message_of (verdict_on environment' x)) (sym text)))
+        | inr e ↦ inr (inr e)
+      ]
+    ]
+
+module _ {X : Type 0} (e : Ghosts X) (old new : X) (same : e.environment new ≡ e.environment old) (text : (e.draft new).line.text ≡ (e.draft old).line.text) (hint : (e.draft new).hint ≡ (e.draft old).hint) (drew : DrewNothing e old new) where
+  -- where nothing was drawn, a line that was shown is shown with another cursor, if that is the kept one
+  pub line_moved : HasCursorDrawn e new → ShowsLine e old → ShowsLine e new
+  line_moved cursor s = record {
+    trailing = s.trailing;
+    shows = record {
+      in_full = shows_at (e.display old) (e.display new) (e.draft old).line (e.draft new).line s.trailing drew.display text cursor s.shows.in_full;
+      own_prompt = ap (λ (d : Display). d.layout.default_prompt) drew.display ∙ s.shows.own_prompt;
+    };
+    trails = trails_on (e.environment old) (e.environment new) (e.draft old) (e.draft new) s.trailing same text hint s.trails;
+  }
+
+  -- and with the same cursor
+  pub line_stays : (e.draft new).line ≡ (e.draft old).line → ShowsLine e old → ShowsLine e new
+  line_stays line s =
+      let P : Display → Type 0 = λ d. HasCursorAt d (e.draft old).line in
+      let Q : Line → Type 0 = λ l. HasCursorAt (e.display new) l in
+      line_moved (subst Q (sym line) (subst P (sym drew.display) s.shows.in_full.layout.cursor)) s

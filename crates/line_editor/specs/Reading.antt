@@ -1,0 +1,59 @@
+-- Reading a command from the items that a reader has left.
+use Rattle.std.specs.Prelude.{◌≡◌, ◌⊎◌, ℕ, ◌+◌, ◌-◌, ◌<◌, ◌≤◌, ◌++◌, [], true, List, length, Result, OnOk, OnErr, IsErrOf}
+use Rattle.line_config.specs.Error.{IoOnlyIf, greatest}
+use Rattle.line_config.specs.declared.error.ReadlineError.{ReadlineError}
+use Rattle.line_config.specs.declared.error.ReadlineError.TheVariants.{Interrupted}
+use Rattle.line_parts.specs.Environment.{Environment}
+use Rattle.line_keys.specs.Command.{Command}
+use Rattle.line_keys.specs.Draft.{Draft, hinted}
+use Rattle.line_keys.specs.EditorState.{Frame, KeepsDrawn, Redraws}
+use Rattle.line_keys.specs.Item.{Item}
+use Rattle.line_keys.specs.declared.editor_state.EditorState as editors
+use Rattle.line_keys.specs.declared.tty.RawReader as readers
+use Rattle.line_editor.specs.InputState.{input_of, keymap_of}
+use Rattle.line_editor.specs.Phrase.{Phrase, IsBeginning}
+use Rattle.line_editor.specs.declared.keymap.InputState.{InputState}
+
+-- the failures of the one or of the other party rose, where both counts can
+abbrev pub EitherRose : ℕ → ℕ → ℕ → ℕ → Type 0
+EitherRose one other one' other' = one < greatest → other < greatest → one + other < one' + other'
+
+-- a phrase that was cut short leaves the draft, with its hint as it was or asked again
+abbrev pub LeftByCut : Environment → Draft → Draft → Type 0
+LeftByCut environment draft draft' = (draft' ≡ draft) ⊎ (draft' ≡ hinted environment draft)
+
+module _ {X Y : Type 0} (e : editors.Ghosts X) (r : readers.Ghosts Y) where
+  -- what was read is one phrase, and nothing past it
+  pub record ReadsPhrase (editor : X) (input : InputState) (reader reader' : Y) (command : Command) (draft : Draft) (input' : InputState) : Type 0 where
+    pub items : List Item
+    pub cut : r.rest reader ≡ items ++ r.rest reader'
+    pub phrase : Phrase (keymap_of input (r.own_binding reader)) (e.environment editor) (e.draft editor) (input_of input) items command draft (input_of input')
+
+  -- the items that are left begin a phrase and end in it: all are read, and the draft is left
+  pub record RunsOut (editor : X) (input : InputState) (reader : Y) (editor' : X) (reader' : Y) : Type 0 where
+    pub begins : IsBeginning (keymap_of input (r.own_binding reader)) (e.environment editor) (e.draft editor) (input_of input) (r.rest reader)
+    pub empty : r.rest reader' ≡ []
+    pub draft : LeftByCut (e.environment editor) (e.draft editor) (e.draft editor')
+
+  -- an error of input or output comes only where the reader or the renderer failed, or a party is not sure
+  abbrev pub FailsByReading : {T : Type 0} → Result T ReadlineError → X → Y → X → Y → Type 0
+  FailsByReading result editor reader editor' reader' =
+      IoOnlyIf result (e.sure editor ≡ true
+      → EitherRose (r.failures reader) (e.failures editor) (r.failures reader') (e.failures editor'))
+
+  -- what stays of the editor, the reader and the bindings while commands are read and executed
+  pub record KeepsReading {T : Type 0} (result : Result T ReadlineError) (editor : X) (input : InputState) (reader : Y) (editor' : X) (input' : InputState) (reader' : Y) : Type 0 where
+    pub frame : Frame e editor editor'
+    pub own : r.own_binding reader' ≡ r.own_binding reader
+    pub keymap : keymap_of input' (r.own_binding reader) ≡ keymap_of input (r.own_binding reader)
+    pub counts : r.failures reader ≤ r.failures reader'
+    pub io : FailsByReading result editor reader editor' reader'
+
+  -- what else a call leaves that reads one command: after an error the input value, and what is drawn in any case
+  pub record ReadsOn {T : Type 0} (result : Result T ReadlineError) (editor : X) (input : InputState) (reader : Y) (editor' : X) (input' : InputState) (reader' : Y) : Type 0 where
+    pub keeps : KeepsReading result editor input reader editor' input' reader'
+    pub remembers : OnErr result (input_of input' ≡ input_of input)
+    pub reads : OnOk result (length (r.rest reader') < length (r.rest reader))
+    pub drawn : OnOk result (KeepsDrawn e editor editor')
+    pub redraws : OnOk result (Redraws e 0 (length (r.rest reader) - length (r.rest reader')) editor editor')
+    pub not_interrupted : IsErrOf result Interrupted → ⊥

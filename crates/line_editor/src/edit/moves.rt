@@ -1,0 +1,139 @@
+//! Moves of the cursor.
+ghost use Rattle.std.specs.Prelude.{◌≡◌, ◌⊎◌, None, OnOk};
+ghost use Rattle.line_buffer.specs.Cluster.{place_on, place_back};
+ghost use Rattle.line_buffer.specs.Line.{moved_to, with_cursor, start_of_line, end_of_line};
+ghost use Rattle.line_keys.specs.Display.{ShowsText, IsRight, cursor_position};
+ghost use Rattle.line_keys.specs.EditorState.{Drew, DrewNothing, FailsOnlyIf, Frame, IsAtEnd, IsInPlace, MovesTo, RendererFailed};
+ghost use Rattle.line_editor.specs.Step.{moved};
+
+use crate::edit::{Info, State};
+use line_buffer::{Movement, RepeatCount};
+use line_config::{Prompt, Result};
+use line_keys::editor_state::EditorState;
+use line_parts::{CmdKind, Helper, History};
+use line_state::{Drawn, Renderer, View};
+
+impl<'out, 'prompt, W: Renderer, H: Helper, P: Prompt, S: History> State<
+    'out,
+    'prompt,
+    W,
+    H,
+    P,
+    S,
+> {
+    /// Takes the drawn cursor to where the line's cursor is. Nothing is drawn where it stands there already.
+    ///
+    /// # Errors
+    /// Those of the renderer.
+    pub fn move_cursor(&mut self, kind: CmdKind) -> Result<()>
+        ensures draft { let d = ⟦<Self as EditorState>⟧.draft in d self.new ≡ d self.old }
+        ensures right { let e = ⟦<Self as EditorState>⟧ in let line = (e.draft self.old).line in
+            OnOk result (ShowsText (e.display self.old) line.text → IsRight (e.display self.new) line) }
+        ensures drew { let e = ⟦<Self as EditorState>⟧ in OnOk result
+            (Drew e self.old self.new None kind
+            ⊎ (DrewNothing e self.old self.new × HasCursorDrawn e self.old)) }
+        ensures frame { Frame ⟦<Self as EditorState>⟧ self.old self.new }
+        ensures fails { let e = ⟦<Self as EditorState>⟧ in
+            FailsOnlyIf result (RendererFailed e self.old self.new) }
+    {
+        if self.view.is_cursor_drawn(self.edited.line()) {
+            return Ok(());
+        }
+        self.ask_highlight(kind);
+        self.draw(Info::Nothing)
+    }
+
+    /// Moves the cursor `n` clusters back, or as many as there are. The drawn cursor goes along.
+    ///
+    /// # Errors
+    /// Those of the renderer.
+    pub fn edit_move_backward(&mut self, n: RepeatCount) -> Result<()>
+        ensures { let e = ⟦<Self as EditorState>⟧ in let line = (e.draft self.old).line in
+            MovesTo e result self.old self.new (moved_to line (place_back line n)) }
+    {
+        if self.edited.move_backward(n) {
+            self.move_cursor(CmdKind::MoveCursor)
+        } else {
+            Ok(())
+        }
+    }
+
+    /// Moves the cursor `n` clusters on, or as many as there are. The drawn cursor goes along.
+    ///
+    /// # Errors
+    /// Those of the renderer.
+    pub fn edit_move_forward(&mut self, n: RepeatCount) -> Result<()>
+        ensures { let e = ⟦<Self as EditorState>⟧ in let line = (e.draft self.old).line in
+            MovesTo e result self.old self.new (moved_to line (place_on line n)) }
+    {
+        if self.edited.move_forward(n) {
+            self.move_cursor(CmdKind::MoveCursor)
+        } else {
+            Ok(())
+        }
+    }
+
+    /// Moves the cursor to the start of its line. The drawn cursor goes along.
+    ///
+    /// # Errors
+    /// Those of the renderer.
+    pub fn edit_move_home(&mut self) -> Result<()>
+        ensures { let e = ⟦<Self as EditorState>⟧ in let line = (e.draft self.old).line in
+            MovesTo e result self.old self.new (with_cursor line (start_of_line line)) }
+    {
+        if self.edited.move_home() {
+            self.move_cursor(CmdKind::MoveCursor)
+        } else {
+            Ok(())
+        }
+    }
+
+    /// Moves the cursor to the end of its line. The drawn cursor goes along.
+    ///
+    /// # Errors
+    /// Those of the renderer.
+    pub fn edit_move_end(&mut self) -> Result<()>
+        ensures { let e = ⟦<Self as EditorState>⟧ in let line = (e.draft self.old).line in
+            MovesTo e result self.old self.new (with_cursor line (end_of_line line)) }
+    {
+        if self.edited.move_end() {
+            self.move_cursor(CmdKind::MoveCursor)
+        } else {
+            Ok(())
+        }
+    }
+
+    // Moves the cursor by a movement.
+    pub(crate) fn move_by(&mut self, movement: &Movement) -> Result<()>
+        ensures { let e = ⟦<Self as EditorState>⟧ in
+            MovesTo e result self.old self.new (moved movement.now (e.draft self.old).line) }
+    {
+        match movement {
+            Movement::BackwardChar(n) => self.edit_move_backward(*n),
+            Movement::ForwardChar(n) => self.edit_move_forward(*n),
+            Movement::BeginningOfLine => self.edit_move_home(),
+            Movement::EndOfLine => self.edit_move_end(),
+            _ => Ok(()),
+        }
+    }
+
+    /// Takes the drawn cursor to where what is shown ends, a hint or message behind the line included.
+    ///
+    /// # Errors
+    /// Those of the renderer.
+    pub fn move_cursor_to_end(&mut self) -> Result<()>
+        ensures draft { let d = ⟦<Self as EditorState>⟧.draft in d self.new ≡ d self.old }
+        ensures layout { let d = ⟦<Self as EditorState>⟧.display in OnOk result ((d self.new).layout
+            ≡ record (d self.old).layout { cursor = (d self.old).layout.end }) }
+        ensures position { let e = ⟦<Self as EditorState>⟧ in
+            IsInPlace e self.old → OnOk result (IsInPlace e self.new) }
+        ensures text { let d = ⟦<Self as EditorState>⟧.display in
+            (d self.new).screen.text ≡ (d self.old).screen.text }
+        ensures redraws { let e = ⟦<Self as EditorState>⟧ in e.redraws self.new ≡ e.redraws self.old }
+        ensures frame { Frame ⟦<Self as EditorState>⟧ self.old self.new }
+        ensures fails { let e = ⟦<Self as EditorState>⟧ in
+            FailsOnlyIf result (RendererFailed e self.old self.new) }
+    {
+        self.view.move_cursor_to_end()
+    }
+}

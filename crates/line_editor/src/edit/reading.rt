@@ -1,0 +1,73 @@
+//! How the next command is read.
+ghost use Rattle.std.specs.Prelude.{◌≡◌, [], IfOk, OnOk, IsErrOf};
+ghost use Rattle.line_config.specs.Error.{MemoryOnly};
+ghost use Rattle.line_editor.specs.Reading.{ReadsOn, ReadsPhrase, RunsOut};
+ghost use Rattle.line_editor.specs.Step.{grouped};
+ghost use Rattle.line_keys.specs.Command.{command_of};
+ghost use Rattle.line_keys.specs.Draft.{Draft, KeepsLine};
+ghost use Rattle.line_keys.specs.EditorState.{Undrawn};
+
+use crate::edit::State;
+use crate::keymap::InputState;
+use line_config::{Prompt, ReadlineError, Result};
+use line_keys::command::Cmd;
+use line_keys::editor_state::EditorState;
+use line_keys::keymap::Refresher;
+use line_keys::tty::RawReader;
+use line_parts::{Helper, History};
+use line_state::Renderer;
+
+impl<'out, 'prompt, W: Renderer, H: Helper, P: Prompt, S: History> State<
+    'out,
+    'prompt,
+    W,
+    H,
+    P,
+    S,
+> {
+    /// Reads the next command, by the program's bindings, the reader's and the tables, and begins a group of changes for a
+    /// replacement.
+    ///
+    /// # Errors
+    /// `Eof` where the items ended inside a phrase or before one; then a phrase that was cut short can be read again with
+    /// more items behind it. Another error is one of input or output, or that memory ran out. After an error the line, its
+    /// cursor, the history index and what is remembered of the keys stand as they were.
+    #[tactic(auto, using(crate::proofs::DrawnLemmas::line_stays))]
+    pub fn next_cmd(
+        &mut self,
+        input_state: &mut InputState<'_>,
+        rdr: &mut W::Reader,
+        single_esc_abort: bool,
+    ) -> Result<Cmd>
+        ensures phrase { let e = ⟦<Self as EditorState>⟧ in IfOk result (λ c. (draft : Draft)
+            × ReadsPhrase e W.Reader.RawReader self.old input_state.old rdr.old rdr.new (command_of c)
+            draft input_state.new × (e.draft self.new ≡ grouped (command_of c) draft)) }
+        ensures eof { IsErrOf result ReadlineError.Eof → RunsOut ⟦<Self as EditorState>⟧
+            W.Reader.RawReader self.old input_state.old rdr.old self.new rdr.new }
+        // Where nothing was left to read, nothing changes.
+        ensures dry { let e = ⟦<Self as EditorState>⟧ in W.Reader.rest rdr.old ≡ []
+            → (e.draft self.new ≡ e.draft self.old) × (e.display self.new ≡ e.display self.old) }
+        ensures line { let d = ⟦<Self as EditorState>⟧.draft in KeepsLine (d self.old) (d self.new) }
+        ensures reading { ReadsOn ⟦<Self as EditorState>⟧ W.Reader.RawReader result
+            self.old input_state.old rdr.old self.new input_state.new rdr.new }
+    {
+        let command = input_state.next_cmd(rdr, self, single_esc_abort)?;
+        self.begin_group(&command)?;
+        Ok(command)
+    }
+
+    // Begins a group of changes for a replacement.
+    fn begin_group(&mut self, command: &Cmd) -> Result<()>
+        ensures draft { let d = ⟦<Self as EditorState>⟧.draft in OnOk result
+            (d self.new ≡ grouped (command_of command.now) (d self.old)) }
+        ensures line { let d = ⟦<Self as EditorState>⟧.draft in KeepsLine (d self.old) (d self.new) }
+        ensures hint { let d = ⟦<Self as EditorState>⟧.draft in (d self.new).hint ≡ (d self.old).hint }
+        ensures undrawn { Undrawn ⟦<Self as EditorState>⟧ self.old self.new }
+        ensures memory { MemoryOnly result }
+    {
+        match command {
+            Cmd::Replace(_, _) => self.doing_insert(),
+            _ => Ok(()),
+        }
+    }
+}
