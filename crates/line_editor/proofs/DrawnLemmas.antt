@@ -7,7 +7,7 @@ use Rattle.line_keys.specs.Draft.{Draft, hint_shown}
 use Rattle.line_keys.specs.EditorState.{Shows, ShowsLine, ShowsNoHint, Drew, DrewNothing, HasCursorDrawn, HasRightLayout, KeepsDrawn, MayTrail}
 use Rattle.line_keys.specs.declared.editor_state.EditorState.{Ghosts}
 use Rattle.line_parts.specs.Environment.{Environment, verdict_on}
-use Rattle.line_parts.specs.Verdict.{message_of}
+use Rattle.line_parts.specs.Verdict.{Verdict, message_of}
 use Rattle.line_parts.specs.declared.highlight.CmdKind.{CmdKind}
 
 -- a line that was drawn with its hint is shown
@@ -20,6 +20,15 @@ nothing_trails e editor shows = record { trailing = None; shows = shows; trails 
 
 pub no_hint_behind : {X : Type 0} (e : Ghosts X) (editor : X) → Shows e editor None → ShowsNoHint e editor
 no_hint_behind e editor shows = record { trailing = None; shows = shows; trails = inr refl }
+
+-- a line that was drawn with its verdict's message has no hint behind it
+pub message_behind : {X : Type 0} (e : Ghosts X) (editor : X) (verdict : Verdict) → verdict ≡ verdict_on (e.environment editor) (e.draft editor).line.text
+    → Shows e editor (message_of verdict) → ShowsNoHint e editor
+message_behind e editor verdict said shows = record { trailing = message_of verdict; shows = shows; trails = inl (ap message_of said) }
+
+pub message_trails : {X : Type 0} (e : Ghosts X) (editor : X) (verdict : Verdict) → verdict ≡ verdict_on (e.environment editor) (e.draft editor).line.text
+    → Shows e editor (message_of verdict) → ShowsLine e editor
+message_trails e editor verdict said shows = record { trailing = message_of verdict; shows = shows; trails = inr (inl (ap message_of said)) }
 
 -- with at most a message behind it the line is shown
 pub no_hint_line : {X : Type 0} (e : Ghosts X) (editor : X) → ShowsNoHint e editor → ShowsLine e editor
@@ -75,3 +84,21 @@ module _ {X : Type 0} (e : Ghosts X) (old new : X) (same : e.environment new ≡
       let P : Display → Type 0 = λ d. HasCursorAt d (e.draft old).line in
       let Q : Line → Type 0 = λ l. HasCursorAt (e.display new) l in
       line_moved (subst Q (sym line) (subst P (sym drew.display) s.shows.in_full.layout.cursor)) s
+
+  -- where no hint stood behind the line, none does
+  pub no_hint_stays : (e.draft new).line ≡ (e.draft old).line → ShowsNoHint e old → ShowsNoHint e new
+  no_hint_stays line s =
+      let P : Display → Type 0 = λ d. HasCursorAt d (e.draft old).line in
+      let Q : Line → Type 0 = λ l. HasCursorAt (e.display new) l in
+      let cursor = subst Q (sym line) (subst P (sym drew.display) s.shows.in_full.layout.cursor) in
+      record {
+        trailing = s.trailing;
+        shows = record {
+          in_full = shows_at (e.display old) (e.display new) (e.draft old).line (e.draft new).line s.trailing drew.display text cursor s.shows.in_full;
+          own_prompt = ap (λ (d : Display). d.layout.default_prompt) drew.display ∙ s.shows.own_prompt;
+        };
+        trails = elim s.trails [
+          | inl e1 ↦ inl (e1 ∙ ap (λ w. message_of (verdict_on w (e.draft old).line.text)) (sym same) ∙ ap (λ x. message_of (verdict_on (e.environment new) x)) (sym text))
+          | inr e2 ↦ inr e2
+        ];
+      }

@@ -1,12 +1,12 @@
 -- Facts on edits.
-use Rattle.std.proofs.Common.{◌≡◌, ℕ, true, false, cond, Option, Some, None, is_some, option_map, unwrap_or, refl, ap}
+use Rattle.std.proofs.Common.{◌≡◌, ℕ, true, false, cond, List, Option, Some, None, is_some, option_map, unwrap_or, refl, ap, sym}
 use Rattle.line_buffer.specs.Line.{Line, moved_to}
-use Rattle.line_parts.specs.Environment.{Environment}
 use Rattle.line_keys.specs.Draft.{Draft, in_group, out_of_group}
+use Rattle.line_parts.specs.Environment.{Environment, verdict_on}
 use Rattle.line_parts.specs.Hint.{Suggestion, suggestion_of}
 use Rattle.line_parts.specs.Verdict.{Verdict, valid}
 use Rattle.line_parts.specs.declared.hint.Hint.{Ghosts}
-use Rattle.line_editor.specs.Step.{verdict_on, validated, unhinted_by}
+use Rattle.line_editor.specs.Step.{validated, unhinted_by}
 
 -- a move keeps the text
 pub moved_text : (line : Line) (place : Option ℕ) → (moved_to line place).text ≡ line.text
@@ -14,18 +14,26 @@ moved_text line None = refl
 moved_text line (Some place) = refl
 
 -- without a helper each text is valid
-pub no_verdict : (verdict : Option Verdict) → is_some verdict ≡ false → unwrap_or verdict (valid None) ≡ valid None
-no_verdict None e = refl
-no_verdict (Some verdict) e = absurd (cc)
+unasked : (verdict : Option (List ℕ → Verdict)) (text : List ℕ) → is_some verdict ≡ false
+    → unwrap_or (option_map (λ v. v text) verdict) (valid None) ≡ valid None
+unasked None text e = refl
+unasked (Some verdict) text e = absurd (cc)
+
+pub no_verdict : (environment : Environment) (text : List ℕ) → is_some environment.verdict_at ≡ false
+    → verdict_on environment text ≡ valid None
+no_verdict environment text e = unasked environment.verdict_at text e
 
 -- without a helper nothing is validated
-pub not_validated : (environment : Environment) (draft : Draft) → is_some (environment.verdict_at draft.line.text) ≡ false → validated environment draft ≡ draft
-not_validated environment draft e = ap (λ b. cond b (unhinted_by (verdict_on environment draft) (out_of_group (in_group draft))) draft) e
+pub not_validated : (environment : Environment) (draft : Draft) → is_some environment.verdict_at ≡ false
+    → validated environment draft ≡ draft
+not_validated environment draft e =
+    ap (λ b. cond b (unhinted_by (verdict_on environment draft.line.text) (out_of_group (in_group draft))) draft) e
 
 -- with a helper the draft is validated
-pub was_validated : (environment : Environment) (draft : Draft) → is_some (environment.verdict_at draft.line.text) ≡ true
-    → validated environment draft ≡ unhinted_by (verdict_on environment draft) (out_of_group (in_group draft))
-was_validated environment draft e = ap (λ b. cond b (unhinted_by (verdict_on environment draft) (out_of_group (in_group draft))) draft) e
+pub was_validated : (environment : Environment) (draft : Draft) → is_some environment.verdict_at ≡ true
+    → validated environment draft ≡ unhinted_by (verdict_on environment draft.line.text) (out_of_group (in_group draft))
+was_validated environment draft e =
+    ap (λ b. cond b (unhinted_by (verdict_on environment draft.line.text) (out_of_group (in_group draft))) draft) e
 
 -- what is shown of a hint is what it displays
 pub shown_hint : {T : Type 0} → (words : Ghosts T) → (hint : Option T)

@@ -1,3 +1,4 @@
+pub mod CountLemmas
 pub mod DrawnLemmas
 pub mod EditLemmas
 pub mod PhraseLemmas

@@ -110,6 +110,7 @@ impl<'out, 'prompt, W: Renderer, H: Helper, P: Prompt, S: History> State<
         }
     }
 
+    #[tactic(auto, using(crate::proofs::DrawnLemmas::no_hint_line))]
     // Submits a valid line, and gives another one a newline unless a message says why it is refused.
     fn accept_or_insert_line(&mut self, accept_in_the_middle: bool) -> Result<Status>
         ensures left { let e = ⟦<Self as EditorState>⟧ in IfOk result (λ status.

@@ -24,11 +24,13 @@ impl<'out, 'prompt, W: Renderer, H: Helper, P: Prompt, S: History> State<
     /// # Errors
     /// Those of the parties, and that memory ran out. The line is text with its cursor on a boundary, and the changes tell
     /// of it.
+    #[tactic(auto, using(crate::proofs::DrawnLemmas::hint_trails))]
     pub fn edit_insert(&mut self, c: char, n: RepeatCount) -> Result<()>
         ensures { let e = ⟦<Self as EditorState>⟧ in DrawsEdit e result self.old self.new
             (typed_in (e.environment self.old) n c (e.draft self.old)) }
     {
         self.edited.insert(c, n)?;
-        self.refresh_line()
+        self.refresh_line()?;
+        Ok(())
     }
 }

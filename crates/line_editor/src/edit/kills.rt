@@ -2,7 +2,7 @@
 ghost use Rattle.std.specs.Prelude.{◌≡◌, is_some, OnOk};
 ghost use Rattle.line_buffer.specs.Kill.{killed_range};
 ghost use Rattle.line_keys.specs.Draft.{hint_shown};
-ghost use Rattle.line_keys.specs.EditorState.{DrewIf, FailsOnlyIf, Frame, PartyFailed};
+ghost use Rattle.line_keys.specs.EditorState.{DrewIf, FailsOnlyIf, Frame, KeepsDrawn, PartyFailed, Redraws};
 ghost use Rattle.line_parts.specs.declared.highlight.CmdKind.TheVariants.{Other};
 ghost use Rattle.line_editor.specs.Step.{killed_by};
 
@@ -28,6 +28,7 @@ impl<'out, 'prompt, W: Renderer, H: Helper, P: Prompt, S: History> State<
     /// # Errors
     /// Those of the parties, and that memory ran out. The line is text with its cursor on a boundary, and the changes tell
     /// of it.
+    #[tactic(auto, using(crate::proofs::DrawnLemmas::hint_trails, crate::proofs::CountLemmas::stays_rises))]
     pub fn edit_kill(&mut self, movement: &Movement, kill_ring: &mut KillRing) -> Result<()>
         ensures left { let e = ⟦<Self as EditorState>⟧ in OnOk result
             (record { draft = e.draft self.new; kills = kill_ring.new }
@@ -37,14 +38,15 @@ impl<'out, 'prompt, W: Renderer, H: Helper, P: Prompt, S: History> State<
         ensures drew { let e = ⟦<Self as EditorState>⟧ in OnOk result
             (DrewIf e (is_some (killed_range (e.draft self.old).line movement.now))
             self.old self.new (hint_shown (e.draft self.new)) Other) }
+        ensures keeps { OnOk result (KeepsDrawn ⟦<Self as EditorState>⟧ self.old self.new) }
+        ensures redraws { OnOk result (Redraws ⟦<Self as EditorState>⟧ 0 1 self.old self.new) }
         ensures frame { Frame ⟦<Self as EditorState>⟧ self.old self.new }
         ensures fails { let e = ⟦<Self as EditorState>⟧ in
             FailsOnlyIf result (PartyFailed e self.old self.new) }
     {
         if self.edited.kill(movement, kill_ring)? {
-            self.refresh_line()
-        } else {
-            Ok(())
+            self.refresh_line()?;
         }
+        Ok(())
     }
 }

@@ -2,8 +2,8 @@
 ghost use Rattle.std.specs.Prelude.{◌≡◌, ◌⊎◌, None, OnOk};
 ghost use Rattle.line_buffer.specs.Cluster.{place_on, place_back};
 ghost use Rattle.line_buffer.specs.Line.{moved_to, with_cursor, start_of_line, end_of_line};
-ghost use Rattle.line_keys.specs.Display.{ShowsText, IsRight, cursor_position};
-ghost use Rattle.line_keys.specs.EditorState.{Drew, DrewNothing, FailsOnlyIf, Frame, IsAtEnd, IsInPlace, MovesTo, RendererFailed};
+ghost use Rattle.line_keys.specs.Display.{ShowsText, IsRight};
+ghost use Rattle.line_keys.specs.EditorState.{Drew, DrewNothing, FailsOnlyIf, Frame, HasCursorDrawn, IsInPlace, MovesTo, RendererFailed};
 ghost use Rattle.line_editor.specs.Step.{moved};
 
 use crate::edit::{Info, State};
@@ -11,7 +11,7 @@ use line_buffer::{Movement, RepeatCount};
 use line_config::{Prompt, Result};
 use line_keys::editor_state::EditorState;
 use line_parts::{CmdKind, Helper, History};
-use line_state::{Drawn, Renderer, View};
+use line_state::Renderer;
 
 impl<'out, 'prompt, W: Renderer, H: Helper, P: Prompt, S: History> State<
     'out,

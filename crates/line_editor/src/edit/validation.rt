@@ -1,11 +1,13 @@
 //! Verdicts on the line, and the hint taken away.
 ghost use Rattle.std.specs.Prelude.{◌≡◌, ◌||◌, not, is_some, None, IfOk, OnOk};
+ghost use Rattle.line_buffer.specs.Changes.{adds_end};
 ghost use Rattle.line_buffer.specs.Line.{ends_in_white_space};
-ghost use Rattle.line_keys.specs.Draft.{unhinted};
-ghost use Rattle.line_keys.specs.EditorState.{DrewIf, FailsOnlyIf, Frame, PartyFailed};
+ghost use Rattle.line_keys.specs.Draft.{in_group, out_of_group, unhinted};
+ghost use Rattle.line_keys.specs.EditorState.{DrewIf, DrewNothing, FailsOnlyIf, Frame, KeepsLayoutRight, PartyFailed, Redraws, ShowsLine, ShowsNoHint};
 ghost use Rattle.line_parts.specs.Environment.{verdict_on};
 ghost use Rattle.line_parts.specs.Verdict.{message_of, verdict_of};
 ghost use Rattle.line_parts.specs.declared.highlight.CmdKind.TheVariants.{ForcedRefresh};
+ghost use Rattle.line_editor.specs.Runs.{LosesHint};
 ghost use Rattle.line_editor.specs.Step.{unhinted_by, validated};
 ghost use Rattle.line_editor.specs.Verdict.{draws_verdict, draws_verdict_on, kind_of_verdict};
 
@@ -39,6 +41,13 @@ impl<'out, 'prompt, W: Renderer, H: Helper, P: Prompt, S: History> State<
             let verdict = verdict_on (e.environment self.old) (e.draft self.old).line.text in
             OnOk result (DrewIf e (draws_verdict (e.environment self.old) (e.draft self.old))
             self.old self.new (message_of verdict) (kind_of_verdict verdict)) }
+        ensures right { OnOk result
+            (KeepsLayoutRight ⟦<Self as EditorState>⟧ self.old self.new) }
+        ensures line { let e = ⟦<Self as EditorState>⟧ in
+            OnOk result (ShowsLine e self.old → ShowsLine e self.new) }
+        ensures no_hint { let e = ⟦<Self as EditorState>⟧ in
+            OnOk result (ShowsNoHint e self.old → ShowsNoHint e self.new) }
+        ensures redraws { OnOk result (Redraws ⟦<Self as EditorState>⟧ 0 1 self.old self.new) }
         ensures frame { Frame ⟦<Self as EditorState>⟧ self.old self.new }
         ensures fails { let e = ⟦<Self as EditorState>⟧ in
             FailsOnlyIf result (PartyFailed e self.old self.new) }
@@ -46,13 +55,36 @@ impl<'out, 'prompt, W: Renderer, H: Helper, P: Prompt, S: History> State<
         if !self.parties.has_validator() {
             return Ok(ValidationResult::Valid(None));
         }
-        self.edited.begin_group()?;
-        let result = self.parties.validate(self.alloc, self.edited.line())?;
-        let corrected = self.edited.end_groups()?;
-        self.show_verdict(&result, corrected)?;
-        Ok(result)
+        let (verdict, corrected) = self.ask_verdict()?;
+        self.show_verdict(&verdict, corrected)?;
+        Ok(verdict)
     }
 
+    // Asks the helper for its verdict, inside a group of changes. Returns it, and whether closing the group added a change.
+    #[tactic(auto, using(crate::proofs::DrawnLemmas::line_stays, crate::proofs::DrawnLemmas::no_hint_stays))]
+    fn ask_verdict(&mut self) -> Result<(ValidationResult, bool)>
+        ensures verdict { let e = ⟦<Self as EditorState>⟧ in IfOk result (λ r.
+            verdict_of r.0 ≡ verdict_on (e.environment self.old) (e.draft self.old).line.text) }
+        ensures corrected { let changes = (in_group (⟦<Self as EditorState>⟧.draft self.old)).changes in
+            IfOk result (λ r. r.1 ≡ adds_end changes.open_groups changes.entries) }
+        ensures draft { let d = ⟦<Self as EditorState>⟧.draft in OnOk result
+            (d self.new ≡ out_of_group (in_group (d self.old))) }
+        ensures drew { DrewNothing ⟦<Self as EditorState>⟧ self.old self.new }
+        ensures line { let e = ⟦<Self as EditorState>⟧ in
+            OnOk result (ShowsLine e self.old → ShowsLine e self.new) }
+        ensures no_hint { let e = ⟦<Self as EditorState>⟧ in
+            OnOk result (ShowsNoHint e self.old → ShowsNoHint e self.new) }
+        ensures frame { Frame ⟦<Self as EditorState>⟧ self.old self.new }
+        ensures fails { let e = ⟦<Self as EditorState>⟧ in
+            FailsOnlyIf result (PartyFailed e self.old self.new) }
+    {
+        self.edited.begin_group()?;
+        let verdict = self.parties.validate(self.alloc, self.edited.line())?;
+        let corrected = self.edited.end_groups()?;
+        Ok((verdict, corrected))
+    }
+
+    #[tactic(auto, using(crate::proofs::DrawnLemmas::message_trails, crate::proofs::DrawnLemmas::message_behind, crate::proofs::DrawnLemmas::line_stays, crate::proofs::DrawnLemmas::no_hint_stays))]
     // Draws the line with a verdict's message, where there is something to show or to take away.
     fn show_verdict(&mut self, verdict: &ValidationResult, corrected: bool) -> Result<()>
         ensures draft { let e = ⟦<Self as EditorState>⟧ in OnOk result
@@ -60,6 +92,14 @@ impl<'out, 'prompt, W: Renderer, H: Helper, P: Prompt, S: History> State<
         ensures drew { let e = ⟦<Self as EditorState>⟧ in let v = verdict_of verdict.now in
             OnOk result (DrewIf e (draws_verdict_on v (corrected || is_some (e.draft self.old).hint))
             self.old self.new (message_of v) (kind_of_verdict v)) }
+        ensures right { OnOk result
+            (KeepsLayoutRight ⟦<Self as EditorState>⟧ self.old self.new) }
+        ensures line { let e = ⟦<Self as EditorState>⟧ in
+            verdict_of verdict.now ≡ verdict_on (e.environment self.old) (e.draft self.old).line.text
+            → OnOk result (ShowsLine e self.old → ShowsLine e self.new) }
+        ensures no_hint { let e = ⟦<Self as EditorState>⟧ in
+            verdict_of verdict.now ≡ verdict_on (e.environment self.old) (e.draft self.old).line.text
+            → OnOk result (ShowsNoHint e self.old → ShowsNoHint e self.new) }
         ensures frame { Frame ⟦<Self as EditorState>⟧ self.old self.new }
         ensures fails { let e = ⟦<Self as EditorState>⟧ in
             FailsOnlyIf result (PartyFailed e self.old self.new) }
@@ -83,6 +123,8 @@ impl<'out, 'prompt, W: Renderer, H: Helper, P: Prompt, S: History> State<
         ensures drew { let e = ⟦<Self as EditorState>⟧ in let d = e.display self.old in OnOk result
             (DrewIf e (is_some (e.draft self.old).hint || d.lit || not d.layout.default_prompt)
             self.old self.new None ForcedRefresh) }
+        ensures loses { OnOk result (LosesHint ⟦<Self as EditorState>⟧ self.old self.new) }
+        ensures redraws { OnOk result (Redraws ⟦<Self as EditorState>⟧ 0 1 self.old self.new) }
         ensures frame { Frame ⟦<Self as EditorState>⟧ self.old self.new }
         ensures fails { let e = ⟦<Self as EditorState>⟧ in
             FailsOnlyIf result (PartyFailed e self.old self.new) }
