@@ -1,5 +1,5 @@
 -- Facts on runs.
-use Rattle.std.proofs.Common.{◌≡◌, ◌≢◌, List, [], ◌++◌, refl, sym, subst}
+use Rattle.std.proofs.Common.{◌≡◌, ◌≢◌, List, ◌++◌, refl, subst}
 use Rattle.line_buffer.specs.KillRing.{Ring}
 use Rattle.line_parts.specs.Environment.{Environment}
 use Rattle.line_keys.specs.Command.{Command, command_of, resets_kill_ring}
