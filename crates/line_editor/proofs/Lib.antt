@@ -4,3 +4,4 @@ pub mod EditLemmas
 pub mod PhraseLemmas
 pub mod RunLaws
 pub mod RunLemmas
+pub mod TurnLaws

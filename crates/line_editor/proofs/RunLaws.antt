@@ -2,13 +2,14 @@
 use Rattle.std.proofs.Common.{◌≡◌, ◌⊎◌, inl, inr, List, [], ◌∷◌, ◌++◌, append_assoc, refl, sym, ◌∙◌, ap, subst}
 use Rattle.line_parts.specs.Environment.{Environment}
 use Rattle.line_keys.specs.Command.{Command}
-use Rattle.line_keys.specs.Draft.{Draft}
+use Rattle.line_keys.specs.Draft.{Draft, KeepsText}
 use Rattle.line_keys.specs.Item.{Item}
 use Rattle.line_editor.specs.Input.{Input}
 use Rattle.line_editor.specs.Keymap.{Keymap}
 use Rattle.line_editor.specs.Laws.{HasOneEnd, SameEnd}
 use Rattle.line_editor.specs.Phrase.{Phrase, IsBeginning}
-use Rattle.line_editor.specs.Run.{Run, Turn, goes_on, ends, runs_dry, ready}
+use Rattle.line_editor.specs.Reading.{LeftByCut}
+use Rattle.line_editor.specs.Run.{End, Run, Turn, goes_on, ends, runs_dry, stopped, ready}
 use Rattle.line_editor.specs.Step.{Editor, Step, Answer, step, proceeds}
 use Rattle.line_editor.proofs.PhraseLemmas.{phrases-fit}
 
@@ -103,52 +104,74 @@ module _ (keymap : Keymap) (environment : Environment) where
       let fit = phrases-fit keymap environment editor.draft input turn.phrase (m ++ begins.rest) turn.command begins.command turn.draft begins.draft' i begins.input' turn.reads whole in
       absurd (begins.proper (nothing-in m begins.rest fit.0))
 
-  one-end : (editor last last' : Editor) (input : Input) (items rest rest' inside inside' : List Item) (answer answer' : Answer)
-      → Run keymap environment editor input items last rest inside answer
-      → Run keymap environment editor input items last' rest' inside' answer'
-      → SameEnd last last' rest rest' inside inside' answer answer'
-  one-end editor last last' input items rest rest' inside inside' answer answer' (goes_on {middle = middle} {input' = i} {more = m} turn run) (goes_on {middle = middle'} {input' = i'} {more = n} turn' run') =
-      let s = one-turn editor middle middle' input i i' items m n proceeds proceeds turn turn' in
-      let P : Editor → Type 0 = λ e. Run keymap environment e i' n last' rest' inside' answer' in
-      let Q : Input → Type 0 = λ j. Run keymap environment middle j n last' rest' inside' answer' in
-      let R : List Item → Type 0 = λ x. Run keymap environment middle i x last' rest' inside' answer' in
-      one-end middle last last' i m rest rest' inside inside' answer answer' run
+  -- a phrase that was cut short leaves all but the hint
+  cut-keeps : (draft left : Draft) → LeftByCut environment draft left → KeepsText draft left
+  cut-keeps draft left (inl same) = record {
+    line = ap (λ (d : Draft). d.line) same;
+    saved = ap (λ (d : Draft). d.saved) same;
+    index = ap (λ (d : Draft). d.index) same;
+    changes = ap (λ (d : Draft). d.changes) same;
+  }
+  cut-keeps draft left (inr asked) = record {
+    line = ap (λ (d : Draft). d.line) asked;
+    saved = ap (λ (d : Draft). d.saved) asked;
+    index = ap (λ (d : Draft). d.index) asked;
+    changes = ap (λ (d : Draft). d.changes) asked;
+  }
+
+  -- two drafts that keep the text of one keep that of one another
+  both-keep : (draft left left' : Draft) → KeepsText draft left → KeepsText draft left' → KeepsText left left'
+  both-keep draft left left' one other = record {
+    line = other.line ∙ sym one.line;
+    saved = other.saved ∙ sym one.saved;
+    index = other.index ∙ sym one.index;
+    changes = other.changes ∙ sym one.changes;
+  }
+
+  one-end : (editor last last' : Editor) (input i i' : Input) (items : List Item) (end end' : End)
+      → Run keymap environment editor input items last i end
+      → Run keymap environment editor input items last' i' end'
+      → SameEnd last last' i i' end end'
+  one-end editor last last' input i i' items end end' (goes_on {middle = middle} {input' = j} {more = m} turn run) (goes_on {middle = middle'} {input' = j'} {more = n} turn' run') =
+      let s = one-turn editor middle middle' input j j' items m n proceeds proceeds turn turn' in
+      let P : Editor → Type 0 = λ e. Run keymap environment e j' n last' i' end' in
+      let Q : Input → Type 0 = λ k. Run keymap environment middle k n last' i' end' in
+      let R : List Item → Type 0 = λ x. Run keymap environment middle j x last' i' end' in
+      one-end middle last last' j i i' m end end' run
       (subst R (sym s.more) (subst Q (sym s.input) (subst P (sym s.editor) run')))
-  one-end editor last last' input items rest rest' inside inside' answer answer' (goes_on {middle = middle} {input' = i} {more = m} turn run) (ends {input' = i'} turn' other) =
-      let s = one-turn editor middle last' input i i' items m rest' proceeds answer' turn turn' in
+  one-end editor last last' input i i' items end end' (goes_on {middle = middle} {input' = j} {more = m} turn run) (ends {rest = rest'} {answer = answer'} turn' other) =
+      let s = one-turn editor middle last' input j i' items m rest' proceeds answer' turn turn' in
       absurd (other (sym s.answer))
-  one-end editor last last' input items rest rest' inside inside' answer answer' (goes_on {middle = middle} {input' = i} {more = m} turn run) (runs_dry begins stands) =
-      not-dry editor middle input i items m proceeds turn begins
-  one-end editor last last' input items rest rest' inside inside' answer answer' (ends {input' = i} turn other) (goes_on {middle = middle} {input' = i'} {more = n} turn' run') =
-      let s = one-turn editor last middle input i i' items rest n answer proceeds turn turn' in
+  one-end editor last last' input i i' items end end' (goes_on {middle = middle} {input' = j} {more = m} turn run) (runs_dry begins short) =
+      not-dry editor middle input j items m proceeds turn begins
+  one-end editor last last' input i i' items end end' (ends {rest = rest} {answer = answer} turn other) (goes_on {middle = middle} {input' = j} {more = n} turn' run') =
+      let s = one-turn editor last middle input i j items rest n answer proceeds turn turn' in
       absurd (other s.answer)
-  one-end editor last last' input items rest rest' inside inside' answer answer' (ends {input' = i} turn other) (ends {input' = i'} turn' other') =
+  one-end editor last last' input i i' items end end' (ends {rest = rest} {answer = answer} turn other) (ends {rest = rest'} {answer = answer'} turn' other') =
       let s = one-turn editor last last' input i i' items rest rest' answer answer' turn turn' in
       record {
-        line = ap (λ (e : Editor). e.draft.line) s.editor;
-        place = ap (λ (e : Editor). e.draft.place) s.editor;
+        ending = ap (λ a. stopped a rest) s.answer ∙ ap (λ r. stopped answer' r) s.more;
+        input_left = s.input;
         kills = ap (λ (e : Editor). e.kills) s.editor;
-        left = s.more;
-        cut_short = refl;
-        answered = s.answer;
+        text = cut-keeps last.draft last'.draft (inl (ap (λ (e : Editor). e.draft) (sym s.editor)));
+        whole = λ a r is. s.editor;
       }
-  one-end editor last last' input items rest rest' inside inside' answer answer' (ends {input' = i} turn other) (runs_dry begins stands) =
+  one-end editor last last' input i i' items end end' (ends {rest = rest} {answer = answer} turn other) (runs_dry begins short) =
       not-dry editor last input i items rest answer turn begins
-  one-end editor last last' input items rest rest' inside inside' answer answer' (runs_dry begins stands) (goes_on {middle = middle} {input' = i} {more = m} turn run) =
-      not-dry editor middle input i items m proceeds turn begins
-  one-end editor last last' input items rest rest' inside inside' answer answer' (runs_dry begins stands) (ends {input' = i} turn other) =
-      not-dry editor last' input i items rest' answer' turn begins
-  one-end editor last last' input items rest rest' inside inside' answer answer' (runs_dry begins stands) (runs_dry begins' stands') =
+  one-end editor last last' input i i' items end end' (runs_dry begins short) (goes_on {middle = middle} {input' = j} {more = m} turn run) =
+      not-dry editor middle input j items m proceeds turn begins
+  one-end editor last last' input i i' items end end' (runs_dry begins short) (ends {rest = rest} {answer = answer} turn other) =
+      not-dry editor last' input i' items rest answer turn begins
+  one-end editor last last' input i i' items end end' (runs_dry begins short) (runs_dry begins' short') =
       record {
-        line = stands.line ∙ sym stands'.line;
-        place = stands.place ∙ sym stands'.place;
-        kills = stands.kills ∙ sym stands'.kills;
-        left = refl;
-        cut_short = refl;
-        answered = refl;
+        ending = refl;
+        input_left = refl;
+        kills = short.kills ∙ sym short'.kills;
+        text = both-keep editor.draft last.draft last'.draft (cut-keeps editor.draft last.draft short.draft) (cut-keeps editor.draft last'.draft short'.draft);
+        whole = λ a r is. cc;
       }
 
 -- a run has one end
 pub runs-fit : HasOneEnd
-runs-fit keymap environment editor last last' input items rest rest' inside inside' answer answer' =
-    one-end keymap environment editor last last' input items rest rest' inside inside' answer answer'
+runs-fit keymap environment editor last last' input i i' items end end' =
+    one-end keymap environment editor last last' input i i' items end end'

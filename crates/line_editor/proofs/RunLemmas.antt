@@ -1,5 +1,5 @@
 -- Facts on runs.
-use Rattle.std.proofs.Common.{◌≡◌, ◌≢◌, List, [], ◌++◌, refl, sym, subst}
+use Rattle.std.proofs.Common.{◌≡◌, ◌≢◌, List, ◌++◌, refl, subst}
 use Rattle.line_buffer.specs.KillRing.{Ring}
 use Rattle.line_parts.specs.Environment.{Environment}
 use Rattle.line_keys.specs.Command.{Command, command_of, resets_kill_ring}
@@ -10,8 +10,8 @@ use Rattle.line_keys.specs.declared.command.Cmd.TheVariants.{Insert, Replace}
 use Rattle.line_editor.specs.Input.{Input}
 use Rattle.line_editor.specs.Keymap.{Keymap}
 use Rattle.line_editor.specs.Phrase.{Phrase, IsBeginning}
-use Rattle.line_editor.specs.Run.{Run, Turn, Stands, goes_on, ends, runs_dry, ends_kills, kills_before}
-use Rattle.line_editor.specs.Step.{Editor, Answer, Leaves, step, grouped, proceeds, ended}
+use Rattle.line_editor.specs.Run.{Run, End, Turn, CutShort, goes_on, ends, runs_dry, stopped, dry, ends_kills, kills_before}
+use Rattle.line_editor.specs.Step.{Editor, Answer, Leaves, step, grouped, proceeds}
 
 -- a command and its value agree on the kill ring
 pub ends_kills_of : (cmd : Cmd) → ends_kills (command_of cmd) ≡ resets_kill_ring cmd
@@ -42,44 +42,43 @@ turn-of keymap environment environment' editor left input input' items more phra
       leaves = subst R reset (subst Q group (subst P same leaves));
     }
 
--- the tables and the environment of two moments of a run are the same
-module _ (keymap keymap' : Keymap) (environment environment' : Environment) (same_keymap : keymap' ≡ keymap) (same_world : environment' ≡ environment) where
+-- the keymap and the environment of two moments of a run are the same
+module _ (keymap keymap' : Keymap) (environment environment' : Environment) (same_keymap : keymap' ≡ keymap) (same_environment : environment' ≡ environment) where
   retold : (editor left : Editor) (input input' : Input) (items more : List Item) (answer : Answer)
       → Turn keymap' environment' editor input items left input' more answer
       → Turn keymap environment editor input items left input' more answer
   retold editor left input input' items more answer turn =
       let P : Keymap → Type 0 = λ k. Turn k environment' editor input items left input' more answer in
       let Q : Environment → Type 0 = λ w. Turn keymap w editor input items left input' more answer in
-      subst Q same_world (subst P same_keymap turn)
+      subst Q same_environment (subst P same_keymap turn)
 
   -- a turn that proceeds and a run behind it are a run
-  pub run-goes : (editor left last : Editor) (input input' : Input) (items more rest inside : List Item) (answer answer' : Answer)
-      → answer' ≡ proceeds
-      → Turn keymap' environment' editor input items left input' more answer'
-      → Run keymap environment left input' more last rest inside answer
-      → Run keymap environment editor input items last rest inside answer
-  run-goes editor left last input input' items more rest inside answer answer' proceeded turn run =
+  pub run-goes : (editor left last : Editor) (input input' input'' : Input) (items more : List Item) (end : End) (answer : Answer)
+      → answer ≡ proceeds
+      → Turn keymap' environment' editor input items left input' more answer
+      → Run keymap environment left input' more last input'' end
+      → Run keymap environment editor input items last input'' end
+  run-goes editor left last input input' input'' items more end answer proceeded turn run =
       let P : Answer → Type 0 = λ a. Turn keymap environment editor input items left input' more a in
-      goes_on (subst P proceeded (retold editor left input input' items more answer' turn)) run
+      goes_on (subst P proceeded (retold editor left input input' items more answer turn)) run
 
   -- a turn that doesn't proceed ends a run
   pub run-ends : (editor left : Editor) (input input' : Input) (items more : List Item) (answer answer' : Answer)
       → answer' ≡ answer
       → answer ≢ proceeds
       → Turn keymap' environment' editor input items left input' more answer'
-      → Run keymap environment editor input items left more [] answer
+      → Run keymap environment editor input items left input' (stopped answer more)
   run-ends editor left input input' items more answer answer' same other turn =
       let P : Answer → Type 0 = λ a. Turn keymap environment editor input items left input' more a in
       ends (subst P same (retold editor left input input' items more answer' turn)) other
 
   -- items that run dry end a run
-  pub run-dry : (editor left : Editor) (input : Input) (items more : List Item)
+  pub run-dry : (editor left : Editor) (input : Input) (items : List Item)
       → IsBeginning keymap' environment' editor.draft input items
-      → Stands editor left
-      → more ≡ []
-      → Run keymap environment editor input items left more items ended
-  run-dry editor left input items more begins stands dry =
+      → CutShort environment' editor left
+      → Run keymap environment editor input items left input (dry items)
+  run-dry editor left input items begins short =
       let P : Keymap → Type 0 = λ k. IsBeginning k environment' editor.draft input items in
       let Q : Environment → Type 0 = λ w. IsBeginning keymap w editor.draft input items in
-      let R : List Item → Type 0 = λ m. Run keymap environment editor input items left m items ended in
-      subst R (sym dry) (runs_dry (subst Q same_world (subst P same_keymap begins)) stands)
+      let R : Environment → Type 0 = λ w. CutShort w editor left in
+      runs_dry (subst Q same_environment (subst P same_keymap begins)) (subst R same_environment short)
