@@ -2,13 +2,13 @@
 use Rattle.std.proofs.Common.{◌≡◌, ◌⊎◌, inl, inr, ℕ, Bool, true, false, List, Option, None, option_map, refl, sym, ◌∙◌, ap, subst}
 use Rattle.std.specs.Prelude.{MatchBool}
 use Rattle.line_buffer.specs.Line.{Line}
-use Rattle.line_keys.specs.Display.{Display, HasCursorAt, ShowsInFull, IsFullRedraw, IsRight, shown_end}
+use Rattle.line_keys.specs.Display.{Display, HasCursorAt, ShowsInFull, IsRight, ShowsText, shown_end}
 use Rattle.line_keys.specs.Draft.{Draft, hint_shown}
-use Rattle.line_keys.specs.EditorState.{Shows, ShowsLine, ShowsNoHint, Drew, DrewNothing, HasCursorDrawn, HasRightLayout, KeepsDrawn, MayTrail}
+use Rattle.line_keys.specs.EditorState.{Shows, ShowsLine, ShowsNoHint, Drew, DrewNothing, HasCursorDrawn, KeepsDrawn, MayTrail}
 use Rattle.line_keys.specs.declared.editor_state.EditorState.{Ghosts}
 use Rattle.line_parts.specs.Environment.{Environment, verdict_on}
 use Rattle.line_parts.specs.Verdict.{Verdict, message_of}
-use Rattle.line_parts.specs.declared.highlight.CmdKind.{CmdKind}
+use Rattle.line_parts.specs.declared.highlight.CmdKind.TheVariants.{MoveCursor}
 
 -- a line that was drawn with its hint is shown
 pub hint_trails : {X : Type 0} (e : Ghosts X) (editor : X) → Shows e editor (hint_shown (e.draft editor)) → ShowsLine e editor
@@ -102,3 +102,31 @@ module _ {X : Type 0} (e : Ghosts X) (old new : X) (same : e.environment new ≡
           | inr e2 ↦ inr e2
         ];
       }
+
+-- a cursor that is moved in the line, and then drawn there, keeps what is drawn good
+pub keeps_move : {X : Type 0} (e : Ghosts X) (old middle new : X)
+    → (e.draft middle).line.text ≡ (e.draft old).line.text → (e.draft middle).hint ≡ (e.draft old).hint
+    → e.display middle ≡ e.display old → e.redraws middle ≡ e.redraws old → e.environment middle ≡ e.environment old
+    → e.draft new ≡ e.draft middle → e.environment new ≡ e.environment middle
+    → (ShowsText (e.display middle) (e.draft middle).line.text → IsRight (e.display new) (e.draft middle).line)
+    → (Drew e middle new None MoveCursor ⊎ (DrewNothing e middle new × HasCursorDrawn e middle))
+    → KeepsDrawn e old new
+keeps_move e old middle new text hint same count environment draft' environment' right drew =
+    let P : Draft → Type 0 = λ d. IsRight (e.display new) d.line in
+    let Q : Display → Type 0 = λ d. ShowsText d (e.draft old).line.text in
+    let R : List ℕ → Type 0 = λ t. ShowsText (e.display middle) t in
+    let S : Draft → Type 0 = λ d. HasCursorAt (e.display new) d.line in
+    let T : Display → Type 0 = λ d. HasCursorAt d (e.draft middle).line in
+    record {
+      right = λ was_right. subst P (sym draft') (right (subst R (sym text) (subst Q (sym same) was_right.drawn)));
+      line =
+          λ shown.
+          elim drew [
+            | inl d ↦ nothing_trails e new d.shows
+            | inr n ↦
+              line_moved e old new (environment' ∙ environment) (ap (λ (d : Draft). d.line.text) draft' ∙ text)
+              (ap (λ (d : Draft). d.hint) draft' ∙ hint)
+              (record { display = n.0.display ∙ same; redraws = n.0.redraws ∙ count })
+              (subst S (sym draft') (subst T (sym n.0.display) n.1)) shown
+          ];
+    }

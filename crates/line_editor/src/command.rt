@@ -4,7 +4,7 @@ ghost use Rattle.line_config.specs.Error.{IoOnlyIf};
 ghost use Rattle.line_editor.specs.InputState.{input_of};
 ghost use Rattle.line_editor.specs.Runs.{DrawnAfter, Executes, LosesHint};
 ghost use Rattle.line_editor.specs.Status.{answer_of};
-ghost use Rattle.line_editor.specs.Step.{accepted, answer_at_end, ended};
+ghost use Rattle.line_editor.specs.Step.{accepted, answer_at_end, ended, validated};
 ghost use Rattle.line_keys.specs.Command.{command_of};
 ghost use Rattle.line_keys.specs.Draft.{unhinted};
 ghost use Rattle.line_keys.specs.EditorState.{FailsOnlyIf, Frame, PartyFailed, Redraws};
@@ -34,6 +34,7 @@ pub enum Status {
 /// `Eof` for the end of the input on an empty line alone, and `Interrupted` for an interrupt alone, with the drawn cursor at
 /// the end of what is shown. Another error is one of input or output, where the renderer or a party has failed, or that
 /// memory ran out; then the line is text with its cursor on a boundary, and the changes tell of it.
+#[tactic(auto, using(crate::proofs::CountLemmas::rises_one_three, crate::proofs::CountLemmas::rises_once_three, crate::proofs::CountLemmas::rises_drop_insert, crate::proofs::CountLemmas::stays_rises, crate::proofs::DrawnLemmas::hint_trails))]
 pub fn execute<'out, 'prompt, W: Renderer, H: Helper, P: Prompt, S: History>(
     cmd: Cmd,
     state: &mut State<'out, 'prompt, W, H, P, S>,
@@ -45,18 +46,30 @@ pub fn execute<'out, 'prompt, W: Renderer, H: Helper, P: Prompt, S: History>(
         input_state.now kill_ring.old (command_of cmd) state.new kill_ring.new }
 {
     match cmd {
-        Cmd::SelfInsert(n, c) => state.edit_insert(c, n)?,
-        Cmd::Move(movement) => state.move_by(&movement)?,
-        Cmd::Kill(movement) => state.edit_kill(&movement, kill_ring)?,
+        Cmd::SelfInsert(n, c) => {
+            state.edit_insert(c, n)?;
+            return Ok(Status::Proceed);
+        }
+        Cmd::Move(movement) => {
+            state.move_by(&movement)?;
+            return Ok(Status::Proceed);
+        }
+        Cmd::Kill(movement) => {
+            state.edit_kill(&movement, kill_ring)?;
+            return Ok(Status::Proceed);
+        }
         Cmd::Newline => {
             state.drop_hint()?;
             state.edit_insert('\n', 1)?;
+            return Ok(Status::Proceed);
         }
-        Cmd::Repaint => state.refresh_line()?,
+        Cmd::Repaint => {
+            state.refresh_line()?;
+            return Ok(Status::Proceed);
+        }
         Cmd::EndOfFile => return state.end_of_file(input_state),
         Cmd::AcceptLine => {
-            state.drop_hint()?;
-            state.validate()?;
+            state.accept_line()?;
             return Ok(Status::Submit);
         }
         Cmd::AcceptOrInsertLine {
@@ -110,7 +123,23 @@ impl<'out, 'prompt, W: Renderer, H: Helper, P: Prompt, S: History> State<
         }
     }
 
-    #[tactic(auto, using(crate::proofs::DrawnLemmas::no_hint_line))]
+    #[tactic(auto, using(crate::proofs::CountLemmas::rises_two_three))]
+    // Validates the line, which is then submitted whatever is said of it.
+    fn accept_line(&mut self) -> Result<()>
+        ensures draft { let e = ⟦<Self as EditorState>⟧ in OnOk result
+            (e.draft self.new ≡ validated (e.environment self.old) (unhinted (e.draft self.old))) }
+        ensures drawn { OnOk result (LosesHint ⟦<Self as EditorState>⟧ self.old self.new) }
+        ensures redraws { OnOk result (Redraws ⟦<Self as EditorState>⟧ 0 3 self.old self.new) }
+        ensures frame { Frame ⟦<Self as EditorState>⟧ self.old self.new }
+        ensures fails { let e = ⟦<Self as EditorState>⟧ in
+            FailsOnlyIf result (PartyFailed e self.old self.new) }
+    {
+        self.drop_hint()?;
+        let _ = self.validate()?;
+        Ok(())
+    }
+
+    #[tactic(auto, using(crate::proofs::DrawnLemmas::no_hint_line, crate::proofs::CountLemmas::rises_two_three, crate::proofs::CountLemmas::rises_three))]
     // Submits a valid line, and gives another one a newline unless a message says why it is refused.
     fn accept_or_insert_line(&mut self, accept_in_the_middle: bool) -> Result<Status>
         ensures left { let e = ⟦<Self as EditorState>⟧ in IfOk result (λ status.

@@ -52,10 +52,9 @@ impl<'out, 'prompt, W: Renderer, H: Helper, P: Prompt, S: History> State<
             MovesTo e result self.old self.new (moved_to line (place_back line n)) }
     {
         if self.edited.move_backward(n) {
-            self.move_cursor(CmdKind::MoveCursor)
-        } else {
-            Ok(())
+            self.move_cursor(CmdKind::MoveCursor)?;
         }
+        Ok(())
     }
 
     /// Moves the cursor `n` clusters on, or as many as there are. The drawn cursor goes along.
@@ -67,10 +66,9 @@ impl<'out, 'prompt, W: Renderer, H: Helper, P: Prompt, S: History> State<
             MovesTo e result self.old self.new (moved_to line (place_on line n)) }
     {
         if self.edited.move_forward(n) {
-            self.move_cursor(CmdKind::MoveCursor)
-        } else {
-            Ok(())
+            self.move_cursor(CmdKind::MoveCursor)?;
         }
+        Ok(())
     }
 
     /// Moves the cursor to the start of its line. The drawn cursor goes along.
@@ -82,10 +80,9 @@ impl<'out, 'prompt, W: Renderer, H: Helper, P: Prompt, S: History> State<
             MovesTo e result self.old self.new (with_cursor line (start_of_line line)) }
     {
         if self.edited.move_home() {
-            self.move_cursor(CmdKind::MoveCursor)
-        } else {
-            Ok(())
+            self.move_cursor(CmdKind::MoveCursor)?;
         }
+        Ok(())
     }
 
     /// Moves the cursor to the end of its line. The drawn cursor goes along.
@@ -97,10 +94,9 @@ impl<'out, 'prompt, W: Renderer, H: Helper, P: Prompt, S: History> State<
             MovesTo e result self.old self.new (with_cursor line (end_of_line line)) }
     {
         if self.edited.move_end() {
-            self.move_cursor(CmdKind::MoveCursor)
-        } else {
-            Ok(())
+            self.move_cursor(CmdKind::MoveCursor)?;
         }
+        Ok(())
     }
 
     // Moves the cursor by a movement.
