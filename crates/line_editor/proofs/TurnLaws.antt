@@ -1,5 +1,5 @@
 -- Turns that follow one another.
-use Rattle.std.proofs.Common.{◌≡◌, ◌≢◌, ◌⊎◌, inl, inr, List, [], ◌∷◌, refl, sym, ◌∙◌, ap, subst}
+use Rattle.std.proofs.Common.{◌≡◌, ◌≢◌, ◌⊎◌, inl, inr, List, [], ◌∷◌, ◌++◌, append_assoc, refl, sym, ◌∙◌, ap, subst}
 use Rattle.line_parts.specs.Environment.{Environment, hint_for}
 use Rattle.line_keys.specs.Command.{Command}
 use Rattle.line_keys.specs.Draft.{Draft, hinted}
@@ -10,7 +10,8 @@ use Rattle.line_editor.specs.Keymap.{Keymap}
 use Rattle.line_editor.specs.Laws.{ReadingAgain, TurnsFollow, TurnsAndRun}
 use Rattle.line_editor.specs.Phrase.{Phrase, Keyed, after_count}
 use Rattle.line_editor.specs.Reading.{LeftByCut}
-use Rattle.line_editor.specs.Run.{goes_on, none, first}
+use Rattle.line_editor.specs.Run.{Turn, Turns, goes_on, none, first}
+use Rattle.line_editor.specs.Step.{Editor, Answer, proceeds}
 
 -- turns that proceed and more such turns behind them are such turns
 pub turns-follow : TurnsFollow
@@ -47,14 +48,12 @@ reads-as-first environment typed draft cut (inl same) (inr some) = ap (λ d. aft
 reads-as-first environment typed draft cut (inr asked) (inr some) =
     ap (λ d. after_count environment typed d) asked ∙ counted-again environment typed draft some
 
--- a phrase that was cut short is the same one when it is read again
-reads-again : (keymap : Keymap) (environment : Environment) (draft cut : Draft) (input input' : Input) (items : List Item) (command : Command) (left : Draft)
-    → LeftByCut environment draft cut
+-- a phrase is one of another draft that is read with in the same way
+reads-alike : (keymap : Keymap) (environment : Environment) (draft other : Draft) (input input' : Input) (items : List Item) (command : Command) (left : Draft)
     → (phrase : Phrase keymap environment draft input items command left input')
-    → (cut.hint ≡ draft.hint) ⊎ (phrase.typed ≢ [])
-    → Phrase keymap environment cut input items command left input'
-reads-again keymap environment draft cut input input' items command left short phrase as_before =
-    let same = reads-as-first environment phrase.typed draft cut short as_before in
+    → after_count environment phrase.typed other ≡ after_count environment phrase.typed draft
+    → Phrase keymap environment other input items command left input'
+reads-alike keymap environment draft other input input' items command left phrase same =
     let P : Draft → Type 0 = λ d. Keyed keymap d input phrase.count phrase.last phrase.tail command in
     record {
       typed = phrase.typed;
@@ -75,6 +74,47 @@ reading-again keymap environment editor left cut input i items more answer short
   command = turn.command;
   draft = turn.draft;
   cut = turn.cut;
-  reads = reads-again keymap environment editor.draft cut input i turn.phrase turn.command turn.draft short turn.reads as_before;
+  reads =
+      reads-alike keymap environment editor.draft cut input i turn.phrase turn.command turn.draft turn.reads
+      (reads-as-first environment turn.reads.typed editor.draft cut short as_before);
   leaves = turn.leaves;
 }
+
+-- the turn that is made when items are read again is the turn of the editor before they were cut short
+pub read-again : (keymap : Keymap) (environment : Environment) (editor left : Editor) (cut : Draft) (input i : Input) (items more : List Item) (answer : Answer)
+    → LeftByCut environment editor.draft cut
+    → (turn : Turn keymap environment (record { draft = cut; kills = editor.kills }) input items left i more answer)
+    → (cut.hint ≡ editor.draft.hint) ⊎ (turn.reads.typed ≢ [])
+    → Turn keymap environment editor input items left i more answer
+read-again keymap environment editor left cut input i items more answer short turn as_before = record {
+  phrase = turn.phrase;
+  command = turn.command;
+  draft = turn.draft;
+  cut = turn.cut;
+  reads =
+      reads-alike keymap environment cut editor.draft input i turn.phrase turn.command turn.draft turn.reads
+      (sym (reads-as-first environment turn.reads.typed editor.draft cut short as_before));
+  leaves = turn.leaves;
+}
+
+-- more items behind those of a turn stay unread
+pub turn-before-more : (keymap : Keymap) (environment : Environment) (editor left : Editor) (input i : Input) (items rest more : List Item) (answer : Answer)
+    → Turn keymap environment editor input items left i rest answer
+    → Turn keymap environment editor input (items ++ more) left i (rest ++ more) answer
+turn-before-more keymap environment editor left input i items rest more answer turn = record {
+  phrase = turn.phrase;
+  command = turn.command;
+  draft = turn.draft;
+  cut = ap (λ x. x ++ more) turn.cut ∙ append_assoc turn.phrase rest more;
+  reads = turn.reads;
+  leaves = turn.leaves;
+}
+
+-- more items behind those of turns that proceed stay unread
+pub turns-before-more : (keymap : Keymap) (environment : Environment) (editor last : Editor) (input i : Input) (items rest more : List Item)
+    → Turns keymap environment editor input items last i rest
+    → Turns keymap environment editor input (items ++ more) last i (rest ++ more)
+turns-before-more keymap environment editor last input i items rest more none = none
+turns-before-more keymap environment editor last input i items rest more (first {middle = middle} {input' = j} {more = m} turn turns) =
+    first (turn-before-more keymap environment editor middle input j items m more proceeds turn)
+    (turns-before-more keymap environment middle last j i m rest more turns)
