@@ -1,5 +1,5 @@
 -- Facts on counts of full redraws.
-use Rattle.std.proofs.Common.{◌≡◌, ℕ, ◌+◌, ◌-◌, ◌*◌, ◌≤◌, ◌<◌, arith}
+use Rattle.std.proofs.Common.{◌≡◌, ℕ, ◌+◌, ◌-◌, ◌*◌, ◌≤◌, ◌<◌, arith, subst, sym}
 use Rattle.line_keys.specs.EditorState.{Rises}
 
 -- a count that stays rises by at most any number
@@ -35,3 +35,9 @@ rises_drop_insert old middle new first second = rises_more 1 2 3 old new (omega 
 pub rises_three : (old middle middle' new : ℕ) → Rises 0 1 old middle → Rises 0 1 middle middle' → Rises 1 1 middle' new → Rises 0 3 old new
 rises_three old middle middle' new first second third =
     rises_more 1 3 3 old new (omega arith) (rises_twice 0 2 1 1 old middle' new (rises_twice 0 1 0 1 old middle middle' first second) third)
+
+-- a count that rose and then stayed has risen
+pub rises_stays : (least most old middle new : ℕ) → Rises least most old middle → new ≡ middle → Rises least most old new
+rises_stays least most old middle new rise same =
+    let P : ℕ → Type 0 = λ n. Rises least most old n in
+    subst P (sym same) rise

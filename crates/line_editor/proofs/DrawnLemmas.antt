@@ -1,10 +1,10 @@
 -- Facts on what is drawn of a line.
-use Rattle.std.proofs.Common.{◌≡◌, ◌⊎◌, inl, inr, ℕ, Bool, true, false, List, Option, None, option_map, refl, sym, ◌∙◌, ap, subst}
+use Rattle.std.proofs.Common.{◌≡◌, ◌⊎◌, inl, inr, ℕ, Bool, true, false, List, Option, None, option_map, refl, sym, ◌∙◌, ap, subst, arith, ◌≤◌}
 use Rattle.std.specs.Prelude.{MatchBool}
 use Rattle.line_buffer.specs.Line.{Line}
 use Rattle.line_keys.specs.Display.{Display, HasCursorAt, ShowsInFull, IsRight, ShowsText, shown_end}
 use Rattle.line_keys.specs.Draft.{Draft, hint_shown}
-use Rattle.line_keys.specs.EditorState.{Shows, ShowsLine, ShowsNoHint, Drew, DrewNothing, HasCursorDrawn, KeepsDrawn, MayTrail}
+use Rattle.line_keys.specs.EditorState.{Shows, ShowsLine, ShowsNoHint, Drew, DrewNothing, Frame, HasCursorDrawn, IsInPlace, KeepsDrawn, MayTrail}
 use Rattle.line_keys.specs.declared.editor_state.EditorState.{Ghosts}
 use Rattle.line_parts.specs.Environment.{Environment, verdict_on}
 use Rattle.line_parts.specs.Verdict.{Verdict, message_of}
@@ -130,3 +130,36 @@ keeps_move e old middle new text hint same count environment draft' environment'
               (subst S (sym draft') (subst T (sym n.0.display) n.1)) shown
           ];
     }
+
+-- where the kept cursor is that of the line that came, nothing is drawn
+pub still_move : {X : Type 0} (e : Ghosts X) (old middle new : X) (line : Line)
+    → (HasCursorDrawn e middle → DrewNothing e middle new)
+    → e.display middle ≡ e.display old → e.redraws middle ≡ e.redraws old → (e.draft middle).line ≡ line
+    → HasCursorAt (e.display old) line → DrewNothing e old new
+still_move e old middle new line still same count moved at =
+    let P : Display → Type 0 = λ d. HasCursorAt d line in
+    let Q : Line → Type 0 = λ l. HasCursorAt (e.display middle) l in
+    let n = still (subst Q (sym moved) (subst P (sym same) at)) in
+    record { display = n.display ∙ same; redraws = n.redraws ∙ count }
+
+-- what stays twice stays
+pub frame_then : {X : Type 0} (e : Ghosts X) (old middle new : X) → Frame e old middle → Frame e middle new → Frame e old new
+frame_then e old middle new first second = record {
+  environment = second.environment ∙ first.environment;
+  loan = second.loan ∙ first.loan;
+  surface = second.surface ∙ first.surface;
+  prompt_end = second.prompt_end ∙ first.prompt_end;
+  sure = second.sure ∙ first.sure;
+  failures = omega (arith, first.failures, second.failures);
+}
+
+-- what is drawn stays good where it does twice
+pub keeps_then : {X : Type 0} (e : Ghosts X) (old middle new : X) → KeepsDrawn e old middle → KeepsDrawn e middle new → KeepsDrawn e old new
+keeps_then e old middle new first second =
+    record { right = λ was_right. second.right (first.right was_right); line = λ shown. second.line (first.line shown) }
+
+-- where nothing is drawn, the renderer stays where it is
+pub stays_in_place : {X : Type 0} (e : Ghosts X) (old new : X) → DrewNothing e old new → IsInPlace e old → IsInPlace e new
+stays_in_place e old new drew at =
+    let P : Display → Type 0 = λ d. d.screen.position ≡ d.layout.cursor in
+    subst P (sym drew.display) at

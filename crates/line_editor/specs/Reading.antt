@@ -2,11 +2,11 @@
 use Rattle.std.specs.Prelude.{◌≡◌, ◌⊎◌, ℕ, ◌+◌, ◌-◌, ◌<◌, ◌≤◌, ◌++◌, [], true, List, length, Result, OnOk, OnErr, IsErrOf}
 use Rattle.line_config.specs.Error.{IoOnlyIf, greatest}
 use Rattle.line_config.specs.declared.error.ReadlineError.{ReadlineError}
-use Rattle.line_config.specs.declared.error.ReadlineError.TheVariants.{Interrupted}
+use Rattle.line_config.specs.declared.error.ReadlineError.TheVariants.{Eof, Interrupted}
 use Rattle.line_parts.specs.Environment.{Environment}
 use Rattle.line_keys.specs.Command.{Command}
 use Rattle.line_keys.specs.Draft.{Draft, hinted}
-use Rattle.line_keys.specs.EditorState.{Frame, KeepsDrawn, Redraws}
+use Rattle.line_keys.specs.EditorState.{Frame, IsInPlace, KeepsDrawn, Redraws}
 use Rattle.line_keys.specs.Item.{Item}
 use Rattle.line_keys.specs.declared.editor_state.EditorState as editors
 use Rattle.line_keys.specs.declared.tty.RawReader as readers
@@ -49,11 +49,18 @@ module _ {X Y : Type 0} (e : editors.Ghosts X) (r : readers.Ghosts Y) where
     pub counts : r.failures reader ≤ r.failures reader'
     pub io : FailsByReading result editor reader editor' reader'
 
-  -- what else a call leaves that reads one command: after an error the input value, and what is drawn in any case
+  -- at most one full redraw for each item read
+  abbrev pub RedrawsItems : X → Y → X → Y → Type 0
+  RedrawsItems editor reader editor' reader' =
+      Redraws e 0 (length (r.rest reader) - length (r.rest reader')) editor editor'
+
+  -- what else a call leaves that reads one command: after an error the input value, and else what is drawn
   pub record ReadsOn {T : Type 0} (result : Result T ReadlineError) (editor : X) (input : InputState) (reader : Y) (editor' : X) (input' : InputState) (reader' : Y) : Type 0 where
     pub keeps : KeepsReading result editor input reader editor' input' reader'
     pub remembers : OnErr result (input_of input' ≡ input_of input)
     pub reads : OnOk result (length (r.rest reader') < length (r.rest reader))
     pub drawn : OnOk result (KeepsDrawn e editor editor')
-    pub redraws : OnOk result (Redraws e 0 (length (r.rest reader) - length (r.rest reader')) editor editor')
+    pub in_place : IsInPlace e editor → OnOk result (IsInPlace e editor')
+    pub redraws : OnOk result (RedrawsItems editor reader editor' reader')
+    pub redraws_at_eof : IsErrOf result Eof → RedrawsItems editor reader editor' reader'
     pub not_interrupted : IsErrOf result Interrupted → ⊥

@@ -5,14 +5,14 @@ use Rattle.line_config.specs.declared.error.ReadlineError.{ReadlineError}
 use Rattle.line_config.specs.declared.error.ReadlineError.TheVariants.{Eof, Interrupted}
 use Rattle.line_keys.specs.Command.{Command}
 use Rattle.line_keys.specs.Draft.{hinted}
-use Rattle.line_keys.specs.EditorState.{Frame, HasRightLayout, IsAtEnd, IsInPlace, KeepsDrawn, KeepsLayoutRight, PartyFailed, Redraws, ShowsLine, ShowsNoHint}
+use Rattle.line_keys.specs.EditorState.{DrewNothing, EndsLine, Frame, HasRightLayout, IsAtEnd, IsInPlace, KeepsDrawn, KeepsLayoutRight, PartyFailed, Redraws, ShowsLine, ShowsNoHint}
 use Rattle.line_keys.specs.Item.{Item}
 use Rattle.line_keys.specs.declared.editor_state.EditorState as editors
 use Rattle.line_keys.specs.declared.tty.RawReader as readers
 use Rattle.line_config.specs.Error.{IoOnlyIf}
 use Rattle.line_editor.specs.InputState.{input_of, keymap_of}
 use Rattle.line_editor.specs.Phrase.{IsBeginning}
-use Rattle.line_editor.specs.Reading.{KeepsReading, RunsOut}
+use Rattle.line_editor.specs.Reading.{RedrawsItems, RunsOut}
 use Rattle.line_editor.specs.Run.{CutShort, End, Run, Turn, dry, stopped}
 use Rattle.line_editor.specs.Status.{answer_of, answer_of_turn}
 use Rattle.line_editor.specs.Step.{Answer, Editor, Leaves, ended, interrupted, proceeds, step, submitted}
@@ -41,6 +41,7 @@ module _ {X : Type 0} (e : editors.Ghosts X) where
   pub record GoesToEnd (state state' : X) : Type 0 where
     pub at_end : IsAtEnd e state'
     pub in_place : IsInPlace e state → IsInPlace e state'
+    pub ends : ShowsLine e state → EndsLine e state'
 
   -- what is drawn after an answer: a submitted line and one that ended the input have no hint, an interrupt goes to the end
   abbrev pub DrawnAfter : Answer → X → X → Type 0
@@ -82,7 +83,8 @@ module _ {X Y : Type 0} (e : editors.Ghosts X) (r : readers.Ghosts Y) where
     pub out : RunsOut e r state input reader state' reader'
     pub input_left : input_of input' ≡ input_of input
     pub kills_left : kills' ≡ kills
-    pub nothing_read : r.rest reader ≡ [] → KeepsDrawn e state state'
+    pub nothing_read : r.rest reader ≡ [] → (e.draft state' ≡ e.draft state) × DrewNothing e state state'
+    pub redraws : RedrawsItems e r state reader state' reader'
 
   -- what a turn leaves, by the way in which it ended
   abbrev pub TurnedTo : Turned → X → InputState → Y → Ring → X → InputState → Y → Ring → Type 0
@@ -122,6 +124,7 @@ module _ {X Y : Type 0} (e : editors.Ghosts X) (r : readers.Ghosts Y) where
     pub inside : List Item
     pub run : RunsTo state input reader kills state' input' kills' (dry inside)
     pub empty : r.rest reader' ≡ []
+    pub redraws : RedrawsOfRun state reader state' reader'
     pub right : inside ≡ [] → HasRightLayout e state'
     pub shown : inside ≡ [] → ShowsLine e state'
 
@@ -130,4 +133,5 @@ module _ {X Y : Type 0} (e : editors.Ghosts X) (r : readers.Ghosts Y) where
     pub run : RunsTo state input reader kills state' input' kills' (stopped interrupted (r.rest reader'))
     pub at_end : IsAtEnd e state'
     pub in_place : IsInPlace e state'
+    pub ends : EndsLine e state'
     pub redraws : RedrawsOfRun state reader state' reader'

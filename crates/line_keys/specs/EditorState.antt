@@ -3,7 +3,7 @@ use Rattle.std.specs.Prelude.{◌≡◌, ◌+◌, ◌≤◌, ◌⊎◌, true, Bo
 use Rattle.line_buffer.specs.Line.{Line}
 use Rattle.line_config.specs.Error.{FaultsOnly, IoOnlyIf, Rose, greatest}
 use Rattle.line_config.specs.declared.error.ReadlineError.{ReadlineError}
-use Rattle.line_keys.specs.Display.{HasCursorAt, ShowsInFull, IsRight, lit_after}
+use Rattle.line_keys.specs.Display.{HasCursorAt, ShowsInFull, IsRight, lit_after, shown_end}
 use Rattle.line_keys.specs.Draft.{Draft, KeepsText, hint_shown}
 use Rattle.line_keys.specs.declared.editor_state.EditorState.{Ghosts}
 use Rattle.line_parts.specs.Environment.{Environment, verdict_on}
@@ -87,6 +87,14 @@ pub record ShowsNoHint {X : Type 0} (e : Ghosts X) (editor : X) : Type 0 where
   pub shows : Shows e editor trailing
   pub trails : (trailing ≡ message_of (verdict_on (e.environment editor) (e.draft editor).line.text)) ⊎ (trailing ≡ None)
 
+-- what is shown ends with the line and a text behind it that may trail it
+pub record EndsLine {X : Type 0} (e : Ghosts X) (editor : X) : Type 0 where
+  pub trailing : Option (List ℕ)
+  pub ends : (e.display editor).layout.end ≡ shown_end (e.display editor).surface.measure (e.display editor).prompt_end (e.draft editor).line.text trailing
+  pub text : (e.display editor).screen.text ≡ (e.draft editor).line.text
+  pub origin : (e.display editor).screen.origin ≡ (e.display editor).prompt_end
+  pub trails : MayTrail (e.environment editor) (e.draft editor) trailing
+
 -- what is drawn stays good: a right layout, and a line with what may trail it
 pub record KeepsDrawn {X : Type 0} (e : Ghosts X) (old new : X) : Type 0 where
   pub right : KeepsLayoutRight e old new
@@ -112,6 +120,7 @@ pub record MovesTo {X T : Type 0} (e : Ghosts X) (result : Result T ReadlineErro
   pub draft : e.draft new ≡ record (e.draft old) { line = line }
   pub keeps : OnOk result (KeepsDrawn e old new)
   pub drew : OnOk result (Drew e old new None MoveCursor ⊎ DrewNothing e old new)
+  pub still : HasCursorAt (e.display old) line → OnOk result (DrewNothing e old new)
   pub frame : Frame e old new
   pub fails : FailsOnlyIf result (RendererFailed e old new)
 

@@ -3,7 +3,7 @@ ghost use Rattle.std.specs.Prelude.{◌≡◌, ◌⊎◌, None, OnOk};
 ghost use Rattle.line_buffer.specs.Cluster.{place_on, place_back};
 ghost use Rattle.line_buffer.specs.Line.{moved_to, with_cursor, start_of_line, end_of_line};
 ghost use Rattle.line_keys.specs.Display.{ShowsText, IsRight};
-ghost use Rattle.line_keys.specs.EditorState.{Drew, DrewNothing, FailsOnlyIf, Frame, HasCursorDrawn, IsInPlace, MovesTo, RendererFailed};
+ghost use Rattle.line_keys.specs.EditorState.{Drew, DrewNothing, EndsLine, FailsOnlyIf, Frame, HasCursorDrawn, IsInPlace, MovesTo, RendererFailed, ShowsLine};
 ghost use Rattle.line_editor.specs.Step.{moved};
 
 use crate::edit::{Info, State};
@@ -32,6 +32,8 @@ impl<'out, 'prompt, W: Renderer, H: Helper, P: Prompt, S: History> State<
         ensures drew { let e = ⟦<Self as EditorState>⟧ in OnOk result
             (Drew e self.old self.new None kind
             ⊎ (DrewNothing e self.old self.new × HasCursorDrawn e self.old)) }
+        ensures still { let e = ⟦<Self as EditorState>⟧ in
+            HasCursorDrawn e self.old → OnOk result (DrewNothing e self.old self.new) }
         ensures frame { Frame ⟦<Self as EditorState>⟧ self.old self.new }
         ensures fails { let e = ⟦<Self as EditorState>⟧ in
             FailsOnlyIf result (RendererFailed e self.old self.new) }
@@ -125,6 +127,10 @@ impl<'out, 'prompt, W: Renderer, H: Helper, P: Prompt, S: History> State<
             IsInPlace e self.old → OnOk result (IsInPlace e self.new) }
         ensures text { let d = ⟦<Self as EditorState>⟧.display in
             (d self.new).screen.text ≡ (d self.old).screen.text }
+        ensures origin { let d = ⟦<Self as EditorState>⟧.display in
+            (d self.new).screen.origin ≡ (d self.old).screen.origin }
+        ensures ends { let e = ⟦<Self as EditorState>⟧ in
+            OnOk result (ShowsLine e self.old → EndsLine e self.new) }
         ensures redraws { let e = ⟦<Self as EditorState>⟧ in e.redraws self.new ≡ e.redraws self.old }
         ensures frame { Frame ⟦<Self as EditorState>⟧ self.old self.new }
         ensures fails { let e = ⟦<Self as EditorState>⟧ in

@@ -5,7 +5,7 @@ ghost use Rattle.line_editor.specs.Reading.{ReadsOn, ReadsPhrase, RunsOut};
 ghost use Rattle.line_editor.specs.Step.{grouped};
 ghost use Rattle.line_keys.specs.Command.{command_of};
 ghost use Rattle.line_keys.specs.Draft.{Draft, KeepsLine};
-ghost use Rattle.line_keys.specs.EditorState.{Undrawn};
+ghost use Rattle.line_keys.specs.EditorState.{KeepsDrawn, Undrawn};
 
 use crate::edit::State;
 use crate::keymap::InputState;
@@ -32,7 +32,6 @@ impl<'out, 'prompt, W: Renderer, H: Helper, P: Prompt, S: History> State<
     /// `Eof` where the items ended inside a phrase or before one; then a phrase that was cut short can be read again with
     /// more items behind it. Another error is one of input or output, or that memory ran out. After an error the line, its
     /// cursor, the history index and what is remembered of the keys stand as they were.
-    #[tactic(auto, using(crate::proofs::DrawnLemmas::line_stays))]
     pub fn next_cmd(
         &mut self,
         input_state: &mut InputState<'_>,
@@ -57,12 +56,14 @@ impl<'out, 'prompt, W: Renderer, H: Helper, P: Prompt, S: History> State<
     }
 
     // Begins a group of changes for a replacement.
+    #[tactic(auto, using(crate::proofs::DrawnLemmas::line_stays))]
     fn begin_group(&mut self, command: &Cmd) -> Result<()>
         ensures draft { let d = ⟦<Self as EditorState>⟧.draft in OnOk result
             (d self.new ≡ grouped (command_of command.now) (d self.old)) }
         ensures line { let d = ⟦<Self as EditorState>⟧.draft in KeepsLine (d self.old) (d self.new) }
         ensures hint { let d = ⟦<Self as EditorState>⟧.draft in (d self.new).hint ≡ (d self.old).hint }
         ensures undrawn { Undrawn ⟦<Self as EditorState>⟧ self.old self.new }
+        ensures drawn { KeepsDrawn ⟦<Self as EditorState>⟧ self.old self.new }
         ensures memory { MemoryOnly result }
     {
         match command {

@@ -1,5 +1,5 @@
 use Rattle.std.proofs.Common.{◌≡◌, inl, inr, refl, ◌∙◌, ap}
-use Rattle.line_editor.proofs.DrawnLemmas.{keeps_move}
+use Rattle.line_editor.proofs.DrawnLemmas.{keeps_move, still_move}
 use Rattle.line_editor.proofs.EditLemmas.{moved_text}
 use Rattle.line_state.specs.Edited.{Edited}
 use Rattle.line_editor.proofs.edit.State.edit_move_backward.Goals as goal
@@ -15,6 +15,7 @@ returns-in_ok-move_cursor g c =
         | inl d ↦ inl (record { shows = d.shows; right = d.right; lit = d.lit; redraws = d.redraws })
         | inr n ↦ inr (record { display = n.0.display; redraws = n.0.redraws })
       ];
+      still = still_move _ c.args.self.now _ _ _ drawn.still refl refl (ap (λ (e : Edited). e.line) line);
       frame = record {
         environment = drawn.frame.environment;
         loan = drawn.frame.loan;

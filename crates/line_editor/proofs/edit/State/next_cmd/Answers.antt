@@ -1,6 +1,27 @@
+use Rattle.line_editor.proofs.CountLemmas.{rises_stays}
+use Rattle.line_editor.proofs.DrawnLemmas.{frame_then, keeps_then, stays_in_place}
 use Rattle.line_editor.proofs.edit.State.next_cmd.Goals as goal
 
 pub returns-clause-phrase : goal.returns-clause-phrase
-returns-clause-phrase g c =
-    let read = c.in_ok-command.ensures.phrase in
-    (read.0, _, read.1, read.2, c.in_ok-begin_group.ensures.draft)
+returns-clause-phrase g c = (_, c.in_ok-command.ensures.phrase, c.in_ok-begin_group.ensures.draft)
+
+pub returns-clause-reading : goal.returns-clause-reading
+returns-clause-reading g c =
+    let read = c.in_ok-command.ensures.reading in
+    let group = c.in_ok-begin_group.ensures in
+    record {
+      keeps = record {
+        frame = frame_then _ _ _ _ read.keeps.frame group.undrawn.frame;
+        own = read.keeps.own;
+        keymap = read.keeps.keymap;
+        counts = read.keeps.counts;
+        io = tt;
+      };
+      remembers = tt;
+      reads = read.reads;
+      drawn = keeps_then _ _ _ _ read.drawn group.drawn;
+      in_place = λ at. stays_in_place _ _ _ group.undrawn.drew (read.in_place at);
+      redraws = rises_stays _ _ _ _ _ read.redraws group.undrawn.drew.redraws;
+      redraws_at_eof = λ no. absurd (cc);
+      not_interrupted = λ no. absurd (cc);
+    }

@@ -1,4 +1,4 @@
-use Rattle.std.proofs.Common.{◌≡◌, [], ◌∷◌, sym, ◌∙◌, ap, subst}
+use Rattle.std.proofs.Common.{◌≡◌, [], ◌∷◌, inl, refl, sym, ◌∙◌, ap, subst}
 use Rattle.std.proofs.lemmas.Result.{err_from_is_err_and}
 use Rattle.line_config.specs.declared.error.ReadlineError.{ReadlineError}
 use Rattle.line_config.specs.declared.error.ReadlineError.TheVariants.{Eof}
@@ -17,31 +17,31 @@ returns-in_err-key-clause-eof g c =
     let e : c.in_err-key.field-0.0 ≡ Eof = (cc) in
     let P : ReadlineError → Type 0 = λ x. ReadFault x (g.R.RawReader.rest c.args.rdr.now) in
     let dry : g.R.RawReader.rest c.args.rdr.now ≡ [] = subst P e c.in_err-key.ensures.fault in
-    (c.in_err-key.ensures.kept ∙ dry, nothing-begins _ _ _ _ _ dry)
+    record { begins = nothing-begins _ _ _ _ _ dry; empty = c.in_err-key.ensures.kept ∙ dry; draft = inl refl }
 
 pub returns-in-Some-clause-phrase : goal.returns-in-Some-clause-phrase
-returns-in-Some-clause-phrase g c = (
-  key c.in_ok-key.key ∷ [],
-  c.in_ok-key.ensures.took,
-  let keymap = keymap_of c.args.self.now (g.R.RawReader.own_binding c.args.rdr.now) in
-      let draft = g.W.Refresher.draft c.args.wrt.now in
+returns-in-Some-clause-phrase g c = record {
+  items = key c.in_ok-key.key ∷ [];
+  cut = c.in_ok-key.ensures.took;
+  phrase = let keymap = keymap_of c.args.self.now (g.R.RawReader.own_binding c.args.rdr.now) in
+      let draft = g.W.EditorState.draft c.args.wrt.now in
       let input = input_of c.args.self.now in
-      bound-phrase keymap (g.W.Refresher.world c.args.wrt.now) draft input c.in_ok-key.key (command_of c.in-Some.command)
-      (rw c.in_ok-key.ensures.binding at (sym c.in-Some.ensures)),
-)
+      bound-phrase keymap (g.W.EditorState.environment c.args.wrt.now) draft input c.in_ok-key.key (command_of c.in-Some.command)
+      (rw c.in_ok-key.ensures.binding at (sym c.in-Some.ensures));
+}
 
 pub returns-in-None-clause-phrase : goal.returns-in-None-clause-phrase
-returns-in-None-clause-phrase g c = (
-  key c.in_ok-key.key ∷ [],
-  c.in_ok-key.ensures.took,
-  let keymap = keymap_of c.args.self.now (g.R.RawReader.own_binding c.args.rdr.now) in
-      let draft = g.W.Refresher.draft c.args.wrt.now in
+returns-in-None-clause-phrase g c = record {
+  items = key c.in_ok-key.key ∷ [];
+  cut = c.in_ok-key.ensures.took;
+  phrase = let keymap = keymap_of c.args.self.now (g.R.RawReader.own_binding c.args.rdr.now) in
+      let draft = g.W.EditorState.draft c.args.wrt.now in
       let input = input_of c.args.self.now in
       let found =
-      row-phrase keymap (g.W.Refresher.world c.args.wrt.now) draft input c.in_ok-key.key
+      row-phrase keymap (g.W.EditorState.environment c.args.wrt.now) draft input c.in_ok-key.key
       (rw c.in_ok-key.ensures.binding at (sym c.in-None.ensures)) in
       let same : command_of c.table_command.result ≡ plain (command_at (row_of input.style input.mode c.in_ok-key.key (seen_of draft)) one) =
       c.table_command.ensures.plain
       ∙ ap plain (rw (c.one-count.ensures, c.is_empty.ensures, c.line.ensures) at c.table_command.ensures.value) in
-      rw same found,
-)
+      rw same found;
+}
