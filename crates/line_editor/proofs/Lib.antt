@@ -4,4 +4,6 @@ pub mod EditLemmas
 pub mod PhraseLemmas
 pub mod RunLaws
 pub mod RunLemmas
+pub mod TurnLemmas
+pub mod UnderwayLemmas
 pub mod TurnLaws

@@ -42,12 +42,11 @@ module _ {X Y : Type 0} (e : editors.Ghosts X) (r : readers.Ghosts Y) where
       → EitherRose (r.failures reader) (e.failures editor) (r.failures reader') (e.failures editor'))
 
   -- what stays of the editor, the reader and the bindings while commands are read and executed
-  pub record KeepsReading {T : Type 0} (result : Result T ReadlineError) (editor : X) (input : InputState) (reader : Y) (editor' : X) (input' : InputState) (reader' : Y) : Type 0 where
+  pub record KeepsReading (editor : X) (input : InputState) (reader : Y) (editor' : X) (input' : InputState) (reader' : Y) : Type 0 where
     pub frame : Frame e editor editor'
     pub own : r.own_binding reader' ≡ r.own_binding reader
     pub keymap : keymap_of input' (r.own_binding reader) ≡ keymap_of input (r.own_binding reader)
     pub counts : r.failures reader ≤ r.failures reader'
-    pub io : FailsByReading result editor reader editor' reader'
 
   -- at most one full redraw for each item read
   abbrev pub RedrawsItems : X → Y → X → Y → Type 0
@@ -56,7 +55,7 @@ module _ {X Y : Type 0} (e : editors.Ghosts X) (r : readers.Ghosts Y) where
 
   -- what else a call leaves that reads one command: after an error the input value, and else what is drawn
   pub record ReadsOn {T : Type 0} (result : Result T ReadlineError) (editor : X) (input : InputState) (reader : Y) (editor' : X) (input' : InputState) (reader' : Y) : Type 0 where
-    pub keeps : KeepsReading result editor input reader editor' input' reader'
+    pub keeps : KeepsReading editor input reader editor' input' reader'
     pub remembers : OnErr result (input_of input' ≡ input_of input)
     pub reads : OnOk result (length (r.rest reader') < length (r.rest reader))
     pub drawn : OnOk result (KeepsDrawn e editor editor')
@@ -64,3 +63,4 @@ module _ {X Y : Type 0} (e : editors.Ghosts X) (r : readers.Ghosts Y) where
     pub redraws : OnOk result (RedrawsItems editor reader editor' reader')
     pub redraws_at_eof : IsErrOf result Eof → RedrawsItems editor reader editor' reader'
     pub not_interrupted : IsErrOf result Interrupted → ⊥
+    pub io : FailsByReading result editor reader editor' reader'

@@ -8,6 +8,7 @@ ghost use Rattle.line_editor.specs.Phrase.{seen_of};
 ghost use Rattle.line_editor.specs.Reading.{ReadsOn, ReadsPhrase, RunsOut};
 ghost use Rattle.line_keys.specs.Command.{Command, command_of};
 ghost use Rattle.line_keys.specs.Draft.{KeepsText};
+ghost use Rattle.line_keys.specs.EditorState.{DrewNothing};
 ghost use Rattle.line_keys.specs.declared.keys.KeyEvent.{KeyEvent};
 
 use crate::binding::Bindings;
@@ -82,7 +83,7 @@ impl<'b> InputState<'b> {
             → RunsOut W.EditorState R.RawReader wrt.old self.old rdr.old wrt.new rdr.new }
         // Where nothing was left to read, nothing changes.
         ensures dry { R.rest rdr.old ≡ []
-            → (W.draft wrt.new ≡ W.draft wrt.old) × (W.display wrt.new ≡ W.display wrt.old) }
+            → (W.draft wrt.new ≡ W.draft wrt.old) × DrewNothing W.EditorState wrt.old wrt.new }
         ensures text { KeepsText (W.draft wrt.old) (W.draft wrt.new) }
         ensures reading { ReadsOn W.EditorState R.RawReader result
             wrt.old self.old rdr.old wrt.new self.new rdr.new }

@@ -1,7 +1,7 @@
 //! Reads commands and executes them, until the line is submitted or the input ends.
-ghost use Rattle.std.specs.Prelude.{◌≡◌, ◌<◌, ◌⊎◌, length, IfOk, OnOk, IsErrOf};
+ghost use Rattle.std.specs.Prelude.{◌≡◌, ◌≢◌, ◌<◌, ◌⊎◌, length, IfOk, OnOk, IsErrOf};
 ghost use Rattle.line_config.specs.Error.{FaultsOnly};
-ghost use Rattle.line_editor.specs.Reading.{KeepsReading};
+ghost use Rattle.line_editor.specs.Reading.{FailsByReading, KeepsReading};
 ghost use Rattle.line_editor.specs.Run.{kills_before};
 ghost use Rattle.line_editor.specs.Runs.{RunsDry, RunsToEnd, RunsToInterrupt, RunsToSubmit, TurnedTo};
 ghost use Rattle.line_keys.specs.Command.{command_of};
@@ -63,10 +63,12 @@ pub fn advance<'out, 'prompt, W: Renderer, H: Helper, P: Prompt, S: History>(
         IfOk result (λ turned. TurnedTo e W.Reader.RawReader turned
         state.old input_state.old rdr.old kill_ring.old
         state.new input_state.new rdr.new kill_ring.new) }
-    ensures reads { IfOk result (λ turned. turned ≡ Turned.Proceeds
+    ensures reads { IfOk result (λ turned. turned ≢ Turned.NeedsMore
         → length (W.Reader.rest rdr.new) < length (W.Reader.rest rdr.old)) }
     ensures keeps { KeepsReading ⟦<State<'out, 'prompt, W, H, P, S> as EditorState>⟧
-        W.Reader.RawReader result state.old input_state.old rdr.old state.new input_state.new rdr.new }
+        W.Reader.RawReader state.old input_state.old rdr.old state.new input_state.new rdr.new }
+    ensures io { FailsByReading ⟦<State<'out, 'prompt, W, H, P, S> as EditorState>⟧
+        W.Reader.RawReader result state.old rdr.old state.new rdr.new }
     ensures faults { FaultsOnly result }
 {
     let command = match state.next_cmd(input_state, rdr, false) {
@@ -113,7 +115,9 @@ pub fn run<'out, 'prompt, W: Renderer, H: Helper, P: Prompt, S: History>(
         state.old input_state.old rdr.old kill_ring.old
         state.new input_state.new rdr.new kill_ring.new }
     ensures keeps { KeepsReading ⟦<State<'out, 'prompt, W, H, P, S> as EditorState>⟧
-        W.Reader.RawReader result state.old input_state.old rdr.old state.new input_state.new rdr.new }
+        W.Reader.RawReader state.old input_state.old rdr.old state.new input_state.new rdr.new }
+    ensures io { FailsByReading ⟦<State<'out, 'prompt, W, H, P, S> as EditorState>⟧
+        W.Reader.RawReader result state.old rdr.old state.new rdr.new }
 {
     state.refresh_line()?;
     'turns: loop {

@@ -5,7 +5,7 @@ ghost use Rattle.line_editor.specs.Reading.{ReadsOn, ReadsPhrase, RunsOut};
 ghost use Rattle.line_editor.specs.Step.{grouped};
 ghost use Rattle.line_keys.specs.Command.{command_of};
 ghost use Rattle.line_keys.specs.Draft.{Draft, KeepsLine};
-ghost use Rattle.line_keys.specs.EditorState.{KeepsDrawn, Undrawn};
+ghost use Rattle.line_keys.specs.EditorState.{DrewNothing, KeepsDrawn, Undrawn};
 
 use crate::edit::State;
 use crate::keymap::InputState;
@@ -45,7 +45,7 @@ impl<'out, 'prompt, W: Renderer, H: Helper, P: Prompt, S: History> State<
             W.Reader.RawReader self.old input_state.old rdr.old self.new rdr.new }
         // Where nothing was left to read, nothing changes.
         ensures dry { let e = ⟦<Self as EditorState>⟧ in W.Reader.rest rdr.old ≡ []
-            → (e.draft self.new ≡ e.draft self.old) × (e.display self.new ≡ e.display self.old) }
+            → (e.draft self.new ≡ e.draft self.old) × DrewNothing e self.old self.new }
         ensures line { let d = ⟦<Self as EditorState>⟧.draft in KeepsLine (d self.old) (d self.new) }
         ensures reading { ReadsOn ⟦<Self as EditorState>⟧ W.Reader.RawReader result
             self.old input_state.old rdr.old self.new input_state.new rdr.new }

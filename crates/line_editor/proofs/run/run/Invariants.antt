@@ -1,64 +1,44 @@
-use Rattle.std.proofs.Common.{◌≡◌, ◌≤◌, ◌&&◌, List, option_map, length}
-use Rattle.line_parts.specs.Helped.{hint_by, is_sure_by, verdict_by}
+use Rattle.std.proofs.Common.{◌&&◌, option_map, length}
+use Rattle.std.specs.Borrow.{GName}
+use Rattle.line_parts.specs.Helped.{hint_by, is_sure_by, lights_by, verdict_by}
 use Rattle.line_parts.specs.Hint.{suggestion_of}
-use Rattle.line_keys.specs.Display.{Display, IsRight}
-use Rattle.line_keys.specs.Draft.{Draft, World, hinted}
-use Rattle.line_keys.specs.Item.{Item}
-use Rattle.line_editor.specs.InputState.{input_of, keymap_of}
-use Rattle.line_editor.specs.Keymap.{Keymap}
-use Rattle.line_editor.specs.Run.{Run}
-use Rattle.line_editor.specs.Step.{Editor, Answer}
+use Rattle.line_keys.specs.declared.editor_state.EditorState.{Ghosts}
+use Rattle.line_editor.specs.declared.edit.State.{State}
+use Rattle.line_editor.proofs.UnderwayLemmas.{Underway}
 use Rattle.line_editor.proofs.run.run.Given as goal
 
+-- what contracts see of the state
+abbrev pub editor_state : (g : goal.Over) → Ghosts (State g.row.W.Denot g.row.H.Denot g.row.P.Denot g.row.S.Denot g.row.W-Reader.Denot g.row.H-Candidate.Denot g.row.H-Hint.Denot g.W.ScreenState g.W.Reader.RawReader g.P.Prompt)
+editor_state g = record {
+  Loan = GName;
+  draft = λ s. record {
+    line = s.edited.line;
+    saved = s.saved_line_for_history;
+    index = s.parties.ctx.index;
+    hint = option_map (suggestion_of g.H.Hint.Hint) s.hint;
+    changes = s.edited.changes;
+  };
+  environment = λ s. record {
+    hint_at = hint_by g.H.Hinter.hint_at s.parties.helper;
+    verdict_at = verdict_by g.H.Validator.verdict_at s.parties.helper;
+    lights = lights_by g.H.Highlighter.lights s.parties.helper;
+    lines = g.S.History.lines s.parties.ctx.history;
+  };
+  display = λ s. record {
+    surface = g.W.ScreenState.surface s.view.out.now;
+    prompt_end = s.view.prompt_size;
+    layout = s.view.layout;
+    screen = g.W.ScreenState.screen s.view.out.now;
+    lit = s.view.highlight_char;
+  };
+  loan = λ s. s.view.out.ghost_name;
+  sure = λ s. is_sure_by g.H.Hinter.sure s.parties.helper && is_sure_by g.H.Validator.sure s.parties.helper && g.S.History.sure s.parties.ctx.history;
+  failures = λ s. g.W.ScreenState.failures s.view.out.now;
+  redraws = λ s. g.W.ScreenState.redraws s.view.out.now;
+}
+
 abbrev pub invariant-turns : goal.invariant-turns
-invariant-turns g l =
-    let world : World = record {
-      hint_at = hint_by g.H.Hinter.hint_at l.fn.state.helper;
-      verdict_at = verdict_by g.H.Validator.verdict_at l.fn.state.helper;
-      lines = g.S.History.lines l.fn.state.ctx.history;
-    } in
-    let keymap : Keymap = keymap_of l.fn.input_state (g.W.Reader.RawReader.own_binding l.fn.rdr) in
-    let before : Draft = record {
-      line = l.fn.state.line;
-      saved = l.fn.state.saved_line_for_history;
-      place = l.fn.state.ctx.place;
-      hint = option_map (suggestion_of g.H.Hint.Hint) l.fn.state.hint;
-      changes = l.fn.state.changes;
-    } in
-    let now : Draft = record {
-      line = l.state.line;
-      saved = l.state.saved_line_for_history;
-      place = l.state.ctx.place;
-      hint = option_map (suggestion_of g.H.Hint.Hint) l.state.hint;
-      changes = l.state.changes;
-    } in
-    let display : Display = record {
-      surface = g.W.Renderer.surface l.state.out.now;
-      prompt_end = l.state.prompt_size;
-      layout = l.state.layout;
-      screen = g.W.Renderer.screen l.state.out.now;
-    } in
-    record {
-      -- each run from here is the rest of a run from the start
-      goes_on : (last : Editor) (rest inside : List Item) (answer : Answer)
-          → Run keymap world (record { draft = now; kills = l.kill_ring }) (input_of l.input_state) (g.W.Reader.RawReader.rest l.rdr) last rest inside answer
-          → Run keymap world (record { draft = hinted world before; kills = l.fn.kill_ring }) (input_of l.fn.input_state) (g.W.Reader.RawReader.rest l.fn.rdr) last rest inside answer;
-      keymap : keymap_of l.input_state (g.W.Reader.RawReader.own_binding l.fn.rdr) ≡ keymap;
-      own : g.W.Reader.RawReader.own_binding l.rdr ≡ g.W.Reader.RawReader.own_binding l.fn.rdr;
-      world : ◌≡◌ {A = World} (record {
-        hint_at = hint_by g.H.Hinter.hint_at l.state.helper;
-        verdict_at = verdict_by g.H.Validator.verdict_at l.state.helper;
-        lines = g.S.History.lines l.state.ctx.history;
-      }) world;
-      fixed : l.state.out.ghost_name ≡ l.fn.state.out.ghost_name;
-      surface : g.W.Renderer.surface l.state.out.now ≡ g.W.Renderer.surface l.fn.state.out.now;
-      prompt_end : l.state.prompt_size ≡ l.fn.state.prompt_size;
-      sure : is_sure_by g.H.Hinter.sure l.state.helper && is_sure_by g.H.Validator.sure l.state.helper && g.S.History.sure l.state.ctx.history
-          ≡ is_sure_by g.H.Hinter.sure l.fn.state.helper && is_sure_by g.H.Validator.sure l.fn.state.helper && g.S.History.sure l.fn.state.ctx.history;
-      right : IsRight display l.state.line;
-      reads : g.W.Reader.RawReader.failures l.fn.rdr ≤ g.W.Reader.RawReader.failures l.rdr;
-      draws : g.W.Renderer.failures l.fn.state.out.now ≤ g.W.Renderer.failures l.state.out.now;
-    }
+invariant-turns g l = Underway (editor_state g) g.W.Reader.RawReader l.fn.state l.fn.input_state l.fn.rdr l.fn.kill_ring l.state l.input_state l.rdr l.kill_ring
 
 abbrev pub decreases-turns : goal.decreases-turns
 decreases-turns g l = length (g.W.Reader.RawReader.rest l.rdr)

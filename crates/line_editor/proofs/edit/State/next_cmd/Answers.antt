@@ -15,7 +15,6 @@ returns-clause-reading g c =
         own = read.keeps.own;
         keymap = read.keeps.keymap;
         counts = read.keeps.counts;
-        io = tt;
       };
       remembers = tt;
       reads = read.reads;
@@ -24,4 +23,5 @@ returns-clause-reading g c =
       redraws = rises_stays _ _ _ _ _ read.redraws group.undrawn.drew.redraws;
       redraws_at_eof = λ no. absurd (cc);
       not_interrupted = λ no. absurd (cc);
+      io = tt;
     }

@@ -1,0 +1,47 @@
+-- Facts on turns of a program's state.
+use Rattle.std.proofs.Common.{◌≡◌, ℕ, ◌+◌, ◌-◌, ◌≤◌, length, arith}
+use Rattle.line_buffer.specs.KillRing.{Ring}
+use Rattle.line_keys.specs.Command.{Command}
+use Rattle.line_keys.specs.Draft.{Draft}
+use Rattle.line_keys.specs.EditorState.{Frame, IsInPlace, KeepsDrawn, Redraws}
+use Rattle.line_keys.specs.declared.editor_state.EditorState as editors
+use Rattle.line_keys.specs.declared.tty.RawReader as readers
+use Rattle.line_editor.specs.InputState.{input_of}
+use Rattle.line_editor.specs.Reading.{ReadsPhrase, RedrawsItems}
+use Rattle.line_editor.specs.Run.{kills_before}
+use Rattle.line_editor.specs.Runs.{DrawnAfter, StepsTo, TakesTurn, editor_of}
+use Rattle.line_editor.specs.Step.{Answer, grouped, proceeds, submitted, ended, interrupted}
+use Rattle.line_editor.specs.declared.keymap.InputState.{InputState}
+use Rattle.line_editor.proofs.CountLemmas.{rises_more, rises_twice}
+use Rattle.line_editor.proofs.DrawnLemmas.{keeps_then}
+use Rattle.line_editor.proofs.RunLemmas.{turn-of}
+
+module _ {X : Type 0} (e : editors.Ghosts X) (old middle new : X) (keeps : KeepsDrawn e old middle) (in_place : IsInPlace e old → IsInPlace e middle) where
+  -- what is drawn after an answer, where it was good before the command
+  drawn_then : (answer : Answer) → DrawnAfter e answer middle new → DrawnAfter e answer old new
+  drawn_then proceeds drawn = keeps_then e old middle new keeps drawn
+  drawn_then submitted drawn = record { right = λ r. drawn.right (keeps.right r); no_hint = λ s. drawn.no_hint (keeps.line s) }
+  drawn_then ended drawn = record { right = λ r. drawn.right (keeps.right r); no_hint = λ s. drawn.no_hint (keeps.line s) }
+  drawn_then interrupted drawn =
+      record { at_end = drawn.at_end; in_place = λ at. drawn.in_place (in_place at); ends = λ s. drawn.ends (keeps.line s) }
+
+-- a phrase read and its command executed are a turn
+pub takes_turn : {X Y : Type 0} (e : editors.Ghosts X) (r : readers.Ghosts Y) (old middle new : X) (input input' : InputState) (reader reader' : Y)
+    → (kills ready kills' : Ring) (command : Command) (draft : Draft) (answer : Answer)
+    → ReadsPhrase e r old input reader reader' command draft input'
+    → e.draft middle ≡ grouped command draft
+    → ready ≡ kills_before command kills
+    → Frame e old middle → KeepsDrawn e old middle → (IsInPlace e old → IsInPlace e middle) → RedrawsItems e r old reader middle reader'
+    → StepsTo e middle input' ready command new kills' answer
+    → DrawnAfter e answer middle new
+    → Redraws e 0 3 middle new
+    → TakesTurn e r old input reader kills new input' reader' kills' answer
+takes_turn e r old middle new input input' reader reader' kills ready kills' command draft answer read group reset frame keeps in_place drew steps drawn redraws =
+    let n : ℕ = length (r.rest reader) - length (r.rest reader') in
+    record {
+      turn = turn-of _ _ _ (editor_of e old kills) _ _ _ _ _ read.items command draft _ _ _ read.cut read.phrase group reset frame.environment steps;
+      drawn = drawn_then e old middle new keeps in_place answer drawn;
+      redraws =
+          rises_more 0 (n + 3) (3 + n) (e.redraws old) (e.redraws new) (omega arith)
+          (rises_twice 0 n 0 3 (e.redraws old) (e.redraws middle) (e.redraws new) drew redraws);
+    }
