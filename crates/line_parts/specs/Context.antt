@@ -8,7 +8,7 @@ pub record HistoryPosition (S : Type 0) : Type 0 where
   pub history : S
   pub index : ℕ
 
--- what is shown of a text with its cursor, at a history index
+-- what is shown of a text with its cursor, at a position in a history
 abbrev pub shown_in : {S : Type 0} → Ghosts S → HistoryPosition S → List ℕ → ℕ → Shown
 shown_in history at text cursor = record {
   text = text;

@@ -50,7 +50,7 @@ impl<'out, H: Helper, S: History> Consulted for Parties<'out, H, S> {
 
 // Returns the helper's hint for the line.
 #[tactic(auto, unfolding(crate::specs::Helped::hint_by, crate::specs::Helped::is_sure_by))]
-fn hint_of<'a, 'out, H: Helper, S: History>(
+fn helper_hint<'a, 'out, H: Helper, S: History>(
     alloc: Global,
     helper: &'a Option<&'out mut H>,
     line: &LineBuffer,
@@ -82,7 +82,7 @@ fn visible_hint<T: Hint + Drop>(hint: Option<T>) -> Option<T>
 
 // Returns whether there is a helper.
 #[tactic(auto, unfolding(crate::specs::Helped::verdict_by))]
-fn is_there<'a, 'out, H: Helper>(helper: &'a Option<&'out mut H>) -> bool
+fn has_helper<'a, 'out, H: Helper>(helper: &'a Option<&'out mut H>) -> bool
     ensures { result ≡ is_some (verdict_by H.verdict_at helper.now) }
 {
     helper.is_some()
@@ -90,7 +90,7 @@ fn is_there<'a, 'out, H: Helper>(helper: &'a Option<&'out mut H>) -> bool
 
 // Returns the helper's verdict on a text, if there is a helper.
 #[tactic(auto, unfolding(crate::specs::Helped::is_sure_by, crate::specs::Helped::verdict_by))]
-fn verdict_of_helper<'a, 'out, H: Helper>(
+fn helper_verdict<'a, 'out, H: Helper>(
     alloc: Global,
     helper: &'a Option<&'out mut H>,
     text: &str,
@@ -108,7 +108,7 @@ fn verdict_of_helper<'a, 'out, H: Helper>(
 
 // Asks the helper whether the line has to be drawn in full.
 #[tactic(auto, unfolding(crate::specs::Helped::hint_by, crate::specs::Helped::is_sure_by, crate::specs::Helped::lights_by, crate::specs::Helped::verdict_by))]
-fn lights<'out, H: Helper>(
+fn helper_lights<'out, H: Helper>(
     helper: &mut Option<&'out mut H>,
     line: &LineBuffer,
     kind: CmdKind,
@@ -169,14 +169,14 @@ impl<'out, H: Helper, S: History> Parties<'out, H, S> {
         ensures io { IoOnlyIf result (⟦<Self as Consulted>⟧.sure self.now ≡ false) }
         ensures faults { FaultsOnly result }
     {
-        Ok(visible_hint(hint_of(alloc, &self.helper, line, &self.ctx)?))
+        Ok(visible_hint(helper_hint(alloc, &self.helper, line, &self.ctx)?))
     }
 
     /// Returns whether there is a helper, which validates lines.
     pub fn has_validator(&self) -> bool
         ensures { result ≡ is_some (⟦<Self as Consulted>⟧.environment self.now).verdict_at }
     {
-        is_there(&self.helper)
+        has_helper(&self.helper)
     }
 
     /// Returns the helper's verdict on the text of `line`. Without a helper the text is valid.
@@ -189,7 +189,7 @@ impl<'out, H: Helper, S: History> Parties<'out, H, S> {
         ensures io { IoOnlyIf result (⟦<Self as Consulted>⟧.sure self.now ≡ false) }
         ensures faults { FaultsOnly result }
     {
-        let verdict = verdict_of_helper(alloc, &self.helper, line.as_str())?;
+        let verdict = helper_verdict(alloc, &self.helper, line.as_str())?;
         Ok(verdict.unwrap_or(ValidationResult::Valid(None)))
     }
 
@@ -200,7 +200,7 @@ impl<'out, H: Helper, S: History> Parties<'out, H, S> {
             line.now.text line.now.cursor kind }
         ensures unchanged { Unchanged ⟦<Self as Consulted>⟧ self.old self.new }
     {
-        lights(&mut self.helper, line, kind)
+        helper_lights(&mut self.helper, line, kind)
     }
 
     /// Returns the helper if there is one and colors are on.
