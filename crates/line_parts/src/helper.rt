@@ -7,9 +7,9 @@ use crate::hint::Hinter;
 use crate::validate::Validator;
 
 /// Completes, hints, highlights and validates. A call of `highlight_char` may change what the
-/// helper remembers, but none of its answers.
+/// helper remembers, but no hint, no verdict, no completion and no later answer of that call.
 pub trait Helper: Completer + Hinter + Highlighter + Validator {
-    // Two values that differ only in what `highlight_char` may change give the same answers.
+    // Two values that differ only in what `highlight_char` may change answer alike.
     ghost hints_kept: { (one other : Self) → Self.steady one ≡ Self.steady other
         → Self.hint_at one ≡ Self.hint_at other };
 

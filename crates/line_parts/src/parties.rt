@@ -194,7 +194,8 @@ impl<'out, H: Helper, S: History> Parties<'out, H, S> {
     }
 
     /// Returns whether the helper asks for a full drawing of `line` for its colors. `kind` says why
-    /// it is asked. Without a helper the answer is false. All answers stay what they were.
+    /// it is asked. Without a helper the answer is false. No hint, no verdict and no later answer
+    /// of this call changes.
     pub fn highlight_char(&mut self, line: &LineBuffer, kind: CmdKind) -> bool
         ensures lit { result ≡ (⟦<Self as Consulted>⟧.environment self.old).lights
             line.now.text line.now.cursor kind }
