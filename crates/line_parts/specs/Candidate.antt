@@ -4,7 +4,7 @@ use Rattle.line_buffer.specs.Changes.{Changes, with_entries, with_replace}
 use Rattle.line_buffer.specs.Line.{Line, replaced_in}
 use Rattle.line_parts.specs.declared.completion.Candidate.{Ghosts}
 
--- what a candidate displays, and what it puts into the line
+-- what a candidate displays, and the text that it puts into the line
 pub record Offer : Type 0 where
   pub display : List ℕ
   pub replacement : List ℕ
@@ -22,18 +22,18 @@ pub record Completion : Type 0 where
   pub offers : List Offer
 
 -- nothing is offered
-abbrev pub nothing : Completion
-nothing = record { start = 0; offers = [] }
+abbrev pub no_completion : Completion
+no_completion = record { start = 0; offers = [] }
 
 -- a line, and its changes
 pub record Written : Type 0 where
   pub line : Line
   pub changes : Changes
 
--- a text put for what stands from a place to the cursor, told as one replacement
+-- a text in place of what stands from a byte offset to the cursor, recorded as one replacement
 abbrev pub put_to_cursor : Written → ℕ → List ℕ → Written
 put_to_cursor old start text = record {
   line = replaced_in old.line start old.line.cursor text;
-  changes = with_entries old.changes
-      (with_replace start (slice_range old.line.text start old.line.cursor) text old.changes.entries);
+  changes = with_entries old.changes (with_replace start
+      (slice_range old.line.text start old.line.cursor) text old.changes.entries);
 }

@@ -1,8 +1,8 @@
--- What is said of those who are asked about a line.
+-- What is said of the parties that are asked about a line.
 use Rattle.std.specs.Prelude.{◌≡◌}
 use Rattle.line_parts.specs.declared.consulted.Consulted.{Ghosts}
 
--- they answer as before, at the same history index
+-- the answers and the history index stay
 pub record Unchanged {X : Type 0} (parties : Ghosts X) (old new : X) : Type 0 where
   pub environment : parties.environment new ≡ parties.environment old
   pub index : parties.index new ≡ parties.index old

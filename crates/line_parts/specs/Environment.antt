@@ -1,11 +1,11 @@
--- What answers for a line while it is edited, and never changes.
+-- What answers for a line while it is edited. It never changes.
 use Rattle.std.specs.Prelude.{ℕ, Bool, List, Option, None, option_map, unwrap_or}
 use Rattle.line_parts.specs.Hint.{Suggestion, visible}
 use Rattle.line_parts.specs.Shown.{Shown}
 use Rattle.line_parts.specs.Verdict.{Verdict, valid}
 use Rattle.line_parts.specs.declared.highlight.CmdKind.{CmdKind}
 
--- a helper's hints, its verdicts where there is a helper, whether it wants a full drawing, and the history's lines, oldest first
+-- the helper's hints, its verdicts if there is a helper, its full drawings, and the history's lines
 pub record Environment : Type 0 where
   pub hint_at : Shown → Option Suggestion
   pub verdict_at : Option (List ℕ → Verdict)
@@ -19,8 +19,10 @@ shown_at environment text cursor index =
 
 -- the hint for a line at a history index, where it displays something
 abbrev pub hint_for : Environment → List ℕ → ℕ → ℕ → Option Suggestion
-hint_for environment text cursor index = visible (environment.hint_at (shown_at environment text cursor index))
+hint_for environment text cursor index =
+    visible (environment.hint_at (shown_at environment text cursor index))
 
 -- the verdict on a text: without a helper it is valid
 abbrev pub verdict_on : Environment → List ℕ → Verdict
-verdict_on environment text = unwrap_or (option_map (λ verdict. verdict text) environment.verdict_at) (valid None)
+verdict_on environment text =
+    unwrap_or (option_map (λ verdict. verdict text) environment.verdict_at) (valid None)

@@ -7,17 +7,20 @@ use Rattle.line_parts.specs.Verdict.{Verdict}
 use Rattle.line_parts.specs.declared.highlight.CmdKind.{CmdKind}
 
 -- the hints of a helper; without one there are none
-unfoldable pub hint_by : {H : Type 0} → (H → Shown → Option Suggestion) → Option (MutBor H) → Shown → Option Suggestion
+unfoldable pub hint_by : {H : Type 0} → (H → Shown → Option Suggestion) → Option (MutBor H)
+    → Shown → Option Suggestion
 hint_by hint_at None shown = None
 hint_by hint_at (Some helper) shown = hint_at helper.now shown
 
 -- the verdicts of a helper, where there is one
-unfoldable pub verdict_by : {H : Type 0} → (H → List ℕ → Verdict) → Option (MutBor H) → Option (List ℕ → Verdict)
+unfoldable pub verdict_by : {H : Type 0} → (H → List ℕ → Verdict) → Option (MutBor H)
+    → Option (List ℕ → Verdict)
 verdict_by verdict_at None = None
 verdict_by verdict_at (Some helper) = Some (verdict_at helper.now)
 
 -- where a helper asks for a full drawing; without one nothing does
-unfoldable pub lights_by : {H : Type 0} → (H → List ℕ → ℕ → CmdKind → Bool) → Option (MutBor H) → List ℕ → ℕ → CmdKind → Bool
+unfoldable pub lights_by : {H : Type 0} → (H → List ℕ → ℕ → CmdKind → Bool) → Option (MutBor H)
+    → List ℕ → ℕ → CmdKind → Bool
 lights_by lights None text cursor kind = false
 lights_by lights (Some helper) text cursor kind = lights helper.now text cursor kind
 

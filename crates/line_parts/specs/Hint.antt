@@ -11,7 +11,7 @@ pub record Suggestion : Type 0 where
 abbrev pub suggestion_of : {T : Type 0} → Ghosts T → T → Suggestion
 suggestion_of hint h = record { display = hint.display_text h; completion = hint.completion_text h }
 
--- a hint that displays nothing is none
+-- the hint, if it displays something
 abbrev pub visible : Option Suggestion → Option Suggestion
 visible None = None
 visible (Some s) = if length s.display == 0 then None else Some s

@@ -1,4 +1,4 @@
--- What is shown to those who are asked about a line.
+-- What those who are asked about a line are shown.
 use Rattle.std.specs.Prelude.{◌≡◌, ℕ, Bool, true, List}
 
 -- the text, the cursor in it, the history index, and the history's lines, oldest first

@@ -1,5 +1,6 @@
 //! Completions of a part of the line.
-ghost use Rattle.std.specs.Prelude.{◌≡◌, ◌≤◌, ℕ, Bool, List, Option, Some, None, map, IfOk, IsOk, OnOk, IsCharBoundary, string_bytes, true, false};
+ghost use Rattle.std.specs.Prelude.{◌≡◌, ◌≤◌, ℕ, Bool, true, false, List, Option, Some, None};
+ghost use Rattle.std.specs.Prelude.{map, IfOk, IsOk, OnOk, IsCharBoundary, string_bytes};
 ghost use Rattle.line_config.specs.Error.{IoOnlyIf, FaultsOnly};
 ghost use Rattle.line_config.specs.Usual.{IsUsualOrOwn};
 
@@ -9,19 +10,19 @@ use line_buffer::{Changeset, LineBuffer};
 use line_config::Result;
 use std::alloc::Global;
 
-/// What may complete a part of the line.
+/// A text that may complete a part of the line.
 pub trait Candidate {
-    // What is displayed.
+    // The text that is displayed.
     ghost display_text: { Self → List ℕ };
 
-    // What is put into the line.
+    // The text that is put into the line.
     ghost replacement_text: { Self → List ℕ };
 
-    /// What is shown in a list of candidates.
+    /// Returns the text that is shown in a list of candidates.
     fn display(&self) -> &str
         ensures { result.now ≡ display_text self.now };
 
-    /// What is put into the line.
+    /// Returns the text that is put into the line.
     fn replacement(&self) -> &str
         ensures { result.now ≡ replacement_text self.now };
 }
@@ -54,30 +55,31 @@ impl Candidate for &str {
     }
 }
 
-/// Who offers completions.
+/// Completes a part of the line.
 pub trait Completer {
-    ghost use Rattle.line_parts.specs.Candidate.{Completion, Written, nothing, offer_of, put_to_cursor};
+    ghost use Rattle.line_parts.specs.Candidate.{Completion, Written, no_completion, offer_of};
+    ghost use Rattle.line_parts.specs.Candidate.{put_to_cursor};
     ghost use Rattle.line_parts.specs.Context.{shown_in};
     ghost use Rattle.line_parts.specs.Shown.{Shown, NotBoth};
 
-    /// What it offers.
+    /// The type of the candidates.
     type Candidate: Candidate + Drop;
 
-    // Whether no error of input or output comes from it, over a history that is sure too.
+    // Whether no error of input or output comes from it, where none comes from the history.
     ghost sure: { Self → Bool };
 
-    // What it offers for what it is shown: where this says nothing, it offers nothing.
+    // A completion of its own for what it is shown. Where this is None, nothing is offered.
     ghost own_completion: { Self → Shown → Option Completion } = { λ _ _. None };
 
-    // The line and the changes that it makes of an elected text from a place to the cursor: where this
-    // says nothing, the text is put there.
+    // The line and the changes that it makes of an elected text, if it has a way of its own. Where
+    // this is None, the text replaces what stands from the start to the cursor.
     ghost own_update: { Self → Written → ℕ → List ℕ → Option Written } = { λ _ _ _ _. None };
 
-    /// Where the part of `line` before the cursor, at byte `pos`, that can be completed begins, and
-    /// the candidates for it.
+    /// Returns where the part of `line` that can be completed begins, and the candidates for it.
+    /// That part ends at the cursor, which is at byte `pos`.
     ///
-    /// Errors are `Io`, which comes only where this completer or the history is not sure, and
-    /// `Memory`.
+    /// # Errors
+    /// `Io`, only where this completer or the history is not sure, and `Memory`.
     fn complete<S: History>(
         &self,
         alloc: Global,
@@ -87,9 +89,12 @@ pub trait Completer {
     ) -> Result<(usize, Vec<Self::Candidate>)>
         requires { IsCharBoundary line.now pos }
         ensures start { IfOk result (λ r. (r.0 ≤ pos) × IsCharBoundary line.now r.0) }
-        ensures answer { IfOk result (λ r. IsUsualOrOwn nothing
+        ensures answer { IfOk result (λ r. IsUsualOrOwn no_completion
             (own_completion self.now (shown_in S.History ctx.now line.now pos))
-            (record { start = r.0; offers = map (offer_of Self.Candidate.Candidate) r.1.items })) }
+            (record {
+              start = r.0;
+              offers = map (offer_of Self.Candidate.Candidate) r.1.items;
+            })) }
         ensures io { IoOnlyIf result (NotBoth (sure self.now) (S.sure ctx.now.history)) }
         ensures faults { FaultsOnly result }
     {
@@ -99,10 +104,11 @@ pub trait Completer {
         Ok((0, Vec::new(alloc)))
     }
 
-    /// Puts the elected candidate's text into the line, from `start` on to the cursor, which then
-    /// stands after it.
+    /// Replaces what stands from `start` to the cursor by the text of the elected candidate. The
+    /// cursor then stands behind that text.
     ///
-    /// Errors are `Io`, which comes only where this completer is not sure, and `Memory`.
+    /// # Errors
+    /// `Io`, only where this completer is not sure, and `Memory`.
     fn update(
         &self,
         line: &mut LineBuffer,
@@ -112,9 +118,9 @@ pub trait Completer {
     ) -> Result<()>
         requires before { start ≤ line.old.cursor }
         requires boundary { IsCharBoundary line.old.text start }
-        ensures written { OnOk result (IsUsualOrOwn
-            (put_to_cursor (record { line = line.old; changes = changes.old }) start elected.now)
-            (own_update self.now (record { line = line.old; changes = changes.old }) start elected.now)
+        ensures written { let old : Written = record { line = line.old; changes = changes.old } in
+            OnOk result (IsUsualOrOwn (put_to_cursor old start elected.now)
+            (own_update self.now old start elected.now)
             (record { line = line.new; changes = changes.new })) }
         ensures io { IoOnlyIf result (sure self.now ≡ false) }
         ensures faults { FaultsOnly result }

@@ -1,10 +1,10 @@
-//! What contracts see of those who are asked about a line.
+//! What contracts see of the parties that are asked about a line.
 ghost use Rattle.std.specs.Prelude.{ℕ, Bool};
 ghost use Rattle.line_parts.specs.Environment.{Environment};
 
 /// A type whose values answer for a line while it is edited.
 pub trait Consulted {
-    // Its answers.
+    // All answers.
     ghost environment: { Self → Environment };
 
     // The history index of the line.

@@ -1,11 +1,11 @@
-//! Where a line stands in the history.
+//! The position of a line in the history.
 ghost use Rattle.std.specs.Prelude.{◌≡◌, ◌≤◌, length};
 
 use crate::history::History;
 use std::marker::Model;
 
-/// A history, and the place in it at which the line stands. The place of the line that is being
-/// written is the history's length.
+/// A history, and the index of the line in it. The number of the history's lines is the index of
+/// the line that is being written.
 pub struct Context<'h, S: History> {
     history: &'h S,
     history_index: usize,
@@ -32,7 +32,7 @@ impl<S: History> Drop for Context<'_, S> {
 }
 
 impl<'h, S: History> Context<'h, S> {
-    /// The place of the line that is being written.
+    /// Returns the position of the line that is being written.
     pub fn new(history: &'h S) -> Self
         ensures { result ≡ record { history = history.now; index = length (S.lines history.now) } }
     {
@@ -43,14 +43,14 @@ impl<'h, S: History> Context<'h, S> {
         }
     }
 
-    /// The history.
+    /// Returns the history.
     pub fn history(&self) -> &'h S
         ensures { result.now ≡ self.now.history }
     {
         self.history
     }
 
-    /// The place in the history, at most its length.
+    /// Returns the history index, which is at most the number of the history's lines.
     pub fn history_index(&self) -> usize
         ensures value { result ≡ self.now.index }
         ensures within { result ≤ length (S.lines self.now.history) }
@@ -58,7 +58,7 @@ impl<'h, S: History> Context<'h, S> {
         self.history_index
     }
 
-    /// Goes to a place of the history.
+    /// Sets the history index.
     pub fn set_history_index(&mut self, index: usize)
         requires { index ≤ length (S.lines self.old.history) }
         ensures { self.new ≡ record self.old { index = index } }

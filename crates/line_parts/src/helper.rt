@@ -6,9 +6,10 @@ use crate::highlight::Highlighter;
 use crate::hint::Hinter;
 use crate::validate::Validator;
 
-/// Who completes, hints, highlights and validates. Its `highlight_char` changes no other answer.
+/// Completes, hints, highlights and validates. A call of `highlight_char` may change what the
+/// helper remembers, but no hint, no verdict, no completion and no later answer of that call.
 pub trait Helper: Completer + Hinter + Highlighter + Validator {
-    // Two values that differ in what `highlight_char` remembers alone answer alike.
+    // Two values that differ only in what `highlight_char` may change answer alike.
     ghost hints_kept: { (one other : Self) → Self.steady one ≡ Self.steady other
         → Self.hint_at one ≡ Self.hint_at other };
 

@@ -10,24 +10,25 @@ use line_config::{CompletionType, Result};
 use std::alloc::Global;
 use std::borrow::CowStr;
 
-/// What brought a line to be highlighted.
+/// Why the line is highlighted again.
 #[derive(Clone, Copy, Debug, PartialEq, Eq)]
 pub enum CmdKind {
     /// The cursor moved.
     MoveCursor,
-    /// Another change.
+    /// Something else changed.
     Other,
-    /// The last drawing, without hint and highlighted brackets.
+    /// The line is drawn for the last time, without a hint and without highlighted brackets.
     ForcedRefresh,
 }
 
-/// Who shows a line, its prompt and its hint with colors. What is shown is as wide as the text.
+/// Gives colors to a line, its prompt, its hint and its candidates. What is shown is to be as wide
+/// as the text.
 pub trait Highlighter {
     // Whether no error of input or output comes from it.
     ghost sure: { Self → Bool };
 
-    // What it shows for a line and its cursor, a prompt and whether it is the line's own, a hint, a
-    // candidate: where these say nothing, the text is shown as it stands.
+    // What it shows for a line and its cursor, for a prompt and whether it is the line's own, for a
+    // hint, and for a candidate. Where one of these is None, the text is shown as it stands.
     ghost own_line: { Self → List ℕ → ℕ → Option (List ℕ) } = { λ _ _ _. None };
 
     ghost own_prompt: { Self → List ℕ → Bool → Option (List ℕ) } = { λ _ _ _. None };
@@ -36,13 +37,16 @@ pub trait Highlighter {
 
     ghost own_candidate: { Self → List ℕ → CompletionType → Option (List ℕ) } = { λ _ _ _. None };
 
-    // Whether it asks for a full drawing: a function of the line, its cursor and what brought it.
+    // Whether it asks for a full drawing of a line with its cursor, by what happened to the line.
     ghost lights: { Self → List ℕ → ℕ → CmdKind → Bool };
 
-    // What `highlight_char` leaves of it.
+    // What no call of `highlight_char` changes of it.
     ghost steady: { Self → Self } = { λ h. h };
 
-    /// The line, with the cursor at byte `pos`, as it is shown.
+    /// Returns the line as it is shown with the cursor at byte `pos`.
+    ///
+    /// # Errors
+    /// `Io`, only where this highlighter is not sure, and `Memory`.
     fn highlight<'l>(&self, alloc: Global, line: &'l str, pos: usize) -> Result<CowStr<'l>>
         ensures text { IfOk result (λ t.
             IsUsualOrOwn line.now (own_line self.now line.now pos) (cow_str_bytes t)) }
@@ -54,7 +58,10 @@ pub trait Highlighter {
         Ok(CowStr::Borrowed(line))
     }
 
-    /// The prompt as it is shown; `default` says whether it is the line's own.
+    /// Returns the prompt as it is shown. `default` says whether it is the line's own prompt.
+    ///
+    /// # Errors
+    /// `Io`, only where this highlighter is not sure, and `Memory`.
     fn highlight_prompt<'b, 's: 'b, 'p: 'b>(
         &'s self,
         alloc: Global,
@@ -71,7 +78,10 @@ pub trait Highlighter {
         Ok(CowStr::Borrowed(prompt))
     }
 
-    /// The hint as it is shown.
+    /// Returns the hint as it is shown.
+    ///
+    /// # Errors
+    /// `Io`, only where this highlighter is not sure, and `Memory`.
     fn highlight_hint<'h>(&self, alloc: Global, hint: &'h str) -> Result<CowStr<'h>>
         ensures text { IfOk result (λ t.
             IsUsualOrOwn hint.now (own_hint self.now hint.now) (cow_str_bytes t)) }
@@ -82,7 +92,10 @@ pub trait Highlighter {
         Ok(CowStr::Borrowed(hint))
     }
 
-    /// A candidate of a completion as it is shown.
+    /// Returns a candidate of a completion as it is shown.
+    ///
+    /// # Errors
+    /// `Io`, only where this highlighter is not sure, and `Memory`.
     fn highlight_candidate<'c>(
         &self,
         alloc: Global,
@@ -90,7 +103,8 @@ pub trait Highlighter {
         completion: CompletionType,
     ) -> Result<CowStr<'c>>
         ensures text { IfOk result (λ t.
-            IsUsualOrOwn candidate.now (own_candidate self.now candidate.now completion) (cow_str_bytes t)) }
+            IsUsualOrOwn candidate.now (own_candidate self.now candidate.now completion)
+            (cow_str_bytes t)) }
         ensures io { IoOnlyIf result (sure self.now ≡ false) }
         ensures faults { FaultsOnly result }
     {
@@ -100,10 +114,10 @@ pub trait Highlighter {
     }
 
     /// Returns whether the line, with the cursor at byte `pos`, has to be drawn in full for its
-    /// colors. `kind` says what happened to the line.
+    /// colors. `kind` says why the line is highlighted again.
     ///
     /// The answer depends on this highlighter, the line, the cursor and `kind` alone. The call may
-    /// change what the highlighter remembers, but none of the answers that a helper gives.
+    /// change what this highlighter remembers.
     fn highlight_char(&mut self, line: &str, pos: usize, kind: CmdKind) -> bool
         ensures lit { result ≡ lights self.old line.now pos kind }
         ensures steady { steady self.new ≡ steady self.old }

@@ -1,5 +1,6 @@
-//! Hints: what is shown after the line as its likely end.
-ghost use Rattle.std.specs.Prelude.{◌≡◌, ℕ, Bool, List, Option, Some, None, option_map, IfOk, string_bytes, true};
+//! Hints: texts that are shown behind the line as its likely end.
+ghost use Rattle.std.specs.Prelude.{◌≡◌, ℕ, Bool, true, List, Option, Some, None};
+ghost use Rattle.std.specs.Prelude.{option_map, IfOk, string_bytes};
 ghost use Rattle.line_config.specs.Error.{IoOnlyIf, FaultsOnly};
 
 use crate::context::Context;
@@ -7,19 +8,19 @@ use crate::history::History;
 use line_config::Result;
 use std::alloc::Global;
 
-/// A hint.
+/// A text that is shown behind the line.
 pub trait Hint {
-    // What is displayed.
+    // The text that is displayed.
     ghost display_text: { Self → List ℕ };
 
-    // What the line is completed with.
+    // The text that completes the line, if the hint can be taken.
     ghost completion_text: { Self → Option (List ℕ) };
 
-    /// What is shown after the line.
+    /// Returns the text that is shown behind the line.
     fn display(&self) -> &str
         ensures { result.now ≡ display_text self.now };
 
-    /// What the line is completed with, if the hint can be taken.
+    /// Returns the text that completes the line, or None where the hint can't be taken.
     fn completion(&self) -> Option<&str>
         ensures { option_map (λ s. s.now) result ≡ completion_text self.now };
 }
@@ -52,25 +53,25 @@ impl Hint for &str {
     }
 }
 
-/// Who gives hints.
+/// Gives hints.
 pub trait Hinter {
     ghost use Rattle.line_parts.specs.Context.{shown_in};
     ghost use Rattle.line_parts.specs.Hint.{Suggestion, suggestion_of};
     ghost use Rattle.line_parts.specs.Shown.{Shown, NotBoth};
 
-    /// The hints that it gives.
+    /// The type of the hints.
     type Hint: Hint + Drop;
 
-    // Whether no error of input or output comes from it, over a history that is sure too.
+    // Whether no error of input or output comes from it, where none comes from the history.
     ghost sure: { Self → Bool };
 
     // The hint for what it is shown.
     ghost hint_at: { Self → Shown → Option Suggestion };
 
-    /// The hint for `line` with the cursor at byte `pos`, or None where there is none.
+    /// Returns the hint for `line` with the cursor at byte `pos`, or None where there is none.
     ///
-    /// Errors are `Io`, which comes only where this hinter or the history is not sure, and
-    /// `Memory`.
+    /// # Errors
+    /// `Io`, only where this hinter or the history is not sure, and `Memory`.
     fn hint<S: History>(
         &self,
         alloc: Global,

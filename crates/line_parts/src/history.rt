@@ -13,11 +13,11 @@ pub trait History {
     // Whether no error of input or output comes from it.
     ghost sure: { Self → Bool };
 
-    /// How many lines there are.
+    /// Returns the number of lines.
     fn len(&self) -> usize
         ensures { result ≡ length (lines self.now) };
 
-    /// Whether there is no line.
+    /// Returns whether there is no line.
     fn is_empty(&self) -> bool
         ensures { IsTrue result ↔ (lines self.now ≡ []) }
     {
@@ -40,7 +40,7 @@ impl Model for MemHistory {
 }
 
 impl MemHistory {
-    /// A history without lines. It grows from `alloc`.
+    /// Returns a history without lines. It grows from `alloc`.
     pub fn new(alloc: Global) -> MemHistory
         ensures { result ≡ [] }
     {

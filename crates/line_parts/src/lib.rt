@@ -1,4 +1,4 @@
-//! The parties that a line editor asks: history, hints, validation, highlighting, completion.
+//! What a line editor asks about a line: history, hints, validation, highlighting, completion.
 #![tactic(auto)]
 
 pub mod completion;

@@ -1,5 +1,6 @@
-//! Who is asked about a line: the helper, if there is one, and the history.
-ghost use Rattle.std.specs.Prelude.{◌≡◌, ◌≤◌, ◌&&◌, Bool, List, Option, is_some, length, option_map, true, false, IfOk};
+//! The parties that are asked about a line: the helper, if there is one, and the history.
+ghost use Rattle.std.specs.Prelude.{◌≡◌, ◌≤◌, ◌&&◌, Bool, true, false, List, Option};
+ghost use Rattle.std.specs.Prelude.{is_some, length, option_map, IfOk};
 ghost use Rattle.line_config.specs.Error.{FaultsOnly, IoOnlyIf};
 ghost use Rattle.line_parts.specs.Consulted.{Unchanged};
 ghost use Rattle.line_parts.specs.Context.{shown_in};
@@ -20,8 +21,8 @@ use line_buffer::LineBuffer;
 use line_config::Result;
 use std::alloc::Global;
 
-/// Those who are asked about a line: the helper, if there is one, and the history with the index
-/// of the line in it.
+/// The parties that are asked about a line: the helper, if there is one, and the history with the
+/// index of the line in it.
 pub struct Parties<'out, H: Helper, S: History> {
     helper: Option<&'out mut H>,
     ctx: Context<'out, S>,
@@ -49,14 +50,15 @@ impl<'out, H: Helper, S: History> Consulted for Parties<'out, H, S> {
 
 // Returns the helper's hint for the line.
 #[tactic(auto, unfolding(crate::specs::Helped::hint_by, crate::specs::Helped::is_sure_by))]
-fn hint_of<'a, 'out, H: Helper, S: History>(
+fn helper_hint<'a, 'out, H: Helper, S: History>(
     alloc: Global,
     helper: &'a Option<&'out mut H>,
     line: &LineBuffer,
     ctx: &Context<'_, S>,
 ) -> Result<Option<H::Hint>>
     ensures answer { IfOk result (λ hint. option_map (suggestion_of H.Hint.Hint) hint
-        ≡ hint_by H.hint_at helper.now (shown_in S.History ctx.now line.now.text line.now.cursor)) }
+        ≡ hint_by H.hint_at helper.now
+        (shown_in S.History ctx.now line.now.text line.now.cursor)) }
     ensures io { IoOnlyIf result
         (NotBoth (is_sure_by H.Hinter.sure helper.now) (S.sure ctx.now.history)) }
     ensures faults { FaultsOnly result }
@@ -80,15 +82,15 @@ fn visible_hint<T: Hint + Drop>(hint: Option<T>) -> Option<T>
 
 // Returns whether there is a helper.
 #[tactic(auto, unfolding(crate::specs::Helped::verdict_by))]
-fn is_there<'a, 'out, H: Helper>(helper: &'a Option<&'out mut H>) -> bool
+fn has_helper<'a, 'out, H: Helper>(helper: &'a Option<&'out mut H>) -> bool
     ensures { result ≡ is_some (verdict_by H.verdict_at helper.now) }
 {
     helper.is_some()
 }
 
-// Returns the helper's verdict on a text; without a helper the text is valid.
+// Returns the helper's verdict on a text, if there is a helper.
 #[tactic(auto, unfolding(crate::specs::Helped::is_sure_by, crate::specs::Helped::verdict_by))]
-fn verdict_of_helper<'a, 'out, H: Helper>(
+fn helper_verdict<'a, 'out, H: Helper>(
     alloc: Global,
     helper: &'a Option<&'out mut H>,
     text: &str,
@@ -106,7 +108,7 @@ fn verdict_of_helper<'a, 'out, H: Helper>(
 
 // Asks the helper whether the line has to be drawn in full.
 #[tactic(auto, unfolding(crate::specs::Helped::hint_by, crate::specs::Helped::is_sure_by, crate::specs::Helped::lights_by, crate::specs::Helped::verdict_by))]
-fn lights<'out, H: Helper>(
+fn helper_lights<'out, H: Helper>(
     helper: &mut Option<&'out mut H>,
     line: &LineBuffer,
     kind: CmdKind,
@@ -116,7 +118,8 @@ fn lights<'out, H: Helper>(
     ensures verdicts { verdict_by H.verdict_at helper.new ≡ verdict_by H.verdict_at helper.old }
     ensures lights { lights_by H.lights helper.new ≡ lights_by H.lights helper.old }
     ensures hinter { is_sure_by H.Hinter.sure helper.new ≡ is_sure_by H.Hinter.sure helper.old }
-    ensures validator { is_sure_by H.Validator.sure helper.new ≡ is_sure_by H.Validator.sure helper.old }
+    ensures validator { is_sure_by H.Validator.sure helper.new
+        ≡ is_sure_by H.Validator.sure helper.old }
 {
     match helper {
         Some(h) => h.highlight_char(line.as_str(), line.pos(), kind),
@@ -139,7 +142,7 @@ fn highlighter_of<'a, 'out, H: Helper>(
 }
 
 impl<'out, H: Helper, S: History> Parties<'out, H, S> {
-    /// Returns the parties that are asked about a line whose history and history index `ctx` has.
+    /// Returns the parties that are asked about a line at the position `ctx` in the history.
     pub fn new(helper: Option<&'out mut H>, ctx: Context<'out, S>) -> Self
         ensures environment { ⟦<Self as Consulted>⟧.environment result ≡ record {
           hint_at = hint_by H.hint_at helper.entry;
@@ -155,26 +158,25 @@ impl<'out, H: Helper, S: History> Parties<'out, H, S> {
         Parties { helper, ctx }
     }
 
-    /// Returns the helper's hint for `line` at the history index, or None where there is none that
-    /// displays something.
+    /// Returns the helper's hint for `line`, or None where there is no hint or it displays nothing.
     ///
     /// # Errors
     /// `Io`, only where one of the parties is not sure, and `Memory`.
     pub fn hint(&self, alloc: Global, line: &LineBuffer) -> Result<Option<H::Hint>>
         ensures answer { let p = ⟦<Self as Consulted>⟧ in IfOk result (λ hint.
-            option_map (suggestion_of H.Hint.Hint) hint
-            ≡ hint_for (p.environment self.now) line.now.text line.now.cursor (p.index self.now)) }
+            option_map (suggestion_of H.Hint.Hint) hint ≡ hint_for (p.environment self.now)
+            line.now.text line.now.cursor (p.index self.now)) }
         ensures io { IoOnlyIf result (⟦<Self as Consulted>⟧.sure self.now ≡ false) }
         ensures faults { FaultsOnly result }
     {
-        Ok(visible_hint(hint_of(alloc, &self.helper, line, &self.ctx)?))
+        Ok(visible_hint(helper_hint(alloc, &self.helper, line, &self.ctx)?))
     }
 
-    /// Returns whether there is a helper, which validates the line.
+    /// Returns whether there is a helper, which validates lines.
     pub fn has_validator(&self) -> bool
         ensures { result ≡ is_some (⟦<Self as Consulted>⟧.environment self.now).verdict_at }
     {
-        is_there(&self.helper)
+        has_helper(&self.helper)
     }
 
     /// Returns the helper's verdict on the text of `line`. Without a helper the text is valid.
@@ -187,21 +189,22 @@ impl<'out, H: Helper, S: History> Parties<'out, H, S> {
         ensures io { IoOnlyIf result (⟦<Self as Consulted>⟧.sure self.now ≡ false) }
         ensures faults { FaultsOnly result }
     {
-        let verdict = verdict_of_helper(alloc, &self.helper, line.as_str())?;
+        let verdict = helper_verdict(alloc, &self.helper, line.as_str())?;
         Ok(verdict.unwrap_or(ValidationResult::Valid(None)))
     }
 
-    /// Returns whether the helper asks for a full drawing of `line` for its colors, after what
-    /// `kind` says. Without a helper nothing does. Each answer stays what it was.
+    /// Returns whether the helper asks for a full drawing of `line` for its colors. `kind` says why
+    /// it is asked. Without a helper the answer is false. No hint, no verdict and no later answer
+    /// of this call changes.
     pub fn highlight_char(&mut self, line: &LineBuffer, kind: CmdKind) -> bool
         ensures lit { result ≡ (⟦<Self as Consulted>⟧.environment self.old).lights
             line.now.text line.now.cursor kind }
         ensures unchanged { Unchanged ⟦<Self as Consulted>⟧ self.old self.new }
     {
-        lights(&mut self.helper, line, kind)
+        helper_lights(&mut self.helper, line, kind)
     }
 
-    /// Returns the helper as a highlighter, where there is one and colors are on.
+    /// Returns the helper if there is one and colors are on.
     pub fn highlighter(&self, colors: bool) -> Option<&H>
         ensures { is_some result
             ≡ (colors && is_some (⟦<Self as Consulted>⟧.environment self.now).verdict_at) }
@@ -228,7 +231,8 @@ impl<'out, H: Helper, S: History> Parties<'out, H, S> {
     pub fn set_history_index(&mut self, index: usize)
         requires { index ≤ length (⟦<Self as Consulted>⟧.environment self.old).lines }
         ensures index { ⟦<Self as Consulted>⟧.index self.new ≡ index }
-        ensures environment { let p = ⟦<Self as Consulted>⟧ in p.environment self.new ≡ p.environment self.old }
+        ensures environment { let p = ⟦<Self as Consulted>⟧ in
+            p.environment self.new ≡ p.environment self.old }
         ensures sure { let p = ⟦<Self as Consulted>⟧ in p.sure self.new ≡ p.sure self.old }
     {
         self.ctx.set_history_index(index);

@@ -1,5 +1,6 @@
-//! Whether a line is whole when it is to be submitted.
-ghost use Rattle.std.specs.Prelude.{◌≡◌, ℕ, Bool, List, Option, None, IfOk, IsTrue, true, false};
+//! Whether a line may be submitted.
+ghost use Rattle.std.specs.Prelude.{◌≡◌, ℕ, Bool, true, false, List, Option, None};
+ghost use Rattle.std.specs.Prelude.{IfOk, IsTrue};
 ghost use Rattle.line_config.specs.Error.{IoOnlyIf, FaultsOnly};
 ghost use Rattle.line_parts.specs.Verdict.{Verdict, verdict_of, valid};
 
@@ -7,18 +8,18 @@ use line_config::Result;
 use std::alloc::Global;
 use std::marker::Model;
 
-/// What a validator says of a line.
-#[derive(Debug, Drop)]
+/// The verdict on a line.
+#[derive(Drop)]
 pub enum ValidationResult {
-    /// The line goes on: a newline is put into it.
+    /// The line is not complete: a newline is inserted.
     Incomplete,
-    /// The line is refused, with a message or without.
+    /// The line can't be submitted. A message may say why.
     Invalid(Option<String>),
-    /// The line is submitted, with a message or without.
+    /// The line is submitted. A message may be shown with it.
     Valid(Option<String>),
 }
 
-/// The line that is to be validated.
+/// The text that is to be validated.
 pub struct ValidationContext<'i> {
     input: &'i str,
 }
@@ -38,14 +39,14 @@ impl Drop for ValidationContext<'_> {
 }
 
 impl<'i> ValidationContext<'i> {
-    /// Borrows the text of a line.
+    /// Returns a context that borrows the text of a line.
     pub fn new(input: &'i str) -> Self
         ensures { result ≡ input.now }
     {
         ValidationContext { input }
     }
 
-    /// The text.
+    /// Returns the text.
     pub fn input(&self) -> &'i str
         ensures { result.now ≡ self.now }
     {
@@ -53,26 +54,28 @@ impl<'i> ValidationContext<'i> {
     }
 }
 
-/// Who says whether a line is whole.
+/// Says whether a line may be submitted.
 pub trait Validator {
     // Whether no error of input or output comes from it.
     ghost sure: { Self → Bool };
 
-    // What it says of a text.
+    // The verdict on a text.
     ghost verdict_at: { Self → List ℕ → Verdict };
 
-    // Whether it may want to be asked with each key.
+    // Whether it may ask to validate with each key.
     ghost checks_typing: { Self → Bool } = { λ _. false };
 
-    /// What is said of the line.
+    /// Returns the verdict on the text.
     ///
-    /// Errors are `Io`, which comes only where this validator is not sure, and `Memory`.
+    /// # Errors
+    /// `Io`, only where this validator is not sure, and `Memory`.
     fn validate(&self, alloc: Global, ctx: &ValidationContext<'_>) -> Result<ValidationResult>
         ensures answer { IfOk result (λ r. verdict_of r ≡ verdict_at self.now ctx.now) }
         ensures io { IoOnlyIf result (sure self.now ≡ false) }
         ensures faults { FaultsOnly result };
 
-    /// Whether a line is to be validated with each key. This layer validates at a submit alone.
+    /// Returns whether a line is to be validated with each key. This layer validates only when the
+    /// line is submitted.
     fn validate_while_typing(&self) -> bool
         ensures { IsTrue result → IsTrue (checks_typing self.now) }
     {
