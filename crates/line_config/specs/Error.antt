@@ -5,17 +5,17 @@ use Rattle.std.specs.declared.io.ErrorKind.{ErrorKind}
 use Rattle.line_config.specs.declared.error.ReadlineError.{ReadlineError}
 use Rattle.line_config.specs.declared.error.ReadlineError.TheVariants.{Eof, Interrupted, Io, Memory}
 
--- where a count stays
-abbrev pub greatest : ℕ
-greatest = 2 ^ 64 - 1
+-- the greatest value of a count, where it stays
+abbrev pub max_count : ℕ
+max_count = 2 ^ 64 - 1
 
 -- a count rose, or was at its greatest value
 abbrev pub Rose : ℕ → ℕ → Type 0
-Rose old new = old < greatest → old < new
+Rose old new = old < max_count → old < new
 
 -- a count rose by one, or was at its greatest value
 abbrev pub IsOneMore : ℕ → ℕ → Type 0
-IsOneMore old new = old < greatest → new ≡ old + 1
+IsOneMore old new = old < max_count → new ≡ old + 1
 
 -- whether an error is one of input or output
 abbrev pub is_io : ReadlineError → Bool
