@@ -24,14 +24,14 @@ is_io Interrupted = false
 is_io (Io _) = true
 is_io Memory = false
 
--- whether an error is that memory ran out
+-- whether an error is a failed allocation
 abbrev pub is_memory : ReadlineError → Bool
 is_memory Eof = false
 is_memory Interrupted = false
 is_memory (Io _) = false
 is_memory Memory = true
 
--- whether an error is one of input or output, or that memory ran out
+-- whether an error is one of input or output, or a failed allocation
 abbrev pub is_fault : ReadlineError → Bool
 is_fault Eof = false
 is_fault Interrupted = false
@@ -43,12 +43,12 @@ abbrev pub IoOnlyIf : {T : Type 0} → Result T ReadlineError → Type 0 → Typ
 IoOnlyIf (Ok _) P = Unit {0}
 IoOnlyIf (Err e) P = is_io e ≡ true → P
 
--- the only errors are those of input or output, and that memory ran out
+-- the only errors are those of input or output, and failed allocations
 abbrev pub FaultsOnly : {T : Type 0} → Result T ReadlineError → Type 0
 FaultsOnly (Ok _) = Unit {0}
 FaultsOnly (Err e) = is_fault e ≡ true
 
--- the only error is that memory ran out
+-- the only error is a failed allocation
 abbrev pub MemoryOnly : {T : Type 0} → Result T ReadlineError → Type 0
 MemoryOnly (Ok _) = Unit {0}
 MemoryOnly (Err e) = is_memory e ≡ true

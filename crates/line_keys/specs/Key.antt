@@ -81,7 +81,7 @@ event code mods = record { 0 = code; 1 = mods }
 abbrev pub tab_of : Modifiers → KeyEvent
 tab_of mods = if contains mods SHIFT then event BackTab (difference mods SHIFT) else event Tab mods
 
--- the event of a character with modifiers; U+0000 to U+001F else as in caret notation: `^A`, `^_`
+-- the event of a character with modifiers, by the first row that fits
 abbrev pub event_of : ℕ → Modifiers → KeyEvent
 event_of c mods =
     if not (is_control c) then event (Char c) (difference mods SHIFT)
