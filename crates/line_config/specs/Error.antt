@@ -5,17 +5,17 @@ use Rattle.std.specs.declared.io.ErrorKind.{ErrorKind}
 use Rattle.line_config.specs.declared.error.ReadlineError.{ReadlineError}
 use Rattle.line_config.specs.declared.error.ReadlineError.TheVariants.{Eof, Interrupted, Io, Memory}
 
--- where a count stays
-abbrev pub greatest : ℕ
-greatest = 2 ^ 64 - 1
+-- the greatest value of a count, where it stays
+abbrev pub max_count : ℕ
+max_count = 2 ^ 64 - 1
 
 -- a count rose, or was at its greatest value
 abbrev pub Rose : ℕ → ℕ → Type 0
-Rose old new = old < greatest → old < new
+Rose old new = old < max_count → old < new
 
 -- a count rose by one, or was at its greatest value
 abbrev pub IsOneMore : ℕ → ℕ → Type 0
-IsOneMore old new = old < greatest → new ≡ old + 1
+IsOneMore old new = old < max_count → new ≡ old + 1
 
 -- whether an error is one of input or output
 abbrev pub is_io : ReadlineError → Bool
@@ -24,14 +24,14 @@ is_io Interrupted = false
 is_io (Io _) = true
 is_io Memory = false
 
--- whether an error is that memory ran out
+-- whether an error is a failed allocation
 abbrev pub is_memory : ReadlineError → Bool
 is_memory Eof = false
 is_memory Interrupted = false
 is_memory (Io _) = false
 is_memory Memory = true
 
--- whether an error is one of input or output, or that memory ran out
+-- whether an error is one of input or output, or a failed allocation
 abbrev pub is_fault : ReadlineError → Bool
 is_fault Eof = false
 is_fault Interrupted = false
@@ -43,12 +43,12 @@ abbrev pub IoOnlyIf : {T : Type 0} → Result T ReadlineError → Type 0 → Typ
 IoOnlyIf (Ok _) P = Unit {0}
 IoOnlyIf (Err e) P = is_io e ≡ true → P
 
--- the only errors are those of input or output, and that memory ran out
+-- the only errors are those of input or output, and failed allocations
 abbrev pub FaultsOnly : {T : Type 0} → Result T ReadlineError → Type 0
 FaultsOnly (Ok _) = Unit {0}
 FaultsOnly (Err e) = is_fault e ≡ true
 
--- the only error is that memory ran out
+-- the only error is a failed allocation
 abbrev pub MemoryOnly : {T : Type 0} → Result T ReadlineError → Type 0
 MemoryOnly (Ok _) = Unit {0}
 MemoryOnly (Err e) = is_memory e ≡ true

@@ -36,7 +36,7 @@ pub record Settings : Type 0 where
   pub enable_synchronized_output : Bool
   pub enable_signals : Bool
 
--- the settings where none was set, under this way of measuring clusters
+-- the settings where none was set, with this way of measuring clusters
 abbrev pub defaults : GraphemeClusterMode → Settings
 defaults mode = record {
   max_history_size = 100;
@@ -60,7 +60,7 @@ defaults mode = record {
   enable_signals = false;
 }
 
--- how many milliseconds an edit mode waits for the rest of a key sequence: no limit in Emacs mode
+-- how many milliseconds a style waits for the rest of a key sequence: no limit for Emacs
 abbrev pub timeout_of : EditMode → Option ℕ
 timeout_of Emacs = None
 timeout_of Vi = Some 500
@@ -70,7 +70,7 @@ abbrev pub duplicates_of : Bool → HistoryDuplicates
 duplicates_of true = IgnoreConsecutive
 duplicates_of false = AlwaysAdd
 
--- the colors under this `NO_COLOR`: one that is there and not empty disables what is enabled alone
+-- the color mode under this value of `NO_COLOR`: one that is not empty disables `Enabled`
 abbrev pub colors_under : ColorMode → Option (List ℕ) → ColorMode
 colors_under Enabled (Some (_ ∷ _)) = Disabled
 colors_under mode _ = mode

@@ -1,72 +1,74 @@
-//! What a user sets, and reads back.
-ghost use Rattle.std.specs.Prelude.{◌≡◌, IsOk, IsOkAnd, option_map};
+//! The settings of a line editor: how they are set, and read back.
+ghost use Rattle.std.specs.Prelude.{⊤, ◌≡◌, IsOk, IsOkAnd, option_map};
 
 use crate::error::Result;
 use line_buffer::GraphemeClusterMode;
+use std::alloc::AllocError;
 use std::marker::Model;
 
-/// What the terminal does to be heard.
+/// How the terminal beeps.
 #[derive(Clone, Copy, Debug, Default, PartialEq, Eq)]
 pub enum BellStyle {
-    /// It rings.
+    /// Sounds the terminal's bell.
     #[default]
     Audible,
-    /// Nothing.
+    /// Neither sounds nor flashes.
     None,
-    /// The screen flashes.
+    /// Flashes the screen.
     Visible,
 }
 
-/// Whether a line that equals the newest entry is added to the history.
+/// What becomes of a line that equals the newest entry of the history.
 #[derive(Clone, Copy, Debug, PartialEq, Eq)]
 pub enum HistoryDuplicates {
-    /// It is.
+    /// Adds the line like any other.
     AlwaysAdd,
-    /// It is not.
+    /// Leaves the line out of the history.
     IgnoreConsecutive,
 }
 
-/// How completions are offered.
+/// How the candidates of a completion are offered.
 #[derive(Clone, Copy, Debug, PartialEq, Eq)]
 pub enum CompletionType {
-    /// One after another.
+    /// Puts the candidates into the line one after another, the next one at each Tab.
     Circular,
-    /// As a list, after their longest common prefix.
+    /// Completes the longest common prefix of the candidates, and then lists them.
     List,
 }
 
-/// The keys that a user types.
+/// The style of editing: which commands the keys stand for.
 #[derive(Clone, Copy, Debug, PartialEq, Eq)]
 pub enum EditMode {
-    /// Those of Emacs.
+    /// Gives the keys the commands of Emacs.
     Emacs,
-    /// Those of Vi.
+    /// Gives the keys the commands of Vi, with its modes.
     Vi,
 }
 
-/// Whether colors are shown.
+/// On which terminals colors are shown.
 #[derive(Clone, Copy, Debug, PartialEq, Eq)]
 pub enum ColorMode {
-    /// Where the terminal shows them.
+    /// Shows colors where the terminal supports them.
     Enabled,
-    /// Everywhere.
+    /// Shows colors on every terminal.
     Forced,
-    /// Nowhere.
+    /// Shows no colors.
     Disabled,
 }
 
-/// Where a line is read from, and drawn to.
+/// Where a line is read from, and where it is drawn.
 #[derive(Clone, Copy, Debug, Default, PartialEq, Eq)]
 pub enum Behavior {
-    /// Standard input and output.
+    /// Uses standard input and standard output.
     #[default]
     Stdio,
-    /// The terminal, also where standard input or output is another.
+    /// Uses the terminal where there is one, also where standard input or output is redirected.
     PreferTerm,
 }
 
-/// The settings of a line editor.
-#[derive(Clone, Debug, Drop, PartialEq, Eq)]
+/// The settings of a line editor. They are values to be read back: what a setting does is up to the
+/// code that reads it.
+#[derive(Debug, Drop, PartialEq, Eq)]
 pub struct Config {
     max_history_size: usize,
     history_duplicates: HistoryDuplicates,
@@ -139,17 +141,27 @@ impl Model for Config {
     } };
 }
 
+impl Clone for Config {
+    ghost is_clone = { λ config copy. copy ≡ config };
+
+    ghost is_infallible = { λ _. ⊤ };
+
+    fn clone(&self) -> std::result::Result<Self, AllocError> {
+        Ok(Config { ..*self })
+    }
+}
+
 impl Config {
     ghost use Rattle.line_config.specs.Settings.{defaults, colors_under};
 
-    /// A builder that begins with the defaults, with clusters measured by `mode`.
+    /// Returns a builder that begins with the defaults, with clusters measured by `mode`.
     pub fn builder(mode: GraphemeClusterMode) -> Builder
         ensures { result ≡ defaults mode }
     {
         Builder::new(mode)
     }
 
-    /// The settings where none was set, with clusters measured by `mode`.
+    /// Returns the default settings, with clusters measured by `mode`.
     pub fn new(mode: GraphemeClusterMode) -> Self
         ensures { result ≡ defaults mode }
     {
@@ -176,80 +188,84 @@ impl Config {
         }
     }
 
-    /// How many lines the history keeps, by default 100.
+    /// Returns the greatest number of lines that the history keeps. The default is 100.
     pub fn max_history_size(&self) -> usize
         ensures { result ≡ self.now.max_history_size }
     {
         self.max_history_size
     }
 
-    /// Whether a line that equals the newest of the history is added to it, by default not.
+    /// Returns what becomes of a line that equals the newest entry of the history. The default is
+    /// `IgnoreConsecutive`.
     pub fn history_duplicates(&self) -> HistoryDuplicates
         ensures { result ≡ self.now.history_duplicates }
     {
         self.history_duplicates
     }
 
-    /// Whether a line that begins with white space is kept out of the history, by default not.
+    /// Returns whether a line that begins with white space is left out of the history. The default
+    /// is false.
     pub fn history_ignore_space(&self) -> bool
         ensures { result ≡ self.now.history_ignore_space }
     {
         self.history_ignore_space
     }
 
-    /// How completions are offered, by default one after another.
+    /// Returns how the candidates of a completion are offered. The default is `Circular`.
     pub fn completion_type(&self) -> CompletionType
         ensures { result ≡ self.now.completion_type }
     {
         self.completion_type
     }
 
-    /// From how many candidates on the user is asked whether to list them, by default 100.
+    /// Returns how many candidates are listed without asking the user first. The default is 100.
     pub fn completion_prompt_limit(&self) -> usize
         ensures { result ≡ self.now.completion_prompt_limit }
     {
         self.completion_prompt_limit
     }
 
-    /// Whether all candidates are listed at once, by default not.
+    /// Returns whether the candidates are listed at the first Tab, and not at the second. The
+    /// default is false.
     pub fn completion_show_all_if_ambiguous(&self) -> bool
         ensures { result ≡ self.now.completion_show_all_if_ambiguous }
     {
         self.completion_show_all_if_ambiguous
     }
 
-    /// How many milliseconds the rest of a key sequence is waited for; None, the default, is no
-    /// limit.
+    /// Returns how many milliseconds the rest of a key sequence is waited for; None means no limit.
+    /// The default is None.
     pub fn keyseq_timeout(&self) -> Option<u16>
         ensures { result ≡ self.now.keyseq_timeout }
     {
         self.keyseq_timeout
     }
 
-    /// The keys that the user types, by default those of Emacs.
+    /// Returns the style of editing. The default is `Emacs`.
     pub fn edit_mode(&self) -> EditMode
         ensures { result ≡ self.now.edit_mode }
     {
         self.edit_mode
     }
 
-    /// Whether each submitted line is added to the history, by default not.
+    /// Returns whether each submitted line is added to the history. The default is false.
     pub fn auto_add_history(&self) -> bool
         ensures { result ≡ self.now.auto_add_history }
     {
         self.auto_add_history
     }
 
-    /// What the terminal does to be heard, by default it rings.
+    /// Returns how the terminal beeps. The default is `Audible`.
     pub fn bell_style(&self) -> BellStyle
         ensures { result ≡ self.now.bell_style }
     {
         self.bell_style
     }
 
-    /// Whether colors are shown, by default where the terminal shows them. `no_color` is the value of
-    /// the environment variable `NO_COLOR`: one that is there and not empty turns `Enabled` into
-    /// `Disabled`.
+    /// Returns on which terminals colors are shown. The default is `Enabled`.
+    ///
+    /// `no_color` is the value of the environment variable `NO_COLOR`: where there is one and it is
+    /// not empty, `Enabled` becomes `Disabled`.
     pub fn color_mode(&self, no_color: Option<&str>) -> ColorMode
         ensures { result ≡ colors_under self.now.color_mode
             (option_map (λ value. value.now) no_color.entry) }
@@ -260,56 +276,57 @@ impl Config {
         }
     }
 
-    /// How the columns of a text are counted.
+    /// Returns how the columns of a text are counted. There is no default: `new` takes the mode.
     pub fn grapheme_cluster_mode(&self) -> GraphemeClusterMode
         ensures { result ≡ self.now.grapheme_cluster_mode }
     {
         self.grapheme_cluster_mode
     }
 
-    /// Where the line is read from and drawn to, by default standard input and output.
+    /// Returns where a line is read from, and where it is drawn. The default is `Stdio`.
     pub fn behavior(&self) -> Behavior
         ensures { result ≡ self.now.behavior }
     {
         self.behavior
     }
 
-    /// How many columns a tab takes, by default 8.
+    /// Returns how many columns a tab takes. The default is 8.
     pub fn tab_stop(&self) -> u8
         ensures { result ≡ self.now.tab_stop }
     {
         self.tab_stop
     }
 
-    /// How many spaces one indentation is, by default 2.
+    /// Returns how many spaces one step of indentation has. The default is 2.
     pub fn indent_size(&self) -> u8
         ensures { result ≡ self.now.indent_size }
     {
         self.indent_size
     }
 
-    /// Whether the cursor is brought to the first column before the prompt, by default not.
+    /// Returns whether the cursor is brought to the first column before the prompt is drawn. The
+    /// default is false.
     pub fn check_cursor_position(&self) -> bool
         ensures { result ≡ self.now.check_cursor_position }
     {
         self.check_cursor_position
     }
 
-    /// Whether the terminal is to mark pasted text, by default yes.
+    /// Returns whether the terminal is asked to mark pasted text. The default is true.
     pub fn enable_bracketed_paste(&self) -> bool
         ensures { result ≡ self.now.enable_bracketed_paste }
     {
         self.enable_bracketed_paste
     }
 
-    /// Whether the terminal is to show each drawing at once, by default yes.
+    /// Returns whether the terminal is asked to show each redraw at once. The default is true.
     pub fn enable_synchronized_output(&self) -> bool
         ensures { result ≡ self.now.enable_synchronized_output }
     {
         self.enable_synchronized_output
     }
 
-    /// Whether the terminal sends signals for keys such as Ctrl-C, by default not.
+    /// Returns whether the terminal turns keys such as Ctrl-C into signals. The default is false.
     pub fn enable_signals(&self) -> bool
         ensures { result ≡ self.now.enable_signals }
     {
@@ -317,7 +334,7 @@ impl Config {
     }
 }
 
-/// What holds settings, and lets them be set. The setters that answer a `Result` always answer Ok.
+/// A holder of settings, which lets them be set.
 pub trait Configurer {
     ghost use Rattle.std.specs.Borrow.{sem, Lends};
     ghost use Rattle.line_config.specs.Settings.{Settings, duplicates_of, timeout_of};
@@ -329,13 +346,17 @@ pub trait Configurer {
     // The value with other settings, and all else as it is.
     ghost with_settings: { Self → Settings → Self };
 
-    /// The settings, to be changed in place.
+    /// Returns the settings, to be changed in place.
     fn config_mut(&mut self) -> &mut Config
         ensures* lends { sem 𝓛
             (Lends Self.row config_row self.entry result (with_settings self.old)) }
         ensures value { result.now ≡ settings self.old };
 
-    /// Sets how many lines the history keeps.
+    /// Sets the greatest number of lines that the history keeps.
+    ///
+    /// # Errors
+    ///
+    /// There are none: the result is always Ok.
     fn set_max_history_size(&mut self, max_size: usize) -> Result<()>
         ensures ok { IsOk result }
         ensures set { self.new ≡ with_settings self.old
@@ -346,7 +367,11 @@ pub trait Configurer {
         Ok(())
     }
 
-    /// Sets whether a line that equals the newest of the history is kept out of it.
+    /// Sets whether a line that equals the newest entry of the history is left out of it.
+    ///
+    /// # Errors
+    ///
+    /// There are none: the result is always Ok.
     fn set_history_ignore_dups(&mut self, yes: bool) -> Result<()>
         ensures ok { IsOk result }
         ensures set { self.new ≡ with_settings self.old
@@ -361,7 +386,7 @@ pub trait Configurer {
         Ok(())
     }
 
-    /// Sets whether a line that begins with white space is kept out of the history.
+    /// Sets whether a line that begins with white space is left out of the history.
     fn set_history_ignore_space(&mut self, yes: bool)
         ensures { self.new ≡ with_settings self.old
             (record (settings self.old) { history_ignore_space = yes }) }
@@ -370,7 +395,7 @@ pub trait Configurer {
         config.history_ignore_space = yes;
     }
 
-    /// Sets how completions are offered.
+    /// Sets how the candidates of a completion are offered.
     fn set_completion_type(&mut self, completion_type: CompletionType)
         ensures { self.new ≡ with_settings self.old
             (record (settings self.old) { completion_type = completion_type }) }
@@ -379,7 +404,7 @@ pub trait Configurer {
         config.completion_type = completion_type;
     }
 
-    /// Sets whether all candidates are listed at once.
+    /// Sets whether the candidates are listed at the first Tab, and not at the second.
     fn set_completion_show_all_if_ambiguous(&mut self, yes: bool)
         ensures { self.new ≡ with_settings self.old
             (record (settings self.old) { completion_show_all_if_ambiguous = yes }) }
@@ -388,7 +413,7 @@ pub trait Configurer {
         config.completion_show_all_if_ambiguous = yes;
     }
 
-    /// Sets from how many candidates on the user is asked whether to list them.
+    /// Sets how many candidates are listed without asking the user first.
     fn set_completion_prompt_limit(&mut self, limit: usize)
         ensures { self.new ≡ with_settings self.old
             (record (settings self.old) { completion_prompt_limit = limit }) }
@@ -397,7 +422,7 @@ pub trait Configurer {
         config.completion_prompt_limit = limit;
     }
 
-    /// Sets how many milliseconds the rest of a key sequence is waited for; None sets no limit.
+    /// Sets how many milliseconds the rest of a key sequence is waited for; None means no limit.
     fn set_keyseq_timeout(&mut self, milliseconds: Option<u16>)
         ensures { self.new ≡ with_settings self.old
             (record (settings self.old) { keyseq_timeout = milliseconds }) }
@@ -406,11 +431,14 @@ pub trait Configurer {
         config.keyseq_timeout = milliseconds;
     }
 
-    /// Sets the keys that the user types, and with them the limit for the rest of a key sequence: none
-    /// for Emacs, 500 milliseconds for Vi.
+    /// Sets the style of editing, and with it how long the rest of a key sequence is waited for:
+    /// without limit for Emacs, 500 milliseconds for Vi.
     fn set_edit_mode(&mut self, edit_mode: EditMode)
         ensures { self.new ≡ with_settings self.old
-            (record (settings self.old) { edit_mode = edit_mode; keyseq_timeout = timeout_of edit_mode }) }
+            (record (settings self.old) {
+              edit_mode = edit_mode;
+              keyseq_timeout = timeout_of edit_mode;
+            }) }
     {
         let config = self.config_mut();
         config.edit_mode = edit_mode;
@@ -429,7 +457,7 @@ pub trait Configurer {
         config.auto_add_history = yes;
     }
 
-    /// Sets what the terminal does to be heard.
+    /// Sets how the terminal beeps.
     fn set_bell_style(&mut self, bell_style: BellStyle)
         ensures { self.new ≡ with_settings self.old
             (record (settings self.old) { bell_style = bell_style }) }
@@ -438,7 +466,7 @@ pub trait Configurer {
         config.bell_style = bell_style;
     }
 
-    /// Sets whether colors are shown.
+    /// Sets on which terminals colors are shown.
     fn set_color_mode(&mut self, color_mode: ColorMode)
         ensures { self.new ≡ with_settings self.old
             (record (settings self.old) { color_mode = color_mode }) }
@@ -465,7 +493,7 @@ pub trait Configurer {
         config.tab_stop = columns;
     }
 
-    /// Sets whether the cursor is brought to the first column before the prompt.
+    /// Sets whether the cursor is brought to the first column before the prompt is drawn.
     fn set_check_cursor_position(&mut self, yes: bool)
         ensures { self.new ≡ with_settings self.old
             (record (settings self.old) { check_cursor_position = yes }) }
@@ -474,7 +502,7 @@ pub trait Configurer {
         config.check_cursor_position = yes;
     }
 
-    /// Sets how many spaces one indentation is.
+    /// Sets how many spaces one step of indentation has.
     fn set_indent_size(&mut self, spaces: u8)
         ensures { self.new ≡ with_settings self.old
             (record (settings self.old) { indent_size = spaces }) }
@@ -483,7 +511,7 @@ pub trait Configurer {
         config.indent_size = spaces;
     }
 
-    /// Sets whether the terminal is to mark pasted text.
+    /// Sets whether the terminal is asked to mark pasted text.
     fn enable_bracketed_paste(&mut self, yes: bool)
         ensures { self.new ≡ with_settings self.old
             (record (settings self.old) { enable_bracketed_paste = yes }) }
@@ -492,7 +520,7 @@ pub trait Configurer {
         config.enable_bracketed_paste = yes;
     }
 
-    /// Sets whether the terminal is to show each drawing at once.
+    /// Sets whether the terminal is asked to show each redraw at once.
     fn enable_synchronized_output(&mut self, yes: bool)
         ensures { self.new ≡ with_settings self.old
             (record (settings self.old) { enable_synchronized_output = yes }) }
@@ -501,7 +529,7 @@ pub trait Configurer {
         config.enable_synchronized_output = yes;
     }
 
-    /// Sets whether the terminal sends signals for keys such as Ctrl-C.
+    /// Sets whether the terminal turns keys such as Ctrl-C into signals.
     fn set_enable_signals(&mut self, yes: bool)
         ensures { self.new ≡ with_settings self.old
             (record (settings self.old) { enable_signals = yes }) }
@@ -555,7 +583,7 @@ impl Configurer for Builder {
     }
 }
 
-/// Settings that are set one after another.
+/// Settings in the making: each call sets one, and `build` returns them all.
 #[derive(Clone, Debug, Drop)]
 pub struct Builder {
     config: Config,
@@ -574,7 +602,7 @@ impl Model for Builder {
 impl Builder {
     ghost use Rattle.line_config.specs.Settings.{defaults, duplicates_of, timeout_of};
 
-    /// The defaults, with clusters measured by `mode`.
+    /// Returns a builder that begins with the defaults, with clusters measured by `mode`.
     pub fn new(mode: GraphemeClusterMode) -> Self
         ensures { result ≡ defaults mode }
     {
@@ -583,7 +611,11 @@ impl Builder {
         }
     }
 
-    /// Sets how many lines the history keeps. Always answers Ok.
+    /// Sets the greatest number of lines that the history keeps.
+    ///
+    /// # Errors
+    ///
+    /// There are none: the result is always Ok.
     pub fn max_history_size(mut self, max_size: usize) -> Result<Self>
         ensures { IsOkAnd result (λ builder.
             builder ≡ record self { max_history_size = max_size }) }
@@ -592,8 +624,11 @@ impl Builder {
         Ok(self)
     }
 
-    /// Sets whether a line that equals the newest of the history is kept out of it. Always answers
-    /// Ok.
+    /// Sets whether a line that equals the newest entry of the history is left out of it.
+    ///
+    /// # Errors
+    ///
+    /// There are none: the result is always Ok.
     pub fn history_ignore_dups(mut self, yes: bool) -> Result<Self>
         ensures { IsOkAnd result (λ builder.
             builder ≡ record self { history_duplicates = duplicates_of yes }) }
@@ -602,7 +637,7 @@ impl Builder {
         Ok(self)
     }
 
-    /// Sets whether a line that begins with white space is kept out of the history.
+    /// Sets whether a line that begins with white space is left out of the history.
     pub fn history_ignore_space(mut self, yes: bool) -> Self
         ensures { result ≡ record self { history_ignore_space = yes } }
     {
@@ -610,7 +645,7 @@ impl Builder {
         self
     }
 
-    /// Sets how completions are offered.
+    /// Sets how the candidates of a completion are offered.
     pub fn completion_type(mut self, completion_type: CompletionType) -> Self
         ensures { result ≡ record self { completion_type = completion_type } }
     {
@@ -618,7 +653,7 @@ impl Builder {
         self
     }
 
-    /// Sets from how many candidates on the user is asked whether to list them.
+    /// Sets how many candidates are listed without asking the user first.
     pub fn completion_prompt_limit(mut self, limit: usize) -> Self
         ensures { result ≡ record self { completion_prompt_limit = limit } }
     {
@@ -626,7 +661,7 @@ impl Builder {
         self
     }
 
-    /// Sets whether all candidates are listed at once.
+    /// Sets whether the candidates are listed at the first Tab, and not at the second.
     pub fn completion_show_all_if_ambiguous(mut self, yes: bool) -> Self
         ensures { result ≡ record self { completion_show_all_if_ambiguous = yes } }
     {
@@ -634,7 +669,7 @@ impl Builder {
         self
     }
 
-    /// Sets how many milliseconds the rest of a key sequence is waited for; None sets no limit.
+    /// Sets how many milliseconds the rest of a key sequence is waited for; None means no limit.
     pub fn keyseq_timeout(mut self, milliseconds: Option<u16>) -> Self
         ensures { result ≡ record self { keyseq_timeout = milliseconds } }
     {
@@ -642,8 +677,8 @@ impl Builder {
         self
     }
 
-    /// Sets the keys that the user types, and with them the limit for the rest of a key sequence: none
-    /// for Emacs, 500 milliseconds for Vi.
+    /// Sets the style of editing, and with it how long the rest of a key sequence is waited for:
+    /// without limit for Emacs, 500 milliseconds for Vi.
     pub fn edit_mode(mut self, edit_mode: EditMode) -> Self
         ensures { result ≡ record self {
           edit_mode = edit_mode;
@@ -662,7 +697,7 @@ impl Builder {
         self
     }
 
-    /// Sets what the terminal does to be heard.
+    /// Sets how the terminal beeps.
     pub fn bell_style(mut self, bell_style: BellStyle) -> Self
         ensures { result ≡ record self { bell_style = bell_style } }
     {
@@ -670,7 +705,7 @@ impl Builder {
         self
     }
 
-    /// Sets whether colors are shown.
+    /// Sets on which terminals colors are shown.
     pub fn color_mode(mut self, color_mode: ColorMode) -> Self
         ensures { result ≡ record self { color_mode = color_mode } }
     {
@@ -686,7 +721,7 @@ impl Builder {
         self
     }
 
-    /// Sets where the line is read from and drawn to.
+    /// Sets where a line is read from, and where it is drawn.
     pub fn behavior(mut self, behavior: Behavior) -> Self
         ensures { result ≡ record self { behavior = behavior } }
     {
@@ -702,7 +737,7 @@ impl Builder {
         self
     }
 
-    /// Sets whether the cursor is brought to the first column before the prompt.
+    /// Sets whether the cursor is brought to the first column before the prompt is drawn.
     pub fn check_cursor_position(mut self, yes: bool) -> Self
         ensures { result ≡ record self { check_cursor_position = yes } }
     {
@@ -710,7 +745,7 @@ impl Builder {
         self
     }
 
-    /// Sets how many spaces one indentation is.
+    /// Sets how many spaces one step of indentation has.
     pub fn indent_size(mut self, spaces: u8) -> Self
         ensures { result ≡ record self { indent_size = spaces } }
     {
@@ -718,7 +753,7 @@ impl Builder {
         self
     }
 
-    /// Sets whether the terminal is to mark pasted text.
+    /// Sets whether the terminal is asked to mark pasted text.
     pub fn bracketed_paste(mut self, yes: bool) -> Self
         ensures { result ≡ record self { enable_bracketed_paste = yes } }
     {
@@ -726,7 +761,7 @@ impl Builder {
         self
     }
 
-    /// Sets whether the terminal sends signals for keys such as Ctrl-C.
+    /// Sets whether the terminal turns keys such as Ctrl-C into signals.
     pub fn enable_signals(mut self, yes: bool) -> Self
         ensures { result ≡ record self { enable_signals = yes } }
     {
@@ -734,7 +769,7 @@ impl Builder {
         self
     }
 
-    /// The settings as they were set.
+    /// Returns the settings as they were set.
     pub fn build(self) -> Config
         ensures { result ≡ self }
     {
@@ -742,6 +777,3 @@ impl Builder {
         config
     }
 }
-
-#[cfg(test)]
-mod tests;

@@ -18,15 +18,15 @@ pub enum ReadlineError {
     /// The line was interrupted, as by Ctrl-C.
     #[error("Interrupted")]
     Interrupted,
-    /// Reader, renderer, helper, handler, history or stream failed.
+    /// The reader, the renderer, the helper, a handler, the history or a stream failed.
     #[error(transparent)]
     Io(io::Error),
-    /// A growth was refused.
+    /// An allocation failed.
     #[error("out of memory")]
     Memory,
 }
 
-/// What a call of the line editor answers.
+/// The result of a call of the line editor that can fail.
 pub type Result<T> = std::result::Result<T, ReadlineError>;
 
 impl From<io::Error> for ReadlineError {
@@ -76,6 +76,3 @@ impl From<OutOfMemory> for ReadlineError {
         ReadlineError::Memory
     }
 }
-
-#[cfg(test)]
-mod tests;

@@ -2,7 +2,7 @@
 ghost use Rattle.std.specs.Prelude.{◌≡◌, ℕ, List, Option, Some, None, string_bytes};
 ghost use Rattle.line_config.specs.Usual.{IsUsualOrOwn};
 
-/// What is shown before the line, in two forms that are equally wide: plain, and with styles.
+/// What is shown before the line, in two forms of the same width: plain, and with styles.
 pub trait Prompt {
     // The text without styles.
     ghost raw_text: { Self → List ℕ };
@@ -10,11 +10,11 @@ pub trait Prompt {
     // The text with styles, where it is not the raw one.
     ghost own_style: { Self → Option (List ℕ) } = { λ _. None };
 
-    /// The text without styles, by which the prompt is measured.
+    /// Returns the text without styles, by which the prompt is measured.
     fn raw(&self) -> &str
         ensures { result.now ≡ raw_text self.now };
 
-    /// The text with styles: by default the raw text.
+    /// Returns the text with styles: by default the raw text.
     fn styled(&self) -> &str
         ensures style { IsUsualOrOwn (raw_text self.now) (own_style self.now) result.now }
     {
@@ -38,7 +38,7 @@ impl Prompt for String {
     }
 }
 
-/// A raw text, and the same with styles.
+/// A pair of the raw text and the same text with styles.
 impl Prompt for (&str, &str) {
     ghost raw_text = { λ pair. pair.0.now };
 
@@ -58,7 +58,7 @@ impl Prompt for (&str, &str) {
     }
 }
 
-/// A raw text, and the same with styles.
+/// A pair of the raw text and the same text with styles.
 impl Prompt for (String, String) {
     ghost raw_text = { λ pair. string_bytes pair.0 };
 
@@ -76,6 +76,3 @@ impl Prompt for (String, String) {
         self.1.as_str()
     }
 }
-
-#[cfg(test)]
-mod tests;

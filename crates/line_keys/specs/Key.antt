@@ -57,12 +57,14 @@ pub record AreNamedBits : Type 0 where
   pub ctrl_alt : CTRL_ALT ≡ union CTRL ALT
   pub ctrl_alt_shift : CTRL_ALT_SHIFT ≡ union CTRL_ALT SHIFT
 
--- the words for sets of modifiers mean what they mean for sets: which bits an answer has, from the bits of its operands
+-- the words for sets of modifiers mean what they mean for sets: they go bit by bit
 pub record AreSetsOfBits : Type 0 where
   pub of_union : (a b : Modifiers) (i : ℕ) → has_bit (union a b) i ≡ (has_bit a i || has_bit b i)
-  pub of_intersection : (a b : Modifiers) (i : ℕ) → has_bit (intersection a b) i ≡ (has_bit a i && has_bit b i)
+  pub of_intersection : (a b : Modifiers) (i : ℕ)
+      → has_bit (intersection a b) i ≡ (has_bit a i && has_bit b i)
   pub of_symmetric_difference : (a b : Modifiers) (i : ℕ)
-      → has_bit (symmetric_difference a b) i ≡ ((has_bit a i && not (has_bit b i)) || (has_bit b i && not (has_bit a i)))
+      → has_bit (symmetric_difference a b) i
+      ≡ ((has_bit a i && not (has_bit b i)) || (has_bit b i && not (has_bit a i)))
   pub of_difference : (a b : Modifiers) (i : ℕ) → bits_of a < 2 ^ 8 → bits_of b < 2 ^ 8
       → has_bit (difference a b) i ≡ (has_bit a i && not (has_bit b i))
   pub of_complement : (a : Modifiers) (i : ℕ) → bits_of a < 2 ^ 8
@@ -79,8 +81,7 @@ event code mods = record { 0 = code; 1 = mods }
 abbrev pub tab_of : Modifiers → KeyEvent
 tab_of mods = if contains mods SHIFT then event BackTab (difference mods SHIFT) else event Tab mods
 
--- the event of a character with modifiers: the first row that fits counts. A control character with no row of its own is
--- Ctrl with the character 64 places on, as caret notation writes it: `^A`, `^_`
+-- the event of a character with modifiers, by the first row that fits
 abbrev pub event_of : ℕ → Modifiers → KeyEvent
 event_of c mods =
     if not (is_control c) then event (Char c) (difference mods SHIFT)
@@ -92,8 +93,7 @@ event_of c mods =
     else if nat_lt c 32 then event (Char (c + 64)) (union mods CTRL)
     else event Null mods
 
--- a key with its modifiers in normal form: control characters by their table, Ctrl with a capital letter, a capital letter
--- without Shift, BackTab for Tab with Shift
+-- a key with its modifiers in normal form, where the names of one key press are equal
 abbrev pub normal_form : KeyCode → Modifiers → KeyEvent
 normal_form (Char c) mods =
     if is_ascii_control c then event_of c mods
@@ -110,8 +110,10 @@ normalized e = normal_form e.0 e.1
 -- normalizing twice is normalizing once, for events without Shift
 abbrev pub SettlesWithoutShift : Type 0
 SettlesWithoutShift =
-    (e : KeyEvent) → bits_of e.1 < 256 → contains e.1 SHIFT ≡ false → normalized (normalized e) ≡ normalized e
+    (e : KeyEvent) → bits_of e.1 < 256 → contains e.1 SHIFT ≡ false
+    → normalized (normalized e) ≡ normalized e
 
 -- normalizing three times is normalizing twice, for all events
 abbrev pub SettlesAfterTwo : Type 0
-SettlesAfterTwo = (e : KeyEvent) → normalized (normalized (normalized e)) ≡ normalized (normalized e)
+SettlesAfterTwo =
+    (e : KeyEvent) → normalized (normalized (normalized e)) ≡ normalized (normalized e)

@@ -16,9 +16,9 @@ use Rattle.line_keys.specs.declared.tables.Seen.{Seen}
 
 -- what is read after the key, before the command is known
 pub data Tail : Type 0 where
-  nothing : Tail
+  no_tail : Tail
 
--- a row: the command for a count and for a negative one, the mode that is entered, if one is, and the tail
+-- a row: the command for a count and for a negative one, the mode that it enters, and its tail
 pub record Row : Type 0 where
   pub command : ℕ → Cmd
   pub negative : ℕ → Cmd
@@ -27,7 +27,12 @@ pub record Row : Type 0 where
 
 -- a row of one key in the mode that it is typed in
 abbrev pub row : (ℕ → Cmd) → (ℕ → Cmd) → Row
-row command negative = record { command = command; negative = negative; enters = None; tail = nothing }
+row command negative = record {
+  command = command;
+  negative = negative;
+  enters = None;
+  tail = no_tail;
+}
 
 -- a row whose command is the same for each count
 abbrev pub always : Cmd → Row
@@ -77,8 +82,10 @@ first_row None other = other
 
 -- the rows of both styles
 abbrev pub common_row : KeyCode → ℕ → Seen → Option Row
-common_row (Char c) mods seen = if mods == bits_of CTRL then row_at (common_ctrl_rows seen) c else None
-common_row code mods seen = if mods == bits_of NONE then common_plain_row code else None
+common_row (Char c) mods seen =
+    if mods == bits_of CTRL then row_at (common_ctrl_rows seen) c else None
+common_row code mods seen =
+    if mods == bits_of NONE then common_plain_row code else None
 
 -- the rows of Emacs alone
 abbrev pub emacs_row : KeyCode → ℕ → Option Row
@@ -96,7 +103,9 @@ row_or_unknown None = always Unknown
 -- the row of a key, by the style of editing and its mode
 abbrev pub row_of : EditMode → InputMode → KeyEvent → Seen → Row
 row_of Emacs mode key seen =
-    row_or_unknown (first_row (emacs_row key.0 (bits_of key.1)) (common_row key.0 (bits_of key.1) seen))
+    row_or_unknown (first_row
+    (emacs_row key.0 (bits_of key.1))
+    (common_row key.0 (bits_of key.1) seen))
 row_of Vi mode key seen = always Unknown
 
 -- the command of a row for a count

@@ -1,28 +1,28 @@
-// The commands that keys stand for.
-ghost use Rattle.std.specs.Prelude.{◌≡◌, IfOk};
-ghost use Rattle.line_keys.specs.Command.{command_of, resets_kill_ring};
-ghost use Rattle.line_config.specs.Error.{MemoryOnly};
+//! The commands that keys stand for.
+ghost use Rattle.std.specs.Prelude.{◌≡◌};
+ghost use Rattle.line_keys.specs.Command.{resets_kill_ring};
 
 use line_buffer::{Movement, RepeatCount};
-use line_config::ReadlineError;
 
-/// Where to put a yanked text: after the cluster under the cursor, or before it.
+/// Where a yanked text is put.
 #[derive(Clone, Copy, Debug, PartialEq, Eq)]
 pub enum Anchor {
+    /// Puts the text after the cluster under the cursor.
     After,
+    /// Puts the text before the cluster under the cursor.
     Before,
 }
 
-/// What the editor is asked to do. Counts say how often, movements say how far.
+/// What the editor is asked to do. A count says how often, a movement how far.
 #[derive(Debug, PartialEq, Eq, Drop)]
 pub enum Cmd {
-    /// Gives up what is being typed, as a search.
+    /// Gives up what is in progress, as a search.
     Abort,
-    /// Ends the editing with the line as it is.
+    /// Submits the line as it is.
     AcceptLine,
     /// Shows the oldest entry of the history.
     BeginningOfHistory,
-    /// Makes the first character of the word upper case, and the rest lower case.
+    /// Makes the first character of the next word upper case, and the rest of it lower case.
     CapitalizeWord,
     /// Clears the screen and draws the line again.
     ClearScreen,
@@ -30,11 +30,11 @@ pub enum Cmd {
     Complete,
     /// Goes back among the candidates of a completion.
     CompleteBackward,
-    /// Takes the hint that is shown into the line.
+    /// Puts the completion of the hint that is shown into the line.
     CompleteHint,
-    /// Takes indentation away from the lines of the movement.
+    /// Takes one step of indentation away from each line of the movement.
     Dedent(Movement),
-    /// Makes the word lower case.
+    /// Makes the next word lower case.
     DowncaseWord,
     /// Ends the input on an empty line.
     EndOfFile,
@@ -42,17 +42,18 @@ pub enum Cmd {
     EndOfHistory,
     /// Searches the history forward while a term is typed.
     ForwardSearchHistory,
-    /// Shows the last entry that begins as the line does before the cursor.
+    /// Shows the last entry before this one that begins with the text before the cursor.
     HistorySearchBackward,
-    /// Shows the next entry that begins as the line does before the cursor.
+    /// Shows the next entry that begins with the text before the cursor.
     HistorySearchForward,
-    /// Indents the lines of the movement.
+    /// Indents each line of the movement by one step.
     Indent(Movement),
-    /// Inserts a text so many times.
+    /// Inserts the text so many times.
     Insert(RepeatCount, String),
-    /// Ends the editing without a line.
+    /// Gives up the line, as by Ctrl-C.
     Interrupt,
-    /// Takes away the text of the movement.
+    /// Deletes the text of the movement, and puts it into the kill ring unless the movement is by
+    /// characters.
     Kill(Movement),
     /// Moves the cursor.
     Move(Movement),
@@ -62,53 +63,54 @@ pub enum Cmd {
     Noop,
     /// Draws the line again.
     Repaint,
-    /// Puts a character in place of the cluster under the cursor.
+    /// Puts the character in place of the cluster under the cursor.
     Overwrite(char),
     /// Shows the entry of the history before this one.
     PreviousHistory,
-    /// Takes the next key as text.
+    /// Inserts the next key as it is typed.
     QuotedInsert,
-    /// Puts so many copies of a character in place of as many clusters.
+    /// Puts so many copies of the character in place of as many clusters.
     ReplaceChar(RepeatCount, char),
-    /// Takes away the text of the movement and inserts another, if one is given.
+    /// Deletes the text of the movement, and inserts another where one is given.
     Replace(Movement, Option<String>),
     /// Searches the history backward while a term is typed.
     ReverseSearchHistory,
-    /// Inserts a character so many times.
+    /// Inserts the character so many times.
     SelfInsert(RepeatCount, char),
-    /// Stops the program for a while.
+    /// Suspends the program, as by Ctrl-Z.
     Suspend,
     /// Exchanges the clusters before and under the cursor.
     TransposeChars,
-    /// Exchanges two words.
+    /// Exchanges the word before the cursor with the one that is so many words on.
     TransposeWords(RepeatCount),
-    /// Takes back so many changes.
+    /// Undoes so many changes.
     Undo(RepeatCount),
-    /// Stands for a key without a meaning.
+    /// Does nothing: the command of a key that stands for no other.
     Unknown,
-    /// Makes the word upper case.
+    /// Makes the next word upper case.
     UpcaseWord,
     /// Copies the text of the movement to the kill ring.
     ViYankTo(Movement),
     /// Inserts the newest text of the kill ring so many times.
     Yank(RepeatCount, Anchor),
-    /// Puts the text of the kill ring's slot before this one in place of what was yanked.
+    /// Puts the text that was killed before the yanked one in its place.
     YankPop,
-    /// Goes so many lines up, or to the entry of the history before this one.
+    /// Goes so many lines up, or from the first line to the entry of the history before this one.
     LineUpOrPreviousHistory(RepeatCount),
-    /// Goes so many lines down, or to the next entry of the history.
+    /// Goes so many lines down, or from the last line to the next entry of the history.
     LineDownOrNextHistory(RepeatCount),
     /// Inserts a newline.
     Newline,
-    /// Ends the editing where the line is valid, and inserts a newline elsewhere.
+    /// Submits the line where it is valid. Else inserts a newline, or shows the message of what is
+    /// wrong with the line.
     AcceptOrInsertLine {
-        /// Whether a valid line is accepted with the cursor before its end too.
+        /// Whether a valid line is submitted also where the cursor is not at its end.
         accept_in_the_middle: bool,
     },
 }
 
 impl Cmd {
-    /// Whether a kill after this command begins a new slot of the kill ring.
+    /// Returns whether a kill after this command begins a new slot of the kill ring.
     pub const fn should_reset_kill_ring(&self) -> bool
         ensures { result ≡ resets_kill_ring self.now }
     {

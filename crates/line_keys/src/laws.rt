@@ -2,19 +2,21 @@
 
 ghost use Rattle.std.specs.Prelude.{◌≡◌};
 ghost use Rattle.bitflags.specs.Sets.{known_bits};
-ghost use Rattle.line_keys.specs.Key.{AreNamedBits, AreSetsOfBits, SettlesWithoutShift, SettlesAfterTwo, bits_of};
+ghost use Rattle.line_keys.specs.Key.{AreNamedBits, AreSetsOfBits, bits_of};
+ghost use Rattle.line_keys.specs.Key.{SettlesWithoutShift, SettlesAfterTwo};
 
 use crate::keys::Modifiers;
 use bitflags::Flags;
 
-/// Ctrl is bit 3, Alt bit 2 and Shift bit 1; the other named sets are made of these, and `Flags` knows these three.
+/// Ctrl is bit 3, Alt bit 2 and Shift bit 1. The other named sets are made of these, and `Flags`
+/// knows these three.
 #[tactic(auto, unfolding(bitflags::specs::Sets::known_from))]
 pub fn modifiers_are_named_bits()
     ensures named { AreNamedBits }
     ensures known { known_bits ⟦<Modifiers as Flags>⟧.table ≡ bits_of Modifiers.CTRL_ALT_SHIFT }
 {}
 
-/// The operators of `Modifiers` are those of sets of bits.
+/// The operators of `Modifiers` are those of sets of bits, bit by bit.
 pub fn modifiers_are_sets_of_bits()
     ensures { AreSetsOfBits }
 {}

@@ -9,3 +9,9 @@ pub mod keys;
 pub mod laws;
 pub mod tables;
 pub mod tty;
+
+pub use command::{Anchor, Cmd};
+pub use keymap::{InputMode, Invoke, Refresher};
+pub use keys::{KeyCode, KeyEvent, Modifiers};
+pub use tables::{Count, Seen, table_command};
+pub use tty::RawReader;

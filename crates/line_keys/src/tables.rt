@@ -1,4 +1,4 @@
-// The tables of keys: which command a key stands for.
+//! The tables of keys: which command a key stands for.
 ghost use Rattle.std.specs.Prelude.{◌≡◌, if◌then◌else◌};
 ghost use Rattle.line_keys.specs.Command.{command_of, plain};
 ghost use Rattle.line_keys.specs.Key.{bits_of};
@@ -10,17 +10,17 @@ use crate::keys::{KeyCode as K, KeyEvent, KeyEvent as E, Modifiers as M};
 use line_buffer::{Movement, RepeatCount};
 use line_config::EditMode;
 
-/// How often a command is to be done, and whether in its own direction.
-#[derive(Clone, Copy, Debug, PartialEq, Eq)]
+/// How often a command is done, and whether in its own direction or the opposite one.
+#[derive(Clone, Copy)]
 pub struct Count {
     /// How often.
     pub n: RepeatCount,
-    /// Whether the typed number has no minus sign.
+    /// Whether the direction is the command's own: no minus sign was typed.
     pub positive: bool,
 }
 
 impl Count {
-    /// The count where none is typed.
+    /// Returns the count where none is typed: once, in the command's own direction.
     pub fn one() -> Self
         ensures { result ≡ one }
     {
@@ -31,14 +31,14 @@ impl Count {
     }
 }
 
-/// What a row of the table looks at beside the key.
-#[derive(Clone, Copy, Debug, PartialEq, Eq)]
+/// What a row of the table depends on beside the key.
+#[derive(Clone, Copy)]
 pub struct Seen {
-    /// Whether the line has no character.
+    /// Whether the line is empty.
     pub line_is_empty: bool,
 }
 
-/// The command that the table gives for a key and a count.
+/// Returns the command that the table of the style and mode gives for a key and a count.
 pub fn table_command(
     mode: EditMode,
     input_mode: InputMode,
@@ -47,7 +47,7 @@ pub fn table_command(
     seen: Seen,
 ) -> Cmd
     ensures value { result ≡ command_at (row_of mode input_mode key seen) count }
-    // It holds no text.
+    // The command holds no text.
     ensures plain { command_of result ≡ plain result }
 {
     match mode {
@@ -77,7 +77,8 @@ fn emacs(key: KeyEvent, count: Count, seen: Seen) -> Cmd
 }
 
 fn common(key: KeyEvent, count: Count, seen: Seen) -> Cmd
-    ensures value { result ≡ command_at (row_or_unknown (common_row key.0 (bits_of key.1) seen)) count }
+    ensures value { result ≡ command_at
+        (row_or_unknown (common_row key.0 (bits_of key.1) seen)) count }
     ensures plain { command_of result ≡ plain result }
 {
     match key {
@@ -94,7 +95,8 @@ fn common(key: KeyEvent, count: Count, seen: Seen) -> Cmd
 }
 
 fn forward(count: Count) -> Movement
-    ensures { result ≡ (if count.positive then Movement.ForwardChar count.n else Movement.BackwardChar count.n) }
+    ensures { result ≡ (if count.positive
+        then Movement.ForwardChar count.n else Movement.BackwardChar count.n) }
 {
     if count.positive {
         Movement::ForwardChar(count.n)
@@ -104,7 +106,8 @@ fn forward(count: Count) -> Movement
 }
 
 fn backward(count: Count) -> Movement
-    ensures { result ≡ (if count.positive then Movement.BackwardChar count.n else Movement.ForwardChar count.n) }
+    ensures { result ≡ (if count.positive
+        then Movement.BackwardChar count.n else Movement.ForwardChar count.n) }
 {
     if count.positive {
         Movement::BackwardChar(count.n)
