@@ -88,6 +88,10 @@ NoGroupOpen entries = (k : ℕ) → count_by is_begin (take k entries) ≤ count
 pub record StillTells (old : List Entry) (text : List ℕ) (new : List Entry) (text' : List ℕ) : Type 0 where
   pub tells : (start : List ℕ) → TellsOf old text start → TellsOf new text' start
 
+-- of each text new entries tell what the old ones tell
+pub record TellTheSame (old new : List Entry) : Type 0 where
+  pub of : (text : List ℕ) → StillTells old text new text
+
 -- after a call's success the changes tell of the new text what they told of the old one; after its error there are none
 pub record KeepsTold {T E : Type 0} (result : Result T E) (old : Changes) (line : Line) (new : Changes) (line' : Line) : Type 0 where
   pub tells : OnOk result (StillTells old.entries line.text new.entries line'.text)
@@ -95,7 +99,8 @@ pub record KeepsTold {T E : Type 0} (result : Result T E) (old : Changes) (line 
 
 -- the same of a call that leaves the text, whichever it is
 pub record KeepsToldAnywhere {T E : Type 0} (result : Result T E) (old new : Changes) : Type 0 where
-  pub of : (line : Line) → KeepsTold result old line new line
+  pub tells : OnOk result (TellTheSame old.entries new.entries)
+  pub err : OnErr result (new ≡ no_changes)
 
 -- the boundaries of a text up to a place are boundaries of another
 pub record KeepsFront (text text' : List ℕ) (place : ℕ) : Type 0 where

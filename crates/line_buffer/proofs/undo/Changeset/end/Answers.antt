@@ -11,9 +11,9 @@ shut entries = record { entries = entries; open_groups = 0 }
 pub returns-in-Ok-clause-told : goal.returns-in-Ok-clause-told
 returns-in-Ok-clause-told c =
     record {
-      of = λ line. record {
-        tells = still-ended c.args.self.now c.add_ends.new.self
-            (c.in-Ok.ensures.changes ∙ ap shut (sym c.take_newest_begins.ensures.done ∙ c.take_newest_begins.ensures.closed)) line.text;
-        err = tt;
+      tells = record {
+        of = still-ended c.args.self.now c.add_ends.new.self
+            (c.in-Ok.ensures.changes ∙ ap shut (sym c.take_newest_begins.ensures.done ∙ c.take_newest_begins.ensures.closed));
       };
+      err = tt;
     }
