@@ -1,5 +1,5 @@
 -- The changes of a line, newest first, and what each call adds to them.
-use Rattle.std.specs.Prelude.{ℕ, suc, ◌+◌, ◌-◌, ◌^◌, min, Bool, true, false, not, ◌==◌, ◌&&◌, List, [], ◌∷◌, ◌++◌, length, replicate, Option, Some, None, encode_utf8, if◌then◌else◌}
+use Rattle.std.specs.Prelude.{ℕ, suc, ◌+◌, ◌-◌, ◌^◌, min, Bool, true, false, not, ◌==◌, ◌&&◌, List, [], ◌∷◌, ◌++◌, length, replicate, slice_range, Option, Some, None, encode_utf8, if◌then◌else◌}
 use Rattle.std.specs.List.{repeat}
 use Rattle.line_buffer.specs.Character.{is_alphanumeric, is_one_alphanumeric}
 
@@ -84,6 +84,14 @@ with_replace place old new (replaced at before after ∷ entries) =
     if at + length after == place then replaced at (before ++ old) (after ++ new) ∷ entries
     else replaced place old new ∷ replaced at before after ∷ entries
 with_replace place old new entries = replaced place old new ∷ entries
+
+-- a text came for a range of another
+abbrev pub with_replaced : List ℕ → ℕ → ℕ → List ℕ → List Entry → List Entry
+with_replaced text from to new entries = with_replace from (slice_range text from to) new entries
+
+-- a text came for the whole of another
+abbrev pub with_update : List ℕ → List ℕ → List Entry → List Entry
+with_update old new entries = with_insert 0 new (with_delete 0 old entries)
 
 -- the text that came in last: that of the newest entry which is no end
 abbrev pub last_insert_of : List Entry → Option (List ℕ)

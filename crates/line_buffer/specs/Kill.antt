@@ -1,5 +1,5 @@
 -- What a kill takes from the line, and what it leaves.
-use Rattle.std.specs.Prelude.{ℕ, List, Option, Some, None, option_map, slice_range, String, string_bytes}
+use Rattle.std.specs.Prelude.{◌≡◌, ℕ, List, Result, ◌≤◌, length, IfOk, OnOk, OnErr, Option, Some, None, option_map, slice_range, String, string_bytes}
 use Rattle.line_buffer.specs.Changes.{Changes, with_entries, with_delete}
 use Rattle.line_buffer.specs.KillRing.{Ring, with_kept}
 use Rattle.line_buffer.specs.Line.{Line}
@@ -63,6 +63,13 @@ abbrev pub ring_with_killed : Line → Movement → Option (ℕ × ℕ) → Ring
 ring_with_killed l m None ring = ring
 ring_with_killed l m (Some r) ring = with_kept ring (slice_range l.text r.0 r.1) (ring_mode m)
 
--- the same three of a call's answer
+-- what a call answers of these three
 abbrev pub killed_of : {Z : Type 0} → ℕ × String Z × Direction → ℕ × List ℕ × Direction
 killed_of answer = (answer.0, string_bytes answer.1, answer.2)
+
+-- a kill by a movement, which takes a range: what it answers, and what the ring keeps; after an error too the ring has no more than its slots
+pub record Kills {E Z : Type 0} (result : Result (Option (ℕ × String Z × Direction)) E) (l : Line) (m : Movement) (range : Option (ℕ × ℕ)) (old new : Ring) : Type 0 where
+  pub answer : IfOk result (λ r. option_map killed_of r ≡ killed l m range)
+  pub ring : OnOk result (new ≡ ring_with_killed l m range old)
+  pub size : new.size ≡ old.size
+  pub bound : OnErr result (length new.slots ≤ new.size)

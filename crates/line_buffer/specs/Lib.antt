@@ -2,6 +2,7 @@ pub mod Acted
 pub mod Changes
 pub mod Character
 pub mod Cluster
+pub mod Edit
 pub mod Indent
 pub mod Kill
 pub mod KillRing
@@ -9,6 +10,7 @@ pub mod Laws
 pub mod Lent
 pub mod Line
 pub mod Lines
+pub mod Offset
 pub mod Range
 pub mod Search
 pub mod Taken

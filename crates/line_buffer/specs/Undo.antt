@@ -1,7 +1,7 @@
 -- Taking changes back.
 use Rattle.std.specs.Prelude.{◌≡◌, ℕ, ◌+◌, ◌≤◌, max, Result, OnOk, OnErr, nat_le, Bool, true, false, List, [], ◌∷◌, length, take, drop, filter, count_by, unwrap_or, slice_range, IsCharBoundary}
 use Rattle.std.specs.List.{range_with_len, remove_range, insert_slice, replace_range}
-use Rattle.line_buffer.specs.Changes.{Changes, Entry, no_changes, begins, ends, inserted, deleted, replaced}
+use Rattle.line_buffer.specs.Changes.{Changes, Entry, no_changes, with_entries, begins, ends, inserted, deleted, replaced}
 use Rattle.line_buffer.specs.Line.{Line}
 use Rattle.line_buffer.specs.Word.{nth}
 
@@ -75,6 +75,13 @@ is_step entries k = nat_le (count_by is_end (take k entries)) (count_by is_begin
 -- how many entries make n steps, one for n = 0, or all of them where there are fewer steps
 abbrev pub steps_len : List Entry → ℕ → ℕ
 steps_len entries n = unwrap_or (nth (filter (is_step entries) (range_with_len 1 (length entries))) (max n 1)) (length entries)
+
+-- the entries of the newest n steps, and the changes without these
+abbrev pub newest_steps : ℕ → List Entry → List Entry
+newest_steps n entries = take (steps_len entries n) entries
+
+abbrev pub without_steps : ℕ → Changes → Changes
+without_steps n c = with_entries c (drop (steps_len c.entries n) c.entries)
 
 -- n steps taken back: the entries that are left, and the line
 abbrev pub after_undo : ℕ → List Entry × Line → List Entry × Line

@@ -1,4 +1,5 @@
 //! Clusters at the ends of a text, and kinds of characters.
+ghost use Rattle.line_buffer.specs.Offset.{IsOffset, IsOffsetIfAny};
 ghost use Rattle.std.specs.Prelude.{◌≡◌, nat_le, ◌≤◌, IfSome, ◌==◌, ◌-◌, length, take, IsCharBoundary};
 ghost use Rattle.std.specs.List.{concat, prefix_len, suffix_len};
 ghost use Rattle.line_buffer.specs.Character.{is_alphanumeric, is_alphanumeric_cluster, is_one_alphanumeric};
@@ -38,24 +39,21 @@ fn before_last(text: &str, n: RepeatCount) -> &str
 
 /// The length of the first `n` clusters of the text.
 pub(crate) fn first_len(text: &str, n: RepeatCount) -> usize
-    ensures len { result ≡ length (concat (take n (clusters text.now))) }
-    ensures boundary { IsCharBoundary text.now result }
+    ensures { IsOffset result text.now (length (concat (take n (clusters text.now)))) }
 {
     text.len() - behind_first(text, n).len()
 }
 
 /// Where the last `n` clusters of the text begin.
 pub(crate) fn last_start(text: &str, n: RepeatCount) -> usize
-    ensures place { result ≡ length (before_last n text.now) }
-    ensures boundary { IsCharBoundary text.now result }
+    ensures { IsOffset result text.now (length (before_last n text.now)) }
 {
     before_last(text, n).len()
 }
 
 /// The length of the text up to its first newline, or of all of it.
 pub(crate) fn first_line_len(text: &str) -> usize
-    ensures len { result ≡ prefix_len is_no_newline text.now }
-    ensures boundary { IsCharBoundary text.now result }
+    ensures { IsOffset result text.now (prefix_len is_no_newline text.now) }
 {
     match text.find('\n') {
         Some(newline) => newline,
@@ -65,8 +63,7 @@ pub(crate) fn first_line_len(text: &str) -> usize
 
 /// Where the text goes on behind its last newline, or its start.
 pub(crate) fn last_line_start(text: &str) -> usize
-    ensures place { result ≡ length text.now - suffix_len is_no_newline text.now }
-    ensures boundary { IsCharBoundary text.now result }
+    ensures { IsOffset result text.now (length text.now - suffix_len is_no_newline text.now) }
 {
     match text.rfind('\n') {
         Some(newline) => newline + 1,
@@ -77,9 +74,8 @@ pub(crate) fn last_line_start(text: &str) -> usize
 /// Of a text that ends where a line begins: where the line above begins, or `None` where the text does not
 /// end in a newline.
 pub(crate) fn line_above(text: &str) -> Option<usize>
-    ensures place { result ≡ line_above text.now }
+    ensures offset { IsOffsetIfAny result text.now (line_above text.now) }
     ensures up { IfSome result (λ place. place ≤ length text.now) }
-    ensures boundary { IfSome result (λ place. IsCharBoundary text.now place) }
 {
     match text.strip_suffix('\n') {
         Some(above) => Some(last_line_start(above)),
@@ -89,8 +85,7 @@ pub(crate) fn line_above(text: &str) -> Option<usize>
 
 /// Where the text goes on behind its first newline, or `None` where it has none.
 pub(crate) fn next_line(text: &str) -> Option<usize>
-    ensures place { result ≡ next_line text.now }
-    ensures boundary { IfSome result (λ place. IsCharBoundary text.now place) }
+    ensures { IsOffsetIfAny result text.now (next_line text.now) }
 {
     let newline = first_line_len(text);
     if newline == text.len() {
@@ -119,8 +114,7 @@ pub(crate) fn is_alphanumeric_text(text: &str) -> bool
 
 /// Where the first alphanumeric cluster of the text begins, if there is one.
 pub(crate) fn first_alphanumeric(text: &str) -> Option<usize>
-    ensures place { result ≡ first_alphanumeric text.now }
-    ensures boundary { IfSome result (λ place. IsCharBoundary text.now place) }
+    ensures { IsOffsetIfAny result text.now (first_alphanumeric text.now) }
 {
     let mut rest = text.graphemes(true);
     let mut at = 0;

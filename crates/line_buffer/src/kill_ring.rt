@@ -1,5 +1,5 @@
 ghost use Rattle.std.specs.Prelude.{◌≡◌, ◌<◌, ◌≤◌, length, slice_set, string_bytes, is_some, option_copied, option_map, OnOk};
-ghost use Rattle.line_buffer.specs.KillRing.{other, empty_ring, with_last, after_kill, joined, current_text, with_slot, next_slot, with_kept, yanked_text, after_yank, after_yank_pop, back_one, yank_pop_size, yank_popped};
+ghost use Rattle.line_buffer.specs.KillRing.{KeepsSize, with_current, with_current_text, other, empty_ring, with_last, after_kill, joined, current_text, with_slot, next_slot, with_kept, yanked_text, after_yank, after_yank_pop, back_one, yank_pop_size, yank_popped};
 
 use crate::line_buffer::OutOfMemory;
 use std::alloc::Global;
@@ -72,8 +72,7 @@ impl KillRing {
     /// `OutOfMemory` comes where a slot cannot grow; then the ring still has at most `size` slots.
     pub fn kill(&mut self, text: &str, mode: Mode) -> Result<(), OutOfMemory>
         ensures ring { OnOk result (self.new ≡ after_kill self.old text.now mode) }
-        ensures size { self.new.size ≡ self.old.size }
-        ensures bound { length self.new.slots ≤ self.new.size }
+        ensures fits { KeepsSize self.old self.new }
     {
         let joins = self.last == Action::Kill && !self.slots.is_empty();
         self.last = Action::Kill;
@@ -101,7 +100,8 @@ impl KillRing {
     /// nothing is held; then nothing changes.
     pub fn yank_pop(&mut self) -> Option<(usize, &str)>
         ensures* ring { sem 𝓛 (EndsAs self.entry (after_yank_pop self.entry.now)) }
-        ensures answer { option_map (λ popped. (popped.0, popped.1.now)) result ≡ yank_popped self.entry.now }
+        ensures answer { option_map (λ popped. (popped.0, popped.1.now)) result
+            ≡ yank_popped self.entry.now }
     {
         let size = self.record_yank_pop()?;
         let text = self.current_text()?;
@@ -155,8 +155,7 @@ impl KillRing {
     /// Keeps a text that was killed, if there is a mode by which to keep it.
     pub(crate) fn keep(&mut self, text: &str, mode: Option<Mode>) -> Result<(), OutOfMemory>
         ensures ring { OnOk result (self.new ≡ with_kept self.old text.now mode) }
-        ensures size { self.new.size ≡ self.old.size }
-        ensures bound { length self.new.slots ≤ self.new.size }
+        ensures fits { KeepsSize self.old self.new }
     {
         let _ = &self.slots;
         match mode {
@@ -168,9 +167,9 @@ impl KillRing {
     /// Puts a text on one side of the current slot's.
     fn join(&mut self, text: &str, mode: Mode) -> Result<(), OutOfMemory>
         requires { 0 < length self.old.slots }
-        ensures ring { OnOk result (self.new ≡ record { size = self.old.size; slots = slice_set self.old.slots self.old.current (joined mode (current_text self.old) text.now); current = self.old.current; last = self.old.last }) }
-        ensures size { self.new.size ≡ self.old.size }
-        ensures bound { length self.new.slots ≤ self.new.size }
+        ensures ring { OnOk result (self.new
+            ≡ with_current_text self.old (joined mode (current_text self.old) text.now)) }
+        ensures fits { KeepsSize self.old self.new }
     {
         let slot = &mut self.slots[self.current];
         join_text(slot, text, mode)?;
@@ -180,9 +179,9 @@ impl KillRing {
     /// Puts a text into the next slot.
     fn take_next(&mut self, text: &str) -> Result<(), OutOfMemory>
         requires { 0 < self.old.size }
-        ensures ring { OnOk result (self.new ≡ record { size = self.old.size; slots = with_slot (next_slot self.old) text.now self.old.slots; current = next_slot self.old; last = self.old.last }) }
-        ensures size { self.new.size ≡ self.old.size }
-        ensures bound { length self.new.slots ≤ self.new.size }
+        ensures ring { OnOk result (self.new
+            ≡ with_current self.old (next_slot self.old) text.now) }
+        ensures fits { KeepsSize self.old self.new }
     {
         let next = self.next_slot();
         let text = String::from_str(*self.slots.allocator(), text)?;
@@ -205,9 +204,8 @@ impl KillRing {
     fn put(&mut self, slot: usize, text: String) -> Result<(), OutOfMemory>
         requires within { slot ≤ length self.old.slots }
         requires fits { slot < self.old.size }
-        ensures ring { OnOk result (self.new ≡ record { size = self.old.size; slots = with_slot slot (string_bytes text) self.old.slots; current = slot; last = self.old.last }) }
-        ensures size { self.new.size ≡ self.old.size }
-        ensures bound { length self.new.slots ≤ self.new.size }
+        ensures ring { OnOk result (self.new ≡ with_current self.old slot (string_bytes text)) }
+        ensures fits { KeepsSize self.old self.new }
     {
         if slot == self.slots.len() {
             self.slots.push(text)?;

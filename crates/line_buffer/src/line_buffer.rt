@@ -1,6 +1,7 @@
+ghost use Rattle.line_buffer.specs.Offset.{IsOffset, IsOffsetBack, IsOffsetOn};
 ghost use Rattle.std.specs.Prelude.{◌≡◌, ◌≤◌, [], ◌==◌, length, take, drop, not, is_some, IfOk, IfSome, IsCharBoundary};
 ghost use Rattle.line_buffer.specs.Cluster.{place_on, place_back};
-ghost use Rattle.line_buffer.specs.Line.{before, after, with_cursor, moved_to, start_of_line, end_of_line, ends_in_white_space};
+ghost use Rattle.line_buffer.specs.Line.{is_at_end, MovesCursor, PutsCursor, before, after, with_cursor, moved_to, start_of_line, end_of_line, ends_in_white_space};
 
 mod edits;
 mod indents;
@@ -149,7 +150,7 @@ impl LineBuffer {
 
     /// Whether nothing stands from the cursor on.
     pub fn is_cursor_at_end(&self) -> bool
-        ensures { result ≡ (self.now.cursor == length self.now.text) }
+        ensures { result ≡ is_at_end self.now }
     {
         self.pos == self.buf.len()
     }
@@ -196,9 +197,7 @@ impl LineBuffer {
     /// The place `n` clusters on from the cursor, or the text's end where there are fewer. `None` for
     /// `n` = 0 and at the text's end.
     pub fn next_pos(&self, n: RepeatCount) -> Option<usize>
-        ensures place { result ≡ place_on self.now n }
-        ensures on { IfSome result (λ place. self.now.cursor ≤ place) }
-        ensures boundary { IfSome result (λ place. IsCharBoundary self.now.text place) }
+        ensures { IsOffsetOn result self.now (place_on self.now n) }
     {
         if n == 0 || self.pos == self.buf.len() {
             return None;
@@ -209,9 +208,7 @@ impl LineBuffer {
     /// The place `n` clusters back from the cursor, or the text's start where there are fewer. `None`
     /// for `n` = 0 and at the text's start.
     pub fn prev_pos(&self, n: RepeatCount) -> Option<usize>
-        ensures place { result ≡ place_back self.now n }
-        ensures back { IfSome result (λ place. place ≤ self.now.cursor) }
-        ensures boundary { IfSome result (λ place. IsCharBoundary self.now.text place) }
+        ensures { IsOffsetBack result self.now (place_back self.now n) }
     {
         if n == 0 || self.pos == 0 {
             return None;
@@ -221,18 +218,14 @@ impl LineBuffer {
 
     /// Moves the cursor `n` clusters on. Answers whether there is such a place; if not, the cursor stays.
     pub fn move_forward(&mut self, n: RepeatCount) -> bool
-        ensures answer { result ≡ is_some (place_on self.old n) }
-        ensures line { self.new ≡ moved_to self.old (place_on self.old n) }
-        ensures cursor { IsCharBoundary self.new.text self.new.cursor }
+        ensures { MovesCursor result self.old self.new (place_on self.old n) }
     {
         self.move_to_place(self.next_pos(n))
     }
 
     /// Moves the cursor `n` clusters back. Answers whether there is such a place; if not, the cursor stays.
     pub fn move_backward(&mut self, n: RepeatCount) -> bool
-        ensures answer { result ≡ is_some (place_back self.old n) }
-        ensures line { self.new ≡ moved_to self.old (place_back self.old n) }
-        ensures cursor { IsCharBoundary self.new.text self.new.cursor }
+        ensures { MovesCursor result self.old self.new (place_back self.old n) }
     {
         self.move_to_place(self.prev_pos(n))
     }
@@ -240,9 +233,7 @@ impl LineBuffer {
     /// Moves the cursor to the place, if there is one.
     fn move_to_place(&mut self, place: Option<usize>) -> bool
         requires { IfSome place (λ p. IsCharBoundary self.old.text p) }
-        ensures answer { result ≡ is_some place }
-        ensures line { self.new ≡ moved_to self.old place }
-        ensures cursor { IsCharBoundary self.new.text self.new.cursor }
+        ensures { MovesCursor result self.old self.new place }
     {
         match place {
             Some(there) => {
@@ -255,43 +246,35 @@ impl LineBuffer {
 
     /// The start of the cursor's line.
     fn start_of_line(&self) -> usize
-        ensures place { result ≡ start_of_line self.now }
-        ensures boundary { IsCharBoundary self.now.text result }
+        ensures { IsOffset result self.now.text (start_of_line self.now) }
     {
         last_line_start(self.before())
     }
 
     /// The end of the cursor's line, before its newline.
     fn end_of_line(&self) -> usize
-        ensures place { result ≡ end_of_line self.now }
-        ensures boundary { IsCharBoundary self.now.text result }
+        ensures { IsOffset result self.now.text (end_of_line self.now) }
     {
         self.pos + first_line_len(self.after())
     }
 
     /// Moves the cursor to the start of its line. Answers whether it moved.
     pub fn move_home(&mut self) -> bool
-        ensures answer { result ≡ not (start_of_line self.old == self.old.cursor) }
-        ensures line { self.new ≡ with_cursor self.old (start_of_line self.old) }
-        ensures cursor { IsCharBoundary self.new.text self.new.cursor }
+        ensures { PutsCursor result self.old self.new (start_of_line self.old) }
     {
         self.move_cursor(self.start_of_line())
     }
 
     /// Moves the cursor to the end of its line, before the newline. Answers whether it moved.
     pub fn move_end(&mut self) -> bool
-        ensures answer { result ≡ not (end_of_line self.old == self.old.cursor) }
-        ensures line { self.new ≡ with_cursor self.old (end_of_line self.old) }
-        ensures cursor { IsCharBoundary self.new.text self.new.cursor }
+        ensures { PutsCursor result self.old self.new (end_of_line self.old) }
     {
         self.move_cursor(self.end_of_line())
     }
 
     /// Moves the cursor to the text's start. Answers whether it moved.
     pub fn move_buffer_start(&mut self) -> bool
-        ensures answer { result ≡ not (self.old.cursor == 0) }
-        ensures line { self.new ≡ with_cursor self.old 0 }
-        ensures cursor { IsCharBoundary self.new.text self.new.cursor }
+        ensures { PutsCursor result self.old self.new 0 }
     {
         let moved = self.pos != 0;
         self.pos = 0;
@@ -300,9 +283,7 @@ impl LineBuffer {
 
     /// Moves the cursor to the text's end. Answers whether it moved.
     pub fn move_buffer_end(&mut self) -> bool
-        ensures answer { result ≡ not (length self.old.text == self.old.cursor) }
-        ensures line { self.new ≡ with_cursor self.old (length self.old.text) }
-        ensures cursor { IsCharBoundary self.new.text self.new.cursor }
+        ensures { PutsCursor result self.old self.new (length self.old.text) }
     {
         let end = self.buf.len();
         self.move_cursor(end)
@@ -311,9 +292,7 @@ impl LineBuffer {
     /// Moves the cursor to byte `to`, and answers whether it stood elsewhere.
     fn move_cursor(&mut self, to: usize) -> bool
         requires { IsCharBoundary self.old.text to }
-        ensures answer { result ≡ not (to == self.old.cursor) }
-        ensures line { self.new ≡ with_cursor self.old to }
-        ensures cursor { IsCharBoundary self.new.text self.new.cursor }
+        ensures { PutsCursor result self.old self.new to }
     {
         let moved = self.pos != to;
         self.pos = to;

@@ -1,7 +1,8 @@
 ghost use Rattle.std.specs.Prelude.{ℕ, List, ◌≡◌, ◌+◌, ◌==◌, ◌++◌, ◌∷◌, length, encode_utf8, replicate, not, string_bytes, option_copied, option_map, ◌<◌, drop, take, max, IsCharBoundary, IfOk, OnOk, OnErr};
 ghost use Rattle.std.specs.List.{list_any};
 ghost use Rattle.line_buffer.specs.Taken.{closed_by, is_text, newest_kind, opened_by};
-ghost use Rattle.line_buffer.specs.Undo.{KeepsTold, KeepsToldAnywhere, Tells, all_taken_back, is_change, steps_len};
+ghost use Rattle.line_buffer.specs.Edit.{Adds, Edits};
+ghost use Rattle.line_buffer.specs.Undo.{KeepsToldAnywhere, Tells, all_taken_back, is_change, newest_steps, without_steps};
 ghost use Rattle.line_buffer.specs.Changes.{ends, last_insert_of, newest_begins, inserted, deleted, replaced, no_changes, with_entries, begun, ended, closed, adds_end, with_insert, with_joined_insert, with_joined_delete, with_delete, with_replace, with_typed};
 
 use crate::clusters::{is_alphanumeric, is_one_alphanumeric};
@@ -127,7 +128,8 @@ impl Changeset {
     /// Closes every open group, and answers whether an entry was added for it. `OutOfMemory` comes where
     /// the list cannot grow; then it is empty, with no open group.
     pub fn end(&mut self) -> Result<bool, OutOfMemory>
-        ensures answer { IfOk result (λ added. added ≡ adds_end self.old.open_groups self.old.entries) }
+        ensures answer { IfOk result (λ added. added
+            ≡ adds_end self.old.open_groups self.old.entries) }
         ensures changes { OnOk result (self.new ≡ ended self.old) }
         ensures told { KeepsToldAnywhere result self.old self.new }
     {
@@ -149,11 +151,10 @@ impl Changeset {
     /// line is text with its cursor on a boundary.
     pub fn undo(&mut self, line: &mut LineBuffer, n: RepeatCount) -> Result<bool, OutOfMemory>
         requires { Tells self.old.entries line.old.text }
-        ensures answer { IfOk result (λ undone. undone ≡ list_any is_change (take (steps_len self.old.entries n) self.old.entries)) }
-        ensures line { OnOk result (line.new ≡ all_taken_back (take (steps_len self.old.entries n) self.old.entries) line.old) }
-        ensures changes { OnOk result (self.new ≡ with_entries self.old (drop (steps_len self.old.entries n) self.old.entries)) }
-        ensures told { KeepsTold result self.old line.old self.new line.new }
-        ensures cursor { IsCharBoundary line.new.text line.new.cursor }
+        ensures answer { IfOk result (λ undone. undone
+            ≡ list_any is_change (newest_steps n self.old.entries)) }
+        ensures edit { Edits result line.old line.new self.old self.new
+            (all_taken_back (newest_steps n self.old.entries) line.old) (without_steps n) }
     {
         match self.take_steps(line, n.max(1)) {
             Ok(undone) => Ok(undone),
@@ -167,9 +168,11 @@ impl Changeset {
     fn take_steps(&mut self, line: &mut LineBuffer, n: RepeatCount) -> Result<bool, OutOfMemory>
         requires count { 0 < n }
         requires tells { Tells self.old.entries line.old.text }
-        ensures answer { IfOk result (λ undone. undone ≡ list_any is_change (take (steps_len self.old.entries n) self.old.entries)) }
-        ensures line { OnOk result (line.new ≡ all_taken_back (take (steps_len self.old.entries n) self.old.entries) line.old) }
-        ensures changes { OnOk result (self.new ≡ with_entries self.old (drop (steps_len self.old.entries n) self.old.entries)) }
+        ensures answer { IfOk result (λ undone. undone
+            ≡ list_any is_change (newest_steps n self.old.entries)) }
+        ensures line { OnOk result (line.new
+            ≡ all_taken_back (newest_steps n self.old.entries) line.old) }
+        ensures changes { OnOk result (self.new ≡ without_steps n self.old) }
         ensures cursor { IsCharBoundary line.new.text line.new.cursor }
     {
         let _ = line.pos();
@@ -198,7 +201,7 @@ impl Changeset {
         requires { Tells self.old.entries line.old.text }
         ensures taken { IfOk result (λ taken. taken ≡ newest_kind self.old.entries) }
         ensures line { OnOk result (line.new ≡ all_taken_back (take 1 self.old.entries) line.old) }
-        ensures changes { OnOk result (self.new ≡ with_entries self.old (drop 1 self.old.entries)) }
+        ensures changes { Adds result self.old self.new (drop 1) }
         ensures cursor { IsCharBoundary line.new.text line.new.cursor }
     {
         let _ = line.len();
@@ -254,10 +257,14 @@ impl Changeset {
 
     /// Takes newest begins away, each of an open group.
     fn take_newest_begins(&mut self)
-        ensures closed { closed self.new.open_groups self.new.entries ≡ closed self.old.open_groups self.old.entries }
-        ensures adds { adds_end self.new.open_groups self.new.entries ≡ adds_end self.old.open_groups self.old.entries }
-        ensures done { closed self.new.open_groups self.new.entries ≡ replicate self.new.open_groups ends ++ self.new.entries }
-        ensures done_adds { adds_end self.new.open_groups self.new.entries ≡ not (self.new.open_groups == 0) }
+        ensures closed { closed self.new.open_groups self.new.entries
+            ≡ closed self.old.open_groups self.old.entries }
+        ensures adds { adds_end self.new.open_groups self.new.entries
+            ≡ adds_end self.old.open_groups self.old.entries }
+        ensures done { closed self.new.open_groups self.new.entries
+            ≡ replicate self.new.open_groups ends ++ self.new.entries }
+        ensures done_adds { adds_end self.new.open_groups self.new.entries
+            ≡ not (self.new.open_groups == 0) }
     {
         while self.open_groups > 0 && self.newest_begins() {
             let Some(_) = self.changes.pop() else {
@@ -280,7 +287,10 @@ impl Changeset {
     /// Adds an end for each open group, and answers whether there was one.
     fn add_ends(&mut self) -> Result<bool, OutOfMemory>
         ensures answer { IfOk result (λ added. added ≡ not (self.old.open_groups == 0)) }
-        ensures changes { OnOk result (self.new ≡ record { entries = replicate self.old.open_groups ends ++ self.old.entries; open_groups = 0 }) }
+        ensures changes { OnOk result (self.new ≡ record {
+          entries = replicate self.old.open_groups ends ++ self.old.entries;
+          open_groups = 0;
+        }) }
     {
         let added = self.open_groups > 0;
         while self.open_groups > 0 {
@@ -314,7 +324,7 @@ impl Changeset {
     }
 
     fn add(&mut self, change: Change) -> Result<(), OutOfMemory>
-        ensures { OnOk result (self.new ≡ with_entries self.old (entry_of change ∷ self.old.entries)) }
+        ensures { Adds result self.old self.new (λ entries. entry_of change ∷ entries) }
     {
         self.changes.push(change)?;
         Ok(())
@@ -322,7 +332,7 @@ impl Changeset {
 
     /// Tells that `text` came in at `place`.
     pub(crate) fn insert_str(&mut self, place: usize, text: &str) -> Result<(), OutOfMemory>
-        ensures { OnOk result (self.new ≡ with_entries self.old (with_insert place text.now self.old.entries)) }
+        ensures { Adds result self.old self.new (with_insert place text.now) }
     {
         if text.is_empty() {
             return Ok(());
@@ -338,7 +348,7 @@ impl Changeset {
         text: &str,
     ) -> Result<(), OutOfMemory>
         requires { text.now ≡ encode_utf8 c }
-        ensures { OnOk result (self.new ≡ with_entries self.old (with_typed place c 1 self.old.entries)) }
+        ensures { Adds result self.old self.new (with_typed place c 1) }
     {
         if is_alphanumeric(c) {
             return self.insert_joined(place, text);
@@ -347,7 +357,7 @@ impl Changeset {
     }
 
     fn add_insert(&mut self, place: usize, text: &str) -> Result<(), OutOfMemory>
-        ensures { OnOk result (self.new ≡ with_entries self.old (inserted place text.now ∷ self.old.entries)) }
+        ensures { Adds result self.old self.new (λ entries. inserted place text.now ∷ entries) }
     {
         let alloc = *self.changes.allocator();
         self.add(Change::Insert {
@@ -359,7 +369,7 @@ impl Changeset {
     /// Tells that the alphanumeric character `text` came in at `place`: it joins a newest insert that ends
     /// there.
     fn insert_joined(&mut self, place: usize, text: &str) -> Result<(), OutOfMemory>
-        ensures { OnOk result (self.new ≡ with_entries self.old (with_joined_insert place text.now self.old.entries)) }
+        ensures { Adds result self.old self.new (with_joined_insert place text.now) }
     {
         match self.changes.pop() {
             Some(
@@ -391,7 +401,7 @@ impl Changeset {
 
     /// Tells that `text` went from `place`.
     pub(crate) fn delete(&mut self, place: usize, text: &str) -> Result<(), OutOfMemory>
-        ensures { OnOk result (self.new ≡ with_entries self.old (with_delete place text.now self.old.entries)) }
+        ensures { Adds result self.old self.new (with_delete place text.now) }
     {
         if text.is_empty() {
             return Ok(());
@@ -403,7 +413,7 @@ impl Changeset {
     }
 
     fn add_delete(&mut self, place: usize, text: &str) -> Result<(), OutOfMemory>
-        ensures { OnOk result (self.new ≡ with_entries self.old (deleted place text.now ∷ self.old.entries)) }
+        ensures { Adds result self.old self.new (λ entries. deleted place text.now ∷ entries) }
     {
         let alloc = *self.changes.allocator();
         self.add(Change::Delete {
@@ -415,7 +425,7 @@ impl Changeset {
     /// Tells that one alphanumeric cluster went from `place`: it joins a newest delete at that place, or
     /// one at which it ended.
     fn delete_joined(&mut self, place: usize, text: &str) -> Result<(), OutOfMemory>
-        ensures { OnOk result (self.new ≡ with_entries self.old (with_joined_delete place text.now self.old.entries)) }
+        ensures { Adds result self.old self.new (with_joined_delete place text.now) }
     {
         match self.changes.pop() {
             Some(
@@ -451,7 +461,7 @@ impl Changeset {
 
     /// Tells that `new` came for `old` at `place`.
     pub(crate) fn replace(&mut self, place: usize, old: &str, new: &str) -> Result<(), OutOfMemory>
-        ensures { OnOk result (self.new ≡ with_entries self.old (with_replace place old.now new.now self.old.entries)) }
+        ensures { Adds result self.old self.new (with_replace place old.now new.now) }
     {
         match self.changes.pop() {
             Some(
@@ -486,7 +496,8 @@ impl Changeset {
     }
 
     fn add_replace(&mut self, place: usize, old: &str, new: &str) -> Result<(), OutOfMemory>
-        ensures { OnOk result (self.new ≡ with_entries self.old (replaced place old.now new.now ∷ self.old.entries)) }
+        ensures { Adds result self.old self.new
+            (λ entries. replaced place old.now new.now ∷ entries) }
     {
         let alloc = *self.changes.allocator();
         self.add(Change::Replace {

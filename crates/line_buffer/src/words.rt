@@ -1,4 +1,5 @@
 //! Words of a text, found cluster by cluster.
+ghost use Rattle.line_buffer.specs.Offset.{IsOffset, IsOffsetIfAny};
 ghost use Rattle.std.specs.Prelude.{◌≡◌, ◌<◌, ◌-◌, length, drop, option_map, reverse, unwrap_or, IfSome, IsCharBoundary};
 ghost use Rattle.line_buffer.specs.declared.keymap.At.TheVariants as At;
 ghost use Rattle.std.specs.List.{concat};
@@ -95,7 +96,9 @@ pub(crate) fn nth_edge(
     n: RepeatCount,
 ) -> Option<(usize, usize)>
     requires { 0 < n }
-    ensures { result ≡ option_map (edge_bytes (graphemes_left clusters.entry)) (nth (edges (edge_between edge) (kinds_of word (graphemes_left clusters.entry))) n) }
+    ensures { let left = graphemes_left clusters.entry in
+        let places = edges (edge_between edge) (kinds_of word left) in
+        result ≡ option_map (edge_bytes left) (nth places n) }
 {
     let len = clusters.as_str().len();
     let mut rest = clusters;
@@ -121,8 +124,9 @@ pub(crate) fn nth_edge(
 /// are fewer.
 pub(crate) fn nth_start_back(text: &str, word: Word, n: RepeatCount) -> usize
     requires { 0 < n }
-    ensures place { result ≡ bytes_to (clusters text.now) (unwrap_or (nth (reverse (edges begins_word (kinds_of word (clusters text.now)))) n) 0) }
-    ensures boundary { IsCharBoundary text.now result }
+    ensures { let cs = clusters text.now in
+        let places = reverse (edges begins_word (kinds_of word cs)) in
+        IsOffset result text.now (bytes_to cs (unwrap_or (nth places n) 0)) }
 {
     let mut rest = text.graphemes(true);
     let mut left = n;
@@ -155,8 +159,7 @@ fn begins_before(old: Kind, new: Option<Kind>) -> bool
 /// Where the text's last cluster begins, for words other than Emacs', or the text's end for those. `None`
 /// where the text is one cluster and the words are not Emacs'.
 fn past_words(text: &str, word: Word) -> Option<usize>
-    ensures place { result ≡ past_words word (clusters text.now) }
-    ensures boundary { IfSome result (λ place. IsCharBoundary text.now place) }
+    ensures { IsOffsetIfAny result text.now (past_words word (clusters text.now)) }
 {
     match word {
         Word::Emacs => Some(all_clusters_len(text)),
@@ -169,8 +172,7 @@ fn past_words(text: &str, word: Word) -> Option<usize>
 pub(crate) fn on_by_words(text: &str, at: At, word: Word, n: RepeatCount) -> Option<usize>
     requires count { 0 < n }
     requires some { 0 < length text.now }
-    ensures place { result ≡ on_by_words at word (clusters text.now) n }
-    ensures boundary { IfSome result (λ place. IsCharBoundary text.now place) }
+    ensures { IsOffsetIfAny result text.now (on_by_words at word (clusters text.now) n) }
 {
     match at {
         At::Start => match nth_edge(text.graphemes(true), word, Edge::Begin, n) {
@@ -189,8 +191,7 @@ pub(crate) fn on_by_words(text: &str, at: At, word: Word, n: RepeatCount) -> Opt
 fn before_end(text: &str, word: Word, n: RepeatCount) -> Option<usize>
     requires count { 0 < n }
     requires some { 0 < length text.now }
-    ensures place { result ≡ on_by_words At.BeforeEnd word (clusters text.now) n }
-    ensures boundary { IfSome result (λ place. IsCharBoundary text.now place) }
+    ensures { IsOffsetIfAny result text.now (on_by_words At.BeforeEnd word (clusters text.now) n) }
 {
     match (nth_end_behind(text, word, n), word) {
         (Some((_, end)), Word::Emacs) => Some(end),
@@ -202,7 +203,9 @@ fn before_end(text: &str, word: Word, n: RepeatCount) -> Option<usize>
 /// Where the last cluster of the `n`-th word behind the text's first cluster begins, and where it ends.
 fn nth_end_behind(text: &str, word: Word, n: RepeatCount) -> Option<(usize, usize)>
     requires { 0 < n }
-    ensures places { result ≡ option_map (edge_behind_first (clusters text.now)) (nth (edges ends_word (kinds_of word (drop 1 (clusters text.now)))) n) }
+    ensures places { let cs = clusters text.now in
+        let places = edges ends_word (kinds_of word (drop 1 cs)) in
+        result ≡ option_map (edge_behind_first cs) (nth places n) }
     ensures start { IfSome result (λ r. IsCharBoundary text.now r.0) }
     ensures end { IfSome result (λ r. IsCharBoundary text.now r.1) }
 {

@@ -1,10 +1,12 @@
 //! Calls that put text into the line.
+ghost use Rattle.line_buffer.specs.Offset.{IsSpan};
 ghost use Rattle.std.specs.Prelude.{◌≡◌, ◌≢◌, ◌≤◌, ◌==◌, length, encode_utf8, slice_range, string_bytes, IfOk, OnOk, OnErr, IsCharBoundary};
 ghost use Rattle.std.specs.List.{repeat};
-ghost use Rattle.line_buffer.specs.Changes.{with_delete, with_entries, with_insert, with_replace, with_typed};
-ghost use Rattle.line_buffer.specs.Undo.{KeepsFront, KeepsTold, StillTells};
+ghost use Rattle.line_buffer.specs.Changes.{with_insert, with_replaced, with_typed, with_update};
+ghost use Rattle.line_buffer.specs.Edit.{Edits, EditsIfOk, on_entries};
+ghost use Rattle.line_buffer.specs.Undo.{KeepsFront};
 ghost use Rattle.line_buffer.specs.Yank.{with_yank, with_yank_pop, yank_popped, yank_pops, yanked, yanks};
-ghost use Rattle.line_buffer.specs.Line.{inserted_at, inserted_at_cursor, replaced_in};
+ghost use Rattle.line_buffer.specs.Line.{is_at_end, inserted_at, inserted_at_cursor, replaced_in};
 
 use super::{LineBuffer, OutOfMemory};
 use crate::keymap::RepeatCount;
@@ -22,11 +24,10 @@ impl LineBuffer {
         n: RepeatCount,
         changes: &mut Changeset,
     ) -> Result<bool, OutOfMemory>
-        ensures answer { IfOk result (λ at_end. at_end ≡ (self.old.cursor == length self.old.text)) }
-        ensures line { OnOk result (self.new ≡ inserted_at_cursor self.old (repeat n (encode_utf8 c))) }
-        ensures changes { OnOk result (changes.new ≡ with_entries changes.old (with_typed self.old.cursor c n changes.old.entries)) }
-        ensures told { KeepsTold result changes.old self.old changes.new self.new }
-        ensures cursor { IsCharBoundary self.new.text self.new.cursor }
+        ensures answer { IfOk result (λ at_end. at_end ≡ is_at_end self.old) }
+        ensures edit { Edits result self.old self.new changes.old changes.new
+            (inserted_at_cursor self.old (repeat n (encode_utf8 c)))
+            (on_entries (with_typed self.old.cursor c n)) }
     {
         let outcome = if n == 1 {
             self.insert_one(c, changes)
@@ -37,11 +38,10 @@ impl LineBuffer {
     }
 
     fn insert_one(&mut self, c: char, changes: &mut Changeset) -> Result<bool, OutOfMemory>
-        ensures answer { IfOk result (λ at_end. at_end ≡ (self.old.cursor == length self.old.text)) }
-        ensures line { OnOk result (self.new ≡ inserted_at_cursor self.old (encode_utf8 c)) }
-        ensures changes { OnOk result (changes.new ≡ with_entries changes.old (with_typed self.old.cursor c 1 changes.old.entries)) }
-        ensures tells { OnOk result (StillTells changes.old.entries self.old.text changes.new.entries self.new.text) }
-        ensures cursor { IsCharBoundary self.new.text self.new.cursor }
+        ensures answer { IfOk result (λ at_end. at_end ≡ is_at_end self.old) }
+        ensures edit { EditsIfOk result self.old self.new changes.old changes.new
+            (inserted_at_cursor self.old (encode_utf8 c))
+            (on_entries (with_typed self.old.cursor c 1)) }
     {
         let mut bytes = [0; 4];
         let text = c.encode_utf8(&mut bytes);
@@ -58,11 +58,10 @@ impl LineBuffer {
         changes: &mut Changeset,
     ) -> Result<bool, OutOfMemory>
         requires { n ≢ 1 }
-        ensures answer { IfOk result (λ at_end. at_end ≡ (self.old.cursor == length self.old.text)) }
-        ensures line { OnOk result (self.new ≡ inserted_at_cursor self.old (repeat n (encode_utf8 c))) }
-        ensures changes { OnOk result (changes.new ≡ with_entries changes.old (with_typed self.old.cursor c n changes.old.entries)) }
-        ensures tells { OnOk result (StillTells changes.old.entries self.old.text changes.new.entries self.new.text) }
-        ensures cursor { IsCharBoundary self.new.text self.new.cursor }
+        ensures answer { IfOk result (λ at_end. at_end ≡ is_at_end self.old) }
+        ensures edit { EditsIfOk result self.old self.new changes.old changes.new
+            (inserted_at_cursor self.old (repeat n (encode_utf8 c)))
+            (on_entries (with_typed self.old.cursor c n)) }
     {
         let mut bytes = [0; 4];
         let text = repeated(*self.buf.allocator(), c.encode_utf8(&mut bytes), n)?;
@@ -80,10 +79,9 @@ impl LineBuffer {
     ) -> Result<(), OutOfMemory>
         requires boundary { IsCharBoundary self.old.text place }
         requires behind { self.old.cursor ≤ place }
-        ensures line { OnOk result (self.new ≡ inserted_at self.old place text.now) }
-        ensures changes { OnOk result (changes.new ≡ with_entries changes.old (with_insert place text.now changes.old.entries)) }
-        ensures told { KeepsTold result changes.old self.old changes.new self.new }
-        ensures cursor { IsCharBoundary self.new.text self.new.cursor }
+        ensures { Edits result self.old self.new changes.old changes.new
+            (inserted_at self.old place text.now)
+            (on_entries (with_insert place text.now)) }
     {
         let outcome = self.try_insert_str(place, text, changes);
         changes.settled(outcome)
@@ -97,10 +95,9 @@ impl LineBuffer {
     ) -> Result<(), OutOfMemory>
         requires boundary { IsCharBoundary self.old.text place }
         requires behind { self.old.cursor ≤ place }
-        ensures line { OnOk result (self.new ≡ inserted_at self.old place text.now) }
-        ensures changes { OnOk result (changes.new ≡ with_entries changes.old (with_insert place text.now changes.old.entries)) }
-        ensures tells { OnOk result (StillTells changes.old.entries self.old.text changes.new.entries self.new.text) }
-        ensures cursor { IsCharBoundary self.new.text self.new.cursor }
+        ensures { EditsIfOk result self.old self.new changes.old changes.new
+            (inserted_at self.old place text.now)
+            (on_entries (with_insert place text.now)) }
     {
         let _ = &self.pos;
         changes.insert_str(place, text)?;
@@ -119,10 +116,9 @@ impl LineBuffer {
         changes: &mut Changeset,
     ) -> Result<Option<bool>, OutOfMemory>
         ensures answer { IfOk result (λ at_end. at_end ≡ yanks self.old text.now) }
-        ensures line { OnOk result (self.new ≡ yanked self.old text.now n) }
-        ensures changes { OnOk result (changes.new ≡ with_entries changes.old (with_yank self.old.cursor text.now n changes.old.entries)) }
-        ensures told { KeepsTold result changes.old self.old changes.new self.new }
-        ensures cursor { IsCharBoundary self.new.text self.new.cursor }
+        ensures edit { Edits result self.old self.new changes.old changes.new
+            (yanked self.old text.now n)
+            (on_entries (with_yank self.old.cursor text.now n)) }
     {
         let outcome = self.try_yank(text, n, changes);
         changes.settled(outcome)
@@ -135,10 +131,9 @@ impl LineBuffer {
         changes: &mut Changeset,
     ) -> Result<Option<bool>, OutOfMemory>
         ensures answer { IfOk result (λ at_end. at_end ≡ yanks self.old text.now) }
-        ensures line { OnOk result (self.new ≡ yanked self.old text.now n) }
-        ensures changes { OnOk result (changes.new ≡ with_entries changes.old (with_yank self.old.cursor text.now n changes.old.entries)) }
-        ensures tells { OnOk result (StillTells changes.old.entries self.old.text changes.new.entries self.new.text) }
-        ensures cursor { IsCharBoundary self.new.text self.new.cursor }
+        ensures edit { EditsIfOk result self.old self.new changes.old changes.new
+            (yanked self.old text.now n)
+            (on_entries (with_yank self.old.cursor text.now n)) }
     {
         let _ = &self.pos;
         if text.is_empty() {
@@ -161,10 +156,9 @@ impl LineBuffer {
         changes: &mut Changeset,
     ) -> Result<Option<bool>, OutOfMemory>
         ensures answer { IfOk result (λ at_end. at_end ≡ yank_pops self.old size text.now) }
-        ensures line { OnOk result (self.new ≡ yank_popped self.old size text.now) }
-        ensures changes { OnOk result (changes.new ≡ with_entries changes.old (with_yank_pop self.old size text.now changes.old.entries)) }
-        ensures told { KeepsTold result changes.old self.old changes.new self.new }
-        ensures cursor { IsCharBoundary self.new.text self.new.cursor }
+        ensures edit { Edits result self.old self.new changes.old changes.new
+            (yank_popped self.old size text.now)
+            (on_entries (with_yank_pop self.old size text.now)) }
     {
         let outcome = self.try_yank_pop(size, text, changes);
         changes.settled(outcome)
@@ -177,10 +171,9 @@ impl LineBuffer {
         changes: &mut Changeset,
     ) -> Result<Option<bool>, OutOfMemory>
         ensures answer { IfOk result (λ at_end. at_end ≡ yank_pops self.old size text.now) }
-        ensures line { OnOk result (self.new ≡ yank_popped self.old size text.now) }
-        ensures changes { OnOk result (changes.new ≡ with_entries changes.old (with_yank_pop self.old size text.now changes.old.entries)) }
-        ensures tells { OnOk result (StillTells changes.old.entries self.old.text changes.new.entries self.new.text) }
-        ensures cursor { IsCharBoundary self.new.text self.new.cursor }
+        ensures edit { EditsIfOk result self.old self.new changes.old changes.new
+            (yank_popped self.old size text.now)
+            (on_entries (with_yank_pop self.old size text.now)) }
     {
         let end = self.pos;
         if size > end || !self.buf.is_char_boundary(end - size) {
@@ -200,10 +193,9 @@ impl LineBuffer {
         changes: &mut Changeset,
     ) -> Result<(), OutOfMemory>
         requires { IsCharBoundary text.now pos }
-        ensures line { OnOk result (self.new ≡ record { text = text.now; cursor = pos }) }
-        ensures changes { OnOk result (changes.new ≡ with_entries changes.old (with_insert 0 text.now (with_delete 0 self.old.text changes.old.entries))) }
-        ensures told { KeepsTold result changes.old self.old changes.new self.new }
-        ensures cursor { IsCharBoundary self.new.text self.new.cursor }
+        ensures { Edits result self.old self.new changes.old changes.new
+            (record { text = text.now; cursor = pos })
+            (on_entries (with_update self.old.text text.now)) }
     {
         let outcome = self.try_update(text, pos, changes);
         changes.settled(outcome)
@@ -216,10 +208,9 @@ impl LineBuffer {
         changes: &mut Changeset,
     ) -> Result<(), OutOfMemory>
         requires { IsCharBoundary text.now pos }
-        ensures line { OnOk result (self.new ≡ record { text = text.now; cursor = pos }) }
-        ensures changes { OnOk result (changes.new ≡ with_entries changes.old (with_insert 0 text.now (with_delete 0 self.old.text changes.old.entries))) }
-        ensures tells { OnOk result (StillTells changes.old.entries self.old.text changes.new.entries self.new.text) }
-        ensures cursor { IsCharBoundary self.new.text self.new.cursor }
+        ensures { EditsIfOk result self.old self.new changes.old changes.new
+            (record { text = text.now; cursor = pos })
+            (on_entries (with_update self.old.text text.now)) }
     {
         changes.delete(0, self.buf.as_str())?;
         changes.insert_str(0, text)?;
@@ -237,13 +228,10 @@ impl LineBuffer {
         text: &str,
         changes: &mut Changeset,
     ) -> Result<(), OutOfMemory>
-        requires ordered { range.start ≤ range.end }
-        requires start { IsCharBoundary self.old.text range.start }
-        requires end { IsCharBoundary self.old.text range.end }
-        ensures line { OnOk result (self.new ≡ replaced_in self.old range.start range.end text.now) }
-        ensures changes { OnOk result (changes.new ≡ with_entries changes.old (with_replace range.start (slice_range self.old.text range.start range.end) text.now changes.old.entries)) }
-        ensures told { KeepsTold result changes.old self.old changes.new self.new }
-        ensures cursor { IsCharBoundary self.new.text self.new.cursor }
+        requires { IsSpan self.old.text range.start range.end }
+        ensures { Edits result self.old self.new changes.old changes.new
+            (replaced_in self.old range.start range.end text.now)
+            (on_entries (with_replaced self.old.text range.start range.end text.now)) }
     {
         let outcome = self.try_replace(range.start, range.end, text, changes);
         changes.settled(outcome)
@@ -256,13 +244,10 @@ impl LineBuffer {
         text: &str,
         changes: &mut Changeset,
     ) -> Result<(), OutOfMemory>
-        requires ordered { from ≤ to }
-        requires start { IsCharBoundary self.old.text from }
-        requires end { IsCharBoundary self.old.text to }
-        ensures line { OnOk result (self.new ≡ replaced_in self.old from to text.now) }
-        ensures changes { OnOk result (changes.new ≡ with_entries changes.old (with_replace from (slice_range self.old.text from to) text.now changes.old.entries)) }
-        ensures tells { OnOk result (StillTells changes.old.entries self.old.text changes.new.entries self.new.text) }
-        ensures cursor { IsCharBoundary self.new.text self.new.cursor }
+        requires { IsSpan self.old.text from to }
+        ensures { EditsIfOk result self.old self.new changes.old changes.new
+            (replaced_in self.old from to text.now)
+            (on_entries (with_replaced self.old.text from to text.now)) }
     {
         changes.replace(from, &self.buf.as_str()[from..to], text)?;
         self.put(from, to, text)?;
@@ -271,9 +256,7 @@ impl LineBuffer {
 
     /// Puts a text in place of a range, and the cursor behind it, without telling of it.
     pub(crate) fn put(&mut self, from: usize, to: usize, text: &str) -> Result<(), OutOfMemory>
-        requires ordered { from ≤ to }
-        requires start { IsCharBoundary self.old.text from }
-        requires end { IsCharBoundary self.old.text to }
+        requires { IsSpan self.old.text from to }
         ensures line { OnOk result (self.new ≡ replaced_in self.old from to text.now) }
         ensures front { OnOk result (KeepsFront self.old.text self.new.text from) }
         ensures cursor { IsCharBoundary self.new.text self.new.cursor }
@@ -290,11 +273,10 @@ impl LineBuffer {
         text: &str,
         changes: &mut Changeset,
     ) -> Result<bool, OutOfMemory>
-        ensures answer { IfOk result (λ at_end. at_end ≡ (self.old.cursor == length self.old.text)) }
-        ensures line { OnOk result (self.new ≡ inserted_at_cursor self.old text.now) }
-        ensures changes { OnOk result (changes.new ≡ with_entries changes.old (with_insert self.old.cursor text.now changes.old.entries)) }
-        ensures tells { OnOk result (StillTells changes.old.entries self.old.text changes.new.entries self.new.text) }
-        ensures cursor { IsCharBoundary self.new.text self.new.cursor }
+        ensures answer { IfOk result (λ at_end. at_end ≡ is_at_end self.old) }
+        ensures edit { EditsIfOk result self.old self.new changes.old changes.new
+            (inserted_at_cursor self.old text.now)
+            (on_entries (with_insert self.old.cursor text.now)) }
     {
         let place = self.pos;
         changes.insert_str(place, text)?;
@@ -304,7 +286,7 @@ impl LineBuffer {
 
     /// Inserts the text at the cursor, which goes behind it, and answers whether it was at the text's end.
     pub(super) fn insert_text(&mut self, text: &str) -> Result<bool, OutOfMemory>
-        ensures answer { IfOk result (λ at_end. at_end ≡ (self.old.cursor == length self.old.text)) }
+        ensures answer { IfOk result (λ at_end. at_end ≡ is_at_end self.old) }
         ensures line { OnOk result (self.new ≡ inserted_at_cursor self.old text.now) }
         ensures err { OnErr result (self.new ≡ self.old) }
         ensures front { OnOk result (KeepsFront self.old.text self.new.text self.old.cursor) }

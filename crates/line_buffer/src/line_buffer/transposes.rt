@@ -1,10 +1,11 @@
 //! Calls that exchange characters or words, or change the case of letters.
+ghost use Rattle.line_buffer.specs.Edit.{Edits, EditsIfOk, on_entries};
+ghost use Rattle.line_buffer.specs.Offset.{IsOffset, IsSpan};
 ghost use Rattle.std.specs.Prelude.{◌≡◌, ◌≤◌, true, map, if◌then◌else◌, is_some, string_bytes, slice_range, IfOk, IfSome, OnOk, OnErr, IsCharBoundary};
 ghost use Rattle.std.specs.Char.{to_ascii_lowercase, to_ascii_uppercase};
 ghost use Rattle.line_buffer.specs.Changes.{with_entries};
 ghost use Rattle.line_buffer.specs.Line.{with_cursor};
-ghost use Rattle.line_buffer.specs.Transpose.{are_apart, between_chars, cased, chars_beside, exchanged, has_two_chars, next_alphanumeric, with_case, with_cased, with_exchange, with_exchanged, word_end_from, word_start_from, words_beside};
-ghost use Rattle.line_buffer.specs.Undo.{KeepsTold, StillTells};
+ghost use Rattle.line_buffer.specs.Transpose.{chars_exchanged, parts, with_chars_exchanged, with_word_cased, with_words_exchanged, word_cased, words_exchanged, are_apart, between_chars, cased, chars_beside, exchanged, has_two_chars, next_alphanumeric, with_case, with_cased, with_exchange, with_exchanged, word_end_from, word_start_from, words_beside};
 ghost use Rattle.line_buffer.specs.Word.{word_back, word_on};
 
 use super::{LineBuffer, OutOfMemory, WordAction};
@@ -20,10 +21,8 @@ impl LineBuffer {
     /// list is empty with no open group, and the line is text with its cursor on a boundary.
     pub fn transpose_chars(&mut self, changes: &mut Changeset) -> Result<bool, OutOfMemory>
         ensures answer { IfOk result (λ done. done ≡ has_two_chars self.old) }
-        ensures line { OnOk result (self.new ≡ (if has_two_chars self.old then with_exchanged self.old (chars_beside self.old (between_chars self.old)) else self.old)) }
-        ensures changes { OnOk result (changes.new ≡ with_entries changes.old (if has_two_chars self.old then with_exchange self.old.text (chars_beside self.old (between_chars self.old)) changes.old.entries else changes.old.entries)) }
-        ensures told { KeepsTold result changes.old self.old changes.new self.new }
-        ensures cursor { IsCharBoundary self.new.text self.new.cursor }
+        ensures edit { Edits result self.old self.new changes.old changes.new
+            (chars_exchanged self.old) (on_entries (with_chars_exchanged self.old)) }
     {
         let _ = &self.pos;
         if self.pos == 0 || !has_two_clusters(self.as_str()) {
@@ -39,10 +38,9 @@ impl LineBuffer {
     /// Exchanges the clusters before and at the cursor.
     fn exchange_chars(&mut self, changes: &mut Changeset) -> Result<bool, OutOfMemory>
         ensures answer { IfOk result (λ done. done ≡ true) }
-        ensures line { OnOk result (self.new ≡ with_exchanged self.old (chars_beside self.old self.old.cursor)) }
-        ensures changes { OnOk result (changes.new ≡ with_entries changes.old (with_exchange self.old.text (chars_beside self.old self.old.cursor) changes.old.entries)) }
-        ensures tells { OnOk result (StillTells changes.old.entries self.old.text changes.new.entries self.new.text) }
-        ensures cursor { IsCharBoundary self.new.text self.new.cursor }
+        ensures edit { EditsIfOk result self.old self.new changes.old changes.new
+            (with_exchanged self.old (chars_beside self.old self.old.cursor))
+            (on_entries (with_exchange self.old.text (chars_beside self.old self.old.cursor))) }
     {
         let place = self.pos();
         let before = self.prev_pos(1).unwrap_or(place);
@@ -60,17 +58,12 @@ impl LineBuffer {
         to2: usize,
         changes: &mut Changeset,
     ) -> Result<(), OutOfMemory>
-        requires first { from1 ≤ to1 }
         requires between { to1 ≤ from2 }
-        requires second { from2 ≤ to2 }
-        requires from1 { IsCharBoundary self.old.text from1 }
-        requires to1 { IsCharBoundary self.old.text to1 }
-        requires from2 { IsCharBoundary self.old.text from2 }
-        requires to2 { IsCharBoundary self.old.text to2 }
-        ensures line { OnOk result (self.new ≡ with_exchanged self.old (record { from1 = from1; to1 = to1; from2 = from2; to2 = to2 })) }
-        ensures changes { OnOk result (changes.new ≡ with_entries changes.old (with_exchange self.old.text (record { from1 = from1; to1 = to1; from2 = from2; to2 = to2 }) changes.old.entries)) }
-        ensures tells { OnOk result (StillTells changes.old.entries self.old.text changes.new.entries self.new.text) }
-        ensures cursor { IsCharBoundary self.new.text self.new.cursor }
+        requires first { IsSpan self.old.text from1 to1 }
+        requires second { IsSpan self.old.text from2 to2 }
+        ensures { EditsIfOk result self.old self.new changes.old changes.new
+            (with_exchanged self.old (parts from1 to1 from2 to2))
+            (on_entries (with_exchange self.old.text (parts from1 to1 from2 to2))) }
     {
         let _ = &self.pos;
         let mut text = self.copy_range(from2, to2)?;
@@ -89,10 +82,8 @@ impl LineBuffer {
         changes: &mut Changeset,
     ) -> Result<bool, OutOfMemory>
         ensures answer { IfOk result (λ done. done ≡ are_apart (words_beside self.old n)) }
-        ensures line { OnOk result (self.new ≡ (if are_apart (words_beside self.old n) then with_exchanged self.old (words_beside self.old n) else with_cursor self.old (words_beside self.old n).to1)) }
-        ensures changes { OnOk result (changes.new ≡ with_entries changes.old (if are_apart (words_beside self.old n) then with_exchange self.old.text (words_beside self.old n) changes.old.entries else changes.old.entries)) }
-        ensures told { KeepsTold result changes.old self.old changes.new self.new }
-        ensures cursor { IsCharBoundary self.new.text self.new.cursor }
+        ensures edit { Edits result self.old self.new changes.old changes.new
+            (words_exchanged self.old n) (on_entries (with_words_exchanged self.old n)) }
     {
         let to2 = self.word_end_from(self.pos(), n);
         let from2 = self.word_start_from(to2, 1);
@@ -110,10 +101,9 @@ impl LineBuffer {
     /// The end of the `n`-th word on from a place, or that place. The cursor goes there.
     fn word_end_from(&mut self, place: usize, n: RepeatCount) -> usize
         requires { IsCharBoundary self.old.text place }
-        ensures place { result ≡ word_end_from self.old place n }
+        ensures end { IsOffset result self.old.text (word_end_from self.old place n) }
         ensures on { place ≤ result }
         ensures line { self.new ≡ with_cursor self.old result }
-        ensures boundary { IsCharBoundary self.old.text result }
     {
         self.pos = place;
         let end = self
@@ -126,10 +116,9 @@ impl LineBuffer {
     /// The start of the `n`-th word back from a place, or that place. The cursor goes there.
     fn word_start_from(&mut self, place: usize, n: RepeatCount) -> usize
         requires { IsCharBoundary self.old.text place }
-        ensures place { result ≡ word_start_from self.old place n }
+        ensures start { IsOffset result self.old.text (word_start_from self.old place n) }
         ensures back { result ≤ place }
         ensures line { self.new ≡ with_cursor self.old result }
-        ensures boundary { IsCharBoundary self.old.text result }
     {
         self.pos = place;
         let start = self.prev_word_pos(Word::Emacs, n).unwrap_or(place);
@@ -147,10 +136,8 @@ impl LineBuffer {
         changes: &mut Changeset,
     ) -> Result<bool, OutOfMemory>
         ensures answer { IfOk result (λ done. done ≡ is_some (next_alphanumeric self.old)) }
-        ensures line { OnOk result (self.new ≡ with_cased action self.old (next_alphanumeric self.old)) }
-        ensures changes { OnOk result (changes.new ≡ with_entries changes.old (with_case action self.old (next_alphanumeric self.old) changes.old.entries)) }
-        ensures told { KeepsTold result changes.old self.old changes.new self.new }
-        ensures cursor { IsCharBoundary self.new.text self.new.cursor }
+        ensures edit { Edits result self.old self.new changes.old changes.new
+            (word_cased action self.old) (on_entries (with_word_cased action self.old)) }
     {
         let outcome = self.try_edit_word(action, changes);
         changes.settled(outcome)
@@ -162,10 +149,8 @@ impl LineBuffer {
         changes: &mut Changeset,
     ) -> Result<bool, OutOfMemory>
         ensures answer { IfOk result (λ done. done ≡ is_some (next_alphanumeric self.old)) }
-        ensures line { OnOk result (self.new ≡ with_cased action self.old (next_alphanumeric self.old)) }
-        ensures changes { OnOk result (changes.new ≡ with_entries changes.old (with_case action self.old (next_alphanumeric self.old) changes.old.entries)) }
-        ensures tells { OnOk result (StillTells changes.old.entries self.old.text changes.new.entries self.new.text) }
-        ensures cursor { IsCharBoundary self.new.text self.new.cursor }
+        ensures edit { EditsIfOk result self.old self.new changes.old changes.new
+            (word_cased action self.old) (on_entries (with_word_cased action self.old)) }
     {
         let from = match first_alphanumeric(self.after()) {
             Some(bytes) => self.pos + bytes,
