@@ -1,7 +1,7 @@
 -- The newest entries of a list of changes.
 use Rattle.std.proofs.Common.{◌≡◌, ℕ, ◌-◌, ◌<◌, zero, suc, true, List, [], ◌∷◌, ◌++◌, map, reverse, refl, sym, ap, ◌∙◌, arith}
 use Rattle.std.proofs.lemmas.List.{reverse-append, map-append}
-use Rattle.line_buffer.specs.declared.undo.Change.{Change}
+use Rattle.line_buffer.specs.declared.undo.list.Change.{Change}
 use Rattle.line_buffer.specs.Changes.{Entry, begins, ends, inserted, deleted, replaced, newest_begins, closed, adds_end}
 use Rattle.line_buffer.specs.Told.{entry_of, entries_of}
 

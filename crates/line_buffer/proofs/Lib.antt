@@ -4,6 +4,7 @@ pub mod ChangeLemmas
 pub mod ClusterLemmas
 pub mod FittingLemmas
 pub mod FrontLemmas
+pub mod GroupLemmas
 pub mod IndentLemmas
 pub mod LineLemmas
 pub mod ListLemmas

@@ -4,14 +4,14 @@ use Rattle.std.specs.List.{range_with_len, slice_get, list_any, count_by}
 use Rattle.std.proofs.lemmas.List.Folds.{list_any-append}
 use Rattle.std.proofs.lemmas.List.Sums.{sum_by_push, count_by-le-length}
 use Rattle.std.proofs.lemmas.List.{length-take}
-use Rattle.line_buffer.specs.declared.undo.Change.{Change}
+use Rattle.line_buffer.specs.declared.undo.list.Change.{Change}
 use Rattle.line_buffer.specs.Changes.{Entry, Changes, with_entries, closed, ended, begins, ends, inserted, deleted, replaced}
 use Rattle.line_buffer.specs.Line.{Line}
 use Rattle.line_buffer.specs.Told.{entry_of, entries_of}
 use Rattle.line_buffer.specs.Undo.{StillTells, Tells, TellsOf, taken_back, all_taken_back, is_begin, is_end, is_change, is_step, steps_len}
 use Rattle.line_buffer.specs.Taken.{closed_by, is_text, newest_kind, opened_by, taken_kind}
 use Rattle.line_buffer.specs.Word.{nth}
-use Rattle.line_buffer.specs.declared.undo.Taken.{Taken}
+use Rattle.line_buffer.specs.declared.undo.list.Taken.{Taken}
 use Rattle.line_buffer.proofs.WordPlaces.{some_same}
 use Rattle.line_buffer.proofs.ListLemmas.{drop_one_more}
 use Rattle.line_buffer.proofs.WordLemmas.{drop_within, drop_end, filter-yes, filter-no}

@@ -1,11 +1,11 @@
 -- Laws over the definitions.
 use Rattle.std.specs.Prelude.{◌≡◌, ℕ, ◌+◌, ◌<◌, ◌≤◌, List, length, Some}
 use Rattle.std.specs.Fn.{iterate}
-use Rattle.line_buffer.specs.Changes.{Entry}
+use Rattle.line_buffer.specs.Changes.{Changes, Entry}
 use Rattle.line_buffer.specs.Cluster.{clusters, place_back, place_on}
 use Rattle.line_buffer.specs.KillRing.{Ring, after_kill, other, with_last, yanked_text}
 use Rattle.line_buffer.specs.Line.{Line, before, after}
-use Rattle.line_buffer.specs.Undo.{NoGroupOpen, TellsOf, after_undo, all_taken_back}
+use Rattle.line_buffer.specs.Undo.{GroupsFit, NoGroupOpen, TellsOf, after_undo, all_taken_back}
 use Rattle.line_buffer.specs.Word.{bytes_to, word_back, word_on}
 use Rattle.line_buffer.specs.declared.keymap.At.{At}
 use Rattle.line_buffer.specs.declared.keymap.Word.{Word}
@@ -35,3 +35,7 @@ PlacesAreBetweenClusters = (l : Line) (n place : ℕ) →
     × (place_back l n ≡ Some place → (i : ℕ) × (place ≡ bytes_to (clusters (before l)) i))
     × ((word : Word) → word_back word l n ≡ Some place → (i : ℕ) × (place ≡ bytes_to (clusters (before l)) i))
     × ((at : At) (word : Word) → word_on at word l n ≡ Some place → (i : ℕ) × (place ≡ l.cursor + bytes_to (clusters (after l)) i))
+
+-- where groups fit and their count is 0, no group is open
+abbrev pub NoneCountedNoneOpen : Type 0
+NoneCountedNoneOpen = (c : Changes) → GroupsFit c → c.open_groups ≡ 0 → NoGroupOpen c.entries

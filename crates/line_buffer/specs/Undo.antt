@@ -1,5 +1,6 @@
 -- Taking changes back.
 use Rattle.std.specs.Prelude.{◌≡◌, ℕ, ◌+◌, ◌≤◌, max, Result, OnOk, OnErr, nat_le, Bool, true, false, List, [], ◌∷◌, length, take, drop, filter, count_by, unwrap_or, slice_range, IsCharBoundary}
+use Rattle.std.specs.Fn.{iterate}
 use Rattle.std.specs.List.{range_with_len, remove_range, insert_slice, replace_range}
 use Rattle.line_buffer.specs.Changes.{Changes, Entry, no_changes, with_entries, begins, ends, inserted, deleted, replaced}
 use Rattle.line_buffer.specs.Line.{Line}
@@ -90,6 +91,14 @@ after_undo n s = (drop (steps_len s.0 n) s.0, all_taken_back (take (steps_len s.
 -- no group is open: among the newest entries never stand more begins than ends
 abbrev pub NoGroupOpen : List Entry → Type 0
 NoGroupOpen entries = (k : ℕ) → count_by is_begin (take k entries) ≤ count_by is_end (take k entries)
+
+-- among any newest entries stand at most so many more begins than ends as groups are open
+pub record GroupsFit (c : Changes) : Type 0 where
+  pub fit : (k : ℕ) → count_by is_begin (take k c.entries) ≤ count_by is_end (take k c.entries) + c.open_groups
+
+-- where no group was open, n steps taken back at once, one for n = 0, were as many single steps
+pub record UndoesStepByStep {T E : Type 0} (result : Result T E) (n : ℕ) (old new : Line) (c c' : Changes) : Type 0 where
+  pub steps : c.open_groups ≡ 0 → OnOk result (◌≡◌ {A = List Entry × Line} (c'.entries, new) (iterate (after_undo 1) (max n 1) (c.entries, old)))
 
 -- what old entries tell of a text, new ones tell of another: both lead back to the same start
 pub record StillTells (old : List Entry) (text : List ℕ) (new : List Entry) (text' : List ℕ) : Type 0 where

@@ -3,8 +3,8 @@ use Rattle.std.proofs.lemmas.Bool.Decides.{nat_tests}
 use Rattle.line_buffer.specs.Changes.{Changes}
 use Rattle.line_buffer.specs.Undo.{is_step, steps_len}
 use Rattle.line_buffer.proofs.UndoLemmas.{took-next, took-none, took-step, steps-no, steps-past, steps-found, steps_len-is, changes-left}
-use Rattle.line_buffer.proofs.undo.Changeset.take_steps.Goals as goal
-use Rattle.line_buffer.proofs.undo.Changeset.take_steps.Goals.{then-ends-begins+else-left-eq1, else-ends-begins}
+use Rattle.line_buffer.proofs.undo.list.ChangeList.take_steps.Goals as goal
+use Rattle.line_buffer.proofs.undo.list.ChangeList.take_steps.Goals.{then-ends-begins+else-left-eq1, else-ends-begins}
 
 pub returns-in_default-clause-answer : goal.returns-in_default-clause-answer
 returns-in_default-clause-answer c =

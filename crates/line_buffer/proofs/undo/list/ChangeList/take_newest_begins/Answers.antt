@@ -2,7 +2,7 @@ use Rattle.std.proofs.Common.{◌≡◌, ◌<◌, true, sym, ap, ◌∙◌, arit
 use Rattle.line_buffer.specs.Changes.{Changes, newest_begins}
 use Rattle.line_buffer.specs.Told.{entries_of}
 use Rattle.line_buffer.proofs.ChangeLemmas.{newest_taken, closed-begins, adds_end-begins}
-use Rattle.line_buffer.proofs.undo.Changeset.take_newest_begins.Goals as goal
+use Rattle.line_buffer.proofs.undo.list.ChangeList.take_newest_begins.Goals as goal
 
 pub loop-self-preserved : goal.loop-self-preserved
 loop-self-preserved c =

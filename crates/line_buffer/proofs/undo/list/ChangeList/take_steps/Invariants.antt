@@ -3,7 +3,7 @@ use Rattle.std.specs.List.{slice_get}
 use Rattle.std.specs.Str.{IsCharBoundary}
 use Rattle.line_buffer.specs.Word.{nth}
 use Rattle.line_buffer.proofs.UndoLemmas.{Took, steps_from}
-use Rattle.line_buffer.proofs.undo.Changeset.take_steps.Given as goal
+use Rattle.line_buffer.proofs.undo.list.ChangeList.take_steps.Given as goal
 
 abbrev pub invariant-loop : goal.invariant-loop
 invariant-loop l = record {

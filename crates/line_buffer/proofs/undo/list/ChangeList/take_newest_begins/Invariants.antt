@@ -1,6 +1,6 @@
 use Rattle.std.proofs.Common.{◌≡◌}
 use Rattle.line_buffer.specs.Changes.{closed, adds_end}
-use Rattle.line_buffer.proofs.undo.Changeset.take_newest_begins.Given as goal
+use Rattle.line_buffer.proofs.undo.list.ChangeList.take_newest_begins.Given as goal
 
 abbrev pub invariant-loop-self : goal.invariant-loop-self
 invariant-loop-self l = record {

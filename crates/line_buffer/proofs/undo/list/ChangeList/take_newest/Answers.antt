@@ -2,7 +2,7 @@ use Rattle.std.proofs.Common.{string_bytes, ap, arith}
 use Rattle.line_buffer.specs.Changes.{Changes}
 use Rattle.line_buffer.specs.Told.{entry_of}
 use Rattle.line_buffer.proofs.UndoLemmas.{insert_within, replace_within, newest_is}
-use Rattle.line_buffer.proofs.undo.Changeset.take_newest.Goals as goal
+use Rattle.line_buffer.proofs.undo.list.ChangeList.take_newest.Goals as goal
 
 pub overflow_add-place : goal.overflow_add-place
 overflow_add-place c =
