@@ -227,6 +227,3 @@ fn join_text(text: &mut String, more: &str, mode: Mode) -> Result<(), OutOfMemor
         Mode::Prepend => Ok(text.insert_str(0, more)?),
     }
 }
-
-#[cfg(test)]
-mod tests;

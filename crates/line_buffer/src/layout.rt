@@ -120,6 +120,3 @@ fn columns_between_joiners(text: &str) -> Unit
     }
     columns.saturating_add(columns_of(rest))
 }
-
-#[cfg(test)]
-mod tests;

@@ -299,6 +299,3 @@ impl LineBuffer {
         moved
     }
 }
-
-#[cfg(test)]
-mod tests;

@@ -162,6 +162,3 @@ impl Changeset {
         self.list.settled(outcome)
     }
 }
-
-#[cfg(test)]
-mod tests;

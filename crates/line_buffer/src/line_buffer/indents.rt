@@ -213,6 +213,3 @@ fn blank_len(text: &str, amount: usize) -> usize
     }
     len
 }
-
-#[cfg(test)]
-mod tests;
