@@ -1,15 +1,15 @@
 -- Among any newest entries stand at most so many more begins than ends as groups are open.
-use Rattle.std.proofs.Common.{replicate, max, ◌≡◌, ℕ, ◌+◌, ◌-◌, ◌<◌, ◌≤◌, zero, suc, Bool, true, false, cond, ◌==◌, List, [], ◌∷◌, ◌++◌, length, drop, filter, Option, Some, None, Result, Ok, Err, OnOk, OnErr, encode_utf8, take, unwrap_or, ◌⊎◌, inl, inr, refl, sym, ap, ap₂, ◌∙◌, subst, arith}
+use Rattle.std.proofs.Common.{min, ◌^◌, nat_le, ◌&&◌, length-append, replicate, max, ◌≡◌, ℕ, ◌+◌, ◌-◌, ◌<◌, ◌≤◌, zero, suc, Bool, true, false, cond, ◌==◌, List, [], ◌∷◌, ◌++◌, length, drop, filter, Option, Some, None, Result, Ok, Err, OnOk, OnErr, encode_utf8, take, unwrap_or, ◌⊎◌, inl, inr, refl, sym, ap, ap₂, ◌∙◌, subst, arith}
 use Rattle.std.specs.Fn.{iterate}
-use Rattle.std.specs.List.{range_with_len, slice_get, count_by}
+use Rattle.std.specs.List.{range_with_len, slice_get, count_by, list_all}
 use Rattle.std.proofs.Math.Seq.{drop-length, take-nil}
 use Rattle.std.proofs.lemmas.Bool.{leb-true}
 use Rattle.std.proofs.lemmas.List.Sums.{sum_by-append}
 use Rattle.line_buffer.specs.Character.{is_alphanumeric, is_one_alphanumeric}
-use Rattle.line_buffer.specs.Changes.{Changes, Entry, no_changes, ended, closed, begins, ends, inserted, deleted, replaced, with_delete, with_insert, with_joined_delete, with_joined_insert, with_replace, with_typed}
+use Rattle.line_buffer.specs.Changes.{Changes, Entry, begun, no_changes, ended, closed, begins, ends, inserted, deleted, replaced, with_delete, with_insert, with_joined_delete, with_joined_insert, with_replace, with_typed}
 use Rattle.line_buffer.specs.Edit.{on_entries}
 use Rattle.line_buffer.specs.Line.{Line}
-use Rattle.line_buffer.specs.Undo.{GroupsFit, NoGroupOpen, UndoesStepByStep, after_undo, all_taken_back, is_begin, is_end, is_step, newest_steps, steps_len, without_steps}
+use Rattle.line_buffer.specs.Undo.{taken_back, GroupsFit, NoGroupOpen, UndoesStepByStep, after_undo, all_taken_back, is_begin, is_change, is_end, is_step, newest_steps, steps_len, without_steps}
 use Rattle.line_buffer.proofs.StepLemmas.{count_by-front, step_by_step}
 use Rattle.line_buffer.proofs.WordLemmas.{filter-yes, filter-no}
 
@@ -200,3 +200,103 @@ undone_on (Ok x) n old new c c' h l k z =
 pub undone_step_by_step : {T E : Type 0} (r : Result T E) (n : ℕ) (old new : Line) (c c' : Changes) → GroupsFit c → OnOk r (new ≡ all_taken_back (newest_steps n c.entries) old) → OnOk r (c' ≡ without_steps n c)
     → UndoesStepByStep r n old new c c'
 undone_step_by_step r n old new c c' h l k = record { steps = undone_on r n old new c c' h l k }
+
+-- ---- a group that is closed is one step
+
+-- the first number of a range that passes
+first_passes : (p : ℕ → Bool) (a d m : ℕ) → d < m → ((j : ℕ) → j < d → p (a + j) ≡ false) → p (a + d) ≡ true → slice_get (filter p (range_with_len a m)) 0 ≡ Some (a + d)
+first_passes p a d zero h below here = absurd (omega arith)
+first_passes p a zero (suc m) h below here =
+    let same : a + 0 ≡ a = omega arith in
+    let passes : p a ≡ true = subst (λ k. p k ≡ true) same here in
+    ap (λ l. slice_get l 0) (filter-yes p a (range_with_len (a + 1) m) passes) ∙ ap Some (sym same)
+first_passes p a (suc d) (suc m) h below here =
+    let same : a + 0 ≡ a = omega arith in
+    let next : a + 1 + d ≡ a + suc d = omega arith in
+    let fails : p a ≡ false = subst (λ k. p k ≡ false) same (below 0 (omega arith)) in
+    ap (λ l. slice_get l 0) (filter-no p a (range_with_len (a + 1) m) fails)
+    ∙ first_passes p (a + 1) d m (omega arith) (λ j b. let on : a + suc j ≡ a + 1 + j = omega arith in subst (λ k. p k ≡ false) on (below (suc j) (omega arith))) (subst (λ k. p k ≡ true) (sym next) here)
+    ∙ ap Some next
+
+-- an entry of text neither begins nor ends a group
+no_begin : (e : Entry) → is_change e ≡ true → is_begin e ≡ false
+no_begin begins h = cc
+no_begin ends h = cc
+no_begin (inserted x y) h = refl
+no_begin (deleted x y) h = refl
+no_begin (replaced x y z) h = refl
+
+no_end : (e : Entry) → is_change e ≡ true → is_end e ≡ false
+no_end begins h = cc
+no_end ends h = cc
+no_end (inserted x y) h = refl
+no_end (deleted x y) h = refl
+no_end (replaced x y z) h = refl
+
+both : (a b : Bool) → (a && b) ≡ true → (a ≡ true) × (b ≡ true)
+both true b h = (refl, h)
+both false b h = cc
+
+all_change : (e : Entry) (es : List Entry) → list_all is_change (e ∷ es) ≡ true → (is_change e ≡ true) × (list_all is_change es ≡ true)
+all_change e es h = both (is_change e) (list_all is_change es) h
+
+-- among entries of text stands neither, and behind them what comes there
+count_inside : (p : Entry → Bool) → ((e : Entry) → is_change e ≡ true → p e ≡ false) → (inside rest : List Entry) (j : ℕ) → j ≤ length inside → list_all is_change inside ≡ true
+    → count_by p (take j (inside ++ rest)) ≡ 0
+count_inside p none inside rest zero h t = refl
+count_inside p none [] rest (suc j) h t = absurd (omega arith)
+count_inside p none (e ∷ es) rest (suc j) h t =
+    let split = all_change e es t in
+    count_no p e (es ++ rest) j (none e split.0) ∙ count_inside p none es rest j (omega arith) split.1
+
+count_behind : (p : Entry → Bool) → ((e : Entry) → is_change e ≡ true → p e ≡ false) → (inside rest : List Entry) (e : Entry) → list_all is_change inside ≡ true
+    → count_by p (take (suc (length inside)) (inside ++ e ∷ rest)) ≡ 0 + one_if (p e) + 0
+count_behind p none [] rest e t = count_first p e rest 0
+count_behind p none (x ∷ es) rest e t =
+    let split = all_change x es t in
+    count_no p x (es ++ e ∷ rest) (suc (length es)) (none x split.0) ∙ count_behind p none es rest e split.1
+
+-- the newest entry is no begin, so an end is added
+one_end : (inside rest : List Entry) → 0 < length inside → list_all is_change inside ≡ true → closed 1 (inside ++ rest) ≡ ends ∷ (inside ++ rest)
+one_end [] rest some t = absurd (omega arith)
+one_end (begins ∷ es) rest some t = cc
+one_end (ends ∷ es) rest some t = refl
+one_end (inserted x y ∷ es) rest some t = refl
+one_end (deleted x y ∷ es) rest some t = refl
+one_end (replaced x y z ∷ es) rest some t = refl
+
+taken_behind : (inside : List Entry) (l : Line) → all_taken_back (inside ++ begins ∷ []) l ≡ all_taken_back inside l
+taken_behind [] l = refl
+taken_behind (e ∷ es) l = taken_behind es (taken_back e l)
+
+take_group : (inside rest : List Entry) → take (suc (length inside)) (inside ++ begins ∷ rest) ≡ inside ++ begins ∷ []
+take_group [] rest = refl
+take_group (e ∷ es) rest = ap (λ x. e ∷ x) (take_group es rest)
+
+drop_group : (inside rest : List Entry) → drop (suc (length inside)) (inside ++ begins ∷ rest) ≡ rest
+drop_group [] rest = refl
+drop_group (e ∷ es) rest = drop_group es rest
+
+pub closed_group : (c : Changes) (inside : List Entry) (l : Line) → c.open_groups ≡ 0 → 0 < length inside → list_all is_change inside ≡ true
+    → after_undo 1 ((ended (record (begun c) { entries = inside ++ (begun c).entries })).entries, l) ≡ (c.entries, all_taken_back inside l)
+closed_group c inside l z some t =
+    let rest = begins ∷ c.entries in
+    let all = ends ∷ (inside ++ rest) in
+    let d = suc (length inside) in
+    let one : min (c.open_groups + 1) (2 ^ 64 - 1) ≡ 1 = ap (λ n. min (n + 1) (2 ^ 64 - 1)) z in
+    let shut : closed (min (c.open_groups + 1) (2 ^ 64 - 1)) (inside ++ rest) ≡ all = ap (λ n. closed n (inside ++ rest)) one ∙ one_end inside rest some t in
+    let below : (j : ℕ) → j < d → is_step all (1 + j) ≡ false = λ j h.
+    let suc_j : 1 + j ≡ suc j = omega arith in
+    let opened = count_no is_begin ends (inside ++ rest) j refl ∙ count_inside is_begin no_begin inside rest j (omega arith) t in
+    let shuts = count_yes is_end ends (inside ++ rest) j refl ∙ ap (λ n. 1 + n) (count_inside is_end no_end inside rest j (omega arith) t) in
+    ap (is_step all) suc_j ∙ ap₂ nat_le shuts opened in
+    let here : is_step all (1 + d) ≡ true =
+    let suc_d : 1 + d ≡ suc d = omega arith in
+    let opened = count_no is_begin ends (inside ++ rest) d refl ∙ count_behind is_begin no_begin inside c.entries begins t in
+    let shuts = count_yes is_end ends (inside ++ rest) d refl ∙ ap (λ n. 1 + n) (count_behind is_end no_end inside c.entries begins t) in
+    ap (is_step all) suc_d ∙ ap₂ nat_le shuts opened in
+    let within : d < length all = omega (arith, length-append inside rest) in
+    let len : steps_len all 1 ≡ suc d = ap (λ o. unwrap_or o (length all)) (first_passes (is_step all) 1 d (length all) within below here) ∙ (let suc_d : 1 + d ≡ suc d = omega arith in suc_d) in
+    let left : List Entry → ℕ → List Entry × Line = λ es k. (drop k es, all_taken_back (take k es) l) in
+    ap (λ es. left es (steps_len es 1)) shut ∙ ap (left all) len
+    ∙ ap₂ (λ (es : List Entry) (m : Line). let pair : List Entry × Line = (es, m) in pair) (drop_group inside c.entries) (ap (λ es. all_taken_back es l) (take_group inside c.entries) ∙ taken_behind inside l)

@@ -9,6 +9,7 @@ pub mod IndentLemmas
 pub mod LineLemmas
 pub mod ListLemmas
 pub mod RingLemmas
+pub mod RowLemmas
 pub mod SearchLemmas
 pub mod SkipLemmas
 pub mod StepLemmas

@@ -4,6 +4,7 @@ use Rattle.line_buffer.specs.Changes.{Changes, with_entries, with_delete}
 use Rattle.line_buffer.specs.KillRing.{Ring, with_kept}
 use Rattle.line_buffer.specs.Line.{Line}
 use Rattle.line_buffer.specs.Range.{range_of, unless_empty}
+use Rattle.line_buffer.specs.Word.{or_else}
 use Rattle.line_buffer.specs.declared.keymap.CharSearch.TheVariants as Search
 use Rattle.line_buffer.specs.declared.keymap.Movement.{Movement}
 use Rattle.line_buffer.specs.declared.keymap.Movement.TheVariants.{WholeLine, BeginningOfLine, EndOfLine, BackwardWord, ViCharSearch, BackwardChar, ForwardChar, BeginningOfBuffer}
@@ -18,11 +19,6 @@ neighbour_of l WholeLine = range_of l (ForwardChar 1)
 neighbour_of l EndOfLine = range_of l (ForwardChar 1)
 neighbour_of l BeginningOfLine = range_of l (BackwardChar 1)
 neighbour_of l _ = None
-
--- the first, or else the second
-abbrev pub or_else : {A : Type 0} → Option A → Option A → Option A
-or_else None other = other
-or_else (Some x) other = Some x
 
 -- the range that a kill takes
 abbrev pub killed_range : Line → Movement → Option (ℕ × ℕ)

@@ -4,7 +4,7 @@ ghost use Rattle.std.specs.Prelude.{◌≡◌, ◌<◌, ◌-◌, length, drop, o
 ghost use Rattle.line_buffer.specs.declared.keymap.At.TheVariants as At;
 ghost use Rattle.std.specs.List.{concat};
 ghost use Rattle.line_buffer.specs.Cluster.{clusters};
-ghost use Rattle.line_buffer.specs.Word.{begins_word, bytes_to, edges, ends_word, is_blank, is_made_of, is_vi_letter, kind_of, kinds_of, nth, on_by_words, past_words, edge_before, edge_behind, edge_behind_first, edge_between, edge_bytes};
+ghost use Rattle.line_buffer.specs.Word.{begins_word, bytes_to, edges, ends_word, is_blank, is_made_of, is_vi_letter, kind_of, kinds_of, nth, past_the_words, word_edge, edge_before, edge_behind, edge_behind_first, edge_between, edge_bytes};
 ghost use Rattle.unicode_segmentation.specs.Iter.{graphemes_left};
 
 use crate::clusters::{is_alphanumeric, is_alphanumeric_text, is_one_cluster, last_start};
@@ -159,7 +159,8 @@ fn begins_before(old: Kind, new: Option<Kind>) -> bool
 /// Where the text's last cluster begins, for words other than Emacs', or the text's end for those. `None`
 /// where the text is one cluster and the words are not Emacs'.
 fn past_words(text: &str, word: Word) -> Option<usize>
-    ensures { IsOffsetIfAny result text.now (past_words word (clusters text.now)) }
+    ensures { let cs = clusters text.now in
+        IsOffsetIfAny result text.now (option_map (bytes_to cs) (past_the_words word (length cs))) }
 {
     match word {
         Word::Emacs => Some(all_clusters_len(text)),
@@ -172,7 +173,8 @@ fn past_words(text: &str, word: Word) -> Option<usize>
 pub(crate) fn on_by_words(text: &str, at: At, word: Word, n: RepeatCount) -> Option<usize>
     requires count { 0 < n }
     requires some { 0 < length text.now }
-    ensures { IsOffsetIfAny result text.now (on_by_words at word (clusters text.now) n) }
+    ensures { let cs = clusters text.now in
+        IsOffsetIfAny result text.now (option_map (bytes_to cs) (word_edge at word cs n)) }
 {
     match at {
         At::Start => match nth_edge(text.graphemes(true), word, Edge::Begin, n) {
@@ -191,7 +193,8 @@ pub(crate) fn on_by_words(text: &str, at: At, word: Word, n: RepeatCount) -> Opt
 fn before_end(text: &str, word: Word, n: RepeatCount) -> Option<usize>
     requires count { 0 < n }
     requires some { 0 < length text.now }
-    ensures { IsOffsetIfAny result text.now (on_by_words At.BeforeEnd word (clusters text.now) n) }
+    ensures { let cs = clusters text.now in
+        IsOffsetIfAny result text.now (option_map (bytes_to cs) (word_edge At.BeforeEnd word cs n)) }
 {
     match (nth_end_behind(text, word, n), word) {
         (Some((_, end)), Word::Emacs) => Some(end),
