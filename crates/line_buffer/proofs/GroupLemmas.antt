@@ -10,6 +10,7 @@ use Rattle.line_buffer.specs.Changes.{Changes, Entry, begun, no_changes, ended, 
 use Rattle.line_buffer.specs.Edit.{on_entries}
 use Rattle.line_buffer.specs.Line.{Line}
 use Rattle.line_buffer.specs.Undo.{taken_back, GroupsFit, NoGroupOpen, UndoesStepByStep, after_undo, all_taken_back, is_begin, is_change, is_end, is_step, newest_steps, steps_len, without_steps}
+use Rattle.line_buffer.proofs.ChangeLemmas.{closed-singly, closed_singly}
 use Rattle.line_buffer.proofs.StepLemmas.{count_by-front, step_by_step}
 use Rattle.line_buffer.proofs.WordLemmas.{filter-yes, filter-no}
 
@@ -109,14 +110,17 @@ begin_off entries n h k = omega (arith, h (suc k), count_yes is_begin begins ent
 fit_as_many : (n : ℕ) (entries : List Entry) → Fit entries n → Fit (replicate n ends ++ entries) 0
 fit_as_many n entries h = fit_ends n 0 entries (λ k. omega (arith, h k))
 
+fit_singly : (n : ℕ) (entries : List Entry) → Fit entries n → Fit (closed_singly n entries) 0
+fit_singly zero entries h = h
+fit_singly (suc n) [] h = fit_as_many (suc n) [] h
+fit_singly (suc n) (begins ∷ es) h = fit_singly n es (begin_off es n h)
+fit_singly (suc n) (ends ∷ es) h = fit_as_many (suc n) (ends ∷ es) h
+fit_singly (suc n) (inserted x y ∷ es) h = fit_as_many (suc n) (inserted x y ∷ es) h
+fit_singly (suc n) (deleted x y ∷ es) h = fit_as_many (suc n) (deleted x y ∷ es) h
+fit_singly (suc n) (replaced x y z ∷ es) h = fit_as_many (suc n) (replaced x y z ∷ es) h
+
 fit_closed : (n : ℕ) (entries : List Entry) → Fit entries n → Fit (closed n entries) 0
-fit_closed zero entries h = h
-fit_closed (suc n) [] h = fit_as_many (suc n) [] h
-fit_closed (suc n) (begins ∷ es) h = fit_closed n es (begin_off es n h)
-fit_closed (suc n) (ends ∷ es) h = fit_as_many (suc n) (ends ∷ es) h
-fit_closed (suc n) (inserted x y ∷ es) h = fit_as_many (suc n) (inserted x y ∷ es) h
-fit_closed (suc n) (deleted x y ∷ es) h = fit_as_many (suc n) (deleted x y ∷ es) h
-fit_closed (suc n) (replaced x y z ∷ es) h = fit_as_many (suc n) (replaced x y z ∷ es) h
+fit_closed n entries h = subst (λ es. Fit es 0) (sym (closed-singly n entries)) (fit_singly n entries h)
 
 -- ---- steps that are taken back
 
@@ -257,13 +261,16 @@ count_behind p none (x ∷ es) rest e t =
     count_no p x (es ++ e ∷ rest) (suc (length es)) (none x split.0) ∙ count_behind p none es rest e split.1
 
 -- the newest entry is no begin, so an end is added
+one_end_singly : (inside rest : List Entry) → 0 < length inside → list_all is_change inside ≡ true → closed_singly 1 (inside ++ rest) ≡ ends ∷ (inside ++ rest)
+one_end_singly [] rest some t = absurd (omega arith)
+one_end_singly (begins ∷ es) rest some t = cc
+one_end_singly (ends ∷ es) rest some t = refl
+one_end_singly (inserted x y ∷ es) rest some t = refl
+one_end_singly (deleted x y ∷ es) rest some t = refl
+one_end_singly (replaced x y z ∷ es) rest some t = refl
+
 one_end : (inside rest : List Entry) → 0 < length inside → list_all is_change inside ≡ true → closed 1 (inside ++ rest) ≡ ends ∷ (inside ++ rest)
-one_end [] rest some t = absurd (omega arith)
-one_end (begins ∷ es) rest some t = cc
-one_end (ends ∷ es) rest some t = refl
-one_end (inserted x y ∷ es) rest some t = refl
-one_end (deleted x y ∷ es) rest some t = refl
-one_end (replaced x y z ∷ es) rest some t = refl
+one_end inside rest some t = closed-singly 1 (inside ++ rest) ∙ one_end_singly inside rest some t
 
 taken_behind : (inside : List Entry) (l : Line) → all_taken_back (inside ++ begins ∷ []) l ≡ all_taken_back inside l
 taken_behind [] l = refl

@@ -46,8 +46,8 @@ ring_mode (ForwardChar _) = None
 ring_mode m = Some (mode_of (direction_of m))
 
 -- the place, the text and the side of what goes with a range
-abbrev pub killed : Line → Movement → Option (ℕ × ℕ) → Option (ℕ × List ℕ × Direction)
-killed l m range = option_map (λ r. (r.0, slice_range l.text r.0 r.1, direction_of m)) range
+abbrev pub kill_answer : Line → Movement → Option (ℕ × ℕ) → Option (ℕ × List ℕ × Direction)
+kill_answer l m range = option_map (λ r. (r.0, slice_range l.text r.0 r.1, direction_of m)) range
 
 -- the changes once a range of the line went
 abbrev pub with_killed : Line → Option (ℕ × ℕ) → Changes → Changes
@@ -60,12 +60,12 @@ ring_with_killed l m None ring = ring
 ring_with_killed l m (Some r) ring = with_kept ring (slice_range l.text r.0 r.1) (ring_mode m)
 
 -- what a call answers of these three
-abbrev pub killed_of : {Z : Type 0} → ℕ × String Z × Direction → ℕ × List ℕ × Direction
-killed_of answer = (answer.0, string_bytes answer.1, answer.2)
+abbrev pub in_bytes : {Z : Type 0} → ℕ × String Z × Direction → ℕ × List ℕ × Direction
+in_bytes answer = (answer.0, string_bytes answer.1, answer.2)
 
 -- a kill by a movement, which takes a range: what it answers, and what the ring keeps; after an error too the ring has no more than its slots
 pub record Kills {E Z : Type 0} (result : Result (Option (ℕ × String Z × Direction)) E) (l : Line) (m : Movement) (range : Option (ℕ × ℕ)) (old new : Ring) : Type 0 where
-  pub answer : IfOk result (λ r. option_map killed_of r ≡ killed l m range)
+  pub answer : IfOk result (λ r. option_map in_bytes r ≡ kill_answer l m range)
   pub ring : OnOk result (new ≡ ring_with_killed l m range old)
   pub size : new.size ≡ old.size
   pub bound : OnErr result (length new.slots ≤ new.size)

@@ -32,7 +32,7 @@ all_taken_back [] l = l
 all_taken_back (e ∷ entries) l = all_taken_back entries (taken_back e l)
 
 -- a text stands at a place of another
-pub record StandsAt (text : List ℕ) (place : ℕ) (t : List ℕ) : Type 0 where
+pub record OccursAt (text : List ℕ) (place : ℕ) (t : List ℕ) : Type 0 where
   pub is : slice_range text place (place + length t) ≡ t
   pub start : IsCharBoundary text place
   pub stop : IsCharBoundary text (place + length t)
@@ -41,9 +41,9 @@ pub record StandsAt (text : List ℕ) (place : ℕ) (t : List ℕ) : Type 0 wher
 abbrev pub Fits : Entry → List ℕ → Type 0
 Fits begins text = Unit {0}
 Fits ends text = Unit {0}
-Fits (inserted place t) text = StandsAt text place t
+Fits (inserted place t) text = OccursAt text place t
 Fits (deleted place t) text = IsCharBoundary text place
-Fits (replaced place old new) text = StandsAt text place new
+Fits (replaced place old new) text = OccursAt text place new
 
 -- the entries tell how a text came from another: taken back, they give that one
 abbrev pub TellsOf : List Entry → List ℕ → List ℕ → Type 0

@@ -37,7 +37,7 @@ impl Model for KillRing {
 
     ghost Value = { Ring };
 
-    ghost use Rattle.line_buffer.specs.Acted.{action_of};
+    ghost use Rattle.line_buffer.specs.RingAction.{action_of};
 
     ghost view = { λ r. record { size = r.size; slots = map string_bytes r.slots.items; current = r.current; last = action_of r.last } };
 
@@ -46,9 +46,9 @@ impl Model for KillRing {
 
 impl KillRing {
     ghost use Rattle.std.specs.Borrow.{sem};
-    ghost use Rattle.line_buffer.specs.Lent.{EndsAs};
+    ghost use Rattle.line_buffer.specs.RingLoan.{EndsAs};
 
-    /// A ring of `size` slots that holds nothing yet. It grows from `alloc`.
+    /// Returns a ring of `size` slots that holds nothing yet. It grows from `alloc`.
     pub fn new(alloc: Global, size: usize) -> KillRing
         ensures { result ≡ empty_ring size }
     {
@@ -67,9 +67,13 @@ impl KillRing {
         self.last = Action::Other;
     }
 
-    /// Keeps a text that was killed: right after a kill it joins the current slot, on the side that `mode`
-    /// tells; else it takes the next slot, which becomes the current one. A ring of size 0 keeps nothing.
-    /// `OutOfMemory` comes where a slot cannot grow; then the ring still has at most `size` slots.
+    /// Keeps a text that was killed: right after a kill it joins the current slot, on the side that
+    /// `mode` tells; else it takes the next slot, which becomes the current one. A ring of size 0
+    /// keeps nothing.
+    ///
+    /// # Errors
+    ///
+    /// `OutOfMemory` where a slot cannot grow; then the ring still has at most `size` slots.
     pub fn kill(&mut self, text: &str, mode: Mode) -> Result<(), OutOfMemory>
         ensures ring { OnOk result (self.new ≡ after_kill self.old text.now mode) }
         ensures fits { KeepsSize self.old self.new }
@@ -85,8 +89,8 @@ impl KillRing {
         self.take_next(text)
     }
 
-    /// Gives the text of the current slot, and records that it was yanked. `None` where nothing is held; then nothing
-    /// changes.
+    /// Gives the text of the current slot, and records that it was yanked. `None` where nothing is
+    /// held; then nothing changes.
     pub fn yank(&mut self) -> Option<&str>
         ensures* ring { sem 𝓛 (EndsAs self.entry (after_yank self.entry.now)) }
         ensures answer { option_copied result ≡ yanked_text self.entry.now }
@@ -95,9 +99,9 @@ impl KillRing {
         self.current_text()
     }
 
-    /// Right after a yank goes one slot back, from the first to the last that is held, and gives the bytes of the yank
-    /// before and the text that is there now, which is recorded as yanked. `None` where the last action was no yank or
-    /// nothing is held; then nothing changes.
+    /// Right after a yank goes one slot back, from the first to the last that is held, and gives
+    /// the bytes of the yank before and the text that is there now, which is recorded as yanked.
+    /// `None` where the last action was no yank or nothing is held; then nothing changes.
     pub fn yank_pop(&mut self) -> Option<(usize, &str)>
         ensures* ring { sem 𝓛 (EndsAs self.entry (after_yank_pop self.entry.now)) }
         ensures answer { option_map (λ popped. (popped.0, popped.1.now)) result
@@ -188,7 +192,8 @@ impl KillRing {
         self.put(next, text)
     }
 
-    /// The slot behind the current one: 0 on an empty ring and behind the last that there may be.
+    /// Returns the slot behind the current one: 0 on an empty ring and behind the last that there
+    /// may be.
     fn next_slot(&self) -> usize
         ensures slot { result ≡ next_slot self.now }
         ensures within { result ≤ length self.now.slots }

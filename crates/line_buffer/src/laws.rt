@@ -6,7 +6,8 @@ pub fn taking_all_back()
     ensures { TakingAllBack }
 {}
 
-/// Where no group is open, taking so many steps back at once is taking one step back as often.
+/// Returns where no group is open, taking so many steps back at once is taking one step back as
+/// often.
 pub fn undoing_step_by_step()
     ensures { UndoingStepByStep }
 {}
@@ -16,12 +17,14 @@ pub fn killed_is_yanked()
     ensures { KilledIsYanked }
 {}
 
-/// A place by clusters or words lies between clusters of the text on that side of the cursor.
+/// Returns a place by clusters or words lies between clusters of the text on that side of the
+/// cursor.
 pub fn places_are_between_clusters()
     ensures { PlacesAreBetweenClusters }
 {}
 
-/// Where groups fit, as `Changeset::len` says that they do, and none is counted as open, none is open.
+/// Returns where groups fit, as `Changeset::len` says that they do, and none is counted as open,
+/// none is open.
 pub fn none_counted_none_open()
     ensures { NoneCountedNoneOpen }
 {}
@@ -41,7 +44,8 @@ pub fn yank_pops_come_round()
     ensures { YankPopsComeRound }
 {}
 
-/// A group with an entry of text, begun where none was open and closed, is one step of undo.
+/// Returns a group with an entry of text, begun where none was open and closed, is one step of
+/// undo.
 pub fn closed_group_is_one_step()
     ensures { ClosedGroupIsOneStep }
 {}

@@ -85,7 +85,7 @@ impl Model for LineBuffer {
 }
 
 impl LineBuffer {
-    /// An empty line. It grows from `alloc`.
+    /// Returns an empty line. It grows from `alloc`.
     pub fn new(alloc: Global) -> LineBuffer
         ensures { result ≡ record { text = []; cursor = 0 } }
     {
@@ -95,8 +95,12 @@ impl LineBuffer {
         }
     }
 
-    /// The line `text` with its cursor at byte `pos`, a character boundary. It grows from `alloc`.
-    /// `OutOfMemory` comes where the copy of the text is refused.
+    /// Returns the line `text` with its cursor at byte `pos`, a character boundary. It grows from
+    /// `alloc`.
+    ///
+    /// # Errors
+    ///
+    /// `OutOfMemory` where the copy of the text is refused.
     pub fn init(alloc: Global, text: &str, pos: usize) -> Result<LineBuffer, OutOfMemory>
         requires { IsCharBoundary text.now pos }
         ensures { IfOk result (λ l. l ≡ record { text = text.now; cursor = pos }) }
@@ -107,7 +111,7 @@ impl LineBuffer {
         })
     }
 
-    /// The whole text.
+    /// Returns the whole text.
     pub fn as_str(&self) -> &str
         ensures value { result.now ≡ self.now.text }
         ensures start { IsCharBoundary self.now.text 0 }
@@ -116,7 +120,7 @@ impl LineBuffer {
         self.buf.as_str()
     }
 
-    /// The cursor's place in bytes from the start of the text.
+    /// Returns the cursor's place in bytes from the start of the text.
     pub fn pos(&self) -> usize
         ensures value { result ≡ self.now.cursor }
         ensures boundary { IsCharBoundary self.now.text result }
@@ -124,7 +128,7 @@ impl LineBuffer {
         self.pos
     }
 
-    /// The length of the text in bytes.
+    /// Returns the length of the text in bytes.
     pub fn len(&self) -> usize
         ensures value { result ≡ length self.now.text }
         ensures cursor { IsCharBoundary self.now.text self.now.cursor }
@@ -132,7 +136,7 @@ impl LineBuffer {
         self.buf.len()
     }
 
-    /// Whether the text has no character.
+    /// Returns whether the text has no character.
     pub fn is_empty(&self) -> bool
         ensures value { result ≡ (length self.now.text == 0) }
         ensures cursor { IsCharBoundary self.now.text self.now.cursor }
@@ -148,21 +152,21 @@ impl LineBuffer {
         self.pos = pos;
     }
 
-    /// Whether nothing stands from the cursor on.
+    /// Returns whether nothing stands from the cursor on.
     pub fn is_cursor_at_end(&self) -> bool
         ensures { result ≡ is_at_end self.now }
     {
         self.pos == self.buf.len()
     }
 
-    /// Whether only white space stands from the cursor on.
+    /// Returns whether only white space stands from the cursor on.
     pub fn is_end_of_input(&self) -> bool
         ensures { result ≡ ends_in_white_space self.now }
     {
         self.after().chars().all(|c| c.is_whitespace())
     }
 
-    /// The text before the cursor.
+    /// Returns the text before the cursor.
     fn before(&self) -> &str
         ensures text { result.now ≡ before self.now }
         ensures len { length result.now ≡ self.now.cursor }
@@ -171,14 +175,14 @@ impl LineBuffer {
         &self.buf.as_str()[..self.pos]
     }
 
-    /// The text from the cursor on.
+    /// Returns the text from the cursor on.
     fn after(&self) -> &str
         ensures { result.now ≡ after self.now }
     {
         &self.buf.as_str()[self.pos..]
     }
 
-    /// The text before a boundary.
+    /// Returns the text before a boundary.
     fn text_to(&self, place: usize) -> &str
         requires { IsCharBoundary self.now.text place }
         ensures { result.now ≡ take place self.now.text }
@@ -186,7 +190,7 @@ impl LineBuffer {
         &self.buf.as_str()[..place]
     }
 
-    /// The text from a boundary on.
+    /// Returns the text from a boundary on.
     fn text_from(&self, place: usize) -> &str
         requires { IsCharBoundary self.now.text place }
         ensures { result.now ≡ drop place self.now.text }
@@ -194,8 +198,8 @@ impl LineBuffer {
         &self.buf.as_str()[place..]
     }
 
-    /// The place `n` clusters on from the cursor, or the text's end where there are fewer. `None` for
-    /// `n` = 0 and at the text's end.
+    /// Returns the place `n` clusters on from the cursor, or the text's end where there are fewer.
+    /// `None` for `n` = 0 and at the text's end.
     pub fn next_pos(&self, n: RepeatCount) -> Option<usize>
         ensures { IsOffsetOn result self.now (place_on self.now n) }
     {
@@ -205,8 +209,8 @@ impl LineBuffer {
         Some(self.pos + first_len(self.after(), n))
     }
 
-    /// The place `n` clusters back from the cursor, or the text's start where there are fewer. `None`
-    /// for `n` = 0 and at the text's start.
+    /// Returns the place `n` clusters back from the cursor, or the text's start where there are
+    /// fewer. `None` for `n` = 0 and at the text's start.
     pub fn prev_pos(&self, n: RepeatCount) -> Option<usize>
         ensures { IsOffsetBack result self.now (place_back self.now n) }
     {
@@ -216,14 +220,16 @@ impl LineBuffer {
         Some(last_start(self.before(), n))
     }
 
-    /// Moves the cursor `n` clusters on. Answers whether there is such a place; if not, the cursor stays.
+    /// Moves the cursor `n` clusters on. Returns whether there is such a place; if not, the cursor
+    /// stays.
     pub fn move_forward(&mut self, n: RepeatCount) -> bool
         ensures { MovesCursor result self.old self.new (place_on self.old n) }
     {
         self.move_to_place(self.next_pos(n))
     }
 
-    /// Moves the cursor `n` clusters back. Answers whether there is such a place; if not, the cursor stays.
+    /// Moves the cursor `n` clusters back. Returns whether there is such a place; if not, the
+    /// cursor stays.
     pub fn move_backward(&mut self, n: RepeatCount) -> bool
         ensures { MovesCursor result self.old self.new (place_back self.old n) }
     {
@@ -244,35 +250,35 @@ impl LineBuffer {
         }
     }
 
-    /// The start of the cursor's line.
+    /// Returns the start of the cursor's line.
     fn start_of_line(&self) -> usize
         ensures { IsOffset result self.now.text (start_of_line self.now) }
     {
         last_line_start(self.before())
     }
 
-    /// The end of the cursor's line, before its newline.
+    /// Returns the end of the cursor's line, before its newline.
     fn end_of_line(&self) -> usize
         ensures { IsOffset result self.now.text (end_of_line self.now) }
     {
         self.pos + first_line_len(self.after())
     }
 
-    /// Moves the cursor to the start of its line. Answers whether it moved.
+    /// Moves the cursor to the start of its line. Returns whether it moved.
     pub fn move_home(&mut self) -> bool
         ensures { PutsCursor result self.old self.new (start_of_line self.old) }
     {
         self.move_cursor(self.start_of_line())
     }
 
-    /// Moves the cursor to the end of its line, before the newline. Answers whether it moved.
+    /// Moves the cursor to the end of its line, before the newline. Returns whether it moved.
     pub fn move_end(&mut self) -> bool
         ensures { PutsCursor result self.old self.new (end_of_line self.old) }
     {
         self.move_cursor(self.end_of_line())
     }
 
-    /// Moves the cursor to the text's start. Answers whether it moved.
+    /// Moves the cursor to the text's start. Returns whether it moved.
     pub fn move_buffer_start(&mut self) -> bool
         ensures { PutsCursor result self.old self.new 0 }
     {
@@ -281,7 +287,7 @@ impl LineBuffer {
         moved
     }
 
-    /// Moves the cursor to the text's end. Answers whether it moved.
+    /// Moves the cursor to the text's end. Returns whether it moved.
     pub fn move_buffer_end(&mut self) -> bool
         ensures { PutsCursor result self.old self.new (length self.old.text) }
     {
@@ -289,7 +295,7 @@ impl LineBuffer {
         self.move_cursor(end)
     }
 
-    /// Moves the cursor to byte `to`, and answers whether it stood elsewhere.
+    /// Moves the cursor to byte `to`, and returns whether it stood elsewhere.
     fn move_cursor(&mut self, to: usize) -> bool
         requires { IsCharBoundary self.old.text to }
         ensures { PutsCursor result self.old self.new to }

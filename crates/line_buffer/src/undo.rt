@@ -83,15 +83,16 @@ impl Changeset {
         self.list.end()
     }
 
-    /// Takes `n` steps back, one for `n` = 0, or as many as there are: the newest entries are taken away and
-    /// what they tell is reversed in the line, which is the one that they tell of. An entry that was taken is
-    /// a step where no more ends than begins were taken by then. The cursor goes to where a text had come
-    /// in, or behind a text that came back. Returns whether a change of the text was taken back.
+    /// Takes `n` steps back, one for `n` = 0, or as many as there are: the newest entries are taken
+    /// away and what they tell is reversed in the line, which is the one that they tell of. An
+    /// entry that was taken is a step where no more ends than begins were taken by then. The cursor
+    /// goes to where a text had come in, or behind a text that came back. Returns whether a change
+    /// of the text was taken back.
     ///
     /// # Errors
     ///
-    /// `OutOfMemory` where the text cannot grow; then the list is empty with no open group, and the line is
-    /// text with its cursor on a boundary.
+    /// `OutOfMemory` where the text cannot grow; then the list is empty with no open group, and the
+    /// line is text with its cursor on a boundary.
     pub fn undo(&mut self, line: &mut LineBuffer, n: RepeatCount) -> Result<bool, OutOfMemory>
         requires { Tells self.old.entries line.old.text }
         ensures answer { IfOk result (λ undone. undone
@@ -103,8 +104,9 @@ impl Changeset {
         self.list.undo(line, n)
     }
 
-    /// Returns a copy of the text that came in last: of the newest entry but ends, the text that was inserted
-    /// or came for another. `None` where that entry is a begin or a delete, or there is none.
+    /// Returns a copy of the text that came in last: of the newest entry but ends, the text that
+    /// was inserted or came for another. `None` where that entry is a begin or a delete, or there
+    /// is none.
     ///
     /// # Errors
     ///

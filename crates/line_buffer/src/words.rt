@@ -30,7 +30,7 @@ pub(crate) enum Edge {
 }
 
 impl Edge {
-    /// Whether this edge of a word lies between two clusters of these kinds.
+    /// Returns whether this edge of a word lies between two clusters of these kinds.
     fn is_between(self, old: Kind, new: Kind) -> bool
         ensures { result ≡ edge_between self old new }
     {
@@ -40,7 +40,8 @@ impl Edge {
         }
     }
 
-    /// Whether this edge of a word lies between a cluster and the one before it, if there is one.
+    /// Returns whether this edge of a word lies between a cluster and the one before it, if there
+    /// is one.
     fn is_behind(self, old: Option<Kind>, new: Kind) -> bool
         ensures { result ≡ edge_behind (edge_between self) old new }
     {
@@ -51,7 +52,7 @@ impl Edge {
     }
 }
 
-/// Whether a word begins between two clusters of these kinds.
+/// Returns whether a word begins between two clusters of these kinds.
 fn begins_word(old: Kind, new: Kind) -> bool
     ensures { result ≡ begins_word old new }
 {
@@ -73,22 +74,22 @@ fn kind_of(word: Word, cluster: &str) -> Kind
     }
 }
 
-/// Whether all characters of the cluster are white space.
+/// Returns whether all characters of the cluster are white space.
 fn is_blank(cluster: &str) -> bool
     ensures { result ≡ is_blank cluster.now }
 {
     cluster.chars().all(|c| c.is_whitespace())
 }
 
-/// Whether all characters of the cluster are alphanumeric or underscores.
+/// Returns whether all characters of the cluster are alphanumeric or underscores.
 fn is_vi_text(cluster: &str) -> bool
     ensures { result ≡ is_made_of is_vi_letter cluster.now }
 {
     cluster.chars().all(|c| is_alphanumeric(c) || c == '_')
 }
 
-/// The `n`-th edge of words inside the clusters that are left, counted from 1: where the cluster before it
-/// begins, and where it lies, in bytes from where they begin.
+/// Returns the `n`-th edge of words inside the clusters that are left, counted from 1: where the
+/// cluster before it begins, and where it lies, in bytes from where they begin.
 pub(crate) fn nth_edge(
     clusters: Graphemes<'_>,
     word: Word,
@@ -120,8 +121,8 @@ pub(crate) fn nth_edge(
     None
 }
 
-/// Where the `n`-th word start inside the text lies, counted back from 1 at its end, in bytes; 0 where there
-/// are fewer.
+/// Returns where the `n`-th word start inside the text lies, counted back from 1 at its end, in
+/// bytes; 0 where there are fewer.
 pub(crate) fn nth_start_back(text: &str, word: Word, n: RepeatCount) -> usize
     requires { 0 < n }
     ensures { let cs = clusters text.now in
@@ -146,7 +147,7 @@ pub(crate) fn nth_start_back(text: &str, word: Word, n: RepeatCount) -> usize
     0
 }
 
-/// Whether a word begins between a cluster and the one behind it, if there is one.
+/// Returns whether a word begins between a cluster and the one behind it, if there is one.
 fn begins_before(old: Kind, new: Option<Kind>) -> bool
     ensures { result ≡ edge_before begins_word old new }
 {
@@ -156,8 +157,8 @@ fn begins_before(old: Kind, new: Option<Kind>) -> bool
     }
 }
 
-/// Where the text's last cluster begins, for words other than Emacs', or the text's end for those. `None`
-/// where the text is one cluster and the words are not Emacs'.
+/// Returns where the text's last cluster begins, for words other than Emacs', or the text's end for
+/// those. `None` where the text is one cluster and the words are not Emacs'.
 fn past_words(text: &str, word: Word) -> Option<usize>
     ensures { let cs = clusters text.now in
         IsOffsetIfAny result text.now (option_map (bytes_to cs) (past_the_words word (length cs))) }
@@ -169,7 +170,7 @@ fn past_words(text: &str, word: Word) -> Option<usize>
     }
 }
 
-/// The place of a movement by `n` words from the text's start on, in bytes.
+/// Returns the place of a movement by `n` words from the text's start on, in bytes.
 pub(crate) fn on_by_words(text: &str, at: At, word: Word, n: RepeatCount) -> Option<usize>
     requires count { 0 < n }
     requires some { 0 < length text.now }
@@ -189,7 +190,8 @@ pub(crate) fn on_by_words(text: &str, at: At, word: Word, n: RepeatCount) -> Opt
     }
 }
 
-/// Where the `n`-th word behind the text's first cluster has its last cluster, or for Emacs' words ends.
+/// Returns where the `n`-th word behind the text's first cluster has its last cluster, or for
+/// Emacs' words ends.
 fn before_end(text: &str, word: Word, n: RepeatCount) -> Option<usize>
     requires count { 0 < n }
     requires some { 0 < length text.now }
@@ -203,7 +205,8 @@ fn before_end(text: &str, word: Word, n: RepeatCount) -> Option<usize>
     }
 }
 
-/// Where the last cluster of the `n`-th word behind the text's first cluster begins, and where it ends.
+/// Returns where the last cluster of the `n`-th word behind the text's first cluster begins, and
+/// where it ends.
 fn nth_end_behind(text: &str, word: Word, n: RepeatCount) -> Option<(usize, usize)>
     requires { 0 < n }
     ensures places { let cs = clusters text.now in
@@ -223,7 +226,7 @@ fn nth_end_behind(text: &str, word: Word, n: RepeatCount) -> Option<(usize, usiz
     }
 }
 
-/// The length of the text.
+/// Returns the length of the text.
 fn all_clusters_len(text: &str) -> usize
     ensures len { result ≡ bytes_to (clusters text.now) (length (clusters text.now)) }
     ensures whole { result ≡ length (concat (clusters text.now)) }

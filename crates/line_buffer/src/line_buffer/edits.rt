@@ -5,7 +5,7 @@ ghost use Rattle.std.specs.List.{repeat};
 ghost use Rattle.line_buffer.specs.Changes.{with_insert, with_replaced, with_typed, with_update};
 ghost use Rattle.line_buffer.specs.Edit.{Edits, EditsIfOk, on_entries};
 ghost use Rattle.line_buffer.specs.Undo.{KeepsFront};
-ghost use Rattle.line_buffer.specs.Yank.{with_yank, with_yank_pop, yank_popped, yank_pops, yanked, yanks};
+ghost use Rattle.line_buffer.specs.Yank.{with_yank, with_yank_pop, line_yank_popped, yank_pops, line_yanked, yanks};
 ghost use Rattle.line_buffer.specs.Line.{is_at_end, inserted_at, inserted_at_cursor, replaced_in};
 
 use super::{LineBuffer, OutOfMemory};
@@ -15,9 +15,13 @@ use std::alloc::Global;
 use std::ops::Range;
 
 impl LineBuffer {
-    /// Inserts `n` copies of the character at the cursor, which goes behind them, and answers whether it
-    /// was at the text's end. `OutOfMemory` comes where the text or the list of changes cannot grow; then
-    /// the list is empty with no open group, and the line is text with its cursor on a boundary.
+    /// Inserts `n` copies of the character at the cursor, which goes behind them, and returns
+    /// whether it was at the text's end.
+    ///
+    /// # Errors
+    ///
+    /// `OutOfMemory` where the text or the list of changes cannot grow; then the list is empty with
+    /// no open group, and the line is text with its cursor on a boundary.
     pub fn insert(
         &mut self,
         c: char,
@@ -69,8 +73,11 @@ impl LineBuffer {
     }
 
     /// Inserts the text at byte `place`, a boundary at the cursor or after it. The cursor stays.
-    /// `OutOfMemory` comes where the text or the list of changes cannot grow; then the list is empty with no
-    /// open group, and the line is text with its cursor on a boundary.
+    ///
+    /// # Errors
+    ///
+    /// `OutOfMemory` where the text or the list of changes cannot grow; then the list is empty with
+    /// no open group, and the line is text with its cursor on a boundary.
     pub fn insert_str(
         &mut self,
         place: usize,
@@ -105,10 +112,13 @@ impl LineBuffer {
         Ok(())
     }
 
-    /// Inserts `n` copies of the text at the cursor, which goes behind them. Answers whether it was at the
-    /// text's end, or `None` for an empty text. `OutOfMemory` comes where the text or the list of changes
-    /// cannot grow; then the list is empty with no open group, and the line is text with its cursor on a
-    /// boundary.
+    /// Inserts `n` copies of the text at the cursor, which goes behind them. Returns whether it was
+    /// at the text's end, or `None` for an empty text.
+    ///
+    /// # Errors
+    ///
+    /// `OutOfMemory` where the text or the list of changes cannot grow; then the list is empty with
+    /// no open group, and the line is text with its cursor on a boundary.
     pub fn yank(
         &mut self,
         text: &str,
@@ -117,7 +127,7 @@ impl LineBuffer {
     ) -> Result<Option<bool>, OutOfMemory>
         ensures answer { IfOk result (λ at_end. at_end ≡ yanks self.old text.now) }
         ensures edit { Edits result self.old self.new changes.old changes.new
-            (yanked self.old text.now n)
+            (line_yanked self.old text.now n)
             (on_entries (with_yank self.old.cursor text.now n)) }
     {
         let outcome = self.try_yank(text, n, changes);
@@ -132,7 +142,7 @@ impl LineBuffer {
     ) -> Result<Option<bool>, OutOfMemory>
         ensures answer { IfOk result (λ at_end. at_end ≡ yanks self.old text.now) }
         ensures edit { EditsIfOk result self.old self.new changes.old changes.new
-            (yanked self.old text.now n)
+            (line_yanked self.old text.now n)
             (on_entries (with_yank self.old.cursor text.now n)) }
     {
         let _ = &self.pos;
@@ -144,11 +154,14 @@ impl LineBuffer {
         Ok(Some(at_end))
     }
 
-    /// Takes `size` bytes before the cursor away and inserts the text in their place, with the cursor behind
-    /// it. Answers whether the cursor was then at the text's end; `None` for an empty text, and where `size`
-    /// bytes pass the text's start or cut a character: then nothing changes. `OutOfMemory` comes where the
-    /// text or the list of changes cannot grow; then the list is empty with no open group, and the line is
-    /// text with its cursor on a boundary.
+    /// Takes `size` bytes before the cursor away and inserts the text in their place, with the
+    /// cursor behind it. Returns whether the cursor was then at the text's end; `None` for an empty
+    /// text, and where `size` bytes pass the text's start or cut a character: then nothing changes.
+    ///
+    /// # Errors
+    ///
+    /// `OutOfMemory` where the text or the list of changes cannot grow; then the list is empty with
+    /// no open group, and the line is text with its cursor on a boundary.
     pub fn yank_pop(
         &mut self,
         size: usize,
@@ -157,7 +170,7 @@ impl LineBuffer {
     ) -> Result<Option<bool>, OutOfMemory>
         ensures answer { IfOk result (λ at_end. at_end ≡ yank_pops self.old size text.now) }
         ensures edit { Edits result self.old self.new changes.old changes.new
-            (yank_popped self.old size text.now)
+            (line_yank_popped self.old size text.now)
             (on_entries (with_yank_pop self.old size text.now)) }
     {
         let outcome = self.try_yank_pop(size, text, changes);
@@ -172,7 +185,7 @@ impl LineBuffer {
     ) -> Result<Option<bool>, OutOfMemory>
         ensures answer { IfOk result (λ at_end. at_end ≡ yank_pops self.old size text.now) }
         ensures edit { EditsIfOk result self.old self.new changes.old changes.new
-            (yank_popped self.old size text.now)
+            (line_yank_popped self.old size text.now)
             (on_entries (with_yank_pop self.old size text.now)) }
     {
         let end = self.pos;
@@ -183,9 +196,12 @@ impl LineBuffer {
         self.try_yank(text, 1, changes)
     }
 
-    /// Puts a text in place of the whole line, and the cursor at byte `pos` of it. `OutOfMemory` comes where
-    /// the text or the list of changes cannot grow; then the list is empty with no open group, and the line
-    /// is text with its cursor on a boundary.
+    /// Puts a text in place of the whole line, and the cursor at byte `pos` of it.
+    ///
+    /// # Errors
+    ///
+    /// `OutOfMemory` where the text or the list of changes cannot grow; then the list is empty with
+    /// no open group, and the line is text with its cursor on a boundary.
     pub fn update(
         &mut self,
         text: &str,
@@ -219,9 +235,13 @@ impl LineBuffer {
         Ok(())
     }
 
-    /// Puts a text in place of a range of bytes, and the cursor behind it. The range begins and ends on
-    /// boundaries. `OutOfMemory` comes where the text or the list of changes cannot grow; then the list is
-    /// empty with no open group, and the line is text with its cursor on a boundary.
+    /// Puts a text in place of a range of bytes, and the cursor behind it. The range begins and
+    /// ends on boundaries.
+    ///
+    /// # Errors
+    ///
+    /// `OutOfMemory` where the text or the list of changes cannot grow; then the list is empty with
+    /// no open group, and the line is text with its cursor on a boundary.
     pub fn replace(
         &mut self,
         range: Range<usize>,
@@ -266,8 +286,8 @@ impl LineBuffer {
         Ok(())
     }
 
-    /// Inserts the text at the cursor, which goes behind it, tells of it, and answers whether the cursor was at
-    /// the text's end.
+    /// Inserts the text at the cursor, which goes behind it, tells of it, and returns whether the
+    /// cursor was at the text's end.
     pub(super) fn insert_told(
         &mut self,
         text: &str,
@@ -284,7 +304,8 @@ impl LineBuffer {
         Ok(at_end)
     }
 
-    /// Inserts the text at the cursor, which goes behind it, and answers whether it was at the text's end.
+    /// Inserts the text at the cursor, which goes behind it, and returns whether it was at the
+    /// text's end.
     pub(super) fn insert_text(&mut self, text: &str) -> Result<bool, OutOfMemory>
         ensures answer { IfOk result (λ at_end. at_end ≡ is_at_end self.old) }
         ensures line { OnOk result (self.new ≡ inserted_at_cursor self.old text.now) }
@@ -299,7 +320,7 @@ impl LineBuffer {
     }
 }
 
-/// `n` copies of the text.
+/// Returns `n` copies of the text.
 #[tactic(auto, using(crate::proofs::ListLemmas::repeat_one_more))]
 pub(super) fn repeated(alloc: Global, text: &str, n: RepeatCount) -> Result<String, OutOfMemory>
     ensures { IfOk result (λ copies. string_bytes copies ≡ repeat n text.now) }

@@ -15,13 +15,17 @@ use crate::undo::Changeset;
 use std::alloc::Global;
 
 impl LineBuffer {
-    /// Puts `amount` spaces before each line with a character of the movement's range, or for `dedent` takes
-    /// up to `amount` white-space characters away at its front. A line's newline is a character of it, and
-    /// stays. The range is that of a movement by words, by lines up or down, or over the buffer; for another,
-    /// or where the range is empty or there is none, it is the cursor's line. The cursor stays with its
-    /// character, or goes to the line's start where that went. Answers true. `OutOfMemory` comes where the
-    /// text or the list of changes cannot grow; then the list is empty with no open group, and the line is
-    /// text with its cursor on a boundary.
+    /// Puts `amount` spaces before each line with a character of the movement's range, or for
+    /// `dedent` takes up to `amount` white-space characters away at its front. A line's newline is
+    /// a character of it, and stays. The range is that of a movement by words, by lines up or down,
+    /// or over the buffer; for another, or where the range is empty or there is none, it is the
+    /// cursor's line. The cursor stays with its character, or goes to the line's start where that
+    /// went. Returns true.
+    ///
+    /// # Errors
+    ///
+    /// `OutOfMemory` where the text or the list of changes cannot grow; then the list is empty with
+    /// no open group, and the line is text with its cursor on a boundary.
     pub fn indent(
         &mut self,
         mvt: &Movement,
@@ -41,7 +45,7 @@ impl LineBuffer {
         Ok(true)
     }
 
-    /// Where the lines begin and end that the movement indents.
+    /// Returns where the lines begin and end that the movement indents.
     fn indented_range(&self, mvt: &Movement) -> (usize, usize)
         ensures range { result ≡ indented_range self.now mvt.now }
         ensures lines { EndsLine self.now.text result.0 result.1 }
@@ -56,7 +60,7 @@ impl LineBuffer {
         }
     }
 
-    /// The range of a movement by words, by lines or over the buffer.
+    /// Returns the range of a movement by words, by lines or over the buffer.
     fn range_by_lines(&self, mvt: &Movement) -> Option<(usize, usize)>
         ensures { IsRangeIfAny result self.now (range_by_lines self.now mvt.now) }
     {
@@ -72,7 +76,7 @@ impl LineBuffer {
         }
     }
 
-    /// The end of the line that holds the character before a boundary.
+    /// Returns the end of the line that holds the character before a boundary.
     fn end_of_line_before(&self, to: usize) -> usize
         requires boundary { IsCharBoundary self.now.text to }
         requires some { 0 < to }
@@ -113,7 +117,8 @@ impl LineBuffer {
         }
     }
 
-    /// Indents or dedents the line that begins at `start`, tells of it, and answers where it ends then.
+    /// Indents or dedents the line that begins at `start`, tells of it, and returns where it ends
+    /// then.
     fn shift_line(
         &mut self,
         start: usize,
@@ -133,7 +138,8 @@ impl LineBuffer {
         }
     }
 
-    /// Puts spaces before the line that begins at `start`, tells of it, and answers where it ends then.
+    /// Puts spaces before the line that begins at `start`, tells of it, and returns where it ends
+    /// then.
     fn indent_line(
         &mut self,
         start: usize,
@@ -159,8 +165,8 @@ impl LineBuffer {
         Ok(stop)
     }
 
-    /// Takes up to `amount` white-space characters away at the front of the line that begins at `start`,
-    /// tells of it, and answers where the line ends then.
+    /// Takes up to `amount` white-space characters away at the front of the line that begins at
+    /// `start`, tells of it, and returns where the line ends then.
     fn dedent_line(
         &mut self,
         start: usize,
@@ -186,7 +192,7 @@ impl LineBuffer {
     }
 }
 
-/// The spaces that come before each line.
+/// Returns the spaces that come before each line.
 fn spaces_before(alloc: Global, amount: usize, dedent: bool) -> Result<String, OutOfMemory>
     ensures { IfOk result (λ spaces. string_bytes spaces
         ≡ (if dedent then [] else replicate amount 32)) }
@@ -197,7 +203,8 @@ fn spaces_before(alloc: Global, amount: usize, dedent: bool) -> Result<String, O
     Ok(" ".repeat(alloc, amount)?)
 }
 
-/// How many bytes the white-space characters at the text's front take, at most `amount` of them.
+/// Returns how many bytes the white-space characters at the text's front take, at most `amount` of
+/// them.
 fn blank_len(text: &str, amount: usize) -> usize
     ensures len { result ≡ length (blank_front amount text.now) }
     ensures boundary { IsCharBoundary text.now result }

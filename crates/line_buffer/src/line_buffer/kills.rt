@@ -5,7 +5,7 @@ ghost use Rattle.line_buffer.specs.Offset.{IsRangeIfAny, IsSpan};
 ghost use Rattle.std.specs.Prelude.{◌≡◌, ◌≤◌, ◌<◌, List, length, string_bytes, option_map, slice_range, Option, Some, None, IfOk, IfSome, OnOk, OnErr, IsCharBoundary};
 ghost use Rattle.line_buffer.specs.Changes.{with_entries, with_delete};
 ghost use Rattle.line_buffer.specs.Cluster.{place_on};
-ghost use Rattle.line_buffer.specs.Kill.{direction_of, killed, killed_range, killed_of, mode_of, neighbour_of, ring_mode, ring_with_killed, with_killed};
+ghost use Rattle.line_buffer.specs.Kill.{direction_of, kill_answer, killed_range, in_bytes, mode_of, neighbour_of, ring_mode, ring_with_killed, with_killed};
 ghost use Rattle.line_buffer.specs.Line.{without};
 ghost use Rattle.line_buffer.specs.Undo.{KeepsFront};
 ghost use Rattle.line_buffer.specs.Range.{from_cursor, range_of, text_in, unless_empty, up_to_cursor};
@@ -16,11 +16,15 @@ use crate::kill_ring::{KillRing, Mode};
 use crate::undo::Changeset;
 
 impl LineBuffer {
-    /// Takes the range of the movement out of the line, and the cursor to where it began. Where the range
-    /// of a line's end or of a whole line is empty, the cluster after the cursor goes, and where that of a
-    /// line's beginning is, the one before. Answers the place in bytes, the text, and on which side of the
-    /// cursor the movement led; `None` where nothing goes. All but single clusters are kept in the kill
-    /// ring. `OutOfMemory` comes where a copy of the text cannot be made; then the list of changes is empty
+    /// Takes the range of the movement out of the line, and the cursor to where it began. Where the
+    /// range of a line's end or of a whole line is empty, the cluster after the cursor goes, and
+    /// where that of a line's beginning is, the one before. Returns the place in bytes, the text,
+    /// and on which side of the cursor the movement led; `None` where nothing goes. All but single
+    /// clusters are kept in the kill ring.
+    ///
+    /// # Errors
+    ///
+    /// `OutOfMemory` where a copy of the text cannot be made; then the list of changes is empty
     /// with no open group, and the line is text with its cursor on a boundary.
     pub fn kill(
         &mut self,
@@ -60,9 +64,13 @@ impl LineBuffer {
         Ok(Some((from, text, direction_of(mvt))))
     }
 
-    /// Takes `n` clusters after the cursor away, or as many as there are, and answers their text; `None`
-    /// for `n` = 0 and at the text's end. `OutOfMemory` comes where a copy of the text cannot be made; then
-    /// the list of changes is empty with no open group, and the line is text with its cursor on a boundary.
+    /// Takes `n` clusters after the cursor away, or as many as there are, and returns their text;
+    /// `None` for `n` = 0 and at the text's end.
+    ///
+    /// # Errors
+    ///
+    /// `OutOfMemory` where a copy of the text cannot be made; then the list of changes is empty
+    /// with no open group, and the line is text with its cursor on a boundary.
     pub fn delete(
         &mut self,
         n: RepeatCount,
@@ -82,8 +90,12 @@ impl LineBuffer {
         changes.settled(outcome)
     }
 
-    /// A copy of the text that the movement spans, or `None` where its range is empty or there is none.
-    /// `OutOfMemory` comes where the copy is refused.
+    /// Returns a copy of the text that the movement spans, or `None` where its range is empty or
+    /// there is none.
+    ///
+    /// # Errors
+    ///
+    /// `OutOfMemory` where the copy is refused.
     pub fn copy(&self, mvt: &Movement) -> Result<Option<String>, OutOfMemory>
         ensures { IfOk result (λ r. option_map string_bytes r
             ≡ text_in self.now.text (unless_empty (range_of self.now mvt.now))) }
@@ -94,7 +106,7 @@ impl LineBuffer {
         }
     }
 
-    /// Takes a range away, tells of it, and answers its text.
+    /// Takes a range away, tells of it, and returns its text.
     fn take_range(
         &mut self,
         from: usize,
@@ -129,7 +141,7 @@ impl LineBuffer {
         Ok(())
     }
 
-    /// A copy of the text from one byte to another.
+    /// Returns a copy of the text from one byte to another.
     pub(super) fn copy_range(&self, from: usize, to: usize) -> Result<String, OutOfMemory>
         requires { IsSpan self.now.text from to }
         ensures { IfOk result (λ text. string_bytes text ≡ slice_range self.now.text from to) }
@@ -150,7 +162,7 @@ impl LineBuffer {
         Ok(())
     }
 
-    /// The range of the movement, in bytes.
+    /// Returns the range of the movement, in bytes.
     pub(super) fn range(&self, mvt: &Movement) -> Option<(usize, usize)>
         ensures { IsRangeIfAny result self.now (range_of self.now mvt.now) }
     {
@@ -175,7 +187,7 @@ impl LineBuffer {
         }
     }
 
-    /// From a place before the cursor to the cursor.
+    /// Returns the range from a place before the cursor to the cursor.
     pub(super) fn up_to_cursor(&self, place: Option<usize>) -> Option<(usize, usize)>
         requires { IfSome place (λ p. (p ≤ self.now.cursor) × IsCharBoundary self.now.text p) }
         ensures { IsRangeIfAny result self.now (up_to_cursor self.now place) }
@@ -186,7 +198,7 @@ impl LineBuffer {
         }
     }
 
-    /// From the cursor to a place after it.
+    /// Returns the range from the cursor to a place after it.
     pub(super) fn from_cursor(&self, place: Option<usize>) -> Option<(usize, usize)>
         requires { IfSome place (λ p. (self.now.cursor ≤ p) × IsCharBoundary self.now.text p) }
         ensures { IsRangeIfAny result self.now (from_cursor self.now place) }
@@ -197,7 +209,7 @@ impl LineBuffer {
         }
     }
 
-    /// The range that a kill by the movement takes.
+    /// Returns the range that a kill by the movement takes.
     fn killed_range(&self, mvt: &Movement) -> Option<(usize, usize)>
         ensures cursor { IsCharBoundary self.now.text self.now.cursor }
         ensures range { IsRangeIfAny result self.now (killed_range self.now mvt.now) }
@@ -209,7 +221,8 @@ impl LineBuffer {
         }
     }
 
-    /// The cluster beside the cursor that a kill takes where the range of its movement is empty.
+    /// Returns the cluster beside the cursor that a kill takes where the range of its movement is
+    /// empty.
     fn neighbour(&self, mvt: &Movement) -> Option<(usize, usize)>
         ensures { IsRangeIfAny result self.now (neighbour_of self.now mvt.now) }
     {
@@ -221,7 +234,7 @@ impl LineBuffer {
     }
 }
 
-/// On which side of the cursor the movement leads.
+/// Returns on which side of the cursor the movement leads.
 fn direction_of(mvt: &Movement) -> Direction
     ensures { result ≡ direction_of mvt.now }
 {
@@ -237,7 +250,7 @@ fn direction_of(mvt: &Movement) -> Direction
     }
 }
 
-/// Where what the movement spans joins the kill ring; `None` for single clusters.
+/// Returns where what the movement spans joins the kill ring; `None` for single clusters.
 fn ring_mode(mvt: &Movement) -> Option<Mode>
     ensures { result ≡ ring_mode mvt.now }
 {

@@ -12,7 +12,7 @@ use crate::layout::Layout;
 use unicode_segmentation::UnicodeSegmentation;
 
 impl LineBuffer {
-    /// The start of the line `n` above the one that begins at `start`, or of the first.
+    /// Returns the start of the line `n` above the one that begins at `start`, or of the first.
     fn start_above(&self, start: usize, n: RepeatCount) -> usize
         requires { IsCharBoundary self.now.text start }
         ensures offset { IsOffset result self.now.text (lines_above n self.now.text start) }
@@ -29,7 +29,7 @@ impl LineBuffer {
         place
     }
 
-    /// The start of the line `n` below the one that begins at `start`, or of the last.
+    /// Returns the start of the line `n` below the one that begins at `start`, or of the last.
     fn start_below(&self, start: usize, n: RepeatCount) -> usize
         requires { IsCharBoundary self.now.text start }
         ensures offset { IsOffset result self.now.text (lines_below n self.now.text start) }
@@ -46,7 +46,7 @@ impl LineBuffer {
         place
     }
 
-    /// Behind the newline of the line that begins at `start`, or the text's end.
+    /// Returns the place behind the newline of the line that begins at `start`, or the text's end.
     pub(super) fn line_stop(&self, start: usize) -> usize
         requires { IsCharBoundary self.now.text start }
         ensures offset { IsOffset result self.now.text (line_stop self.now.text start) }
@@ -59,7 +59,7 @@ impl LineBuffer {
         }
     }
 
-    /// The range of the cursor's line and `n` lines above it.
+    /// Returns the range of the cursor's line and `n` lines above it.
     pub(super) fn lines_up(&self, n: RepeatCount) -> Option<(usize, usize)>
         ensures { IsRangeIfAny result self.now (lines_up self.now n) }
     {
@@ -70,7 +70,7 @@ impl LineBuffer {
         Some((self.start_above(start, n), self.line_stop(start)))
     }
 
-    /// The range of the cursor's line and `n` lines below it.
+    /// Returns the range of the cursor's line and `n` lines below it.
     pub(super) fn lines_down(&self, n: RepeatCount) -> Option<(usize, usize)>
         ensures { IsRangeIfAny result self.now (lines_down self.now n) }
     {
@@ -81,10 +81,10 @@ impl LineBuffer {
         Some((start, self.line_stop(self.start_below(start, n))))
     }
 
-    /// Moves the cursor to the line `n` above, one for `n` = 0, or to the first: to the greatest place between
-    /// clusters whose column is not past the cursor's, or else to the line's start. Answers whether the
-    /// cursor's line is not the first; if it is, the cursor stays. Columns are those of the layout's mode, and
-    /// the first line begins behind its prompt.
+    /// Moves the cursor to the line `n` above, one for `n` = 0, or to the first: to the greatest
+    /// place between clusters whose column is not past the cursor's, or else to the line's start.
+    /// Returns whether the cursor's line is not the first; if it is, the cursor stays. Columns are
+    /// those of the layout's mode, and the first line begins behind its prompt.
     pub fn move_to_line_up(&mut self, n: RepeatCount, layout: &Layout) -> bool
         ensures { MovesCursor result self.old self.new (up_by layout.now self.old n) }
     {
@@ -96,10 +96,10 @@ impl LineBuffer {
         self.move_to_place(Some(self.place_in_line(layout, above)))
     }
 
-    /// Moves the cursor to the line `n` below, one for `n` = 0, or to the last: to the greatest place between
-    /// clusters whose column is not past the cursor's, or else to the line's start. Answers whether the
-    /// cursor's line is not the last; if it is, the cursor stays. Columns are those of the layout's mode, and
-    /// the first line begins behind its prompt.
+    /// Moves the cursor to the line `n` below, one for `n` = 0, or to the last: to the greatest
+    /// place between clusters whose column is not past the cursor's, or else to the line's start.
+    /// Returns whether the cursor's line is not the last; if it is, the cursor stays. Columns are
+    /// those of the layout's mode, and the first line begins behind its prompt.
     pub fn move_to_line_down(&mut self, n: RepeatCount, layout: &Layout) -> bool
         ensures { MovesCursor result self.old self.new (down_by layout.now self.old n) }
     {
@@ -111,7 +111,7 @@ impl LineBuffer {
         self.move_to_place(Some(self.place_in_line(layout, below)))
     }
 
-    /// The place in the line that begins at `start` whose column fits the cursor's.
+    /// Returns the place in the line that begins at `start` whose column fits the cursor's.
     fn place_in_line(&self, layout: &Layout, start: usize) -> usize
         requires { IsCharBoundary self.now.text start }
         ensures { IsOffset result self.now.text (place_in_line layout.now self.now start) }
@@ -123,7 +123,7 @@ impl LineBuffer {
     }
 }
 
-/// The column of a text in a line that begins at `start`.
+/// Returns the column of a text in a line that begins at `start`.
 fn column_in(layout: &Layout, start: usize, text: &str) -> usize
     ensures { result ≡ column_in layout.now start text.now }
 {
@@ -135,7 +135,8 @@ fn column_in(layout: &Layout, start: usize, text: &str) -> usize
     before + layout.width(text) as usize
 }
 
-/// The greatest place between clusters of the line whose column is not past `column`, or its start.
+/// Returns the greatest place between clusters of the line whose column is not past `column`, or
+/// its start.
 fn fitting(layout: &Layout, start: usize, line: &str, column: usize) -> usize
     ensures { IsOffset result line.now (fitting layout.now start line.now column) }
 {

@@ -14,7 +14,7 @@ use crate::search::{nth_char, nth_char_back};
 use crate::words::{nth_start_back, on_by_words};
 
 impl LineBuffer {
-    /// The place of a movement on by `n` words.
+    /// Returns the place of a movement on by `n` words.
     pub(super) fn next_word_pos(&self, at: At, word: Word, n: RepeatCount) -> Option<usize>
         ensures { IsOffsetOn result self.now (word_on at word self.now n) }
     {
@@ -27,7 +27,7 @@ impl LineBuffer {
         }
     }
 
-    /// The place of a movement back by `n` words.
+    /// Returns the place of a movement back by `n` words.
     pub(super) fn prev_word_pos(&self, word: Word, n: RepeatCount) -> Option<usize>
         ensures { IsOffsetBack result self.now (word_back word self.now n) }
     {
@@ -37,32 +37,32 @@ impl LineBuffer {
         Some(nth_start_back(self.before(), word, n))
     }
 
-    /// Moves the cursor on by `n` words, to the start of one, to before its end or to after it. Answers
-    /// whether there is such a place; if not, the cursor stays.
+    /// Moves the cursor on by `n` words, to the start of one, to before its end or to after it.
+    /// Returns whether there is such a place; if not, the cursor stays.
     pub fn move_to_next_word(&mut self, at: At, word: Word, n: RepeatCount) -> bool
         ensures { MovesCursor result self.old self.new (word_on at word self.old n) }
     {
         self.move_to_place(self.next_word_pos(at, word, n))
     }
 
-    /// Moves the cursor back to the start of the `n`-th word before it. Answers whether there is such a
-    /// place; if not, the cursor stays.
+    /// Moves the cursor back to the start of the `n`-th word before it. Returns whether there is
+    /// such a place; if not, the cursor stays.
     pub fn move_to_prev_word(&mut self, word: Word, n: RepeatCount) -> bool
         ensures { MovesCursor result self.old self.new (word_back word self.old n) }
     {
         self.move_to_place(self.prev_word_pos(word, n))
     }
 
-    /// Moves the cursor to the `n`-th place that the search leads to, or to the last where there are fewer.
-    /// A search on begins behind the cluster after the cursor. Answers whether there is such a place; if
-    /// not, and for `n` = 0, the cursor stays.
+    /// Moves the cursor to the `n`-th place that the search leads to, or to the last where there
+    /// are fewer. A search on begins behind the cluster after the cursor. Returns whether there is
+    /// such a place; if not, and for `n` = 0, the cursor stays.
     pub fn move_to(&mut self, search: CharSearch, n: RepeatCount) -> bool
         ensures { MovesCursor result self.old self.new (search_place search self.old n) }
     {
         self.move_to_place(self.search_pos(search, n))
     }
 
-    /// The place that the search leads to.
+    /// Returns the place that the search leads to.
     fn search_pos(&self, search: CharSearch, n: RepeatCount) -> Option<usize>
         ensures { IsOffsetIfAny result self.now.text (search_place search self.now n) }
     {
@@ -80,7 +80,7 @@ impl LineBuffer {
         }
     }
 
-    /// The range of the search.
+    /// Returns the range of the search.
     pub(super) fn searched(&self, search: CharSearch, n: RepeatCount) -> Option<(usize, usize)>
         ensures { IsRangeIfAny result self.now (searched self.now search n) }
     {
@@ -98,7 +98,7 @@ impl LineBuffer {
         }
     }
 
-    /// The place of the `n`-th `c` behind the cluster after the cursor.
+    /// Returns the place of the `n`-th `c` behind the cluster after the cursor.
     fn next_char_pos(&self, c: char, n: RepeatCount) -> Option<usize>
         ensures place { result ≡ found_on c self.now n }
         ensures on { IfSome result (λ place. self.now.cursor ≤ place) }
@@ -113,7 +113,7 @@ impl LineBuffer {
         }
     }
 
-    /// The place of the `n`-th `c` before the cursor, counted back.
+    /// Returns the place of the `n`-th `c` before the cursor, counted back.
     fn prev_char_pos(&self, c: char, n: RepeatCount) -> Option<usize>
         ensures place { result ≡ found_back c self.now n }
         ensures back { IfSome result (λ place. behind_char c place ≤ self.now.cursor) }
@@ -124,7 +124,7 @@ impl LineBuffer {
         nth_char_back(self.before(), c, n)
     }
 
-    /// Where the character before a place begins.
+    /// Returns where the character before a place begins.
     fn char_before(&self, place: usize) -> usize
         requires { IsCharBoundary self.now.text place }
         ensures { IsOffset result self.now.text (char_before self.now.text place) }

@@ -15,10 +15,14 @@ use crate::undo::Changeset;
 use std::alloc::Global;
 
 impl LineBuffer {
-    /// Exchanges the cluster before the cursor with the one at it, at the text's end the last two, and puts
-    /// the cursor behind both. Answers false, and changes nothing, at the text's start and where the text has
-    /// fewer than two clusters. `OutOfMemory` comes where the text or the list of changes cannot grow; then the
-    /// list is empty with no open group, and the line is text with its cursor on a boundary.
+    /// Exchanges the cluster before the cursor with the one at it, at the text's end the last two,
+    /// and puts the cursor behind both. Returns false, and changes nothing, at the text's start and
+    /// where the text has fewer than two clusters.
+    ///
+    /// # Errors
+    ///
+    /// `OutOfMemory` where the text or the list of changes cannot grow; then the list is empty with
+    /// no open group, and the line is text with its cursor on a boundary.
     pub fn transpose_chars(&mut self, changes: &mut Changeset) -> Result<bool, OutOfMemory>
         ensures answer { IfOk result (λ done. done ≡ has_two_chars self.old) }
         ensures edit { Edits result self.old self.new changes.old changes.new
@@ -72,10 +76,14 @@ impl LineBuffer {
         self.try_replace(from1, to2, text.as_str(), changes)
     }
 
-    /// Exchanges words: the one that ends at the end of the `n`-th word from the cursor, and the `n`-th before
-    /// it, with the cursor behind both. Answers false where these are not two words; then the cursor goes
-    /// behind the first. `OutOfMemory` comes where the text or the list of changes cannot grow; then the list
-    /// is empty with no open group, and the line is text with its cursor on a boundary.
+    /// Exchanges words: the one that ends at the end of the `n`-th word from the cursor, and the
+    /// `n`-th before it, with the cursor behind both. Returns false where these are not two words;
+    /// then the cursor goes behind the first.
+    ///
+    /// # Errors
+    ///
+    /// `OutOfMemory` where the text or the list of changes cannot grow; then the list is empty with
+    /// no open group, and the line is text with its cursor on a boundary.
     pub fn transpose_words(
         &mut self,
         n: RepeatCount,
@@ -98,7 +106,7 @@ impl LineBuffer {
         Ok(true)
     }
 
-    /// The end of the `n`-th word on from a place, or that place. The cursor goes there.
+    /// Returns the end of the `n`-th word on from a place, or that place. The cursor goes there.
     fn word_end_from(&mut self, place: usize, n: RepeatCount) -> usize
         requires { IsCharBoundary self.old.text place }
         ensures end { IsOffset result self.old.text (word_end_from self.old place n) }
@@ -113,7 +121,8 @@ impl LineBuffer {
         end
     }
 
-    /// The start of the `n`-th word back from a place, or that place. The cursor goes there.
+    /// Returns the start of the `n`-th word back from a place, or that place. The cursor goes
+    /// there.
     fn word_start_from(&mut self, place: usize, n: RepeatCount) -> usize
         requires { IsCharBoundary self.old.text place }
         ensures start { IsOffset result self.old.text (word_start_from self.old place n) }
@@ -126,10 +135,14 @@ impl LineBuffer {
         start
     }
 
-    /// Changes the case of the ASCII letters from the first alphanumeric cluster at or after the cursor to
-    /// that word's end, and puts the cursor there. Answers false, and changes nothing, where there is no such
-    /// cluster. `OutOfMemory` comes where the text or the list of changes cannot grow; then the list is empty
-    /// with no open group, and the line is text with its cursor on a boundary.
+    /// Changes the case of the ASCII letters from the first alphanumeric cluster at or after the
+    /// cursor to that word's end, and puts the cursor there. Returns false, and changes nothing,
+    /// where there is no such cluster.
+    ///
+    /// # Errors
+    ///
+    /// `OutOfMemory` where the text or the list of changes cannot grow; then the list is empty with
+    /// no open group, and the line is text with its cursor on a boundary.
     pub fn edit_word(
         &mut self,
         action: WordAction,
@@ -164,7 +177,7 @@ impl LineBuffer {
     }
 }
 
-/// The text with the case of its ASCII letters changed.
+/// Returns the text with the case of its ASCII letters changed.
 fn cased(alloc: Global, action: WordAction, text: &str) -> Result<String, OutOfMemory>
     ensures { IfOk result (λ changed. string_bytes changed ≡ cased action text.now) }
 {

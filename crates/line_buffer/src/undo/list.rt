@@ -1,10 +1,10 @@
 //! How the changes are kept, added to and taken back.
 ghost use Rattle.std.specs.Prelude.{ℕ, List, ◌≡◌, ◌+◌, ◌==◌, ◌++◌, ◌∷◌, length, encode_utf8, replicate, not, string_bytes, option_copied, option_map, ◌<◌, drop, take, max, IsCharBoundary, IfOk, OnOk, OnErr};
 ghost use Rattle.std.specs.List.{list_any};
-ghost use Rattle.line_buffer.specs.Taken.{closed_by, is_text, newest_kind, opened_by};
+ghost use Rattle.line_buffer.specs.EntryKind.{closed_by, is_text, newest_kind, opened_by};
 ghost use Rattle.line_buffer.specs.Edit.{Adds, Edits};
 ghost use Rattle.line_buffer.specs.Undo.{KeepsToldAnywhere, Tells, all_taken_back, is_change, newest_steps, without_steps};
-ghost use Rattle.line_buffer.specs.Changes.{ends, last_insert_of, newest_begins, inserted, deleted, replaced, no_changes, with_entries, begun, ended, closed, adds_end, with_insert, with_joined_insert, with_joined_delete, with_delete, with_replace, with_typed};
+ghost use Rattle.line_buffer.specs.Changes.{without_begins, ends, last_insert_of, newest_begins, inserted, deleted, replaced, no_changes, with_entries, begun, ended, closed, adds_end, with_insert, with_joined_insert, with_joined_delete, with_delete, with_replace, with_typed};
 
 use crate::clusters::{is_alphanumeric, is_one_alphanumeric};
 use crate::keymap::RepeatCount;
@@ -40,7 +40,7 @@ pub(crate) enum Taken {
 }
 
 impl Taken {
-    /// How many groups it begins.
+    /// Returns how many groups it begins.
     fn begins(self) -> usize
         ensures { result ≡ opened_by self }
     {
@@ -50,7 +50,7 @@ impl Taken {
         }
     }
 
-    /// How many groups it ends.
+    /// Returns how many groups it ends.
     fn ends(self) -> usize
         ensures { result ≡ closed_by self }
     {
@@ -60,7 +60,7 @@ impl Taken {
         }
     }
 
-    /// Whether it changed the text.
+    /// Returns whether it changed the text.
     fn is_change(self) -> bool
         ensures { result ≡ is_text self }
     {
@@ -83,13 +83,13 @@ impl Model for ChangeList {
 
     ghost Value = { Changes };
 
-    ghost use Rattle.line_buffer.specs.Told.{entries_of};
+    ghost use Rattle.line_buffer.specs.KeptChanges.{entries_of};
 
     ghost view = { λ c. record { entries = entries_of c.changes.items; open_groups = c.open_groups } };
 }
 
 impl ChangeList {
-    ghost use Rattle.line_buffer.specs.Told.{entries_of, entry_of};
+    ghost use Rattle.line_buffer.specs.KeptChanges.{entries_of, entry_of};
 
     /// Returns a list with no change and no open group.
     pub(crate) fn new(alloc: Global) -> ChangeList
@@ -142,8 +142,8 @@ impl ChangeList {
         }
     }
 
-    /// Takes `n` steps back, one for `n` = 0, or as many as there are, and returns whether a change of the
-    /// text was taken back.
+    /// Takes `n` steps back, one for `n` = 0, or as many as there are, and returns whether a change
+    /// of the text was taken back.
     pub(crate) fn undo(
         &mut self,
         line: &mut LineBuffer,
@@ -194,8 +194,8 @@ impl ChangeList {
         Ok(undone)
     }
 
-    /// Takes the newest entry away and reverses in the line what it tells. Answers what it was, or `None`
-    /// where there is none.
+    /// Takes the newest entry away and reverses in the line what it tells. Returns what it was, or
+    /// `None` where there is none.
     fn take_newest(&mut self, line: &mut LineBuffer) -> Result<Option<Taken>, OutOfMemory>
         requires { Tells self.old.entries line.old.text }
         ensures taken { IfOk result (λ taken. taken ≡ newest_kind self.old.entries) }
@@ -235,7 +235,7 @@ impl ChangeList {
         }
     }
 
-    /// The text that came in last by these changes.
+    /// Returns the text that came in last by these changes.
     fn inserted_text(changes: &[Change]) -> Option<&str>
         ensures { option_copied result ≡ last_insert_of (entries_of changes.now) }
     {
@@ -254,14 +254,7 @@ impl ChangeList {
 
     /// Takes newest begins away, each of an open group.
     fn take_newest_begins(&mut self)
-        ensures closed { closed self.new.open_groups self.new.entries
-            ≡ closed self.old.open_groups self.old.entries }
-        ensures adds { adds_end self.new.open_groups self.new.entries
-            ≡ adds_end self.old.open_groups self.old.entries }
-        ensures done { closed self.new.open_groups self.new.entries
-            ≡ replicate self.new.open_groups ends ++ self.new.entries }
-        ensures done_adds { adds_end self.new.open_groups self.new.entries
-            ≡ not (self.new.open_groups == 0) }
+        ensures { self.new ≡ without_begins self.old }
     {
         while self.open_groups > 0 && self.newest_begins() {
             let Some(_) = self.changes.pop() else {
@@ -271,7 +264,7 @@ impl ChangeList {
         }
     }
 
-    /// Whether the newest entry begins a group.
+    /// Returns whether the newest entry begins a group.
     fn newest_begins(&self) -> bool
         ensures { result ≡ newest_begins self.now.entries }
     {
@@ -281,7 +274,7 @@ impl ChangeList {
         }
     }
 
-    /// Adds an end for each open group, and answers whether there was one.
+    /// Adds an end for each open group, and returns whether there was one.
     fn add_ends(&mut self) -> Result<bool, OutOfMemory>
         ensures answer { IfOk result (λ added. added ≡ not (self.old.open_groups == 0)) }
         ensures changes { OnOk result (self.new ≡ record {
@@ -363,8 +356,8 @@ impl ChangeList {
         })
     }
 
-    /// Tells that the alphanumeric character `text` came in at `place`: it joins a newest insert that ends
-    /// there.
+    /// Tells that the alphanumeric character `text` came in at `place`: it joins a newest insert
+    /// that ends there.
     fn insert_joined(&mut self, place: usize, text: &str) -> Result<(), OutOfMemory>
         ensures { Adds result self.old self.new (with_joined_insert place text.now) }
     {
@@ -419,8 +412,8 @@ impl ChangeList {
         })
     }
 
-    /// Tells that one alphanumeric cluster went from `place`: it joins a newest delete at that place, or
-    /// one at which it ended.
+    /// Tells that one alphanumeric cluster went from `place`: it joins a newest delete at that
+    /// place, or one at which it ended.
     fn delete_joined(&mut self, place: usize, text: &str) -> Result<(), OutOfMemory>
         ensures { Adds result self.old self.new (with_joined_delete place text.now) }
     {
@@ -505,7 +498,7 @@ impl ChangeList {
     }
 }
 
-/// Whether the text that begins at `place` ends at `end`.
+/// Returns whether the text that begins at `place` ends at `end`.
 fn ends_at(place: usize, text: &str, end: usize) -> bool
     ensures { result ≡ (place + length text.now == end) }
 {

@@ -1,6 +1,6 @@
 use Rattle.std.proofs.Common.{◌≡◌, ◌++◌, replicate}
 use Rattle.line_buffer.specs.Changes.{ends}
-use Rattle.line_buffer.specs.Told.{entries_of}
+use Rattle.line_buffer.specs.KeptChanges.{entries_of}
 use Rattle.line_buffer.proofs.undo.list.ChangeList.add_ends.Given as goal
 
 abbrev pub invariant-loop-self : goal.invariant-loop-self

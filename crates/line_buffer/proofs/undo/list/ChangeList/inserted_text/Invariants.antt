@@ -1,6 +1,6 @@
 use Rattle.std.proofs.Common.{◌≡◌, ◌≤◌, length}
 use Rattle.line_buffer.specs.Changes.{last_insert_of}
-use Rattle.line_buffer.specs.Told.{entries_of}
+use Rattle.line_buffer.specs.KeptChanges.{entries_of}
 use Rattle.line_buffer.proofs.undo.list.ChangeList.inserted_text.Given as goal
 
 abbrev pub invariant-loop-left : goal.invariant-loop-left

@@ -1,6 +1,6 @@
 use Rattle.std.proofs.Common.{string_bytes, ap, arith}
 use Rattle.line_buffer.specs.Changes.{Changes}
-use Rattle.line_buffer.specs.Told.{entry_of}
+use Rattle.line_buffer.specs.KeptChanges.{entry_of}
 use Rattle.line_buffer.proofs.UndoLemmas.{insert_within, replace_within, newest_is}
 use Rattle.line_buffer.proofs.undo.list.ChangeList.take_newest.Goals as goal
 

@@ -1,7 +1,7 @@
 use Rattle.std.proofs.Common.{◌≡◌, ◌<◌, true, sym, ap, ◌∙◌, arith}
 use Rattle.line_buffer.specs.Changes.{Changes, newest_begins}
-use Rattle.line_buffer.specs.Told.{entries_of}
-use Rattle.line_buffer.proofs.ChangeLemmas.{newest_taken, closed-begins, adds_end-begins}
+use Rattle.line_buffer.specs.KeptChanges.{entries_of}
+use Rattle.line_buffer.proofs.ChangeLemmas.{newest_taken, without_begins-one}
 use Rattle.line_buffer.proofs.undo.list.ChangeList.take_newest_begins.Goals as goal
 
 pub loop-self-preserved : goal.loop-self-preserved
@@ -12,7 +12,4 @@ loop-self-preserved c =
     let taken = newest_taken c.self.inside.changes.items c.pop.new.self.items c.in-Some.field-0 c.in-Some.ensures.items begun in
     let before = sym entries ∙ taken in
     let some : 0 < c.self.inside.open_groups = omega arith in
-    record {
-      closed = rw (← c.loop-self.invariant.closed, ← groups) (sym (closed-begins c.self.inside.open_groups c.loop-self.self.entries _ some before));
-      adds = rw (← c.loop-self.invariant.adds, ← groups) (sym (adds_end-begins c.self.inside.open_groups c.loop-self.self.entries _ some before));
-    }
+    rw (← c.loop-self.invariant, ← groups) (sym (without_begins-one c.self.inside.open_groups c.loop-self.self.entries _ some before))
