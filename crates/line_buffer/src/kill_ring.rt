@@ -73,7 +73,7 @@ impl KillRing {
     ///
     /// # Errors
     ///
-    /// `OutOfMemory` where a slot cannot grow; then the ring still has at most `size` slots.
+    /// `OutOfMemory` where an allocation fails; then the ring still has at most `size` slots.
     pub fn kill(&mut self, text: &str, mode: Mode) -> Result<(), OutOfMemory>
         ensures ring { OnOk result (self.new ≡ after_kill self.old text.now mode) }
         ensures fits { KeepsSize self.old self.new }

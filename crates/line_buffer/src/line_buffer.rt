@@ -37,7 +37,7 @@ pub enum Direction {
     Backward,
 }
 
-/// A growth was refused for want of memory.
+/// An allocation failed.
 #[derive(Debug, Clone, Copy, PartialEq, Eq)]
 pub struct OutOfMemory;
 
@@ -100,7 +100,7 @@ impl LineBuffer {
     ///
     /// # Errors
     ///
-    /// `OutOfMemory` where the copy of the text is refused.
+    /// `OutOfMemory` where an allocation fails.
     pub fn init(alloc: Global, text: &str, pos: usize) -> Result<LineBuffer, OutOfMemory>
         requires { IsCharBoundary text.now pos }
         ensures { IfOk result (λ l. l ≡ record { text = text.now; cursor = pos }) }

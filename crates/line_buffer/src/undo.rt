@@ -59,7 +59,7 @@ impl Changeset {
     ///
     /// # Errors
     ///
-    /// `OutOfMemory` where the list cannot grow; then it is empty, with no open group.
+    /// `OutOfMemory` where an allocation fails; then it is empty, with no open group.
     pub fn begin(&mut self) -> Result<(), OutOfMemory>
         ensures changes { OnOk result (self.new ≡ begun self.old) }
         ensures told { KeepsToldAnywhere result self.old self.new }
@@ -73,7 +73,7 @@ impl Changeset {
     ///
     /// # Errors
     ///
-    /// `OutOfMemory` where the list cannot grow; then it is empty, with no open group.
+    /// `OutOfMemory` where an allocation fails; then it is empty, with no open group.
     pub fn end(&mut self) -> Result<bool, OutOfMemory>
         ensures answer { IfOk result (λ added. added
             ≡ adds_end self.old.open_groups self.old.entries) }
@@ -91,7 +91,7 @@ impl Changeset {
     ///
     /// # Errors
     ///
-    /// `OutOfMemory` where the text cannot grow; then the list is empty with no open group, and the
+    /// `OutOfMemory` where an allocation fails; then the list is empty with no open group, and the
     /// line is text with its cursor on a boundary.
     pub fn undo(&mut self, line: &mut LineBuffer, n: RepeatCount) -> Result<bool, OutOfMemory>
         requires { Tells self.old.entries line.old.text }
@@ -110,7 +110,7 @@ impl Changeset {
     ///
     /// # Errors
     ///
-    /// `OutOfMemory` where the copy cannot be made; the list stays in any case.
+    /// `OutOfMemory` where an allocation fails; the list stays in any case.
     pub fn last_insert(&self) -> Result<Option<String>, OutOfMemory>
         ensures { IfOk result (λ r. option_map string_bytes r ≡ last_insert_of self.now.entries) }
     {

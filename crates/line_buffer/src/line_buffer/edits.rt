@@ -20,8 +20,8 @@ impl LineBuffer {
     ///
     /// # Errors
     ///
-    /// `OutOfMemory` where the text or the list of changes cannot grow; then the list is empty with
-    /// no open group, and the line is text with its cursor on a boundary.
+    /// `OutOfMemory` where an allocation fails; then the list of changes is empty with no open
+    /// group, and the line is text with its cursor on a boundary.
     pub fn insert(
         &mut self,
         c: char,
@@ -76,8 +76,8 @@ impl LineBuffer {
     ///
     /// # Errors
     ///
-    /// `OutOfMemory` where the text or the list of changes cannot grow; then the list is empty with
-    /// no open group, and the line is text with its cursor on a boundary.
+    /// `OutOfMemory` where an allocation fails; then the list of changes is empty with no open
+    /// group, and the line is text with its cursor on a boundary.
     pub fn insert_str(
         &mut self,
         place: usize,
@@ -117,8 +117,8 @@ impl LineBuffer {
     ///
     /// # Errors
     ///
-    /// `OutOfMemory` where the text or the list of changes cannot grow; then the list is empty with
-    /// no open group, and the line is text with its cursor on a boundary.
+    /// `OutOfMemory` where an allocation fails; then the list of changes is empty with no open
+    /// group, and the line is text with its cursor on a boundary.
     pub fn yank(
         &mut self,
         text: &str,
@@ -160,8 +160,8 @@ impl LineBuffer {
     ///
     /// # Errors
     ///
-    /// `OutOfMemory` where the text or the list of changes cannot grow; then the list is empty with
-    /// no open group, and the line is text with its cursor on a boundary.
+    /// `OutOfMemory` where an allocation fails; then the list of changes is empty with no open
+    /// group, and the line is text with its cursor on a boundary.
     pub fn yank_pop(
         &mut self,
         size: usize,
@@ -200,8 +200,8 @@ impl LineBuffer {
     ///
     /// # Errors
     ///
-    /// `OutOfMemory` where the text or the list of changes cannot grow; then the list is empty with
-    /// no open group, and the line is text with its cursor on a boundary.
+    /// `OutOfMemory` where an allocation fails; then the list of changes is empty with no open
+    /// group, and the line is text with its cursor on a boundary.
     pub fn update(
         &mut self,
         text: &str,
@@ -240,8 +240,8 @@ impl LineBuffer {
     ///
     /// # Errors
     ///
-    /// `OutOfMemory` where the text or the list of changes cannot grow; then the list is empty with
-    /// no open group, and the line is text with its cursor on a boundary.
+    /// `OutOfMemory` where an allocation fails; then the list of changes is empty with no open
+    /// group, and the line is text with its cursor on a boundary.
     pub fn replace(
         &mut self,
         range: Range<usize>,

@@ -24,8 +24,8 @@ impl LineBuffer {
     ///
     /// # Errors
     ///
-    /// `OutOfMemory` where the text or the list of changes cannot grow; then the list is empty with
-    /// no open group, and the line is text with its cursor on a boundary.
+    /// `OutOfMemory` where an allocation fails; then the list of changes is empty with no open
+    /// group, and the line is text with its cursor on a boundary.
     pub fn indent(
         &mut self,
         mvt: &Movement,

@@ -24,8 +24,8 @@ impl LineBuffer {
     ///
     /// # Errors
     ///
-    /// `OutOfMemory` where a copy of the text cannot be made; then the list of changes is empty
-    /// with no open group, and the line is text with its cursor on a boundary.
+    /// `OutOfMemory` where an allocation fails; then the list of changes is empty with no open
+    /// group, and the line is text with its cursor on a boundary.
     pub fn kill(
         &mut self,
         mvt: &Movement,
@@ -69,8 +69,8 @@ impl LineBuffer {
     ///
     /// # Errors
     ///
-    /// `OutOfMemory` where a copy of the text cannot be made; then the list of changes is empty
-    /// with no open group, and the line is text with its cursor on a boundary.
+    /// `OutOfMemory` where an allocation fails; then the list of changes is empty with no open
+    /// group, and the line is text with its cursor on a boundary.
     pub fn delete(
         &mut self,
         n: RepeatCount,
@@ -95,7 +95,7 @@ impl LineBuffer {
     ///
     /// # Errors
     ///
-    /// `OutOfMemory` where the copy is refused.
+    /// `OutOfMemory` where an allocation fails.
     pub fn copy(&self, mvt: &Movement) -> Result<Option<String>, OutOfMemory>
         ensures { IfOk result (λ r. option_map string_bytes r
             ≡ text_in self.now.text (unless_empty (range_of self.now mvt.now))) }
