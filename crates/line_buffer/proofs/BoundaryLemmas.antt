@@ -7,7 +7,7 @@ use Rattle.std.proofs.lemmas.Str.{IsCharBoundary-from_take, IsUtf8-take}
 use Rattle.std.specs.List.{insert_slice}
 use Rattle.std.specs.Str.{IsCharBoundary, IsUtf8}
 use Rattle.line_buffer.proofs.ListLemmas.{take_within_take}
-use Rattle.line_buffer.specs.Lines.{greatest}
+use Rattle.line_buffer.specs.Lines.{last_fitting}
 use Rattle.line_buffer.specs.Yank.{is_boundary}
 
 -- a boundary of a text is one of each text that begins alike up to it
@@ -58,12 +58,12 @@ is_boundary-yes text k b = elim (cases_lt k (length text)) [
 
 -- the nearest boundary at or before a place is the greatest that passes the test
 pub greatest_boundary : (text : List ℕ) (m k : ℕ) → m ≤ length text → k ≤ m → IsCharBoundary text k → ((i : ℕ) → k < i → i ≤ m → IsCharBoundary text i → ⊥)
-    → greatest (is_boundary text) m ≡ k
+    → last_fitting (is_boundary text) m ≡ k
 greatest_boundary text zero k fits le b none = omega arith
 greatest_boundary text (suc m) k fits le b none =
     by (is_boundary text (suc m)) refl (λ before. greatest_boundary text m k (omega arith) (omega arith) b (λ i after within. none i after (omega arith)))
   where
-    by : (r : Bool) → is_boundary text (suc m) ≡ r → (k < suc m → greatest (is_boundary text) m ≡ k) → greatest (is_boundary text) (suc m) ≡ k
+    by : (r : Bool) → is_boundary text (suc m) ≡ r → (k < suc m → last_fitting (is_boundary text) m ≡ k) → last_fitting (is_boundary text) (suc m) ≡ k
     by true t less =
         elim (cases_lt k (suc m)) [
           | inl before ↦ absurd (none (suc m) before (omega arith) (fits, λ h. at_bytes (get_or text (suc m) 0) t))

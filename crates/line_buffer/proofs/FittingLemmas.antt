@@ -5,7 +5,7 @@ use Rattle.std.proofs.lemmas.List.{length-take, take_all}
 use Rattle.std.specs.List.{concat}
 use Rattle.line_buffer.proofs.ListLemmas.{take_one_less}
 use Rattle.line_buffer.specs.Cluster.{clusters}
-use Rattle.line_buffer.specs.Lines.{column_in, fitting, greatest}
+use Rattle.line_buffer.specs.Lines.{column_in, fitting, last_fitting}
 use Rattle.line_buffer.specs.Word.{bytes_to}
 use Rattle.line_buffer.specs.declared.layout.Layout.{Layout}
 
@@ -18,7 +18,7 @@ pub record Fitted (layout : Layout) (start : ℕ) (line : List ℕ) (column : �
   pub j : ℕ
   pub within : j ≤ length (clusters line)
   pub rest_is : rest ≡ take j (clusters line)
-  pub same : greatest (fits layout start line column) (length (clusters line)) ≡ greatest (fits layout start line column) j
+  pub same : last_fitting (fits layout start line column) (length (clusters line)) ≡ last_fitting (fits layout start line column) j
 
 pub fitted-start : (layout : Layout) (start : ℕ) (line : List ℕ) (column : ℕ) → Fitted layout start line column (clusters line)
 fitted-start layout start line column = record {
@@ -34,19 +34,19 @@ le_test a b h = grind (arith, nat_tests)
 lt_test : (a b : ℕ) → b < a → nat_le a b ≡ false
 lt_test a b h = grind (arith, nat_tests)
 
-greatest-yes : (p : ℕ → Bool) (m : ℕ) → p m ≡ true → greatest p m ≡ m
-greatest-yes p zero h = refl
-greatest-yes p (suc m) h = rw h refl
+last_fitting-yes : (p : ℕ → Bool) (m : ℕ) → p m ≡ true → last_fitting p m ≡ m
+last_fitting-yes p zero h = refl
+last_fitting-yes p (suc m) h = rw h refl
 
-greatest-no : (p : ℕ → Bool) (m : ℕ) → p (suc m) ≡ false → greatest p (suc m) ≡ greatest p m
-greatest-no p m h = rw h refl
+last_fitting-no : (p : ℕ → Bool) (m : ℕ) → p (suc m) ≡ false → last_fitting p (suc m) ≡ last_fitting p m
+last_fitting-no p m h = rw h refl
 
 pub fitted-found : (layout : Layout) (start : ℕ) (line : List ℕ) (column : ℕ) (rest : List (List ℕ)) → Fitted layout start line column rest
     → column_in layout start (concat rest) ≤ column → length (concat rest) ≡ fitting layout start line column
 fitted-found layout start line column rest f h =
     let same : column_in layout start (concat (take f.j (clusters line))) ≡ column_in layout start (concat rest) = ap (λ ps. column_in layout start (concat ps)) (sym f.rest_is) in
     let fit : fits layout start line column f.j ≡ true = le_test _ _ (rw same h) in
-    ap (λ ps. length (concat ps)) f.rest_is ∙ ap (bytes_to (clusters line)) (sym (f.same ∙ greatest-yes (fits layout start line column) f.j fit))
+    ap (λ ps. length (concat ps)) f.rest_is ∙ ap (bytes_to (clusters line)) (sym (f.same ∙ last_fitting-yes (fits layout start line column) f.j fit))
 
 last_fitted : {A : Type 0} (j : ℕ) (xs ys : List A) (x : A) → take j xs ≡ ys ++ x ∷ [] → 0 < j
 last_fitted zero xs ys x e = absurd (omega (arith, ap length e, length-append ys (x ∷ [])))
@@ -66,16 +66,16 @@ fitted-next layout start line column rest rest' cluster f h e =
       j = f.j - 1;
       within = omega arith;
       rest_is = sym (take_one_less f.j cs rest' cluster taken within);
-      same = f.same ∙ ap (greatest (fits layout start line column)) one
-          ∙ greatest-no (fits layout start line column) (f.j - 1) (sym (ap (fits layout start line column) one) ∙ past);
+      same = f.same ∙ ap (last_fitting (fits layout start line column)) one
+          ∙ last_fitting-no (fits layout start line column) (f.j - 1) (sym (ap (fits layout start line column) one) ∙ past);
     }
 
-greatest-below : (p : ℕ → Bool) (m : ℕ) → m ≡ 0 → greatest p m ≡ 0
-greatest-below p m h = rw h refl
+last_fitting-below : (p : ℕ → Bool) (m : ℕ) → m ≡ 0 → last_fitting p m ≡ 0
+last_fitting-below p m h = rw h refl
 
 pub fitted-none : (layout : Layout) (start : ℕ) (line : List ℕ) (column : ℕ) (rest : List (List ℕ)) → Fitted layout start line column rest → rest ≡ []
     → 0 ≡ fitting layout start line column
 fitted-none layout start line column rest f e =
     let within = f.within in
     let none : f.j ≡ 0 = omega (arith, ap length (sym f.rest_is ∙ e), length-take f.j (clusters line)) in
-    sym (ap (bytes_to (clusters line)) (f.same ∙ greatest-below (fits layout start line column) f.j none))
+    sym (ap (bytes_to (clusters line)) (f.same ∙ last_fitting-below (fits layout start line column) f.j none))

@@ -4,10 +4,12 @@ pub mod ChangeLemmas
 pub mod ClusterLemmas
 pub mod FittingLemmas
 pub mod FrontLemmas
+pub mod GroupLemmas
 pub mod IndentLemmas
 pub mod LineLemmas
 pub mod ListLemmas
 pub mod RingLemmas
+pub mod RowLemmas
 pub mod SearchLemmas
 pub mod SkipLemmas
 pub mod StepLemmas

@@ -16,7 +16,7 @@ use Rattle.line_buffer.proofs.WordLemmas.{filter-yes, filter-no}
 
 -- ---- the entries behind a step
 
-count_by-front : (p : Entry → Bool) (entries : List Entry) (j k : ℕ) → count_by p (take (j + k) entries) ≡ count_by p (take j entries) + count_by p (take k (drop j entries))
+pub count_by-front : (p : Entry → Bool) (entries : List Entry) (j k : ℕ) → count_by p (take (j + k) entries) ≡ count_by p (take j entries) + count_by p (take k (drop j entries))
 count_by-front p entries j k = ap (count_by p) (take-add j k entries) ∙ sum_by-append (λ x. cond (p x) 1 0) (take j entries) (take k (drop j entries))
 
 -- where a step ends, as many ends stand as begins

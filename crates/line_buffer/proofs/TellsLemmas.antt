@@ -13,7 +13,7 @@ use Rattle.line_buffer.proofs.ListLemmas.{take_within_take}
 use Rattle.line_buffer.specs.Character.{is_alphanumeric, is_one_alphanumeric}
 use Rattle.line_buffer.specs.Changes.{Changes, Entry, no_changes, begins, ends, inserted, deleted, replaced, with_insert, with_joined_insert, with_delete, with_joined_delete, with_replace, with_typed}
 use Rattle.line_buffer.specs.Line.{Line}
-use Rattle.line_buffer.specs.Undo.{KeepsFront, KeepsTold, KeepsToldAnywhere, StillTells, Tells, TellsOf}
+use Rattle.line_buffer.specs.Undo.{KeepsFront, KeepsTold, KeepsToldAnywhere, StillTells, TellTheSame, Tells, TellsOf}
 
 -- ---- cutting a text in three
 
@@ -299,5 +299,10 @@ told_on (Err e) old new line line' t n h = rw n (record { start = line'.text; to
 pub told_kept : {T E : Type 0} (r : Result T E) (old new : Changes) (line line' : Line) → KeepsTold r old line new line' → Tells old.entries line.text → Tells new.entries line'.text
 told_kept r old new line line' k h = told_on r old new line line' k.tells k.err h
 
+told_on_anywhere : {T E : Type 0} (r : Result T E) (old new : Changes) (text : List ℕ) → OnOk r (TellTheSame old.entries new.entries) → OnErr r (new ≡ no_changes)
+    → Tells old.entries text → Tells new.entries text
+told_on_anywhere (Ok x) old new text t n h = record { start = h.start; told = (t.of text).tells h.start h.told }
+told_on_anywhere (Err e) old new text t n h = rw n (record { start = text; told = refl })
+
 pub told_kept_anywhere : {T E : Type 0} (r : Result T E) (old new : Changes) (line : Line) → KeepsToldAnywhere r old new → Tells old.entries line.text → Tells new.entries line.text
-told_kept_anywhere r old new line k h = told_kept r old new line line (k.of line) h
+told_kept_anywhere r old new line k h = told_on_anywhere r old new line.text k.tells k.err h

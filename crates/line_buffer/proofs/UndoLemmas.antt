@@ -4,18 +4,18 @@ use Rattle.std.specs.List.{range_with_len, slice_get, list_any, count_by}
 use Rattle.std.proofs.lemmas.List.Folds.{list_any-append}
 use Rattle.std.proofs.lemmas.List.Sums.{sum_by_push, count_by-le-length}
 use Rattle.std.proofs.lemmas.List.{length-take}
-use Rattle.line_buffer.specs.declared.undo.Change.{Change}
+use Rattle.line_buffer.specs.declared.undo.list.Change.{Change}
 use Rattle.line_buffer.specs.Changes.{Entry, Changes, with_entries, closed, ended, begins, ends, inserted, deleted, replaced}
 use Rattle.line_buffer.specs.Line.{Line}
-use Rattle.line_buffer.specs.Told.{entry_of, entries_of}
+use Rattle.line_buffer.specs.KeptChanges.{entry_of, entries_of}
 use Rattle.line_buffer.specs.Undo.{StillTells, Tells, TellsOf, taken_back, all_taken_back, is_begin, is_end, is_change, is_step, steps_len}
-use Rattle.line_buffer.specs.Taken.{closed_by, is_text, newest_kind, opened_by, taken_kind}
+use Rattle.line_buffer.specs.EntryKind.{closed_by, is_text, newest_kind, opened_by, taken_kind}
 use Rattle.line_buffer.specs.Word.{nth}
-use Rattle.line_buffer.specs.declared.undo.Taken.{Taken}
+use Rattle.line_buffer.specs.declared.undo.list.Taken.{Taken}
 use Rattle.line_buffer.proofs.WordPlaces.{some_same}
 use Rattle.line_buffer.proofs.ListLemmas.{drop_one_more}
 use Rattle.line_buffer.proofs.WordLemmas.{drop_within, drop_end, filter-yes, filter-no}
-use Rattle.line_buffer.proofs.ChangeLemmas.{entries_of-push}
+use Rattle.line_buffer.proofs.ChangeLemmas.{closed-singly, closed_singly, entries_of-push}
 
 pub insert_within : (entries rest : List Entry) (text : List ℕ) (place : ℕ) (t : List ℕ) → Tells entries text → entries ≡ inserted place t ∷ rest → place + length t ≤ length text
 insert_within entries rest text place t h e = let here = subst (λ es. Tells es text) e h in here.told.0.stop.0
@@ -196,7 +196,7 @@ tells-ends : (n : ℕ) (entries : List Entry) (text start : List ℕ) → TellsO
 tells-ends zero entries text start told = told
 tells-ends (suc n) entries text start told = (tt, tells-ends n entries text start told)
 
-tells-closed : (n : ℕ) (entries : List Entry) (text start : List ℕ) → TellsOf entries text start → TellsOf (closed n entries) text start
+tells-closed : (n : ℕ) (entries : List Entry) (text start : List ℕ) → TellsOf entries text start → TellsOf (closed_singly n entries) text start
 tells-closed zero entries text start told = told
 tells-closed (suc n) [] text start told = tells-ends (suc n) [] text start told
 tells-closed (suc n) (begins ∷ entries) text start told = tells-closed n entries text start told.1
@@ -206,7 +206,7 @@ tells-closed (suc n) (deleted x y ∷ entries) text start told = tells-ends (suc
 tells-closed (suc n) (replaced x y z ∷ entries) text start told = tells-ends (suc n) (replaced x y z ∷ entries) text start told
 
 pub still-ended : (old new : Changes) → new ≡ ended old → (text : List ℕ) → StillTells old.entries text new.entries text
-still-ended old new e text = record { tells = λ start told. subst (λ (c : Changes). TellsOf c.entries text start) (sym e) (tells-closed old.open_groups old.entries text start told) }
+still-ended old new e text = record { tells = λ start told. subst (λ (c : Changes). TellsOf c.entries text start) (sym e) (subst (λ es. TellsOf es text start) (sym (closed-singly old.open_groups old.entries)) (tells-closed old.open_groups old.entries text start told)) }
 
 tells-undone : (k : ℕ) (entries : List Entry) (l : Line) (start : List ℕ) → TellsOf entries l.text start → TellsOf (drop k entries) (all_taken_back (take k entries) l).text start
 tells-undone zero entries l start told = told

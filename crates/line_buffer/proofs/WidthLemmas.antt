@@ -8,7 +8,7 @@ use Rattle.std.proofs.lemmas.List.{take-append-drop}
 use Rattle.std.proofs.lemmas.List.Sums.{sum_by-cons}
 use Rattle.std.proofs.lemmas.List.Splits.{slice_split-cons_yes, slice_split-cons_no}
 use Rattle.std.proofs.lemmas.Str.{IsUtf8-drop, chars-append, chars-encodes, chars_from_encodes}
-use Rattle.line_buffer.specs.Width.{columns_of, is_joiner}
+use Rattle.line_buffer.specs.Width.{columns_as_one, is_joiner}
 
 pub map-same : {A : Type 0} (xs : List A) → map (λ x. x) xs ≡ xs
 map-same [] = refl
@@ -43,16 +43,16 @@ pieces-some text front behind u s =
 
 -- the columns that are still to come are those of the first piece and of the others
 pub fewer_columns : (columns : ℕ) (text front behind : List ℕ) → IsUtf8 front → SplitsAroundMatch (FindsChar 0x200D) text front behind
-    → min (columns + sum_by columns_of (slice_split is_joiner (chars text))) 65535
-    ≡ min (min (columns + min (columns_of (chars front)) 65535) 65535 + sum_by columns_of (slice_split is_joiner (chars behind))) 65535
+    → min (columns + sum_by columns_as_one (slice_split is_joiner (chars text))) 65535
+    ≡ min (min (columns + min (columns_as_one (chars front)) 65535) 65535 + sum_by columns_as_one (slice_split is_joiner (chars behind))) 65535
 fewer_columns columns text front behind u s =
-    let e = ap (sum_by columns_of) (pieces-some text front behind u s) ∙ sum_by-cons columns_of (chars front) (slice_split is_joiner (chars behind)) in
+    let e = ap (sum_by columns_as_one) (pieces-some text front behind u s) ∙ sum_by-cons columns_as_one (chars front) (slice_split is_joiner (chars behind)) in
     omega arith
 
 pub last_columns : (columns : ℕ) (text : List ℕ) → IsUtf8 text → FindsChar 0x200D text None
-    → min (columns + sum_by columns_of (slice_split is_joiner (chars text))) 65535 ≡ min (columns + min (columns_of (chars text)) 65535) 65535
+    → min (columns + sum_by columns_as_one (slice_split is_joiner (chars text))) 65535 ≡ min (columns + min (columns_as_one (chars text)) 65535) 65535
 last_columns columns text u n =
-    let e = ap (sum_by columns_of) (pieces-none text u n) ∙ sum_by-cons columns_of (chars text) [] in
+    let e = ap (sum_by columns_as_one) (pieces-none text u n) ∙ sum_by-cons columns_as_one (chars text) [] in
     omega arith
 
 pub behind_is_text : (text front behind : List ℕ) → IsUtf8 text → SplitsAroundMatch (FindsChar 0x200D) text front behind → IsUtf8 behind

@@ -1,5 +1,5 @@
 -- The changes of a line, newest first, and what each call adds to them.
-use Rattle.std.specs.Prelude.{ℕ, suc, ◌+◌, ◌-◌, ◌^◌, min, Bool, true, false, not, ◌==◌, ◌&&◌, List, [], ◌∷◌, ◌++◌, length, replicate, Option, Some, None, encode_utf8, if◌then◌else◌}
+use Rattle.std.specs.Prelude.{nat_lt, drop, ℕ, suc, ◌+◌, ◌-◌, ◌^◌, min, Bool, true, false, ◌==◌, ◌&&◌, List, [], ◌∷◌, ◌++◌, length, replicate, slice_range, Option, Some, None, encode_utf8, if◌then◌else◌}
 use Rattle.std.specs.List.{repeat}
 use Rattle.line_buffer.specs.Character.{is_alphanumeric, is_one_alphanumeric}
 
@@ -33,15 +33,25 @@ abbrev pub newest_begins : List Entry → Bool
 newest_begins (begins ∷ entries) = true
 newest_begins entries = false
 
--- n groups are closed: each takes a newest begin away, or else adds an end
-abbrev pub closed : ℕ → List Entry → List Entry
-closed (suc n) (begins ∷ entries) = closed n entries
-closed n entries = replicate n ends ++ entries
+-- how many begins stand newest in a row
+abbrev pub begins_in_a_row : List Entry → ℕ
+begins_in_a_row (begins ∷ entries) = suc (begins_in_a_row entries)
+begins_in_a_row entries = 0
 
--- whether closing n groups adds an end
+-- n groups are closed: so many of these begins go, and an end comes for each group that is left
+abbrev pub closed : ℕ → List Entry → List Entry
+closed n entries = replicate (n - begins_in_a_row entries) ends ++ drop (min n (begins_in_a_row entries)) entries
+
+-- closing n groups adds an end: fewer begins than groups stand newest in a row
 abbrev pub adds_end : ℕ → List Entry → Bool
-adds_end (suc n) (begins ∷ entries) = adds_end n entries
-adds_end n entries = not (n == 0)
+adds_end n entries = nat_lt (begins_in_a_row entries) n
+
+-- the newest begins went, each of an open group
+abbrev pub without_begins : Changes → Changes
+without_begins c = record {
+  entries = drop (min c.open_groups (begins_in_a_row c.entries)) c.entries;
+  open_groups = c.open_groups - begins_in_a_row c.entries;
+}
 
 -- every open group was closed
 abbrev pub ended : Changes → Changes
@@ -84,6 +94,14 @@ with_replace place old new (replaced at before after ∷ entries) =
     if at + length after == place then replaced at (before ++ old) (after ++ new) ∷ entries
     else replaced place old new ∷ replaced at before after ∷ entries
 with_replace place old new entries = replaced place old new ∷ entries
+
+-- a text came for a range of another
+abbrev pub with_replaced : List ℕ → ℕ → ℕ → List ℕ → List Entry → List Entry
+with_replaced text from to new entries = with_replace from (slice_range text from to) new entries
+
+-- a text came for the whole of another
+abbrev pub with_update : List ℕ → List ℕ → List Entry → List Entry
+with_update old new entries = with_insert 0 new (with_delete 0 old entries)
 
 -- the text that came in last: that of the newest entry which is no end
 abbrev pub last_insert_of : List Entry → Option (List ℕ)

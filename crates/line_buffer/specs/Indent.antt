@@ -1,9 +1,12 @@
 -- Lines that get spaces at their front, or lose white space there.
-use Rattle.std.specs.Prelude.{ℕ, ◌+◌, ◌-◌, nat_le, nat_lt, Bool, true, false, List, [], ◌∷◌, ◌++◌, length, take, drop, map, replicate, slice_range, chars, encode_utf8_all, Option, Some, None, if◌then◌else◌}
+use Rattle.std.specs.Prelude.{◌≡◌, ◌≤◌, Result, IfOk, OnOk, IsCharBoundary, ℕ, ◌+◌, ◌-◌, nat_le, nat_lt, Bool, true, false, List, [], ◌∷◌, ◌++◌, length, take, drop, map, replicate, slice_range, chars, encode_utf8_all, Option, Some, None, if◌then◌else◌}
 use Rattle.std.specs.Char.{is_newline, is_whitespace}
-use Rattle.std.specs.List.{join_with_byte, slice_split, take_while}
-use Rattle.line_buffer.specs.Changes.{Entry, with_delete, with_insert}
-use Rattle.line_buffer.specs.Line.{Line, end_of_line, start_of_line, with_cursor}
+use Rattle.std.specs.List.{join_with_byte, prefix_len, slice_split, take_while}
+use Rattle.line_buffer.specs.Changes.{Changes, Entry, with_delete, with_insert}
+use Rattle.line_buffer.specs.Edit.{on_entries}
+use Rattle.line_buffer.specs.Lines.{line_from}
+use Rattle.line_buffer.specs.Undo.{StillTells}
+use Rattle.line_buffer.specs.Line.{Line, is_no_newline, end_of_line, start_of_line, with_cursor}
 use Rattle.line_buffer.specs.Range.{range_of, unless_empty}
 use Rattle.line_buffer.specs.declared.keymap.Movement.{Movement}
 use Rattle.line_buffer.specs.declared.keymap.Movement.TheVariants.{BackwardWord, ForwardWord, LineUp, LineDown, WholeBuffer, BeginningOfBuffer, EndOfBuffer}
@@ -84,3 +87,19 @@ with_line_shifted dedent amount l place line =
       text = take place l.text ++ (shifted dedent amount line ++ drop (place + length line) l.text);
       cursor = if nat_lt l.cursor place then l.cursor else place + moved_among dedent amount (line ∷ []) (l.cursor - place);
     }
+
+-- a range begins on a boundary, and ends where a line does
+pub record EndsLine (text : List ℕ) (from to : ℕ) : Type 0 where
+  pub ordered : from ≤ to
+  pub within : to ≤ length text
+  pub boundary : IsCharBoundary text from
+  pub end : prefix_len is_no_newline (drop to text) ≡ 0
+
+-- a success shifts the line that begins at a place, tells of it, and gives where it ends then
+pub record ShiftsLine {E : Type 0} (result : Result ℕ E) (old new : Line) (c c' : Changes) (dedent : Bool) (amount place : ℕ) : Type 0 where
+  pub line : OnOk result (new ≡ with_line_shifted dedent amount old place (line_from old.text place))
+  pub changes : OnOk result (c' ≡ on_entries (with_shift dedent amount place (line_from old.text place)) c)
+  pub tells : OnOk result (StillTells c.entries old.text c'.entries new.text)
+  pub cursor : IsCharBoundary new.text new.cursor
+  pub stop : IfOk result (λ p. p ≡ place + length (shifted dedent amount (line_from old.text place)))
+  pub boundary : IfOk result (λ p. IsCharBoundary new.text p)

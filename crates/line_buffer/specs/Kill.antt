@@ -1,9 +1,10 @@
 -- What a kill takes from the line, and what it leaves.
-use Rattle.std.specs.Prelude.{ℕ, List, Option, Some, None, option_map, slice_range, String, string_bytes}
+use Rattle.std.specs.Prelude.{◌≡◌, ℕ, List, Result, ◌≤◌, length, IfOk, OnOk, OnErr, Option, Some, None, option_map, slice_range, String, string_bytes}
 use Rattle.line_buffer.specs.Changes.{Changes, with_entries, with_delete}
 use Rattle.line_buffer.specs.KillRing.{Ring, with_kept}
 use Rattle.line_buffer.specs.Line.{Line}
 use Rattle.line_buffer.specs.Range.{range_of, unless_empty}
+use Rattle.line_buffer.specs.Word.{or_else}
 use Rattle.line_buffer.specs.declared.keymap.CharSearch.TheVariants as Search
 use Rattle.line_buffer.specs.declared.keymap.Movement.{Movement}
 use Rattle.line_buffer.specs.declared.keymap.Movement.TheVariants.{WholeLine, BeginningOfLine, EndOfLine, BackwardWord, ViCharSearch, BackwardChar, ForwardChar, BeginningOfBuffer}
@@ -18,11 +19,6 @@ neighbour_of l WholeLine = range_of l (ForwardChar 1)
 neighbour_of l EndOfLine = range_of l (ForwardChar 1)
 neighbour_of l BeginningOfLine = range_of l (BackwardChar 1)
 neighbour_of l _ = None
-
--- the first, or else the second
-abbrev pub or_else : {A : Type 0} → Option A → Option A → Option A
-or_else None other = other
-or_else (Some x) other = Some x
 
 -- the range that a kill takes
 abbrev pub killed_range : Line → Movement → Option (ℕ × ℕ)
@@ -50,8 +46,8 @@ ring_mode (ForwardChar _) = None
 ring_mode m = Some (mode_of (direction_of m))
 
 -- the place, the text and the side of what goes with a range
-abbrev pub killed : Line → Movement → Option (ℕ × ℕ) → Option (ℕ × List ℕ × Direction)
-killed l m range = option_map (λ r. (r.0, slice_range l.text r.0 r.1, direction_of m)) range
+abbrev pub kill_answer : Line → Movement → Option (ℕ × ℕ) → Option (ℕ × List ℕ × Direction)
+kill_answer l m range = option_map (λ r. (r.0, slice_range l.text r.0 r.1, direction_of m)) range
 
 -- the changes once a range of the line went
 abbrev pub with_killed : Line → Option (ℕ × ℕ) → Changes → Changes
@@ -63,6 +59,13 @@ abbrev pub ring_with_killed : Line → Movement → Option (ℕ × ℕ) → Ring
 ring_with_killed l m None ring = ring
 ring_with_killed l m (Some r) ring = with_kept ring (slice_range l.text r.0 r.1) (ring_mode m)
 
--- the same three of a call's answer
-abbrev pub killed_of : {Z : Type 0} → ℕ × String Z × Direction → ℕ × List ℕ × Direction
-killed_of answer = (answer.0, string_bytes answer.1, answer.2)
+-- what a call answers of these three
+abbrev pub in_bytes : {Z : Type 0} → ℕ × String Z × Direction → ℕ × List ℕ × Direction
+in_bytes answer = (answer.0, string_bytes answer.1, answer.2)
+
+-- a kill by a movement, which takes a range: what it answers, and what the ring keeps; after an error too the ring has no more than its slots
+pub record Kills {E Z : Type 0} (result : Result (Option (ℕ × String Z × Direction)) E) (l : Line) (m : Movement) (range : Option (ℕ × ℕ)) (old new : Ring) : Type 0 where
+  pub answer : IfOk result (λ r. option_map in_bytes r ≡ kill_answer l m range)
+  pub ring : OnOk result (new ≡ ring_with_killed l m range old)
+  pub size : new.size ≡ old.size
+  pub bound : OnErr result (length new.slots ≤ new.size)

@@ -1,5 +1,5 @@
 -- The texts that were killed.
-use Rattle.std.specs.Prelude.{ℕ, ◌+◌, ◌-◌, Bool, true, false, ◌==◌, ◌||◌, ◌&&◌, not, List, [], ◌∷◌, ◌++◌, length, slice_set, slice_index_or, Option, option_map, Some, None, is_some, if◌then◌else◌}
+use Rattle.std.specs.Prelude.{◌≡◌, ◌≤◌, ℕ, ◌+◌, ◌-◌, Bool, true, false, ◌==◌, ◌||◌, ◌&&◌, not, List, [], ◌∷◌, ◌++◌, length, slice_set, slice_index_or, Option, option_map, Some, None, is_some, if◌then◌else◌}
 use Rattle.line_buffer.specs.declared.kill_ring.Mode.{Mode}
 use Rattle.line_buffer.specs.declared.kill_ring.Mode.TheVariants.{Append, Prepend}
 
@@ -15,6 +15,11 @@ pub record Ring : Type 0 where
   pub slots : List (List ℕ)
   pub current : ℕ
   pub last : LastAction
+
+-- the ring may have as many slots as before, and has no more
+pub record KeepsSize (old new : Ring) : Type 0 where
+  pub size : new.size ≡ old.size
+  pub bound : length new.slots ≤ new.size
 
 -- a ring that holds nothing
 abbrev pub empty_ring : ℕ → Ring
@@ -36,10 +41,18 @@ next_slot r = if (length r.slots == 0) || (r.current + 1 == r.size) then 0 else 
 abbrev pub with_slot : ℕ → List ℕ → List (List ℕ) → List (List ℕ)
 with_slot slot text slots = if slot == length slots then slots ++ text ∷ [] else slice_set slots slot text
 
+-- the ring with a text in a slot, which becomes the current one
+abbrev pub with_current : Ring → ℕ → List ℕ → Ring
+with_current r slot text = record { size = r.size; slots = with_slot slot text r.slots; current = slot; last = r.last }
+
 -- a text that joins another at its end or at its front
 abbrev pub joined : Mode → List ℕ → List ℕ → List ℕ
 joined Append text more = text ++ more
 joined Prepend text more = more ++ text
+
+-- the ring with another text in its current slot
+abbrev pub with_current_text : Ring → List ℕ → Ring
+with_current_text r text = record { size = r.size; slots = slice_set r.slots r.current text; current = r.current; last = r.last }
 
 -- the text joins that of the current slot
 abbrev pub with_joined : Ring → List ℕ → Mode → Ring

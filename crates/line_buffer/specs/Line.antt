@@ -1,5 +1,5 @@
 -- A line: a text and a cursor in it.
-use Rattle.std.specs.Prelude.{ℕ, ◌+◌, ◌-◌, ◌==◌, Bool, not, List, length, take, drop, chars, Option, Some, None}
+use Rattle.std.specs.Prelude.{◌≡◌, is_some, IsCharBoundary, ℕ, ◌+◌, ◌-◌, ◌==◌, Bool, not, List, length, take, drop, chars, Option, Some, None}
 use Rattle.std.specs.Char.{is_whitespace}
 use Rattle.std.specs.List.{list_all, prefix_len, suffix_len, remove_range, insert_slice, replace_range}
 
@@ -51,6 +51,22 @@ end_of_line l = l.cursor + prefix_len is_no_newline (after l)
 -- the start of the cursor's line: behind the last newline before the cursor, else the text's start
 abbrev pub start_of_line : Line → ℕ
 start_of_line l = l.cursor - suffix_len is_no_newline (before l)
+
+-- a move of the cursor to a place, if there is one, says whether there is
+pub record MovesCursor (result : Bool) (old new : Line) (place : Option ℕ) : Type 0 where
+  pub answer : result ≡ is_some place
+  pub line : new ≡ moved_to old place
+  pub cursor : IsCharBoundary new.text new.cursor
+
+-- a cursor that is put at a place says whether it stood elsewhere
+pub record PutsCursor (result : Bool) (old new : Line) (place : ℕ) : Type 0 where
+  pub answer : result ≡ not (place == old.cursor)
+  pub line : new ≡ with_cursor old place
+  pub cursor : IsCharBoundary new.text new.cursor
+
+-- the cursor is at the text's end
+abbrev pub is_at_end : Line → Bool
+is_at_end l = l.cursor == length l.text
 
 -- only white space stands from the cursor on
 abbrev pub ends_in_white_space : Line → Bool

@@ -54,14 +54,14 @@ abbrev pub column_in : Layout → ℕ → List ℕ → ℕ
 column_in layout start text = columns_before layout start + unit_width layout.grapheme_cluster_mode text
 
 -- the greatest number up to m that passes, or 0
-abbrev pub greatest : (ℕ → Bool) → ℕ → ℕ
-greatest passes zero = zero
-greatest passes (suc m) = if passes (suc m) then suc m else greatest passes m
+abbrev pub last_fitting : (ℕ → Bool) → ℕ → ℕ
+last_fitting passes zero = zero
+last_fitting passes (suc m) = if passes (suc m) then suc m else last_fitting passes m
 
 -- in a line that begins at a place, the greatest cluster boundary whose column isn't past another, or else the line's start
 abbrev pub fitting : Layout → ℕ → List ℕ → ℕ → ℕ
 fitting layout start line column =
-    bytes_to (clusters line) (greatest (λ i. nat_le (column_in layout start (concat (take i (clusters line)))) column) (length (clusters line)))
+    bytes_to (clusters line) (last_fitting (λ i. nat_le (column_in layout start (concat (take i (clusters line)))) column) (length (clusters line)))
 
 -- the bytes of the line that begins at a place, without its newline
 abbrev pub line_from : List ℕ → ℕ → List ℕ

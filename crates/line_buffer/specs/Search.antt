@@ -5,7 +5,7 @@ use Rattle.std.specs.List.{last_or, range_with_len}
 use Rattle.std.specs.Str.{encode_utf8_all}
 use Rattle.line_buffer.specs.Cluster.{clusters}
 use Rattle.line_buffer.specs.Line.{Line, before, after}
-use Rattle.line_buffer.specs.Lines.{greatest}
+use Rattle.line_buffer.specs.Lines.{last_fitting}
 use Rattle.line_buffer.specs.Word.{bytes_to}
 use Rattle.line_buffer.specs.Yank.{is_boundary}
 use Rattle.line_buffer.specs.declared.keymap.CharSearch.{CharSearch}
@@ -48,7 +48,7 @@ found_back c l n = nth_or_last (reverse (places_of c (before l))) n
 
 -- where the character before a place begins: the greatest boundary below
 abbrev pub char_before : List ℕ → ℕ → ℕ
-char_before text place = greatest (is_boundary text) (place - 1)
+char_before text place = last_fitting (is_boundary text) (place - 1)
 
 -- the place behind a character at a place
 abbrev pub behind_char : ℕ → ℕ → ℕ

@@ -23,6 +23,9 @@ pub record Parts : Type 0 where
 abbrev pub exchanged : List ℕ → Parts → List ℕ
 exchanged text p = slice_range text p.from2 p.to2 ++ (slice_range text p.to1 p.from2 ++ slice_range text p.from1 p.to1)
 
+abbrev pub parts : ℕ → ℕ → ℕ → ℕ → Parts
+parts from1 to1 from2 to2 = record { from1 = from1; to1 = to1; from2 = from2; to2 = to2 }
+
 -- the line with two parts in each other's place, the cursor behind both
 abbrev pub with_exchanged : Line → Parts → Line
 with_exchanged l p = replaced_in l p.from1 p.to2 (exchanged l.text p)
@@ -43,6 +46,13 @@ abbrev pub chars_beside : Line → ℕ → Parts
 chars_beside l place =
     record { from1 = unwrap_or (place_back (with_cursor l place) 1) place; to1 = place; from2 = place; to2 = unwrap_or (place_on (with_cursor l place) 1) place }
 
+-- these clusters change places, where there are two
+abbrev pub chars_exchanged : Line → Line
+chars_exchanged l = if has_two_chars l then with_exchanged l (chars_beside l (between_chars l)) else l
+
+abbrev pub with_chars_exchanged : Line → List Entry → List Entry
+with_chars_exchanged l entries = if has_two_chars l then with_exchange l.text (chars_beside l (between_chars l)) entries else entries
+
 -- the end of the n-th word on from a place, or that place
 abbrev pub word_end_from : Line → ℕ → ℕ → ℕ
 word_end_from l place n = unwrap_or (word_on AfterEnd Emacs (with_cursor l place) n) place
@@ -62,6 +72,13 @@ words_beside l n =
 -- the words are two
 abbrev pub are_apart : Parts → Bool
 are_apart p = not ((p.from1 == p.from2) || nat_lt p.from2 p.to1)
+
+-- two words change places, or the cursor goes behind the first
+abbrev pub words_exchanged : Line → ℕ → Line
+words_exchanged l n = if are_apart (words_beside l n) then with_exchanged l (words_beside l n) else with_cursor l (words_beside l n).to1
+
+abbrev pub with_words_exchanged : Line → ℕ → List Entry → List Entry
+with_words_exchanged l n entries = if are_apart (words_beside l n) then with_exchange l.text (words_beside l n) entries else entries
 
 -- the text with its letters changed: all lower, all upper, or the first cluster upper and the rest lower
 abbrev pub cased : WordAction → List ℕ → List ℕ
@@ -89,3 +106,10 @@ with_case action l None entries = entries
 with_case action l (Some from) entries =
     let word = slice_range l.text from (word_end_from l from 1) in
     with_replace from word (cased action word) entries
+
+-- the same of the next word, if there is one
+abbrev pub word_cased : WordAction → Line → Line
+word_cased action l = with_cased action l (next_alphanumeric l)
+
+abbrev pub with_word_cased : WordAction → Line → List Entry → List Entry
+with_word_cased action l entries = with_case action l (next_alphanumeric l) entries

@@ -1,7 +1,8 @@
 -- Taking changes back.
 use Rattle.std.specs.Prelude.{◌≡◌, ℕ, ◌+◌, ◌≤◌, max, Result, OnOk, OnErr, nat_le, Bool, true, false, List, [], ◌∷◌, length, take, drop, filter, count_by, unwrap_or, slice_range, IsCharBoundary}
+use Rattle.std.specs.Fn.{iterate}
 use Rattle.std.specs.List.{range_with_len, remove_range, insert_slice, replace_range}
-use Rattle.line_buffer.specs.Changes.{Changes, Entry, no_changes, begins, ends, inserted, deleted, replaced}
+use Rattle.line_buffer.specs.Changes.{Changes, Entry, no_changes, with_entries, begins, ends, inserted, deleted, replaced}
 use Rattle.line_buffer.specs.Line.{Line}
 use Rattle.line_buffer.specs.Word.{nth}
 
@@ -31,7 +32,7 @@ all_taken_back [] l = l
 all_taken_back (e ∷ entries) l = all_taken_back entries (taken_back e l)
 
 -- a text stands at a place of another
-pub record StandsAt (text : List ℕ) (place : ℕ) (t : List ℕ) : Type 0 where
+pub record OccursAt (text : List ℕ) (place : ℕ) (t : List ℕ) : Type 0 where
   pub is : slice_range text place (place + length t) ≡ t
   pub start : IsCharBoundary text place
   pub stop : IsCharBoundary text (place + length t)
@@ -40,9 +41,9 @@ pub record StandsAt (text : List ℕ) (place : ℕ) (t : List ℕ) : Type 0 wher
 abbrev pub Fits : Entry → List ℕ → Type 0
 Fits begins text = Unit {0}
 Fits ends text = Unit {0}
-Fits (inserted place t) text = StandsAt text place t
+Fits (inserted place t) text = OccursAt text place t
 Fits (deleted place t) text = IsCharBoundary text place
-Fits (replaced place old new) text = StandsAt text place new
+Fits (replaced place old new) text = OccursAt text place new
 
 -- the entries tell how a text came from another: taken back, they give that one
 abbrev pub TellsOf : List Entry → List ℕ → List ℕ → Type 0
@@ -76,6 +77,13 @@ is_step entries k = nat_le (count_by is_end (take k entries)) (count_by is_begin
 abbrev pub steps_len : List Entry → ℕ → ℕ
 steps_len entries n = unwrap_or (nth (filter (is_step entries) (range_with_len 1 (length entries))) (max n 1)) (length entries)
 
+-- the entries of the newest n steps, and the changes without these
+abbrev pub newest_steps : ℕ → List Entry → List Entry
+newest_steps n entries = take (steps_len entries n) entries
+
+abbrev pub without_steps : ℕ → Changes → Changes
+without_steps n c = with_entries c (drop (steps_len c.entries n) c.entries)
+
 -- n steps taken back: the entries that are left, and the line
 abbrev pub after_undo : ℕ → List Entry × Line → List Entry × Line
 after_undo n s = (drop (steps_len s.0 n) s.0, all_taken_back (take (steps_len s.0 n) s.0) s.1)
@@ -84,9 +92,21 @@ after_undo n s = (drop (steps_len s.0 n) s.0, all_taken_back (take (steps_len s.
 abbrev pub NoGroupOpen : List Entry → Type 0
 NoGroupOpen entries = (k : ℕ) → count_by is_begin (take k entries) ≤ count_by is_end (take k entries)
 
+-- among any newest entries stand at most so many more begins than ends as groups are open
+pub record GroupsFit (c : Changes) : Type 0 where
+  pub fit : (k : ℕ) → count_by is_begin (take k c.entries) ≤ count_by is_end (take k c.entries) + c.open_groups
+
+-- where no group was open, n steps taken back at once, one for n = 0, were as many single steps
+pub record UndoesStepByStep {T E : Type 0} (result : Result T E) (n : ℕ) (old new : Line) (c c' : Changes) : Type 0 where
+  pub steps : c.open_groups ≡ 0 → OnOk result (◌≡◌ {A = List Entry × Line} (c'.entries, new) (iterate (after_undo 1) (max n 1) (c.entries, old)))
+
 -- what old entries tell of a text, new ones tell of another: both lead back to the same start
 pub record StillTells (old : List Entry) (text : List ℕ) (new : List Entry) (text' : List ℕ) : Type 0 where
   pub tells : (start : List ℕ) → TellsOf old text start → TellsOf new text' start
+
+-- of each text new entries tell what the old ones tell
+pub record TellTheSame (old new : List Entry) : Type 0 where
+  pub of : (text : List ℕ) → StillTells old text new text
 
 -- after a call's success the changes tell of the new text what they told of the old one; after its error there are none
 pub record KeepsTold {T E : Type 0} (result : Result T E) (old : Changes) (line : Line) (new : Changes) (line' : Line) : Type 0 where
@@ -95,7 +115,8 @@ pub record KeepsTold {T E : Type 0} (result : Result T E) (old : Changes) (line 
 
 -- the same of a call that leaves the text, whichever it is
 pub record KeepsToldAnywhere {T E : Type 0} (result : Result T E) (old new : Changes) : Type 0 where
-  pub of : (line : Line) → KeepsTold result old line new line
+  pub tells : OnOk result (TellTheSame old.entries new.entries)
+  pub err : OnErr result (new ≡ no_changes)
 
 -- the boundaries of a text up to a place are boundaries of another
 pub record KeepsFront (text text' : List ℕ) (place : ℕ) : Type 0 where

@@ -6,8 +6,8 @@ use Rattle.line_buffer.specs.declared.layout.GraphemeClusterMode.{GraphemeCluste
 use Rattle.line_buffer.specs.declared.layout.GraphemeClusterMode.TheVariants.{Unicode, WcWidth, NoZwj}
 
 -- the columns of a list of characters
-abbrev pub columns_of : List ℕ → ℕ
-columns_of cs = str_width false cs
+abbrev pub columns_as_one : List ℕ → ℕ
+columns_as_one cs = str_width false cs
 
 -- the columns of a character by itself; 0 for one without a width
 abbrev pub columns_of_char : ℕ → ℕ
@@ -18,9 +18,9 @@ is_joiner c = c == 0x200D
 
 -- the columns of a text: of the whole, of each character, or of each piece between zero width joiners
 abbrev pub text_width : GraphemeClusterMode → List ℕ → ℕ
-text_width Unicode text = columns_of (chars text)
+text_width Unicode text = columns_as_one (chars text)
 text_width WcWidth text = sum_by columns_of_char (chars text)
-text_width NoZwj text = sum_by columns_of (slice_split is_joiner (chars text))
+text_width NoZwj text = sum_by columns_as_one (slice_split is_joiner (chars text))
 
 -- the same, at most the greatest number of columns
 abbrev pub unit_width : GraphemeClusterMode → List ℕ → ℕ

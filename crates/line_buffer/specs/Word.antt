@@ -57,6 +57,11 @@ edges test kinds = filter (λ i. test (kind_at kinds (i - 1)) (kind_at kinds i))
 abbrev pub nth : List ℕ → ℕ → Option ℕ
 nth places n = slice_get places (n - 1)
 
+-- the first, or else the second
+abbrev pub or_else : {A : Type 0} → Option A → Option A → Option A
+or_else None other = other
+or_else (Some x) other = Some x
+
 -- the bytes of the first i clusters
 abbrev pub bytes_to : List (List ℕ) → ℕ → ℕ
 bytes_to cs i = length (concat (take i cs))
@@ -68,34 +73,24 @@ word_back word l n =
     if (n == 0) || (l.cursor == 0) then None
     else Some (bytes_to cs (unwrap_or (nth (reverse (edges begins_word (kinds_of word cs))) n) 0))
 
--- where there are fewer words, by the clusters from the cursor on: their end for Emacs, else the last cluster's start, none if that is the cursor's cluster
-abbrev pub past_words : Word → List (List ℕ) → Option ℕ
-past_words Emacs cs = Some (length (concat cs))
-past_words Big cs = if length cs == 1 then None else Some (bytes_to cs (length cs - 1))
-past_words Vi cs = if length cs == 1 then None else Some (bytes_to cs (length cs - 1))
+-- where there are fewer words among so many clusters: behind them for Emacs, else before the last one, if that is not the first
+abbrev pub past_the_words : Word → ℕ → Option ℕ
+past_the_words Emacs count = Some count
+past_the_words Big count = if count == 1 then None else Some (count - 1)
+past_the_words Vi count = if count == 1 then None else Some (count - 1)
 
--- the bytes to a place among the clusters, or the rule for fewer words
-abbrev pub or_past : Word → List (List ℕ) → Option ℕ → Option ℕ
-or_past word cs (Some i) = Some (bytes_to cs i)
-or_past word cs None = past_words word cs
-
--- of a word behind the cursor's cluster that ends so many clusters behind it: where its last cluster is, or for Emacs its end
-abbrev pub before_end : Word → ℕ → ℕ
-before_end Emacs i = i + 1
-before_end Big i = i
-before_end Vi i = i
-
--- by the clusters from the cursor on: the n-th word start after it, the last cluster of the n-th word behind its cluster, the end of the n-th word
-abbrev pub on_by_words : At → Word → List (List ℕ) → ℕ → Option ℕ
-on_by_words Start word cs n = or_past word cs (nth (edges begins_word (kinds_of word cs)) n)
-on_by_words BeforeEnd word cs n = or_past word cs (option_map (before_end word) (nth (edges ends_word (kinds_of word (drop 1 cs))) n))
-on_by_words AfterEnd word cs n = Some (bytes_to cs (unwrap_or (nth (edges ends_word (kinds_of word cs)) n) (length cs)))
+-- where n words lead, in clusters from the cursor on: to the n-th start behind it; before the last cluster of the n-th word that ends behind the cursor's cluster, for Emacs after it; to the n-th end
+abbrev pub word_edge : At → Word → List (List ℕ) → ℕ → Option ℕ
+word_edge Start word cs n = or_else (nth (edges begins_word (kinds_of word cs)) n) (past_the_words word (length cs))
+word_edge BeforeEnd Emacs cs n = or_else (option_map (λ i. i + 1) (nth (edges ends_word (kinds_of Emacs (drop 1 cs))) n)) (past_the_words Emacs (length cs))
+word_edge BeforeEnd word cs n = or_else (nth (edges ends_word (kinds_of word (drop 1 cs))) n) (past_the_words word (length cs))
+word_edge AfterEnd word cs n = Some (unwrap_or (nth (edges ends_word (kinds_of word cs)) n) (length cs))
 
 -- the place of a movement by words; none for n = 0 or at the text's end
 abbrev pub word_on : At → Word → Line → ℕ → Option ℕ
 word_on place word l n =
     if (n == 0) || nat_le (length l.text) l.cursor then None
-    else option_map (λ bytes. l.cursor + bytes) (on_by_words place word (clusters (after l)) n)
+    else option_map (λ i. l.cursor + bytes_to (clusters (after l)) i) (word_edge place word (clusters (after l)) n)
 
 -- the test of an edge
 abbrev pub edge_between : Edge → Kind → Kind → Bool

@@ -10,9 +10,9 @@ yanks l [] = None
 yanks l (b ∷ bs) = Some (l.cursor == length l.text)
 
 -- n copies of a text come in at the cursor; none of an empty text
-abbrev pub yanked : Line → List ℕ → ℕ → Line
-yanked l [] n = l
-yanked l (b ∷ bs) n = inserted_at_cursor l (repeat n (b ∷ bs))
+abbrev pub line_yanked : Line → List ℕ → ℕ → Line
+line_yanked l [] n = l
+line_yanked l (b ∷ bs) n = inserted_at_cursor l (repeat n (b ∷ bs))
 
 -- the entries once n copies of a text came in at a place
 abbrev pub with_yank : ℕ → List ℕ → ℕ → List Entry → List Entry
@@ -32,8 +32,8 @@ abbrev pub popped : Line → ℕ → Line
 popped l size = without l (Some (l.cursor - size, l.cursor))
 
 -- the bytes go, and the text comes in their place
-abbrev pub yank_popped : Line → ℕ → List ℕ → Line
-yank_popped l size t = if can_pop l size then yanked (popped l size) t 1 else l
+abbrev pub line_yank_popped : Line → ℕ → List ℕ → Line
+line_yank_popped l size t = if can_pop l size then line_yanked (popped l size) t 1 else l
 
 abbrev pub yank_pops : Line → ℕ → List ℕ → Option Bool
 yank_pops l size t = if can_pop l size then yanks (popped l size) t else None

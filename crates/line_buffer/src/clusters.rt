@@ -1,4 +1,5 @@
 //! Clusters at the ends of a text, and kinds of characters.
+ghost use Rattle.line_buffer.specs.Offset.{IsOffset, IsOffsetIfAny};
 ghost use Rattle.std.specs.Prelude.{◌≡◌, nat_le, ◌≤◌, IfSome, ◌==◌, ◌-◌, length, take, IsCharBoundary};
 ghost use Rattle.std.specs.List.{concat, prefix_len, suffix_len};
 ghost use Rattle.line_buffer.specs.Character.{is_alphanumeric, is_alphanumeric_cluster, is_one_alphanumeric};
@@ -10,7 +11,7 @@ ghost use Rattle.line_buffer.specs.Lines.{line_above, next_line};
 use crate::keymap::RepeatCount;
 use unicode_segmentation::UnicodeSegmentation;
 
-/// The text behind its first `n` clusters.
+/// Returns the text behind its first `n` clusters.
 fn behind_first(text: &str, n: RepeatCount) -> &str
     ensures { result.now ≡ behind_first n text.now }
 {
@@ -23,7 +24,7 @@ fn behind_first(text: &str, n: RepeatCount) -> &str
     rest.as_str()
 }
 
-/// The text before its last `n` clusters.
+/// Returns the text before its last `n` clusters.
 fn before_last(text: &str, n: RepeatCount) -> &str
     ensures { result.now ≡ before_last n text.now }
 {
@@ -36,26 +37,23 @@ fn before_last(text: &str, n: RepeatCount) -> &str
     rest.as_str()
 }
 
-/// The length of the first `n` clusters of the text.
+/// Returns the length of the first `n` clusters of the text.
 pub(crate) fn first_len(text: &str, n: RepeatCount) -> usize
-    ensures len { result ≡ length (concat (take n (clusters text.now))) }
-    ensures boundary { IsCharBoundary text.now result }
+    ensures { IsOffset result text.now (length (concat (take n (clusters text.now)))) }
 {
     text.len() - behind_first(text, n).len()
 }
 
-/// Where the last `n` clusters of the text begin.
+/// Returns where the last `n` clusters of the text begin.
 pub(crate) fn last_start(text: &str, n: RepeatCount) -> usize
-    ensures place { result ≡ length (before_last n text.now) }
-    ensures boundary { IsCharBoundary text.now result }
+    ensures { IsOffset result text.now (length (before_last n text.now)) }
 {
     before_last(text, n).len()
 }
 
-/// The length of the text up to its first newline, or of all of it.
+/// Returns the length of the text up to its first newline, or of all of it.
 pub(crate) fn first_line_len(text: &str) -> usize
-    ensures len { result ≡ prefix_len is_no_newline text.now }
-    ensures boundary { IsCharBoundary text.now result }
+    ensures { IsOffset result text.now (prefix_len is_no_newline text.now) }
 {
     match text.find('\n') {
         Some(newline) => newline,
@@ -63,10 +61,9 @@ pub(crate) fn first_line_len(text: &str) -> usize
     }
 }
 
-/// Where the text goes on behind its last newline, or its start.
+/// Returns where the text goes on behind its last newline, or its start.
 pub(crate) fn last_line_start(text: &str) -> usize
-    ensures place { result ≡ length text.now - suffix_len is_no_newline text.now }
-    ensures boundary { IsCharBoundary text.now result }
+    ensures { IsOffset result text.now (length text.now - suffix_len is_no_newline text.now) }
 {
     match text.rfind('\n') {
         Some(newline) => newline + 1,
@@ -74,12 +71,11 @@ pub(crate) fn last_line_start(text: &str) -> usize
     }
 }
 
-/// Of a text that ends where a line begins: where the line above begins, or `None` where the text does not
-/// end in a newline.
+/// Of a text that ends where a line begins: where the line above begins, or `None` where the text
+/// does not end in a newline.
 pub(crate) fn line_above(text: &str) -> Option<usize>
-    ensures place { result ≡ line_above text.now }
+    ensures offset { IsOffsetIfAny result text.now (line_above text.now) }
     ensures up { IfSome result (λ place. place ≤ length text.now) }
-    ensures boundary { IfSome result (λ place. IsCharBoundary text.now place) }
 {
     match text.strip_suffix('\n') {
         Some(above) => Some(last_line_start(above)),
@@ -87,10 +83,9 @@ pub(crate) fn line_above(text: &str) -> Option<usize>
     }
 }
 
-/// Where the text goes on behind its first newline, or `None` where it has none.
+/// Returns where the text goes on behind its first newline, or `None` where it has none.
 pub(crate) fn next_line(text: &str) -> Option<usize>
-    ensures place { result ≡ next_line text.now }
-    ensures boundary { IfSome result (λ place. IsCharBoundary text.now place) }
+    ensures { IsOffsetIfAny result text.now (next_line text.now) }
 {
     let newline = first_line_len(text);
     if newline == text.len() {
@@ -99,7 +94,7 @@ pub(crate) fn next_line(text: &str) -> Option<usize>
     Some(newline + 1)
 }
 
-/// Whether the character is a letter or a digit of ASCII, or past ASCII and no white space.
+/// Returns whether the character is a letter or a digit of ASCII, or past ASCII and no white space.
 pub(crate) fn is_alphanumeric(c: char) -> bool
     ensures { result ≡ is_alphanumeric c }
 {
@@ -110,17 +105,16 @@ pub(crate) fn is_alphanumeric(c: char) -> bool
     }
 }
 
-/// Whether all characters of the text are alphanumeric.
+/// Returns whether all characters of the text are alphanumeric.
 pub(crate) fn is_alphanumeric_text(text: &str) -> bool
     ensures { result ≡ is_alphanumeric_cluster text.now }
 {
     text.chars().all(|c| is_alphanumeric(c))
 }
 
-/// Where the first alphanumeric cluster of the text begins, if there is one.
+/// Returns where the first alphanumeric cluster of the text begins, if there is one.
 pub(crate) fn first_alphanumeric(text: &str) -> Option<usize>
-    ensures place { result ≡ first_alphanumeric text.now }
-    ensures boundary { IfSome result (λ place. IsCharBoundary text.now place) }
+    ensures { IsOffsetIfAny result text.now (first_alphanumeric text.now) }
 {
     let mut rest = text.graphemes(true);
     let mut at = 0;
@@ -133,7 +127,7 @@ pub(crate) fn first_alphanumeric(text: &str) -> Option<usize>
     None
 }
 
-/// Whether the text is one cluster.
+/// Returns whether the text is one cluster.
 pub(crate) fn is_one_cluster(text: &str) -> bool
     ensures { result ≡ (length (clusters text.now) == 1) }
 {
@@ -144,7 +138,7 @@ pub(crate) fn is_one_cluster(text: &str) -> bool
     left.next().is_none()
 }
 
-/// Whether the text has two clusters or more.
+/// Returns whether the text has two clusters or more.
 pub(crate) fn has_two_clusters(text: &str) -> bool
     ensures { result ≡ nat_le 2 (length (clusters text.now)) }
 {
@@ -155,7 +149,7 @@ pub(crate) fn has_two_clusters(text: &str) -> bool
     left.next().is_some()
 }
 
-/// Whether the text is one cluster of alphanumeric characters.
+/// Returns whether the text is one cluster of alphanumeric characters.
 pub(crate) fn is_one_alphanumeric(text: &str) -> bool
     ensures { result ≡ is_one_alphanumeric text.now }
 {

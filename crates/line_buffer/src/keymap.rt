@@ -40,7 +40,7 @@ pub enum CharSearch {
 }
 
 impl CharSearch {
-    /// The same search in the other direction.
+    /// Returns the same search in the other direction.
     pub fn opposite(self) -> CharSearch
         ensures { result ≡ opposite self }
     {

@@ -1,5 +1,5 @@
 ghost use Rattle.std.specs.Prelude.{◌≡◌, ◌<◌, ◌≤◌, length, slice_set, string_bytes, is_some, option_copied, option_map, OnOk};
-ghost use Rattle.line_buffer.specs.KillRing.{other, empty_ring, with_last, after_kill, joined, current_text, with_slot, next_slot, with_kept, yanked_text, after_yank, after_yank_pop, back_one, yank_pop_size, yank_popped};
+ghost use Rattle.line_buffer.specs.KillRing.{KeepsSize, with_current, with_current_text, other, empty_ring, with_last, after_kill, joined, current_text, with_slot, next_slot, with_kept, yanked_text, after_yank, after_yank_pop, back_one, yank_pop_size, yank_popped};
 
 use crate::line_buffer::OutOfMemory;
 use std::alloc::Global;
@@ -37,7 +37,7 @@ impl Model for KillRing {
 
     ghost Value = { Ring };
 
-    ghost use Rattle.line_buffer.specs.Acted.{action_of};
+    ghost use Rattle.line_buffer.specs.RingAction.{action_of};
 
     ghost view = { λ r. record { size = r.size; slots = map string_bytes r.slots.items; current = r.current; last = action_of r.last } };
 
@@ -46,9 +46,9 @@ impl Model for KillRing {
 
 impl KillRing {
     ghost use Rattle.std.specs.Borrow.{sem};
-    ghost use Rattle.line_buffer.specs.Lent.{EndsAs};
+    ghost use Rattle.line_buffer.specs.RingLoan.{EndsAs};
 
-    /// A ring of `size` slots that holds nothing yet. It grows from `alloc`.
+    /// Returns a ring of `size` slots that holds nothing yet. It grows from `alloc`.
     pub fn new(alloc: Global, size: usize) -> KillRing
         ensures { result ≡ empty_ring size }
     {
@@ -67,13 +67,16 @@ impl KillRing {
         self.last = Action::Other;
     }
 
-    /// Keeps a text that was killed: right after a kill it joins the current slot, on the side that `mode`
-    /// tells; else it takes the next slot, which becomes the current one. A ring of size 0 keeps nothing.
-    /// `OutOfMemory` comes where a slot cannot grow; then the ring still has at most `size` slots.
+    /// Keeps a text that was killed: right after a kill it joins the current slot, on the side that
+    /// `mode` tells; else it takes the next slot, which becomes the current one. A ring of size 0
+    /// keeps nothing.
+    ///
+    /// # Errors
+    ///
+    /// `OutOfMemory` where an allocation fails; then the ring still has at most `size` slots.
     pub fn kill(&mut self, text: &str, mode: Mode) -> Result<(), OutOfMemory>
         ensures ring { OnOk result (self.new ≡ after_kill self.old text.now mode) }
-        ensures size { self.new.size ≡ self.old.size }
-        ensures bound { length self.new.slots ≤ self.new.size }
+        ensures fits { KeepsSize self.old self.new }
     {
         let joins = self.last == Action::Kill && !self.slots.is_empty();
         self.last = Action::Kill;
@@ -86,8 +89,8 @@ impl KillRing {
         self.take_next(text)
     }
 
-    /// Gives the text of the current slot, and records that it was yanked. `None` where nothing is held; then nothing
-    /// changes.
+    /// Gives the text of the current slot, and records that it was yanked. `None` where nothing is
+    /// held; then nothing changes.
     pub fn yank(&mut self) -> Option<&str>
         ensures* ring { sem 𝓛 (EndsAs self.entry (after_yank self.entry.now)) }
         ensures answer { option_copied result ≡ yanked_text self.entry.now }
@@ -96,12 +99,13 @@ impl KillRing {
         self.current_text()
     }
 
-    /// Right after a yank goes one slot back, from the first to the last that is held, and gives the bytes of the yank
-    /// before and the text that is there now, which is recorded as yanked. `None` where the last action was no yank or
-    /// nothing is held; then nothing changes.
+    /// Right after a yank goes one slot back, from the first to the last that is held, and gives
+    /// the bytes of the yank before and the text that is there now, which is recorded as yanked.
+    /// `None` where the last action was no yank or nothing is held; then nothing changes.
     pub fn yank_pop(&mut self) -> Option<(usize, &str)>
         ensures* ring { sem 𝓛 (EndsAs self.entry (after_yank_pop self.entry.now)) }
-        ensures answer { option_map (λ popped. (popped.0, popped.1.now)) result ≡ yank_popped self.entry.now }
+        ensures answer { option_map (λ popped. (popped.0, popped.1.now)) result
+            ≡ yank_popped self.entry.now }
     {
         let size = self.record_yank_pop()?;
         let text = self.current_text()?;
@@ -155,8 +159,7 @@ impl KillRing {
     /// Keeps a text that was killed, if there is a mode by which to keep it.
     pub(crate) fn keep(&mut self, text: &str, mode: Option<Mode>) -> Result<(), OutOfMemory>
         ensures ring { OnOk result (self.new ≡ with_kept self.old text.now mode) }
-        ensures size { self.new.size ≡ self.old.size }
-        ensures bound { length self.new.slots ≤ self.new.size }
+        ensures fits { KeepsSize self.old self.new }
     {
         let _ = &self.slots;
         match mode {
@@ -168,9 +171,9 @@ impl KillRing {
     /// Puts a text on one side of the current slot's.
     fn join(&mut self, text: &str, mode: Mode) -> Result<(), OutOfMemory>
         requires { 0 < length self.old.slots }
-        ensures ring { OnOk result (self.new ≡ record { size = self.old.size; slots = slice_set self.old.slots self.old.current (joined mode (current_text self.old) text.now); current = self.old.current; last = self.old.last }) }
-        ensures size { self.new.size ≡ self.old.size }
-        ensures bound { length self.new.slots ≤ self.new.size }
+        ensures ring { OnOk result (self.new
+            ≡ with_current_text self.old (joined mode (current_text self.old) text.now)) }
+        ensures fits { KeepsSize self.old self.new }
     {
         let slot = &mut self.slots[self.current];
         join_text(slot, text, mode)?;
@@ -180,16 +183,17 @@ impl KillRing {
     /// Puts a text into the next slot.
     fn take_next(&mut self, text: &str) -> Result<(), OutOfMemory>
         requires { 0 < self.old.size }
-        ensures ring { OnOk result (self.new ≡ record { size = self.old.size; slots = with_slot (next_slot self.old) text.now self.old.slots; current = next_slot self.old; last = self.old.last }) }
-        ensures size { self.new.size ≡ self.old.size }
-        ensures bound { length self.new.slots ≤ self.new.size }
+        ensures ring { OnOk result (self.new
+            ≡ with_current self.old (next_slot self.old) text.now) }
+        ensures fits { KeepsSize self.old self.new }
     {
         let next = self.next_slot();
         let text = String::from_str(*self.slots.allocator(), text)?;
         self.put(next, text)
     }
 
-    /// The slot behind the current one: 0 on an empty ring and behind the last that there may be.
+    /// Returns the slot behind the current one: 0 on an empty ring and behind the last that there
+    /// may be.
     fn next_slot(&self) -> usize
         ensures slot { result ≡ next_slot self.now }
         ensures within { result ≤ length self.now.slots }
@@ -205,9 +209,8 @@ impl KillRing {
     fn put(&mut self, slot: usize, text: String) -> Result<(), OutOfMemory>
         requires within { slot ≤ length self.old.slots }
         requires fits { slot < self.old.size }
-        ensures ring { OnOk result (self.new ≡ record { size = self.old.size; slots = with_slot slot (string_bytes text) self.old.slots; current = slot; last = self.old.last }) }
-        ensures size { self.new.size ≡ self.old.size }
-        ensures bound { length self.new.slots ≤ self.new.size }
+        ensures ring { OnOk result (self.new ≡ with_current self.old slot (string_bytes text)) }
+        ensures fits { KeepsSize self.old self.new }
     {
         if slot == self.slots.len() {
             self.slots.push(text)?;
@@ -229,6 +232,3 @@ fn join_text(text: &mut String, more: &str, mode: Mode) -> Result<(), OutOfMemor
         Mode::Prepend => Ok(text.insert_str(0, more)?),
     }
 }
-
-#[cfg(test)]
-mod tests;

@@ -1,12 +1,13 @@
 //! Laws over the definitions that the contracts cite.
-ghost use Rattle.line_buffer.specs.Laws.{KilledIsYanked, PlacesAreBetweenClusters, TakingAllBack, UndoingStepByStep};
+ghost use Rattle.line_buffer.specs.Laws.{ClosedGroupIsOneStep, KilledIsYanked, KillsInARowAreYanked, KillsInARowShareASlot, LastFittingIsLast, NoneCountedNoneOpen, PlacesAreBetweenClusters, TakingAllBack, UndoingStepByStep, YankPopsComeRound};
 
 /// Taking back a whole list of changes gives the text that it tells of.
 pub fn taking_all_back()
     ensures { TakingAllBack }
 {}
 
-/// Where no group is open, taking so many steps back at once is taking one step back as often.
+/// Returns where no group is open, taking so many steps back at once is taking one step back as
+/// often.
 pub fn undoing_step_by_step()
     ensures { UndoingStepByStep }
 {}
@@ -16,7 +17,40 @@ pub fn killed_is_yanked()
     ensures { KilledIsYanked }
 {}
 
-/// A place by clusters or words lies between clusters of the text on that side of the cursor.
+/// Returns a place by clusters or words lies between clusters of the text on that side of the
+/// cursor.
 pub fn places_are_between_clusters()
     ensures { PlacesAreBetweenClusters }
+{}
+
+/// Returns where groups fit, as `Changeset::len` says that they do, and none is counted as open,
+/// none is open.
+pub fn none_counted_none_open()
+    ensures { NoneCountedNoneOpen }
+{}
+
+/// Kills in a row leave their texts in one slot of the ring, and the others as they were.
+pub fn kills_in_a_row_share_a_slot()
+    ensures { KillsInARowShareASlot }
+{}
+
+/// After a reset of the kill ring a yank gives all that was killed in a row.
+pub fn kills_in_a_row_are_yanked()
+    ensures { KillsInARowAreYanked }
+{}
+
+/// As many yank-pops as slots are held come round to the slot that they began at.
+pub fn yank_pops_come_round()
+    ensures { YankPopsComeRound }
+{}
+
+/// Returns a group with an entry of text, begun where none was open and closed, is one step of
+/// undo.
+pub fn closed_group_is_one_step()
+    ensures { ClosedGroupIsOneStep }
+{}
+
+/// Of places that fit, a move by lines and the character before a place take the last.
+pub fn last_fitting_is_last()
+    ensures { LastFittingIsLast }
 {}

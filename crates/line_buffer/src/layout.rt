@@ -1,6 +1,6 @@
 ghost use Rattle.std.specs.Prelude.{◌≡◌, false, min, chars, IsUtf8};
 ghost use Rattle.std.specs.List.{slice_split, sum_by};
-ghost use Rattle.line_buffer.specs.Width.{columns_of, columns_of_char, is_joiner, unit_width};
+ghost use Rattle.line_buffer.specs.Width.{columns_as_one, columns_of_char, is_joiner, unit_width};
 
 use unicode_width::{UnicodeWidthChar, UnicodeWidthStr};
 
@@ -48,7 +48,7 @@ pub struct Layout {
 }
 
 impl Layout {
-    /// A layout with every place at the first column of the first row, and no info.
+    /// Returns a layout with every place at the first column of the first row, and no info.
     pub fn new(grapheme_cluster_mode: GraphemeClusterMode) -> Layout
         ensures mode { result.grapheme_cluster_mode ≡ grapheme_cluster_mode }
         ensures prompt { result.prompt_size ≡ record { row = 0; col = 0 } }
@@ -68,7 +68,7 @@ impl Layout {
         }
     }
 
-    /// The columns that the text takes by this layout's mode, at most the greatest `Unit`.
+    /// Returns the columns that the text takes by this layout's mode, at most the greatest `Unit`.
     pub fn width(&self, text: &str) -> Unit
         ensures { result ≡ unit_width self.now.grapheme_cluster_mode text.now }
     {
@@ -77,7 +77,7 @@ impl Layout {
 }
 
 impl GraphemeClusterMode {
-    /// The columns that the text takes, at most the greatest `Unit`.
+    /// Returns the columns that the text takes, at most the greatest `Unit`.
     pub fn width(&self, text: &str) -> Unit
         ensures { result ≡ unit_width self.now text.now }
     {
@@ -89,15 +89,15 @@ impl GraphemeClusterMode {
     }
 }
 
-/// The columns of the text, at most the greatest `Unit`.
+/// Returns the columns of the text, at most the greatest `Unit`.
 fn columns_of(text: &str) -> Unit
-    ensures columns { result ≡ min (columns_of (chars text.now)) 65535 }
+    ensures columns { result ≡ min (columns_as_one (chars text.now)) 65535 }
     ensures text { IsUtf8 text.now }
 {
     text.width().min(65535) as Unit
 }
 
-/// The columns of the text's characters, each by itself, at most the greatest `Unit`.
+/// Returns the columns of the text's characters, each by itself, at most the greatest `Unit`.
 fn columns_of_chars(text: &str) -> Unit
     ensures { result ≡ min (sum_by columns_of_char (chars text.now)) 65535 }
 {
@@ -108,9 +108,10 @@ fn columns_of_chars(text: &str) -> Unit
     columns
 }
 
-/// The columns of the text's pieces between zero width joiners, at most the greatest `Unit`.
+/// Returns the columns of the text's pieces between zero width joiners, at most the greatest
+/// `Unit`.
 fn columns_between_joiners(text: &str) -> Unit
-    ensures { result ≡ min (sum_by columns_of (slice_split is_joiner (chars text.now))) 65535 }
+    ensures { result ≡ min (sum_by columns_as_one (slice_split is_joiner (chars text.now))) 65535 }
 {
     let mut columns: Unit = 0;
     let mut rest = text;
@@ -120,6 +121,3 @@ fn columns_between_joiners(text: &str) -> Unit
     }
     columns.saturating_add(columns_of(rest))
 }
-
-#[cfg(test)]
-mod tests;

@@ -1,6 +1,7 @@
+ghost use Rattle.line_buffer.specs.Offset.{IsOffset, IsOffsetBack, IsOffsetOn};
 ghost use Rattle.std.specs.Prelude.{◌≡◌, ◌≤◌, [], ◌==◌, length, take, drop, not, is_some, IfOk, IfSome, IsCharBoundary};
 ghost use Rattle.line_buffer.specs.Cluster.{place_on, place_back};
-ghost use Rattle.line_buffer.specs.Line.{before, after, with_cursor, moved_to, start_of_line, end_of_line, ends_in_white_space};
+ghost use Rattle.line_buffer.specs.Line.{is_at_end, MovesCursor, PutsCursor, before, after, with_cursor, moved_to, start_of_line, end_of_line, ends_in_white_space};
 
 mod edits;
 mod indents;
@@ -36,7 +37,7 @@ pub enum Direction {
     Backward,
 }
 
-/// A growth was refused for want of memory.
+/// An allocation failed.
 #[derive(Debug, Clone, Copy, PartialEq, Eq)]
 pub struct OutOfMemory;
 
@@ -84,7 +85,7 @@ impl Model for LineBuffer {
 }
 
 impl LineBuffer {
-    /// An empty line. It grows from `alloc`.
+    /// Returns an empty line. It grows from `alloc`.
     pub fn new(alloc: Global) -> LineBuffer
         ensures { result ≡ record { text = []; cursor = 0 } }
     {
@@ -94,8 +95,12 @@ impl LineBuffer {
         }
     }
 
-    /// The line `text` with its cursor at byte `pos`, a character boundary. It grows from `alloc`.
-    /// `OutOfMemory` comes where the copy of the text is refused.
+    /// Returns the line `text` with its cursor at byte `pos`, a character boundary. It grows from
+    /// `alloc`.
+    ///
+    /// # Errors
+    ///
+    /// `OutOfMemory` where an allocation fails.
     pub fn init(alloc: Global, text: &str, pos: usize) -> Result<LineBuffer, OutOfMemory>
         requires { IsCharBoundary text.now pos }
         ensures { IfOk result (λ l. l ≡ record { text = text.now; cursor = pos }) }
@@ -106,7 +111,7 @@ impl LineBuffer {
         })
     }
 
-    /// The whole text.
+    /// Returns the whole text.
     pub fn as_str(&self) -> &str
         ensures value { result.now ≡ self.now.text }
         ensures start { IsCharBoundary self.now.text 0 }
@@ -115,7 +120,7 @@ impl LineBuffer {
         self.buf.as_str()
     }
 
-    /// The cursor's place in bytes from the start of the text.
+    /// Returns the cursor's place in bytes from the start of the text.
     pub fn pos(&self) -> usize
         ensures value { result ≡ self.now.cursor }
         ensures boundary { IsCharBoundary self.now.text result }
@@ -123,7 +128,7 @@ impl LineBuffer {
         self.pos
     }
 
-    /// The length of the text in bytes.
+    /// Returns the length of the text in bytes.
     pub fn len(&self) -> usize
         ensures value { result ≡ length self.now.text }
         ensures cursor { IsCharBoundary self.now.text self.now.cursor }
@@ -131,7 +136,7 @@ impl LineBuffer {
         self.buf.len()
     }
 
-    /// Whether the text has no character.
+    /// Returns whether the text has no character.
     pub fn is_empty(&self) -> bool
         ensures value { result ≡ (length self.now.text == 0) }
         ensures cursor { IsCharBoundary self.now.text self.now.cursor }
@@ -147,21 +152,21 @@ impl LineBuffer {
         self.pos = pos;
     }
 
-    /// Whether nothing stands from the cursor on.
+    /// Returns whether nothing stands from the cursor on.
     pub fn is_cursor_at_end(&self) -> bool
-        ensures { result ≡ (self.now.cursor == length self.now.text) }
+        ensures { result ≡ is_at_end self.now }
     {
         self.pos == self.buf.len()
     }
 
-    /// Whether only white space stands from the cursor on.
+    /// Returns whether only white space stands from the cursor on.
     pub fn is_end_of_input(&self) -> bool
         ensures { result ≡ ends_in_white_space self.now }
     {
         self.after().chars().all(|c| c.is_whitespace())
     }
 
-    /// The text before the cursor.
+    /// Returns the text before the cursor.
     fn before(&self) -> &str
         ensures text { result.now ≡ before self.now }
         ensures len { length result.now ≡ self.now.cursor }
@@ -170,14 +175,14 @@ impl LineBuffer {
         &self.buf.as_str()[..self.pos]
     }
 
-    /// The text from the cursor on.
+    /// Returns the text from the cursor on.
     fn after(&self) -> &str
         ensures { result.now ≡ after self.now }
     {
         &self.buf.as_str()[self.pos..]
     }
 
-    /// The text before a boundary.
+    /// Returns the text before a boundary.
     fn text_to(&self, place: usize) -> &str
         requires { IsCharBoundary self.now.text place }
         ensures { result.now ≡ take place self.now.text }
@@ -185,7 +190,7 @@ impl LineBuffer {
         &self.buf.as_str()[..place]
     }
 
-    /// The text from a boundary on.
+    /// Returns the text from a boundary on.
     fn text_from(&self, place: usize) -> &str
         requires { IsCharBoundary self.now.text place }
         ensures { result.now ≡ drop place self.now.text }
@@ -193,12 +198,10 @@ impl LineBuffer {
         &self.buf.as_str()[place..]
     }
 
-    /// The place `n` clusters on from the cursor, or the text's end where there are fewer. `None` for
-    /// `n` = 0 and at the text's end.
+    /// Returns the place `n` clusters on from the cursor, or the text's end where there are fewer.
+    /// `None` for `n` = 0 and at the text's end.
     pub fn next_pos(&self, n: RepeatCount) -> Option<usize>
-        ensures place { result ≡ place_on self.now n }
-        ensures on { IfSome result (λ place. self.now.cursor ≤ place) }
-        ensures boundary { IfSome result (λ place. IsCharBoundary self.now.text place) }
+        ensures { IsOffsetOn result self.now (place_on self.now n) }
     {
         if n == 0 || self.pos == self.buf.len() {
             return None;
@@ -206,12 +209,10 @@ impl LineBuffer {
         Some(self.pos + first_len(self.after(), n))
     }
 
-    /// The place `n` clusters back from the cursor, or the text's start where there are fewer. `None`
-    /// for `n` = 0 and at the text's start.
+    /// Returns the place `n` clusters back from the cursor, or the text's start where there are
+    /// fewer. `None` for `n` = 0 and at the text's start.
     pub fn prev_pos(&self, n: RepeatCount) -> Option<usize>
-        ensures place { result ≡ place_back self.now n }
-        ensures back { IfSome result (λ place. place ≤ self.now.cursor) }
-        ensures boundary { IfSome result (λ place. IsCharBoundary self.now.text place) }
+        ensures { IsOffsetBack result self.now (place_back self.now n) }
     {
         if n == 0 || self.pos == 0 {
             return None;
@@ -219,20 +220,18 @@ impl LineBuffer {
         Some(last_start(self.before(), n))
     }
 
-    /// Moves the cursor `n` clusters on. Answers whether there is such a place; if not, the cursor stays.
+    /// Moves the cursor `n` clusters on. Returns whether there is such a place; if not, the cursor
+    /// stays.
     pub fn move_forward(&mut self, n: RepeatCount) -> bool
-        ensures answer { result ≡ is_some (place_on self.old n) }
-        ensures line { self.new ≡ moved_to self.old (place_on self.old n) }
-        ensures cursor { IsCharBoundary self.new.text self.new.cursor }
+        ensures { MovesCursor result self.old self.new (place_on self.old n) }
     {
         self.move_to_place(self.next_pos(n))
     }
 
-    /// Moves the cursor `n` clusters back. Answers whether there is such a place; if not, the cursor stays.
+    /// Moves the cursor `n` clusters back. Returns whether there is such a place; if not, the
+    /// cursor stays.
     pub fn move_backward(&mut self, n: RepeatCount) -> bool
-        ensures answer { result ≡ is_some (place_back self.old n) }
-        ensures line { self.new ≡ moved_to self.old (place_back self.old n) }
-        ensures cursor { IsCharBoundary self.new.text self.new.cursor }
+        ensures { MovesCursor result self.old self.new (place_back self.old n) }
     {
         self.move_to_place(self.prev_pos(n))
     }
@@ -240,9 +239,7 @@ impl LineBuffer {
     /// Moves the cursor to the place, if there is one.
     fn move_to_place(&mut self, place: Option<usize>) -> bool
         requires { IfSome place (λ p. IsCharBoundary self.old.text p) }
-        ensures answer { result ≡ is_some place }
-        ensures line { self.new ≡ moved_to self.old place }
-        ensures cursor { IsCharBoundary self.new.text self.new.cursor }
+        ensures { MovesCursor result self.old self.new place }
     {
         match place {
             Some(there) => {
@@ -253,73 +250,58 @@ impl LineBuffer {
         }
     }
 
-    /// The start of the cursor's line.
+    /// Returns the start of the cursor's line.
     fn start_of_line(&self) -> usize
-        ensures place { result ≡ start_of_line self.now }
-        ensures boundary { IsCharBoundary self.now.text result }
+        ensures { IsOffset result self.now.text (start_of_line self.now) }
     {
         last_line_start(self.before())
     }
 
-    /// The end of the cursor's line, before its newline.
+    /// Returns the end of the cursor's line, before its newline.
     fn end_of_line(&self) -> usize
-        ensures place { result ≡ end_of_line self.now }
-        ensures boundary { IsCharBoundary self.now.text result }
+        ensures { IsOffset result self.now.text (end_of_line self.now) }
     {
         self.pos + first_line_len(self.after())
     }
 
-    /// Moves the cursor to the start of its line. Answers whether it moved.
+    /// Moves the cursor to the start of its line. Returns whether it moved.
     pub fn move_home(&mut self) -> bool
-        ensures answer { result ≡ not (start_of_line self.old == self.old.cursor) }
-        ensures line { self.new ≡ with_cursor self.old (start_of_line self.old) }
-        ensures cursor { IsCharBoundary self.new.text self.new.cursor }
+        ensures { PutsCursor result self.old self.new (start_of_line self.old) }
     {
         self.move_cursor(self.start_of_line())
     }
 
-    /// Moves the cursor to the end of its line, before the newline. Answers whether it moved.
+    /// Moves the cursor to the end of its line, before the newline. Returns whether it moved.
     pub fn move_end(&mut self) -> bool
-        ensures answer { result ≡ not (end_of_line self.old == self.old.cursor) }
-        ensures line { self.new ≡ with_cursor self.old (end_of_line self.old) }
-        ensures cursor { IsCharBoundary self.new.text self.new.cursor }
+        ensures { PutsCursor result self.old self.new (end_of_line self.old) }
     {
         self.move_cursor(self.end_of_line())
     }
 
-    /// Moves the cursor to the text's start. Answers whether it moved.
+    /// Moves the cursor to the text's start. Returns whether it moved.
     pub fn move_buffer_start(&mut self) -> bool
-        ensures answer { result ≡ not (self.old.cursor == 0) }
-        ensures line { self.new ≡ with_cursor self.old 0 }
-        ensures cursor { IsCharBoundary self.new.text self.new.cursor }
+        ensures { PutsCursor result self.old self.new 0 }
     {
         let moved = self.pos != 0;
         self.pos = 0;
         moved
     }
 
-    /// Moves the cursor to the text's end. Answers whether it moved.
+    /// Moves the cursor to the text's end. Returns whether it moved.
     pub fn move_buffer_end(&mut self) -> bool
-        ensures answer { result ≡ not (length self.old.text == self.old.cursor) }
-        ensures line { self.new ≡ with_cursor self.old (length self.old.text) }
-        ensures cursor { IsCharBoundary self.new.text self.new.cursor }
+        ensures { PutsCursor result self.old self.new (length self.old.text) }
     {
         let end = self.buf.len();
         self.move_cursor(end)
     }
 
-    /// Moves the cursor to byte `to`, and answers whether it stood elsewhere.
+    /// Moves the cursor to byte `to`, and returns whether it stood elsewhere.
     fn move_cursor(&mut self, to: usize) -> bool
         requires { IsCharBoundary self.old.text to }
-        ensures answer { result ≡ not (to == self.old.cursor) }
-        ensures line { self.new ≡ with_cursor self.old to }
-        ensures cursor { IsCharBoundary self.new.text self.new.cursor }
+        ensures { PutsCursor result self.old self.new to }
     {
         let moved = self.pos != to;
         self.pos = to;
         moved
     }
 }
-
-#[cfg(test)]
-mod tests;

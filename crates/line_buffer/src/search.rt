@@ -1,14 +1,14 @@
 //! Characters of a text, found one after another.
+ghost use Rattle.line_buffer.specs.Offset.{IsOffsetIfAny};
 ghost use Rattle.std.specs.Prelude.{◌≡◌, ◌≤◌, length, reverse, IfSome, IsCharBoundary};
 ghost use Rattle.line_buffer.specs.Search.{behind_char, nth_or_last, places_of};
 
 use crate::keymap::RepeatCount;
 
-/// Where the `n`-th `c` of the text begins, counted from 1, or the last where there are fewer; `None` for
-/// `n` = 0 and where there is none.
+/// Returns where the `n`-th `c` of the text begins, counted from 1, or the last where there are
+/// fewer; `None` for `n` = 0 and where there is none.
 pub(crate) fn nth_char(text: &str, c: char, n: RepeatCount) -> Option<usize>
-    ensures place { result ≡ nth_or_last (places_of c text.now) n }
-    ensures boundary { IfSome result (λ place. IsCharBoundary text.now place) }
+    ensures offset { IsOffsetIfAny result text.now (nth_or_last (places_of c text.now) n) }
     ensures behind { IfSome result (λ place. IsCharBoundary text.now (behind_char c place)) }
 {
     let mut found = None;
@@ -23,11 +23,11 @@ pub(crate) fn nth_char(text: &str, c: char, n: RepeatCount) -> Option<usize>
     found
 }
 
-/// Where the `n`-th `c` of the text begins, counted back from 1 at its end, or the first where there are
-/// fewer; `None` for `n` = 0 and where there is none.
+/// Returns where the `n`-th `c` of the text begins, counted back from 1 at its end, or the first
+/// where there are fewer; `None` for `n` = 0 and where there is none.
 pub(crate) fn nth_char_back(text: &str, c: char, n: RepeatCount) -> Option<usize>
-    ensures place { result ≡ nth_or_last (reverse (places_of c text.now)) n }
-    ensures boundary { IfSome result (λ place. IsCharBoundary text.now place) }
+    ensures offset { let places = reverse (places_of c text.now) in
+        IsOffsetIfAny result text.now (nth_or_last places n) }
     ensures behind { IfSome result (λ place. IsCharBoundary text.now (behind_char c place)) }
 {
     let mut found = None;

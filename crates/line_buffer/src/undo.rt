@@ -1,301 +1,120 @@
-ghost use Rattle.std.specs.Prelude.{ℕ, List, ◌≡◌, ◌+◌, ◌==◌, ◌++◌, ◌∷◌, length, encode_utf8, replicate, not, string_bytes, option_copied, option_map, ◌<◌, drop, take, max, IsCharBoundary, IfOk, OnOk, OnErr};
+//! The changes of a line, by which it can be brought back.
+ghost use Rattle.std.specs.Prelude.{◌≡◌, ◌==◌, length, encode_utf8, string_bytes, option_map, IfOk, OnOk, OnErr};
 ghost use Rattle.std.specs.List.{list_any};
-ghost use Rattle.line_buffer.specs.Taken.{closed_by, is_text, newest_kind, opened_by};
-ghost use Rattle.line_buffer.specs.Undo.{KeepsTold, KeepsToldAnywhere, Tells, all_taken_back, is_change, steps_len};
-ghost use Rattle.line_buffer.specs.Changes.{ends, last_insert_of, newest_begins, inserted, deleted, replaced, no_changes, with_entries, begun, ended, closed, adds_end, with_insert, with_joined_insert, with_joined_delete, with_delete, with_replace, with_typed};
+ghost use Rattle.line_buffer.specs.Changes.{adds_end, begun, ended, last_insert_of, no_changes, with_delete, with_insert, with_replace, with_typed};
+ghost use Rattle.line_buffer.specs.Edit.{Adds, Edits};
+ghost use Rattle.line_buffer.specs.Undo.{GroupsFit, KeepsToldAnywhere, Tells, UndoesStepByStep, all_taken_back, is_change, newest_steps, without_steps};
 
-use crate::clusters::{is_alphanumeric, is_one_alphanumeric};
+mod list;
+
 use crate::keymap::RepeatCount;
 use crate::line_buffer::{LineBuffer, OutOfMemory};
+use list::ChangeList;
 use std::alloc::Global;
 use std::marker::Model;
-
-#[derive(Debug, Drop)]
-pub(crate) enum Change {
-    Begin,
-    End,
-    Insert {
-        place: usize,
-        text: String,
-    },
-    Delete {
-        place: usize,
-        text: String,
-    },
-    Replace {
-        place: usize,
-        old: String,
-        new: String,
-    },
-}
-
-/// What an entry was that was taken back.
-#[derive(Debug, Clone, Copy, PartialEq, Eq)]
-pub(crate) enum Taken {
-    Begin,
-    End,
-    Change,
-}
-
-impl Taken {
-    /// How many groups it begins.
-    fn begins(self) -> usize
-        ensures { result ≡ opened_by self }
-    {
-        match self {
-            Taken::Begin => 1,
-            Taken::End | Taken::Change => 0,
-        }
-    }
-
-    /// How many groups it ends.
-    fn ends(self) -> usize
-        ensures { result ≡ closed_by self }
-    {
-        match self {
-            Taken::End => 1,
-            Taken::Begin | Taken::Change => 0,
-        }
-    }
-
-    /// Whether it changed the text.
-    fn is_change(self) -> bool
-        ensures { result ≡ is_text self }
-    {
-        match self {
-            Taken::Change => true,
-            Taken::Begin | Taken::End => false,
-        }
-    }
-}
 
 /// The changes of a line, by which it can be brought back, and how many groups of them are open.
 #[derive(Debug, Drop)]
 pub struct Changeset {
-    changes: Vec<Change>,
-    open_groups: usize,
+    list: ChangeList,
 }
 
 impl Model for Changeset {
     ghost use Rattle.line_buffer.specs.Changes.{Changes};
+    ghost use Rattle.line_buffer.specs.Undo.{GroupsFit};
 
     ghost Value = { Changes };
 
-    ghost use Rattle.line_buffer.specs.Told.{entries_of};
+    ghost view = { λ c. c.list };
 
-    ghost view = { λ c. record { entries = entries_of c.changes.items; open_groups = c.open_groups } };
+    ghost invariant = { λ c. GroupsFit c.list };
 }
 
 impl Changeset {
-    ghost use Rattle.line_buffer.specs.Told.{entries_of, entry_of};
-
-    /// No change and no open group. The list grows from `alloc`.
+    /// Returns a list with no change and no open group. It grows from `alloc`.
     pub fn new(alloc: Global) -> Changeset
         ensures { result ≡ no_changes }
     {
         Changeset {
-            changes: Vec::new(alloc),
-            open_groups: 0,
+            list: ChangeList::new(alloc),
         }
     }
 
-    /// How many entries the list has.
+    /// Returns how many entries the list has.
     pub fn len(&self) -> usize
-        ensures { result ≡ length self.now.entries }
+        ensures len { result ≡ length self.now.entries }
+        ensures groups { GroupsFit self.now }
     {
-        self.changes.len()
+        self.list.len()
     }
 
-    /// Whether the list has no entry.
+    /// Returns whether the list has no entry.
     pub fn is_empty(&self) -> bool
         ensures { result ≡ (length self.now.entries == 0) }
     {
-        self.changes.is_empty()
+        self.list.is_empty()
     }
 
-    /// Opens a group. `OutOfMemory` comes where the list cannot grow; then it is empty, with no open
-    /// group.
+    /// Opens a group.
+    ///
+    /// # Errors
+    ///
+    /// `OutOfMemory` where an allocation fails; then it is empty, with no open group.
     pub fn begin(&mut self) -> Result<(), OutOfMemory>
         ensures changes { OnOk result (self.new ≡ begun self.old) }
         ensures told { KeepsToldAnywhere result self.old self.new }
     {
-        self.open_groups = self.open_groups.saturating_add(1);
-        let outcome = self.add(Change::Begin);
-        self.settled(outcome)
+        let outcome = self.list.begin();
+        let _ = self.list.len();
+        outcome
     }
 
-    /// Closes every open group, and answers whether an entry was added for it. `OutOfMemory` comes where
-    /// the list cannot grow; then it is empty, with no open group.
+    /// Closes every open group, and returns whether an entry was added for it.
+    ///
+    /// # Errors
+    ///
+    /// `OutOfMemory` where an allocation fails; then it is empty, with no open group.
     pub fn end(&mut self) -> Result<bool, OutOfMemory>
-        ensures answer { IfOk result (λ added. added ≡ adds_end self.old.open_groups self.old.entries) }
+        ensures answer { IfOk result (λ added. added
+            ≡ adds_end self.old.open_groups self.old.entries) }
         ensures changes { OnOk result (self.new ≡ ended self.old) }
         ensures told { KeepsToldAnywhere result self.old self.new }
     {
-        self.take_newest_begins();
-        match self.add_ends() {
-            Ok(added) => Ok(added),
-            Err(error) => {
-                self.clear();
-                Err(error)
-            }
-        }
+        self.list.end()
     }
 
-    /// Takes `n` steps back, one for `n` = 0, or as many as there are: the newest entries are taken away and
-    /// what they tell is reversed in the line, which is the one that they tell of. An entry that was taken is
-    /// a step where no more ends than begins were taken by then. The cursor goes to where a text had come
-    /// in, or behind a text that came back. Answers whether a change of the text was taken back.
-    /// `OutOfMemory` comes where the text cannot grow; then the list is empty with no open group, and the
+    /// Takes `n` steps back, one for `n` = 0, or as many as there are: the newest entries are taken
+    /// away and what they tell is reversed in the line, which is the one that they tell of. An
+    /// entry that was taken is a step where no more ends than begins were taken by then. The cursor
+    /// goes to where a text had come in, or behind a text that came back. Returns whether a change
+    /// of the text was taken back.
+    ///
+    /// # Errors
+    ///
+    /// `OutOfMemory` where an allocation fails; then the list is empty with no open group, and the
     /// line is text with its cursor on a boundary.
     pub fn undo(&mut self, line: &mut LineBuffer, n: RepeatCount) -> Result<bool, OutOfMemory>
         requires { Tells self.old.entries line.old.text }
-        ensures answer { IfOk result (λ undone. undone ≡ list_any is_change (take (steps_len self.old.entries n) self.old.entries)) }
-        ensures line { OnOk result (line.new ≡ all_taken_back (take (steps_len self.old.entries n) self.old.entries) line.old) }
-        ensures changes { OnOk result (self.new ≡ with_entries self.old (drop (steps_len self.old.entries n) self.old.entries)) }
-        ensures told { KeepsTold result self.old line.old self.new line.new }
-        ensures cursor { IsCharBoundary line.new.text line.new.cursor }
+        ensures answer { IfOk result (λ undone. undone
+            ≡ list_any is_change (newest_steps n self.old.entries)) }
+        ensures edit { Edits result line.old line.new self.old self.new
+            (all_taken_back (newest_steps n self.old.entries) line.old) (without_steps n) }
+        ensures steps { UndoesStepByStep result n line.old line.new self.old self.new }
     {
-        match self.take_steps(line, n.max(1)) {
-            Ok(undone) => Ok(undone),
-            Err(error) => {
-                self.clear();
-                Err(error)
-            }
-        }
+        self.list.undo(line, n)
     }
 
-    fn take_steps(&mut self, line: &mut LineBuffer, n: RepeatCount) -> Result<bool, OutOfMemory>
-        requires count { 0 < n }
-        requires tells { Tells self.old.entries line.old.text }
-        ensures answer { IfOk result (λ undone. undone ≡ list_any is_change (take (steps_len self.old.entries n) self.old.entries)) }
-        ensures line { OnOk result (line.new ≡ all_taken_back (take (steps_len self.old.entries n) self.old.entries) line.old) }
-        ensures changes { OnOk result (self.new ≡ with_entries self.old (drop (steps_len self.old.entries n) self.old.entries)) }
-        ensures cursor { IsCharBoundary line.new.text line.new.cursor }
-    {
-        let _ = line.pos();
-        let mut left = n;
-        let (mut begins, mut ends, mut undone) = (0usize, 0usize, false);
-        for _ in 0..self.len() {
-            let Some(taken) = self.take_newest(line)? else {
-                return Ok(undone);
-            };
-            begins += taken.begins();
-            ends += taken.ends();
-            undone = undone | taken.is_change();
-            if ends <= begins {
-                if left == 1 {
-                    return Ok(undone);
-                }
-                left -= 1;
-            }
-        }
-        Ok(undone)
-    }
-
-    /// Takes the newest entry away and reverses in the line what it tells. Answers what it was, or `None`
-    /// where there is none.
-    fn take_newest(&mut self, line: &mut LineBuffer) -> Result<Option<Taken>, OutOfMemory>
-        requires { Tells self.old.entries line.old.text }
-        ensures taken { IfOk result (λ taken. taken ≡ newest_kind self.old.entries) }
-        ensures line { OnOk result (line.new ≡ all_taken_back (take 1 self.old.entries) line.old) }
-        ensures changes { OnOk result (self.new ≡ with_entries self.old (drop 1 self.old.entries)) }
-        ensures cursor { IsCharBoundary line.new.text line.new.cursor }
-    {
-        let _ = line.len();
-        let Some(change) = self.changes.pop() else {
-            return Ok(None);
-        };
-        match change {
-            Change::Begin => Ok(Some(Taken::Begin)),
-            Change::End => Ok(Some(Taken::End)),
-            Change::Insert { place, text } => {
-                line.remove_range(place, place + text.len())?;
-                Ok(Some(Taken::Change))
-            }
-            Change::Delete { place, text } => {
-                line.put(place, place, text.as_str())?;
-                Ok(Some(Taken::Change))
-            }
-            Change::Replace { place, old, new } => {
-                line.put(place, place + new.len(), old.as_str())?;
-                Ok(Some(Taken::Change))
-            }
-        }
-    }
-
-    /// A copy of the text that came in last: of the newest entry but ends, the text that was inserted or
-    /// came for another. `None` where that entry is a begin or a delete, or there is none. `OutOfMemory`
-    /// comes where the copy is refused; the list stays in any case.
+    /// Returns a copy of the text that came in last: of the newest entry but ends, the text that
+    /// was inserted or came for another. `None` where that entry is a begin or a delete, or there
+    /// is none.
+    ///
+    /// # Errors
+    ///
+    /// `OutOfMemory` where an allocation fails; the list stays in any case.
     pub fn last_insert(&self) -> Result<Option<String>, OutOfMemory>
         ensures { IfOk result (λ r. option_map string_bytes r ≡ last_insert_of self.now.entries) }
     {
-        match Changeset::inserted_text(self.changes.as_slice()) {
-            Some(text) => Ok(Some(String::from_str(*self.changes.allocator(), text)?)),
-            None => Ok(None),
-        }
-    }
-
-    /// The text that came in last by these changes.
-    fn inserted_text(changes: &[Change]) -> Option<&str>
-        ensures { option_copied result ≡ last_insert_of (entries_of changes.now) }
-    {
-        let mut left = changes;
-        while let [older @ .., newest] = left {
-            match newest {
-                Change::End => left = older,
-                Change::Insert { text, .. } | Change::Replace { new: text, .. } => {
-                    return Some(text.as_str());
-                }
-                Change::Begin | Change::Delete { .. } => return None,
-            }
-        }
-        None
-    }
-
-    /// Takes newest begins away, each of an open group.
-    fn take_newest_begins(&mut self)
-        ensures closed { closed self.new.open_groups self.new.entries ≡ closed self.old.open_groups self.old.entries }
-        ensures adds { adds_end self.new.open_groups self.new.entries ≡ adds_end self.old.open_groups self.old.entries }
-        ensures done { closed self.new.open_groups self.new.entries ≡ replicate self.new.open_groups ends ++ self.new.entries }
-        ensures done_adds { adds_end self.new.open_groups self.new.entries ≡ not (self.new.open_groups == 0) }
-    {
-        while self.open_groups > 0 && self.newest_begins() {
-            let Some(_) = self.changes.pop() else {
-                return;
-            };
-            self.open_groups -= 1;
-        }
-    }
-
-    /// Whether the newest entry begins a group.
-    fn newest_begins(&self) -> bool
-        ensures { result ≡ newest_begins self.now.entries }
-    {
-        match self.changes.last() {
-            Some(Change::Begin) => true,
-            _ => false,
-        }
-    }
-
-    /// Adds an end for each open group, and answers whether there was one.
-    fn add_ends(&mut self) -> Result<bool, OutOfMemory>
-        ensures answer { IfOk result (λ added. added ≡ not (self.old.open_groups == 0)) }
-        ensures changes { OnOk result (self.new ≡ record { entries = replicate self.old.open_groups ends ++ self.old.entries; open_groups = 0 }) }
-    {
-        let added = self.open_groups > 0;
-        while self.open_groups > 0 {
-            self.changes.push(Change::End)?;
-            self.open_groups -= 1;
-        }
-        Ok(added)
-    }
-
-    /// Forgets every change and every open group.
-    pub(crate) fn clear(&mut self)
-        ensures { self.new ≡ no_changes }
-    {
-        self.changes.clear();
-        self.open_groups = 0;
+        self.list.last_insert()
     }
 
     /// Passes an outcome on, and forgets every change where it is an error.
@@ -304,30 +123,15 @@ impl Changeset {
         ensures ok { OnOk result (self.new ≡ self.old) }
         ensures err { OnErr result (self.new ≡ no_changes) }
     {
-        match outcome {
-            Ok(value) => Ok(value),
-            Err(error) => {
-                self.clear();
-                Err(error)
-            }
-        }
-    }
-
-    fn add(&mut self, change: Change) -> Result<(), OutOfMemory>
-        ensures { OnOk result (self.new ≡ with_entries self.old (entry_of change ∷ self.old.entries)) }
-    {
-        self.changes.push(change)?;
-        Ok(())
+        self.list.settled(outcome)
     }
 
     /// Tells that `text` came in at `place`.
     pub(crate) fn insert_str(&mut self, place: usize, text: &str) -> Result<(), OutOfMemory>
-        ensures { OnOk result (self.new ≡ with_entries self.old (with_insert place text.now self.old.entries)) }
+        ensures { Adds result self.old self.new (with_insert place text.now) }
     {
-        if text.is_empty() {
-            return Ok(());
-        }
-        self.add_insert(place, text)
+        let outcome = self.list.insert_str(place, text);
+        self.list.settled(outcome)
     }
 
     /// Tells that the character, whose text is `text`, came in at `place`.
@@ -338,171 +142,25 @@ impl Changeset {
         text: &str,
     ) -> Result<(), OutOfMemory>
         requires { text.now ≡ encode_utf8 c }
-        ensures { OnOk result (self.new ≡ with_entries self.old (with_typed place c 1 self.old.entries)) }
+        ensures { Adds result self.old self.new (with_typed place c 1) }
     {
-        if is_alphanumeric(c) {
-            return self.insert_joined(place, text);
-        }
-        self.insert_str(place, text)
-    }
-
-    fn add_insert(&mut self, place: usize, text: &str) -> Result<(), OutOfMemory>
-        ensures { OnOk result (self.new ≡ with_entries self.old (inserted place text.now ∷ self.old.entries)) }
-    {
-        let alloc = *self.changes.allocator();
-        self.add(Change::Insert {
-            place,
-            text: String::from_str(alloc, text)?,
-        })
-    }
-
-    /// Tells that the alphanumeric character `text` came in at `place`: it joins a newest insert that ends
-    /// there.
-    fn insert_joined(&mut self, place: usize, text: &str) -> Result<(), OutOfMemory>
-        ensures { OnOk result (self.new ≡ with_entries self.old (with_joined_insert place text.now self.old.entries)) }
-    {
-        match self.changes.pop() {
-            Some(
-                Change::Insert {
-                    place: at,
-                    text: mut old,
-                },
-            ) => {
-                if ends_at(at, &old, place) {
-                    old.push_str(text)?;
-                    return self.add(Change::Insert {
-                        place: at,
-                        text: old,
-                    });
-                }
-                self.add(Change::Insert {
-                    place: at,
-                    text: old,
-                })?;
-                self.add_insert(place, text)
-            }
-            Some(other) => {
-                self.add(other)?;
-                self.add_insert(place, text)
-            }
-            None => self.add_insert(place, text),
-        }
+        let outcome = self.list.insert_char(place, c, text);
+        self.list.settled(outcome)
     }
 
     /// Tells that `text` went from `place`.
     pub(crate) fn delete(&mut self, place: usize, text: &str) -> Result<(), OutOfMemory>
-        ensures { OnOk result (self.new ≡ with_entries self.old (with_delete place text.now self.old.entries)) }
+        ensures { Adds result self.old self.new (with_delete place text.now) }
     {
-        if text.is_empty() {
-            return Ok(());
-        }
-        if is_one_alphanumeric(text) {
-            return self.delete_joined(place, text);
-        }
-        self.add_delete(place, text)
-    }
-
-    fn add_delete(&mut self, place: usize, text: &str) -> Result<(), OutOfMemory>
-        ensures { OnOk result (self.new ≡ with_entries self.old (deleted place text.now ∷ self.old.entries)) }
-    {
-        let alloc = *self.changes.allocator();
-        self.add(Change::Delete {
-            place,
-            text: String::from_str(alloc, text)?,
-        })
-    }
-
-    /// Tells that one alphanumeric cluster went from `place`: it joins a newest delete at that place, or
-    /// one at which it ended.
-    fn delete_joined(&mut self, place: usize, text: &str) -> Result<(), OutOfMemory>
-        ensures { OnOk result (self.new ≡ with_entries self.old (with_joined_delete place text.now self.old.entries)) }
-    {
-        match self.changes.pop() {
-            Some(
-                Change::Delete {
-                    place: at,
-                    text: mut old,
-                },
-            ) => {
-                if at == place {
-                    old.push_str(text)?;
-                    return self.add(Change::Delete {
-                        place: at,
-                        text: old,
-                    });
-                }
-                if ends_at(place, text, at) {
-                    old.insert_str(0, text)?;
-                    return self.add(Change::Delete { place, text: old });
-                }
-                self.add(Change::Delete {
-                    place: at,
-                    text: old,
-                })?;
-                self.add_delete(place, text)
-            }
-            Some(other) => {
-                self.add(other)?;
-                self.add_delete(place, text)
-            }
-            None => self.add_delete(place, text),
-        }
+        let outcome = self.list.delete(place, text);
+        self.list.settled(outcome)
     }
 
     /// Tells that `new` came for `old` at `place`.
     pub(crate) fn replace(&mut self, place: usize, old: &str, new: &str) -> Result<(), OutOfMemory>
-        ensures { OnOk result (self.new ≡ with_entries self.old (with_replace place old.now new.now self.old.entries)) }
+        ensures { Adds result self.old self.new (with_replace place old.now new.now) }
     {
-        match self.changes.pop() {
-            Some(
-                Change::Replace {
-                    place: at,
-                    old: mut before,
-                    new: mut after,
-                },
-            ) => {
-                if ends_at(at, &after, place) {
-                    before.push_str(old)?;
-                    after.push_str(new)?;
-                    return self.add(Change::Replace {
-                        place: at,
-                        old: before,
-                        new: after,
-                    });
-                }
-                self.add(Change::Replace {
-                    place: at,
-                    old: before,
-                    new: after,
-                })?;
-                self.add_replace(place, old, new)
-            }
-            Some(other) => {
-                self.add(other)?;
-                self.add_replace(place, old, new)
-            }
-            None => self.add_replace(place, old, new),
-        }
-    }
-
-    fn add_replace(&mut self, place: usize, old: &str, new: &str) -> Result<(), OutOfMemory>
-        ensures { OnOk result (self.new ≡ with_entries self.old (replaced place old.now new.now ∷ self.old.entries)) }
-    {
-        let alloc = *self.changes.allocator();
-        self.add(Change::Replace {
-            place,
-            old: String::from_str(alloc, old)?,
-            new: String::from_str(alloc, new)?,
-        })
+        let outcome = self.list.replace(place, old, new);
+        self.list.settled(outcome)
     }
 }
-
-/// Whether the text that begins at `place` ends at `end`.
-fn ends_at(place: usize, text: &str, end: usize) -> bool
-    ensures { result ≡ (place + length text.now == end) }
-{
-    end.checked_sub(text.len()) == Some(place)
-}
-
-#[cfg(test)]
-mod tests;

@@ -1,9 +1,10 @@
 //! Words of a text, found cluster by cluster.
+ghost use Rattle.line_buffer.specs.Offset.{IsOffset, IsOffsetIfAny};
 ghost use Rattle.std.specs.Prelude.{◌≡◌, ◌<◌, ◌-◌, length, drop, option_map, reverse, unwrap_or, IfSome, IsCharBoundary};
 ghost use Rattle.line_buffer.specs.declared.keymap.At.TheVariants as At;
 ghost use Rattle.std.specs.List.{concat};
 ghost use Rattle.line_buffer.specs.Cluster.{clusters};
-ghost use Rattle.line_buffer.specs.Word.{begins_word, bytes_to, edges, ends_word, is_blank, is_made_of, is_vi_letter, kind_of, kinds_of, nth, on_by_words, past_words, edge_before, edge_behind, edge_behind_first, edge_between, edge_bytes};
+ghost use Rattle.line_buffer.specs.Word.{begins_word, bytes_to, edges, ends_word, is_blank, is_made_of, is_vi_letter, kind_of, kinds_of, nth, past_the_words, word_edge, edge_before, edge_behind, edge_behind_first, edge_between, edge_bytes};
 ghost use Rattle.unicode_segmentation.specs.Iter.{graphemes_left};
 
 use crate::clusters::{is_alphanumeric, is_alphanumeric_text, is_one_cluster, last_start};
@@ -29,7 +30,7 @@ pub(crate) enum Edge {
 }
 
 impl Edge {
-    /// Whether this edge of a word lies between two clusters of these kinds.
+    /// Returns whether this edge of a word lies between two clusters of these kinds.
     fn is_between(self, old: Kind, new: Kind) -> bool
         ensures { result ≡ edge_between self old new }
     {
@@ -39,7 +40,8 @@ impl Edge {
         }
     }
 
-    /// Whether this edge of a word lies between a cluster and the one before it, if there is one.
+    /// Returns whether this edge of a word lies between a cluster and the one before it, if there
+    /// is one.
     fn is_behind(self, old: Option<Kind>, new: Kind) -> bool
         ensures { result ≡ edge_behind (edge_between self) old new }
     {
@@ -50,7 +52,7 @@ impl Edge {
     }
 }
 
-/// Whether a word begins between two clusters of these kinds.
+/// Returns whether a word begins between two clusters of these kinds.
 fn begins_word(old: Kind, new: Kind) -> bool
     ensures { result ≡ begins_word old new }
 {
@@ -72,22 +74,22 @@ fn kind_of(word: Word, cluster: &str) -> Kind
     }
 }
 
-/// Whether all characters of the cluster are white space.
+/// Returns whether all characters of the cluster are white space.
 fn is_blank(cluster: &str) -> bool
     ensures { result ≡ is_blank cluster.now }
 {
     cluster.chars().all(|c| c.is_whitespace())
 }
 
-/// Whether all characters of the cluster are alphanumeric or underscores.
+/// Returns whether all characters of the cluster are alphanumeric or underscores.
 fn is_vi_text(cluster: &str) -> bool
     ensures { result ≡ is_made_of is_vi_letter cluster.now }
 {
     cluster.chars().all(|c| is_alphanumeric(c) || c == '_')
 }
 
-/// The `n`-th edge of words inside the clusters that are left, counted from 1: where the cluster before it
-/// begins, and where it lies, in bytes from where they begin.
+/// Returns the `n`-th edge of words inside the clusters that are left, counted from 1: where the
+/// cluster before it begins, and where it lies, in bytes from where they begin.
 pub(crate) fn nth_edge(
     clusters: Graphemes<'_>,
     word: Word,
@@ -95,7 +97,9 @@ pub(crate) fn nth_edge(
     n: RepeatCount,
 ) -> Option<(usize, usize)>
     requires { 0 < n }
-    ensures { result ≡ option_map (edge_bytes (graphemes_left clusters.entry)) (nth (edges (edge_between edge) (kinds_of word (graphemes_left clusters.entry))) n) }
+    ensures { let left = graphemes_left clusters.entry in
+        let places = edges (edge_between edge) (kinds_of word left) in
+        result ≡ option_map (edge_bytes left) (nth places n) }
 {
     let len = clusters.as_str().len();
     let mut rest = clusters;
@@ -117,12 +121,13 @@ pub(crate) fn nth_edge(
     None
 }
 
-/// Where the `n`-th word start inside the text lies, counted back from 1 at its end, in bytes; 0 where there
-/// are fewer.
+/// Returns where the `n`-th word start inside the text lies, counted back from 1 at its end, in
+/// bytes; 0 where there are fewer.
 pub(crate) fn nth_start_back(text: &str, word: Word, n: RepeatCount) -> usize
     requires { 0 < n }
-    ensures place { result ≡ bytes_to (clusters text.now) (unwrap_or (nth (reverse (edges begins_word (kinds_of word (clusters text.now)))) n) 0) }
-    ensures boundary { IsCharBoundary text.now result }
+    ensures { let cs = clusters text.now in
+        let places = reverse (edges begins_word (kinds_of word cs)) in
+        IsOffset result text.now (bytes_to cs (unwrap_or (nth places n) 0)) }
 {
     let mut rest = text.graphemes(true);
     let mut left = n;
@@ -142,7 +147,7 @@ pub(crate) fn nth_start_back(text: &str, word: Word, n: RepeatCount) -> usize
     0
 }
 
-/// Whether a word begins between a cluster and the one behind it, if there is one.
+/// Returns whether a word begins between a cluster and the one behind it, if there is one.
 fn begins_before(old: Kind, new: Option<Kind>) -> bool
     ensures { result ≡ edge_before begins_word old new }
 {
@@ -152,11 +157,11 @@ fn begins_before(old: Kind, new: Option<Kind>) -> bool
     }
 }
 
-/// Where the text's last cluster begins, for words other than Emacs', or the text's end for those. `None`
-/// where the text is one cluster and the words are not Emacs'.
+/// Returns where the text's last cluster begins, for words other than Emacs', or the text's end for
+/// those. `None` where the text is one cluster and the words are not Emacs'.
 fn past_words(text: &str, word: Word) -> Option<usize>
-    ensures place { result ≡ past_words word (clusters text.now) }
-    ensures boundary { IfSome result (λ place. IsCharBoundary text.now place) }
+    ensures { let cs = clusters text.now in
+        IsOffsetIfAny result text.now (option_map (bytes_to cs) (past_the_words word (length cs))) }
 {
     match word {
         Word::Emacs => Some(all_clusters_len(text)),
@@ -165,12 +170,12 @@ fn past_words(text: &str, word: Word) -> Option<usize>
     }
 }
 
-/// The place of a movement by `n` words from the text's start on, in bytes.
+/// Returns the place of a movement by `n` words from the text's start on, in bytes.
 pub(crate) fn on_by_words(text: &str, at: At, word: Word, n: RepeatCount) -> Option<usize>
     requires count { 0 < n }
     requires some { 0 < length text.now }
-    ensures place { result ≡ on_by_words at word (clusters text.now) n }
-    ensures boundary { IfSome result (λ place. IsCharBoundary text.now place) }
+    ensures { let cs = clusters text.now in
+        IsOffsetIfAny result text.now (option_map (bytes_to cs) (word_edge at word cs n)) }
 {
     match at {
         At::Start => match nth_edge(text.graphemes(true), word, Edge::Begin, n) {
@@ -185,12 +190,13 @@ pub(crate) fn on_by_words(text: &str, at: At, word: Word, n: RepeatCount) -> Opt
     }
 }
 
-/// Where the `n`-th word behind the text's first cluster has its last cluster, or for Emacs' words ends.
+/// Returns where the `n`-th word behind the text's first cluster has its last cluster, or for
+/// Emacs' words ends.
 fn before_end(text: &str, word: Word, n: RepeatCount) -> Option<usize>
     requires count { 0 < n }
     requires some { 0 < length text.now }
-    ensures place { result ≡ on_by_words At.BeforeEnd word (clusters text.now) n }
-    ensures boundary { IfSome result (λ place. IsCharBoundary text.now place) }
+    ensures { let cs = clusters text.now in
+        IsOffsetIfAny result text.now (option_map (bytes_to cs) (word_edge At.BeforeEnd word cs n)) }
 {
     match (nth_end_behind(text, word, n), word) {
         (Some((_, end)), Word::Emacs) => Some(end),
@@ -199,10 +205,13 @@ fn before_end(text: &str, word: Word, n: RepeatCount) -> Option<usize>
     }
 }
 
-/// Where the last cluster of the `n`-th word behind the text's first cluster begins, and where it ends.
+/// Returns where the last cluster of the `n`-th word behind the text's first cluster begins, and
+/// where it ends.
 fn nth_end_behind(text: &str, word: Word, n: RepeatCount) -> Option<(usize, usize)>
     requires { 0 < n }
-    ensures places { result ≡ option_map (edge_behind_first (clusters text.now)) (nth (edges ends_word (kinds_of word (drop 1 (clusters text.now)))) n) }
+    ensures places { let cs = clusters text.now in
+        let places = edges ends_word (kinds_of word (drop 1 cs)) in
+        result ≡ option_map (edge_behind_first cs) (nth places n) }
     ensures start { IfSome result (λ r. IsCharBoundary text.now r.0) }
     ensures end { IfSome result (λ r. IsCharBoundary text.now r.1) }
 {
@@ -217,7 +226,7 @@ fn nth_end_behind(text: &str, word: Word, n: RepeatCount) -> Option<(usize, usiz
     }
 }
 
-/// The length of the text.
+/// Returns the length of the text.
 fn all_clusters_len(text: &str) -> usize
     ensures len { result ≡ bytes_to (clusters text.now) (length (clusters text.now)) }
     ensures whole { result ≡ length (concat (clusters text.now)) }

@@ -1,10 +1,12 @@
 //! Calls that put text into the line.
+ghost use Rattle.line_buffer.specs.Offset.{IsSpan};
 ghost use Rattle.std.specs.Prelude.{◌≡◌, ◌≢◌, ◌≤◌, ◌==◌, length, encode_utf8, slice_range, string_bytes, IfOk, OnOk, OnErr, IsCharBoundary};
 ghost use Rattle.std.specs.List.{repeat};
-ghost use Rattle.line_buffer.specs.Changes.{with_delete, with_entries, with_insert, with_replace, with_typed};
-ghost use Rattle.line_buffer.specs.Undo.{KeepsFront, KeepsTold, StillTells};
-ghost use Rattle.line_buffer.specs.Yank.{with_yank, with_yank_pop, yank_popped, yank_pops, yanked, yanks};
-ghost use Rattle.line_buffer.specs.Line.{inserted_at, inserted_at_cursor, replaced_in};
+ghost use Rattle.line_buffer.specs.Changes.{with_insert, with_replaced, with_typed, with_update};
+ghost use Rattle.line_buffer.specs.Edit.{Edits, EditsIfOk, on_entries};
+ghost use Rattle.line_buffer.specs.Undo.{KeepsFront};
+ghost use Rattle.line_buffer.specs.Yank.{with_yank, with_yank_pop, line_yank_popped, yank_pops, line_yanked, yanks};
+ghost use Rattle.line_buffer.specs.Line.{is_at_end, inserted_at, inserted_at_cursor, replaced_in};
 
 use super::{LineBuffer, OutOfMemory};
 use crate::keymap::RepeatCount;
@@ -13,20 +15,23 @@ use std::alloc::Global;
 use std::ops::Range;
 
 impl LineBuffer {
-    /// Inserts `n` copies of the character at the cursor, which goes behind them, and answers whether it
-    /// was at the text's end. `OutOfMemory` comes where the text or the list of changes cannot grow; then
-    /// the list is empty with no open group, and the line is text with its cursor on a boundary.
+    /// Inserts `n` copies of the character at the cursor, which goes behind them, and returns
+    /// whether it was at the text's end.
+    ///
+    /// # Errors
+    ///
+    /// `OutOfMemory` where an allocation fails; then the list of changes is empty with no open
+    /// group, and the line is text with its cursor on a boundary.
     pub fn insert(
         &mut self,
         c: char,
         n: RepeatCount,
         changes: &mut Changeset,
     ) -> Result<bool, OutOfMemory>
-        ensures answer { IfOk result (λ at_end. at_end ≡ (self.old.cursor == length self.old.text)) }
-        ensures line { OnOk result (self.new ≡ inserted_at_cursor self.old (repeat n (encode_utf8 c))) }
-        ensures changes { OnOk result (changes.new ≡ with_entries changes.old (with_typed self.old.cursor c n changes.old.entries)) }
-        ensures told { KeepsTold result changes.old self.old changes.new self.new }
-        ensures cursor { IsCharBoundary self.new.text self.new.cursor }
+        ensures answer { IfOk result (λ at_end. at_end ≡ is_at_end self.old) }
+        ensures edit { Edits result self.old self.new changes.old changes.new
+            (inserted_at_cursor self.old (repeat n (encode_utf8 c)))
+            (on_entries (with_typed self.old.cursor c n)) }
     {
         let outcome = if n == 1 {
             self.insert_one(c, changes)
@@ -37,11 +42,10 @@ impl LineBuffer {
     }
 
     fn insert_one(&mut self, c: char, changes: &mut Changeset) -> Result<bool, OutOfMemory>
-        ensures answer { IfOk result (λ at_end. at_end ≡ (self.old.cursor == length self.old.text)) }
-        ensures line { OnOk result (self.new ≡ inserted_at_cursor self.old (encode_utf8 c)) }
-        ensures changes { OnOk result (changes.new ≡ with_entries changes.old (with_typed self.old.cursor c 1 changes.old.entries)) }
-        ensures tells { OnOk result (StillTells changes.old.entries self.old.text changes.new.entries self.new.text) }
-        ensures cursor { IsCharBoundary self.new.text self.new.cursor }
+        ensures answer { IfOk result (λ at_end. at_end ≡ is_at_end self.old) }
+        ensures edit { EditsIfOk result self.old self.new changes.old changes.new
+            (inserted_at_cursor self.old (encode_utf8 c))
+            (on_entries (with_typed self.old.cursor c 1)) }
     {
         let mut bytes = [0; 4];
         let text = c.encode_utf8(&mut bytes);
@@ -58,11 +62,10 @@ impl LineBuffer {
         changes: &mut Changeset,
     ) -> Result<bool, OutOfMemory>
         requires { n ≢ 1 }
-        ensures answer { IfOk result (λ at_end. at_end ≡ (self.old.cursor == length self.old.text)) }
-        ensures line { OnOk result (self.new ≡ inserted_at_cursor self.old (repeat n (encode_utf8 c))) }
-        ensures changes { OnOk result (changes.new ≡ with_entries changes.old (with_typed self.old.cursor c n changes.old.entries)) }
-        ensures tells { OnOk result (StillTells changes.old.entries self.old.text changes.new.entries self.new.text) }
-        ensures cursor { IsCharBoundary self.new.text self.new.cursor }
+        ensures answer { IfOk result (λ at_end. at_end ≡ is_at_end self.old) }
+        ensures edit { EditsIfOk result self.old self.new changes.old changes.new
+            (inserted_at_cursor self.old (repeat n (encode_utf8 c)))
+            (on_entries (with_typed self.old.cursor c n)) }
     {
         let mut bytes = [0; 4];
         let text = repeated(*self.buf.allocator(), c.encode_utf8(&mut bytes), n)?;
@@ -70,8 +73,11 @@ impl LineBuffer {
     }
 
     /// Inserts the text at byte `place`, a boundary at the cursor or after it. The cursor stays.
-    /// `OutOfMemory` comes where the text or the list of changes cannot grow; then the list is empty with no
-    /// open group, and the line is text with its cursor on a boundary.
+    ///
+    /// # Errors
+    ///
+    /// `OutOfMemory` where an allocation fails; then the list of changes is empty with no open
+    /// group, and the line is text with its cursor on a boundary.
     pub fn insert_str(
         &mut self,
         place: usize,
@@ -80,10 +86,9 @@ impl LineBuffer {
     ) -> Result<(), OutOfMemory>
         requires boundary { IsCharBoundary self.old.text place }
         requires behind { self.old.cursor ≤ place }
-        ensures line { OnOk result (self.new ≡ inserted_at self.old place text.now) }
-        ensures changes { OnOk result (changes.new ≡ with_entries changes.old (with_insert place text.now changes.old.entries)) }
-        ensures told { KeepsTold result changes.old self.old changes.new self.new }
-        ensures cursor { IsCharBoundary self.new.text self.new.cursor }
+        ensures { Edits result self.old self.new changes.old changes.new
+            (inserted_at self.old place text.now)
+            (on_entries (with_insert place text.now)) }
     {
         let outcome = self.try_insert_str(place, text, changes);
         changes.settled(outcome)
@@ -97,10 +102,9 @@ impl LineBuffer {
     ) -> Result<(), OutOfMemory>
         requires boundary { IsCharBoundary self.old.text place }
         requires behind { self.old.cursor ≤ place }
-        ensures line { OnOk result (self.new ≡ inserted_at self.old place text.now) }
-        ensures changes { OnOk result (changes.new ≡ with_entries changes.old (with_insert place text.now changes.old.entries)) }
-        ensures tells { OnOk result (StillTells changes.old.entries self.old.text changes.new.entries self.new.text) }
-        ensures cursor { IsCharBoundary self.new.text self.new.cursor }
+        ensures { EditsIfOk result self.old self.new changes.old changes.new
+            (inserted_at self.old place text.now)
+            (on_entries (with_insert place text.now)) }
     {
         let _ = &self.pos;
         changes.insert_str(place, text)?;
@@ -108,10 +112,13 @@ impl LineBuffer {
         Ok(())
     }
 
-    /// Inserts `n` copies of the text at the cursor, which goes behind them. Answers whether it was at the
-    /// text's end, or `None` for an empty text. `OutOfMemory` comes where the text or the list of changes
-    /// cannot grow; then the list is empty with no open group, and the line is text with its cursor on a
-    /// boundary.
+    /// Inserts `n` copies of the text at the cursor, which goes behind them. Returns whether it was
+    /// at the text's end, or `None` for an empty text.
+    ///
+    /// # Errors
+    ///
+    /// `OutOfMemory` where an allocation fails; then the list of changes is empty with no open
+    /// group, and the line is text with its cursor on a boundary.
     pub fn yank(
         &mut self,
         text: &str,
@@ -119,10 +126,9 @@ impl LineBuffer {
         changes: &mut Changeset,
     ) -> Result<Option<bool>, OutOfMemory>
         ensures answer { IfOk result (λ at_end. at_end ≡ yanks self.old text.now) }
-        ensures line { OnOk result (self.new ≡ yanked self.old text.now n) }
-        ensures changes { OnOk result (changes.new ≡ with_entries changes.old (with_yank self.old.cursor text.now n changes.old.entries)) }
-        ensures told { KeepsTold result changes.old self.old changes.new self.new }
-        ensures cursor { IsCharBoundary self.new.text self.new.cursor }
+        ensures edit { Edits result self.old self.new changes.old changes.new
+            (line_yanked self.old text.now n)
+            (on_entries (with_yank self.old.cursor text.now n)) }
     {
         let outcome = self.try_yank(text, n, changes);
         changes.settled(outcome)
@@ -135,10 +141,9 @@ impl LineBuffer {
         changes: &mut Changeset,
     ) -> Result<Option<bool>, OutOfMemory>
         ensures answer { IfOk result (λ at_end. at_end ≡ yanks self.old text.now) }
-        ensures line { OnOk result (self.new ≡ yanked self.old text.now n) }
-        ensures changes { OnOk result (changes.new ≡ with_entries changes.old (with_yank self.old.cursor text.now n changes.old.entries)) }
-        ensures tells { OnOk result (StillTells changes.old.entries self.old.text changes.new.entries self.new.text) }
-        ensures cursor { IsCharBoundary self.new.text self.new.cursor }
+        ensures edit { EditsIfOk result self.old self.new changes.old changes.new
+            (line_yanked self.old text.now n)
+            (on_entries (with_yank self.old.cursor text.now n)) }
     {
         let _ = &self.pos;
         if text.is_empty() {
@@ -149,11 +154,14 @@ impl LineBuffer {
         Ok(Some(at_end))
     }
 
-    /// Takes `size` bytes before the cursor away and inserts the text in their place, with the cursor behind
-    /// it. Answers whether the cursor was then at the text's end; `None` for an empty text, and where `size`
-    /// bytes pass the text's start or cut a character: then nothing changes. `OutOfMemory` comes where the
-    /// text or the list of changes cannot grow; then the list is empty with no open group, and the line is
-    /// text with its cursor on a boundary.
+    /// Takes `size` bytes before the cursor away and inserts the text in their place, with the
+    /// cursor behind it. Returns whether the cursor was then at the text's end; `None` for an empty
+    /// text, and where `size` bytes pass the text's start or cut a character: then nothing changes.
+    ///
+    /// # Errors
+    ///
+    /// `OutOfMemory` where an allocation fails; then the list of changes is empty with no open
+    /// group, and the line is text with its cursor on a boundary.
     pub fn yank_pop(
         &mut self,
         size: usize,
@@ -161,10 +169,9 @@ impl LineBuffer {
         changes: &mut Changeset,
     ) -> Result<Option<bool>, OutOfMemory>
         ensures answer { IfOk result (λ at_end. at_end ≡ yank_pops self.old size text.now) }
-        ensures line { OnOk result (self.new ≡ yank_popped self.old size text.now) }
-        ensures changes { OnOk result (changes.new ≡ with_entries changes.old (with_yank_pop self.old size text.now changes.old.entries)) }
-        ensures told { KeepsTold result changes.old self.old changes.new self.new }
-        ensures cursor { IsCharBoundary self.new.text self.new.cursor }
+        ensures edit { Edits result self.old self.new changes.old changes.new
+            (line_yank_popped self.old size text.now)
+            (on_entries (with_yank_pop self.old size text.now)) }
     {
         let outcome = self.try_yank_pop(size, text, changes);
         changes.settled(outcome)
@@ -177,10 +184,9 @@ impl LineBuffer {
         changes: &mut Changeset,
     ) -> Result<Option<bool>, OutOfMemory>
         ensures answer { IfOk result (λ at_end. at_end ≡ yank_pops self.old size text.now) }
-        ensures line { OnOk result (self.new ≡ yank_popped self.old size text.now) }
-        ensures changes { OnOk result (changes.new ≡ with_entries changes.old (with_yank_pop self.old size text.now changes.old.entries)) }
-        ensures tells { OnOk result (StillTells changes.old.entries self.old.text changes.new.entries self.new.text) }
-        ensures cursor { IsCharBoundary self.new.text self.new.cursor }
+        ensures edit { EditsIfOk result self.old self.new changes.old changes.new
+            (line_yank_popped self.old size text.now)
+            (on_entries (with_yank_pop self.old size text.now)) }
     {
         let end = self.pos;
         if size > end || !self.buf.is_char_boundary(end - size) {
@@ -190,9 +196,12 @@ impl LineBuffer {
         self.try_yank(text, 1, changes)
     }
 
-    /// Puts a text in place of the whole line, and the cursor at byte `pos` of it. `OutOfMemory` comes where
-    /// the text or the list of changes cannot grow; then the list is empty with no open group, and the line
-    /// is text with its cursor on a boundary.
+    /// Puts a text in place of the whole line, and the cursor at byte `pos` of it.
+    ///
+    /// # Errors
+    ///
+    /// `OutOfMemory` where an allocation fails; then the list of changes is empty with no open
+    /// group, and the line is text with its cursor on a boundary.
     pub fn update(
         &mut self,
         text: &str,
@@ -200,10 +209,9 @@ impl LineBuffer {
         changes: &mut Changeset,
     ) -> Result<(), OutOfMemory>
         requires { IsCharBoundary text.now pos }
-        ensures line { OnOk result (self.new ≡ record { text = text.now; cursor = pos }) }
-        ensures changes { OnOk result (changes.new ≡ with_entries changes.old (with_insert 0 text.now (with_delete 0 self.old.text changes.old.entries))) }
-        ensures told { KeepsTold result changes.old self.old changes.new self.new }
-        ensures cursor { IsCharBoundary self.new.text self.new.cursor }
+        ensures { Edits result self.old self.new changes.old changes.new
+            (record { text = text.now; cursor = pos })
+            (on_entries (with_update self.old.text text.now)) }
     {
         let outcome = self.try_update(text, pos, changes);
         changes.settled(outcome)
@@ -216,10 +224,9 @@ impl LineBuffer {
         changes: &mut Changeset,
     ) -> Result<(), OutOfMemory>
         requires { IsCharBoundary text.now pos }
-        ensures line { OnOk result (self.new ≡ record { text = text.now; cursor = pos }) }
-        ensures changes { OnOk result (changes.new ≡ with_entries changes.old (with_insert 0 text.now (with_delete 0 self.old.text changes.old.entries))) }
-        ensures tells { OnOk result (StillTells changes.old.entries self.old.text changes.new.entries self.new.text) }
-        ensures cursor { IsCharBoundary self.new.text self.new.cursor }
+        ensures { EditsIfOk result self.old self.new changes.old changes.new
+            (record { text = text.now; cursor = pos })
+            (on_entries (with_update self.old.text text.now)) }
     {
         changes.delete(0, self.buf.as_str())?;
         changes.insert_str(0, text)?;
@@ -228,22 +235,23 @@ impl LineBuffer {
         Ok(())
     }
 
-    /// Puts a text in place of a range of bytes, and the cursor behind it. The range begins and ends on
-    /// boundaries. `OutOfMemory` comes where the text or the list of changes cannot grow; then the list is
-    /// empty with no open group, and the line is text with its cursor on a boundary.
+    /// Puts a text in place of a range of bytes, and the cursor behind it. The range begins and
+    /// ends on boundaries.
+    ///
+    /// # Errors
+    ///
+    /// `OutOfMemory` where an allocation fails; then the list of changes is empty with no open
+    /// group, and the line is text with its cursor on a boundary.
     pub fn replace(
         &mut self,
         range: Range<usize>,
         text: &str,
         changes: &mut Changeset,
     ) -> Result<(), OutOfMemory>
-        requires ordered { range.start ≤ range.end }
-        requires start { IsCharBoundary self.old.text range.start }
-        requires end { IsCharBoundary self.old.text range.end }
-        ensures line { OnOk result (self.new ≡ replaced_in self.old range.start range.end text.now) }
-        ensures changes { OnOk result (changes.new ≡ with_entries changes.old (with_replace range.start (slice_range self.old.text range.start range.end) text.now changes.old.entries)) }
-        ensures told { KeepsTold result changes.old self.old changes.new self.new }
-        ensures cursor { IsCharBoundary self.new.text self.new.cursor }
+        requires { IsSpan self.old.text range.start range.end }
+        ensures { Edits result self.old self.new changes.old changes.new
+            (replaced_in self.old range.start range.end text.now)
+            (on_entries (with_replaced self.old.text range.start range.end text.now)) }
     {
         let outcome = self.try_replace(range.start, range.end, text, changes);
         changes.settled(outcome)
@@ -256,13 +264,10 @@ impl LineBuffer {
         text: &str,
         changes: &mut Changeset,
     ) -> Result<(), OutOfMemory>
-        requires ordered { from ≤ to }
-        requires start { IsCharBoundary self.old.text from }
-        requires end { IsCharBoundary self.old.text to }
-        ensures line { OnOk result (self.new ≡ replaced_in self.old from to text.now) }
-        ensures changes { OnOk result (changes.new ≡ with_entries changes.old (with_replace from (slice_range self.old.text from to) text.now changes.old.entries)) }
-        ensures tells { OnOk result (StillTells changes.old.entries self.old.text changes.new.entries self.new.text) }
-        ensures cursor { IsCharBoundary self.new.text self.new.cursor }
+        requires { IsSpan self.old.text from to }
+        ensures { EditsIfOk result self.old self.new changes.old changes.new
+            (replaced_in self.old from to text.now)
+            (on_entries (with_replaced self.old.text from to text.now)) }
     {
         changes.replace(from, &self.buf.as_str()[from..to], text)?;
         self.put(from, to, text)?;
@@ -271,9 +276,7 @@ impl LineBuffer {
 
     /// Puts a text in place of a range, and the cursor behind it, without telling of it.
     pub(crate) fn put(&mut self, from: usize, to: usize, text: &str) -> Result<(), OutOfMemory>
-        requires ordered { from ≤ to }
-        requires start { IsCharBoundary self.old.text from }
-        requires end { IsCharBoundary self.old.text to }
+        requires { IsSpan self.old.text from to }
         ensures line { OnOk result (self.new ≡ replaced_in self.old from to text.now) }
         ensures front { OnOk result (KeepsFront self.old.text self.new.text from) }
         ensures cursor { IsCharBoundary self.new.text self.new.cursor }
@@ -283,18 +286,17 @@ impl LineBuffer {
         Ok(())
     }
 
-    /// Inserts the text at the cursor, which goes behind it, tells of it, and answers whether the cursor was at
-    /// the text's end.
+    /// Inserts the text at the cursor, which goes behind it, tells of it, and returns whether the
+    /// cursor was at the text's end.
     pub(super) fn insert_told(
         &mut self,
         text: &str,
         changes: &mut Changeset,
     ) -> Result<bool, OutOfMemory>
-        ensures answer { IfOk result (λ at_end. at_end ≡ (self.old.cursor == length self.old.text)) }
-        ensures line { OnOk result (self.new ≡ inserted_at_cursor self.old text.now) }
-        ensures changes { OnOk result (changes.new ≡ with_entries changes.old (with_insert self.old.cursor text.now changes.old.entries)) }
-        ensures tells { OnOk result (StillTells changes.old.entries self.old.text changes.new.entries self.new.text) }
-        ensures cursor { IsCharBoundary self.new.text self.new.cursor }
+        ensures answer { IfOk result (λ at_end. at_end ≡ is_at_end self.old) }
+        ensures edit { EditsIfOk result self.old self.new changes.old changes.new
+            (inserted_at_cursor self.old text.now)
+            (on_entries (with_insert self.old.cursor text.now)) }
     {
         let place = self.pos;
         changes.insert_str(place, text)?;
@@ -302,9 +304,10 @@ impl LineBuffer {
         Ok(at_end)
     }
 
-    /// Inserts the text at the cursor, which goes behind it, and answers whether it was at the text's end.
+    /// Inserts the text at the cursor, which goes behind it, and returns whether it was at the
+    /// text's end.
     pub(super) fn insert_text(&mut self, text: &str) -> Result<bool, OutOfMemory>
-        ensures answer { IfOk result (λ at_end. at_end ≡ (self.old.cursor == length self.old.text)) }
+        ensures answer { IfOk result (λ at_end. at_end ≡ is_at_end self.old) }
         ensures line { OnOk result (self.new ≡ inserted_at_cursor self.old text.now) }
         ensures err { OnErr result (self.new ≡ self.old) }
         ensures front { OnOk result (KeepsFront self.old.text self.new.text self.old.cursor) }
@@ -317,7 +320,7 @@ impl LineBuffer {
     }
 }
 
-/// `n` copies of the text.
+/// Returns `n` copies of the text.
 #[tactic(auto, using(crate::proofs::ListLemmas::repeat_one_more))]
 pub(super) fn repeated(alloc: Global, text: &str, n: RepeatCount) -> Result<String, OutOfMemory>
     ensures { IfOk result (λ copies. string_bytes copies ≡ repeat n text.now) }

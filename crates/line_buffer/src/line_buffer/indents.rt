@@ -1,11 +1,12 @@
 //! Calls that move lines to the right or to the left.
+ghost use Rattle.line_buffer.specs.Edit.{Edits, EditsIfOk, on_entries};
+ghost use Rattle.line_buffer.specs.Offset.{IsRangeIfAny};
 ghost use Rattle.std.specs.Prelude.{◌≡◌, ◌+◌, ◌-◌, ◌≤◌, ◌<◌, [], true, false, length, drop, take, replicate, string_bytes, if◌then◌else◌, IfOk, IfSome, OnOk, OnErr, IsCharBoundary};
 ghost use Rattle.std.specs.List.{prefix_len};
 ghost use Rattle.line_buffer.specs.Changes.{with_entries};
-ghost use Rattle.line_buffer.specs.Indent.{blank_front, indented, indented_range, range_by_lines, shifted, with_indents, with_line_shifted, with_shift};
+ghost use Rattle.line_buffer.specs.Indent.{EndsLine, ShiftsLine, blank_front, indented, indented_range, range_by_lines, shifted, with_indents, with_line_shifted, with_shift};
 ghost use Rattle.line_buffer.specs.Line.{end_of_line, is_no_newline, with_cursor};
 ghost use Rattle.line_buffer.specs.Lines.{line_from};
-ghost use Rattle.line_buffer.specs.Undo.{KeepsTold, StillTells};
 
 use super::{LineBuffer, OutOfMemory};
 use crate::clusters::{first_line_len, last_line_start};
@@ -14,13 +15,17 @@ use crate::undo::Changeset;
 use std::alloc::Global;
 
 impl LineBuffer {
-    /// Puts `amount` spaces before each line with a character of the movement's range, or for `dedent` takes
-    /// up to `amount` white-space characters away at its front. A line's newline is a character of it, and
-    /// stays. The range is that of a movement by words, by lines up or down, or over the buffer; for another,
-    /// or where the range is empty or there is none, it is the cursor's line. The cursor stays with its
-    /// character, or goes to the line's start where that went. Answers true. `OutOfMemory` comes where the
-    /// text or the list of changes cannot grow; then the list is empty with no open group, and the line is
-    /// text with its cursor on a boundary.
+    /// Puts `amount` spaces before each line with a character of the movement's range, or for
+    /// `dedent` takes up to `amount` white-space characters away at its front. A line's newline is
+    /// a character of it, and stays. The range is that of a movement by words, by lines up or down,
+    /// or over the buffer; for another, or where the range is empty or there is none, it is the
+    /// cursor's line. The cursor stays with its character, or goes to the line's start where that
+    /// went. Returns true.
+    ///
+    /// # Errors
+    ///
+    /// `OutOfMemory` where an allocation fails; then the list of changes is empty with no open
+    /// group, and the line is text with its cursor on a boundary.
     pub fn indent(
         &mut self,
         mvt: &Movement,
@@ -29,10 +34,10 @@ impl LineBuffer {
         changes: &mut Changeset,
     ) -> Result<bool, OutOfMemory>
         ensures answer { IfOk result (λ done. done ≡ true) }
-        ensures line { OnOk result (self.new ≡ indented dedent amount self.old (indented_range self.old mvt.now)) }
-        ensures changes { OnOk result (changes.new ≡ with_entries changes.old (with_indents dedent amount self.old.text (indented_range self.old mvt.now) changes.old.entries)) }
-        ensures told { KeepsTold result changes.old self.old changes.new self.new }
-        ensures cursor { IsCharBoundary self.new.text self.new.cursor }
+        ensures edit { let range = indented_range self.old mvt.now in
+            Edits result self.old self.new changes.old changes.new
+            (indented dedent amount self.old range)
+            (on_entries (with_indents dedent amount self.old.text range)) }
     {
         let (start, end) = self.indented_range(mvt);
         let outcome = self.shift_lines(start, end, amount, dedent, changes);
@@ -40,14 +45,11 @@ impl LineBuffer {
         Ok(true)
     }
 
-    /// Where the lines begin and end that the movement indents.
+    /// Returns where the lines begin and end that the movement indents.
     fn indented_range(&self, mvt: &Movement) -> (usize, usize)
         ensures range { result ≡ indented_range self.now mvt.now }
-        ensures ordered { result.0 ≤ result.1 }
+        ensures lines { EndsLine self.now.text result.0 result.1 }
         ensures before { result.0 ≤ self.now.cursor }
-        ensures start { IsCharBoundary self.now.text result.0 }
-        ensures within { result.1 ≤ length self.now.text }
-        ensures end { prefix_len is_no_newline (drop result.1 self.now.text) ≡ 0 }
     {
         match self.range_by_lines(mvt) {
             Some((from, to)) if from != to => (
@@ -58,13 +60,9 @@ impl LineBuffer {
         }
     }
 
-    /// The range of a movement by words, by lines or over the buffer.
+    /// Returns the range of a movement by words, by lines or over the buffer.
     fn range_by_lines(&self, mvt: &Movement) -> Option<(usize, usize)>
-        ensures range { result ≡ range_by_lines self.now mvt.now }
-        ensures ordered { IfSome result (λ r. r.0 ≤ r.1) }
-        ensures before { IfSome result (λ r. r.0 ≤ self.now.cursor) }
-        ensures start { IfSome result (λ r. IsCharBoundary self.now.text r.0) }
-        ensures end { IfSome result (λ r. IsCharBoundary self.now.text r.1) }
+        ensures { IsRangeIfAny result self.now (range_by_lines self.now mvt.now) }
     {
         match mvt {
             Movement::BackwardWord(_, _)
@@ -78,7 +76,7 @@ impl LineBuffer {
         }
     }
 
-    /// The end of the line that holds the character before a boundary.
+    /// Returns the end of the line that holds the character before a boundary.
     fn end_of_line_before(&self, to: usize) -> usize
         requires boundary { IsCharBoundary self.now.text to }
         requires some { 0 < to }
@@ -101,15 +99,11 @@ impl LineBuffer {
         dedent: bool,
         changes: &mut Changeset,
     ) -> Result<(), OutOfMemory>
-        requires ordered { start ≤ end }
-        requires within { end ≤ length self.old.text }
         requires before { start ≤ self.old.cursor }
-        requires boundary { IsCharBoundary self.old.text start }
-        requires end { prefix_len is_no_newline (drop end self.old.text) ≡ 0 }
-        ensures line { OnOk result (self.new ≡ indented dedent amount self.old (start, end)) }
-        ensures changes { OnOk result (changes.new ≡ with_entries changes.old (with_indents dedent amount self.old.text (start, end) changes.old.entries)) }
-        ensures tells { OnOk result (StillTells changes.old.entries self.old.text changes.new.entries self.new.text) }
-        ensures cursor { IsCharBoundary self.new.text self.new.cursor }
+        requires lines { EndsLine self.old.text start end }
+        ensures { EditsIfOk result self.old self.new changes.old changes.new
+            (indented dedent amount self.old (start, end))
+            (on_entries (with_indents dedent amount self.old.text (start, end))) }
     {
         let spaces = spaces_before(*self.buf.allocator(), amount, dedent)?;
         let behind = self.len() - end;
@@ -123,7 +117,8 @@ impl LineBuffer {
         }
     }
 
-    /// Indents or dedents the line that begins at `start`, tells of it, and answers where it ends then.
+    /// Indents or dedents the line that begins at `start`, tells of it, and returns where it ends
+    /// then.
     fn shift_line(
         &mut self,
         start: usize,
@@ -134,12 +129,7 @@ impl LineBuffer {
     ) -> Result<usize, OutOfMemory>
         requires boundary { IsCharBoundary self.old.text start }
         requires spaces { spaces.now ≡ (if dedent then [] else replicate amount 32) }
-        ensures line { OnOk result (self.new ≡ with_line_shifted dedent amount self.old start (line_from self.old.text start)) }
-        ensures changes { OnOk result (changes.new ≡ with_entries changes.old (with_shift dedent amount start (line_from self.old.text start) changes.old.entries)) }
-        ensures stop { IfOk result (λ stop. stop ≡ start + length (shifted dedent amount (line_from self.old.text start))) }
-        ensures boundary { IfOk result (λ stop. IsCharBoundary self.new.text stop) }
-        ensures tells { OnOk result (StillTells changes.old.entries self.old.text changes.new.entries self.new.text) }
-        ensures cursor { IsCharBoundary self.new.text self.new.cursor }
+        ensures { ShiftsLine result self.old self.new changes.old changes.new dedent amount start }
     {
         if dedent {
             self.dedent_line(start, amount, changes)
@@ -148,7 +138,8 @@ impl LineBuffer {
         }
     }
 
-    /// Puts spaces before the line that begins at `start`, tells of it, and answers where it ends then.
+    /// Puts spaces before the line that begins at `start`, tells of it, and returns where it ends
+    /// then.
     fn indent_line(
         &mut self,
         start: usize,
@@ -157,12 +148,8 @@ impl LineBuffer {
     ) -> Result<usize, OutOfMemory>
         requires boundary { IsCharBoundary self.old.text start }
         requires spaces { spaces.now ≡ replicate (length spaces.now) 32 }
-        ensures line { OnOk result (self.new ≡ with_line_shifted false (length spaces.now) self.old start (line_from self.old.text start)) }
-        ensures changes { OnOk result (changes.new ≡ with_entries changes.old (with_shift false (length spaces.now) start (line_from self.old.text start) changes.old.entries)) }
-        ensures stop { IfOk result (λ stop. stop ≡ start + length (shifted false (length spaces.now) (line_from self.old.text start))) }
-        ensures boundary { IfOk result (λ stop. IsCharBoundary self.new.text stop) }
-        ensures tells { OnOk result (StillTells changes.old.entries self.old.text changes.new.entries self.new.text) }
-        ensures cursor { IsCharBoundary self.new.text self.new.cursor }
+        ensures { let amount = length spaces.now in
+            ShiftsLine result self.old self.new changes.old changes.new false amount start }
     {
         let cursor = self.pos();
         let behind = self.len() - cursor;
@@ -178,8 +165,8 @@ impl LineBuffer {
         Ok(stop)
     }
 
-    /// Takes up to `amount` white-space characters away at the front of the line that begins at `start`,
-    /// tells of it, and answers where the line ends then.
+    /// Takes up to `amount` white-space characters away at the front of the line that begins at
+    /// `start`, tells of it, and returns where the line ends then.
     fn dedent_line(
         &mut self,
         start: usize,
@@ -187,12 +174,7 @@ impl LineBuffer {
         changes: &mut Changeset,
     ) -> Result<usize, OutOfMemory>
         requires boundary { IsCharBoundary self.old.text start }
-        ensures line { OnOk result (self.new ≡ with_line_shifted true amount self.old start (line_from self.old.text start)) }
-        ensures changes { OnOk result (changes.new ≡ with_entries changes.old (with_shift true amount start (line_from self.old.text start) changes.old.entries)) }
-        ensures stop { IfOk result (λ stop. stop ≡ start + length (shifted true amount (line_from self.old.text start))) }
-        ensures boundary { IfOk result (λ stop. IsCharBoundary self.new.text stop) }
-        ensures tells { OnOk result (StillTells changes.old.entries self.old.text changes.new.entries self.new.text) }
-        ensures cursor { IsCharBoundary self.new.text self.new.cursor }
+        ensures { ShiftsLine result self.old self.new changes.old changes.new true amount start }
     {
         let cursor = self.pos();
         let behind = self.len() - cursor;
@@ -210,9 +192,10 @@ impl LineBuffer {
     }
 }
 
-/// The spaces that come before each line.
+/// Returns the spaces that come before each line.
 fn spaces_before(alloc: Global, amount: usize, dedent: bool) -> Result<String, OutOfMemory>
-    ensures { IfOk result (λ spaces. string_bytes spaces ≡ (if dedent then [] else replicate amount 32)) }
+    ensures { IfOk result (λ spaces. string_bytes spaces
+        ≡ (if dedent then [] else replicate amount 32)) }
 {
     if dedent {
         return Ok(String::new(alloc));
@@ -220,7 +203,8 @@ fn spaces_before(alloc: Global, amount: usize, dedent: bool) -> Result<String, O
     Ok(" ".repeat(alloc, amount)?)
 }
 
-/// How many bytes the white-space characters at the text's front take, at most `amount` of them.
+/// Returns how many bytes the white-space characters at the text's front take, at most `amount` of
+/// them.
 fn blank_len(text: &str, amount: usize) -> usize
     ensures len { result ≡ length (blank_front amount text.now) }
     ensures boundary { IsCharBoundary text.now result }
@@ -236,6 +220,3 @@ fn blank_len(text: &str, amount: usize) -> usize
     }
     len
 }
-
-#[cfg(test)]
-mod tests;

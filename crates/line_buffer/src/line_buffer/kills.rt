@@ -1,10 +1,13 @@
 //! Calls that take text out of the line.
+ghost use Rattle.line_buffer.specs.Edit.{Edits, EditsIfOk};
+ghost use Rattle.line_buffer.specs.Kill.{Kills};
+ghost use Rattle.line_buffer.specs.Offset.{IsRangeIfAny, IsSpan};
 ghost use Rattle.std.specs.Prelude.{◌≡◌, ◌≤◌, ◌<◌, List, length, string_bytes, option_map, slice_range, Option, Some, None, IfOk, IfSome, OnOk, OnErr, IsCharBoundary};
 ghost use Rattle.line_buffer.specs.Changes.{with_entries, with_delete};
 ghost use Rattle.line_buffer.specs.Cluster.{place_on};
-ghost use Rattle.line_buffer.specs.Kill.{direction_of, killed, killed_range, killed_of, mode_of, neighbour_of, ring_mode, ring_with_killed, with_killed};
+ghost use Rattle.line_buffer.specs.Kill.{direction_of, kill_answer, killed_range, in_bytes, mode_of, neighbour_of, ring_mode, ring_with_killed, with_killed};
 ghost use Rattle.line_buffer.specs.Line.{without};
-ghost use Rattle.line_buffer.specs.Undo.{KeepsFront, KeepsTold, StillTells};
+ghost use Rattle.line_buffer.specs.Undo.{KeepsFront};
 ghost use Rattle.line_buffer.specs.Range.{from_cursor, range_of, text_in, unless_empty, up_to_cursor};
 
 use super::{Direction, LineBuffer, OutOfMemory};
@@ -13,26 +16,27 @@ use crate::kill_ring::{KillRing, Mode};
 use crate::undo::Changeset;
 
 impl LineBuffer {
-    /// Takes the range of the movement out of the line, and the cursor to where it began. Where the range
-    /// of a line's end or of a whole line is empty, the cluster after the cursor goes, and where that of a
-    /// line's beginning is, the one before. Answers the place in bytes, the text, and on which side of the
-    /// cursor the movement led; `None` where nothing goes. All but single clusters are kept in the kill
-    /// ring. `OutOfMemory` comes where a copy of the text cannot be made; then the list of changes is empty
-    /// with no open group, and the line is text with its cursor on a boundary.
+    /// Takes the range of the movement out of the line, and the cursor to where it began. Where the
+    /// range of a line's end or of a whole line is empty, the cluster after the cursor goes, and
+    /// where that of a line's beginning is, the one before. Returns the place in bytes, the text,
+    /// and on which side of the cursor the movement led; `None` where nothing goes. All but single
+    /// clusters are kept in the kill ring.
+    ///
+    /// # Errors
+    ///
+    /// `OutOfMemory` where an allocation fails; then the list of changes is empty with no open
+    /// group, and the line is text with its cursor on a boundary.
     pub fn kill(
         &mut self,
         mvt: &Movement,
         changes: &mut Changeset,
         kill_ring: &mut KillRing,
     ) -> Result<Option<(usize, String, Direction)>, OutOfMemory>
-        ensures answer { IfOk result (λ r. option_map killed_of r ≡ killed self.old mvt.now (killed_range self.old mvt.now)) }
-        ensures line { OnOk result (self.new ≡ without self.old (killed_range self.old mvt.now)) }
-        ensures changes { OnOk result (changes.new ≡ with_killed self.old (killed_range self.old mvt.now) changes.old) }
-        ensures ring { OnOk result (kill_ring.new ≡ ring_with_killed self.old mvt.now (killed_range self.old mvt.now) kill_ring.old) }
-        ensures told { KeepsTold result changes.old self.old changes.new self.new }
-        ensures cursor { IsCharBoundary self.new.text self.new.cursor }
-        ensures size { kill_ring.new.size ≡ kill_ring.old.size }
-        ensures bound { OnErr result (length kill_ring.new.slots ≤ kill_ring.new.size) }
+        ensures edit { Edits result self.old self.new changes.old changes.new
+            (without self.old (killed_range self.old mvt.now))
+            (with_killed self.old (killed_range self.old mvt.now)) }
+        ensures kill { Kills result self.old mvt.now (killed_range self.old mvt.now)
+            kill_ring.old kill_ring.new }
     {
         let outcome = match self.killed_range(mvt) {
             Some((from, to)) => self.kill_range(from, to, mvt, changes, kill_ring),
@@ -49,17 +53,10 @@ impl LineBuffer {
         changes: &mut Changeset,
         kill_ring: &mut KillRing,
     ) -> Result<Option<(usize, String, Direction)>, OutOfMemory>
-        requires ordered { from ≤ to }
-        requires start { IsCharBoundary self.old.text from }
-        requires end { IsCharBoundary self.old.text to }
-        ensures answer { IfOk result (λ r. option_map killed_of r ≡ killed self.old mvt.now (Some (from, to))) }
-        ensures line { OnOk result (self.new ≡ without self.old (Some (from, to))) }
-        ensures changes { OnOk result (changes.new ≡ with_killed self.old (Some (from, to)) changes.old) }
-        ensures ring { OnOk result (kill_ring.new ≡ ring_with_killed self.old mvt.now (Some (from, to)) kill_ring.old) }
-        ensures tells { OnOk result (StillTells changes.old.entries self.old.text changes.new.entries self.new.text) }
-        ensures cursor { IsCharBoundary self.new.text self.new.cursor }
-        ensures size { kill_ring.new.size ≡ kill_ring.old.size }
-        ensures bound { length kill_ring.new.slots ≤ kill_ring.new.size }
+        requires { IsSpan self.old.text from to }
+        ensures edit { EditsIfOk result self.old self.new changes.old changes.new
+            (without self.old (Some (from, to))) (with_killed self.old (Some (from, to))) }
+        ensures kill { Kills result self.old mvt.now (Some (from, to)) kill_ring.old kill_ring.new }
     {
         kill_ring.keep(&self.buf.as_str()[from..to], ring_mode(mvt))?;
         let text = self.copy_range(from, to)?;
@@ -67,19 +64,23 @@ impl LineBuffer {
         Ok(Some((from, text, direction_of(mvt))))
     }
 
-    /// Takes `n` clusters after the cursor away, or as many as there are, and answers their text; `None`
-    /// for `n` = 0 and at the text's end. `OutOfMemory` comes where a copy of the text cannot be made; then
-    /// the list of changes is empty with no open group, and the line is text with its cursor on a boundary.
+    /// Takes `n` clusters after the cursor away, or as many as there are, and returns their text;
+    /// `None` for `n` = 0 and at the text's end.
+    ///
+    /// # Errors
+    ///
+    /// `OutOfMemory` where an allocation fails; then the list of changes is empty with no open
+    /// group, and the line is text with its cursor on a boundary.
     pub fn delete(
         &mut self,
         n: RepeatCount,
         changes: &mut Changeset,
     ) -> Result<Option<String>, OutOfMemory>
-        ensures answer { IfOk result (λ r. option_map string_bytes r ≡ text_in self.old.text (from_cursor self.old (place_on self.old n))) }
-        ensures line { OnOk result (self.new ≡ without self.old (from_cursor self.old (place_on self.old n))) }
-        ensures changes { OnOk result (changes.new ≡ with_killed self.old (from_cursor self.old (place_on self.old n)) changes.old) }
-        ensures told { KeepsTold result changes.old self.old changes.new self.new }
-        ensures cursor { IsCharBoundary self.new.text self.new.cursor }
+        ensures answer { let range = from_cursor self.old (place_on self.old n) in
+            IfOk result (λ r. option_map string_bytes r ≡ text_in self.old.text range) }
+        ensures edit { let range = from_cursor self.old (place_on self.old n) in
+            Edits result self.old self.new changes.old changes.new
+            (without self.old range) (with_killed self.old range) }
     {
         let _ = &self.pos;
         let outcome = match self.from_cursor(self.next_pos(n)) {
@@ -89,10 +90,15 @@ impl LineBuffer {
         changes.settled(outcome)
     }
 
-    /// A copy of the text that the movement spans, or `None` where its range is empty or there is none.
-    /// `OutOfMemory` comes where the copy is refused.
+    /// Returns a copy of the text that the movement spans, or `None` where its range is empty or
+    /// there is none.
+    ///
+    /// # Errors
+    ///
+    /// `OutOfMemory` where an allocation fails.
     pub fn copy(&self, mvt: &Movement) -> Result<Option<String>, OutOfMemory>
-        ensures { IfOk result (λ r. option_map string_bytes r ≡ text_in self.now.text (unless_empty (range_of self.now mvt.now))) }
+        ensures { IfOk result (λ r. option_map string_bytes r
+            ≡ text_in self.now.text (unless_empty (range_of self.now mvt.now))) }
     {
         match self.range(mvt) {
             Some((from, to)) if from != to => Ok(Some(self.copy_range(from, to)?)),
@@ -100,21 +106,18 @@ impl LineBuffer {
         }
     }
 
-    /// Takes a range away, tells of it, and answers its text.
+    /// Takes a range away, tells of it, and returns its text.
     fn take_range(
         &mut self,
         from: usize,
         to: usize,
         changes: &mut Changeset,
     ) -> Result<Option<String>, OutOfMemory>
-        requires ordered { from ≤ to }
-        requires start { IsCharBoundary self.old.text from }
-        requires end { IsCharBoundary self.old.text to }
-        ensures answer { IfOk result (λ r. option_map string_bytes r ≡ text_in self.old.text (Some (from, to))) }
-        ensures line { OnOk result (self.new ≡ without self.old (Some (from, to))) }
-        ensures changes { OnOk result (changes.new ≡ with_killed self.old (Some (from, to)) changes.old) }
-        ensures tells { OnOk result (StillTells changes.old.entries self.old.text changes.new.entries self.new.text) }
-        ensures cursor { IsCharBoundary self.new.text self.new.cursor }
+        requires { IsSpan self.old.text from to }
+        ensures answer { IfOk result (λ r. option_map string_bytes r
+            ≡ text_in self.old.text (Some (from, to))) }
+        ensures edit { EditsIfOk result self.old self.new changes.old changes.new
+            (without self.old (Some (from, to))) (with_killed self.old (Some (from, to))) }
     {
         let _ = &self.pos;
         let text = self.copy_range(from, to)?;
@@ -129,24 +132,18 @@ impl LineBuffer {
         to: usize,
         changes: &mut Changeset,
     ) -> Result<(), OutOfMemory>
-        requires ordered { from ≤ to }
-        requires start { IsCharBoundary self.old.text from }
-        requires end { IsCharBoundary self.old.text to }
-        ensures line { OnOk result (self.new ≡ without self.old (Some (from, to))) }
-        ensures changes { OnOk result (changes.new ≡ with_killed self.old (Some (from, to)) changes.old) }
-        ensures tells { OnOk result (StillTells changes.old.entries self.old.text changes.new.entries self.new.text) }
-        ensures cursor { IsCharBoundary self.new.text self.new.cursor }
+        requires { IsSpan self.old.text from to }
+        ensures { EditsIfOk result self.old self.new changes.old changes.new
+            (without self.old (Some (from, to))) (with_killed self.old (Some (from, to))) }
     {
         changes.delete(from, &self.buf.as_str()[from..to])?;
         self.remove_range(from, to)?;
         Ok(())
     }
 
-    /// A copy of the text from one byte to another.
+    /// Returns a copy of the text from one byte to another.
     pub(super) fn copy_range(&self, from: usize, to: usize) -> Result<String, OutOfMemory>
-        requires ordered { from ≤ to }
-        requires start { IsCharBoundary self.now.text from }
-        requires end { IsCharBoundary self.now.text to }
+        requires { IsSpan self.now.text from to }
         ensures { IfOk result (λ text. string_bytes text ≡ slice_range self.now.text from to) }
     {
         let alloc = *self.buf.allocator();
@@ -155,9 +152,7 @@ impl LineBuffer {
 
     /// Takes the text from one byte to another away, and the cursor to its start.
     pub(crate) fn remove_range(&mut self, from: usize, to: usize) -> Result<(), OutOfMemory>
-        requires ordered { from ≤ to }
-        requires start { IsCharBoundary self.old.text from }
-        requires end { IsCharBoundary self.old.text to }
+        requires { IsSpan self.old.text from to }
         ensures line { OnOk result (self.new ≡ without self.old (Some (from, to))) }
         ensures front { OnOk result (KeepsFront self.old.text self.new.text from) }
         ensures cursor { IsCharBoundary self.new.text self.new.cursor }
@@ -167,13 +162,9 @@ impl LineBuffer {
         Ok(())
     }
 
-    /// The range of the movement, in bytes.
+    /// Returns the range of the movement, in bytes.
     pub(super) fn range(&self, mvt: &Movement) -> Option<(usize, usize)>
-        ensures range { result ≡ range_of self.now mvt.now }
-        ensures ordered { IfSome result (λ r. r.0 ≤ r.1) }
-        ensures before { IfSome result (λ r. r.0 ≤ self.now.cursor) }
-        ensures start { IfSome result (λ r. IsCharBoundary self.now.text r.0) }
-        ensures end { IfSome result (λ r. IsCharBoundary self.now.text r.1) }
+        ensures { IsRangeIfAny result self.now (range_of self.now mvt.now) }
     {
         let len = self.as_str().len();
         match mvt {
@@ -196,14 +187,10 @@ impl LineBuffer {
         }
     }
 
-    /// From a place before the cursor to the cursor.
+    /// Returns the range from a place before the cursor to the cursor.
     pub(super) fn up_to_cursor(&self, place: Option<usize>) -> Option<(usize, usize)>
         requires { IfSome place (λ p. (p ≤ self.now.cursor) × IsCharBoundary self.now.text p) }
-        ensures range { result ≡ up_to_cursor self.now place }
-        ensures ordered { IfSome result (λ r. r.0 ≤ r.1) }
-        ensures before { IfSome result (λ r. r.0 ≤ self.now.cursor) }
-        ensures start { IfSome result (λ r. IsCharBoundary self.now.text r.0) }
-        ensures end { IfSome result (λ r. IsCharBoundary self.now.text r.1) }
+        ensures { IsRangeIfAny result self.now (up_to_cursor self.now place) }
     {
         match place {
             Some(from) => Some((from, self.pos)),
@@ -211,14 +198,10 @@ impl LineBuffer {
         }
     }
 
-    /// From the cursor to a place after it.
+    /// Returns the range from the cursor to a place after it.
     pub(super) fn from_cursor(&self, place: Option<usize>) -> Option<(usize, usize)>
         requires { IfSome place (λ p. (self.now.cursor ≤ p) × IsCharBoundary self.now.text p) }
-        ensures range { result ≡ from_cursor self.now place }
-        ensures ordered { IfSome result (λ r. r.0 ≤ r.1) }
-        ensures before { IfSome result (λ r. r.0 ≤ self.now.cursor) }
-        ensures start { IfSome result (λ r. IsCharBoundary self.now.text r.0) }
-        ensures end { IfSome result (λ r. IsCharBoundary self.now.text r.1) }
+        ensures { IsRangeIfAny result self.now (from_cursor self.now place) }
     {
         match place {
             Some(to) => Some((self.pos, to)),
@@ -226,13 +209,10 @@ impl LineBuffer {
         }
     }
 
-    /// The range that a kill by the movement takes.
+    /// Returns the range that a kill by the movement takes.
     fn killed_range(&self, mvt: &Movement) -> Option<(usize, usize)>
         ensures cursor { IsCharBoundary self.now.text self.now.cursor }
-        ensures range { result ≡ killed_range self.now mvt.now }
-        ensures ordered { IfSome result (λ r. r.0 ≤ r.1) }
-        ensures start { IfSome result (λ r. IsCharBoundary self.now.text r.0) }
-        ensures end { IfSome result (λ r. IsCharBoundary self.now.text r.1) }
+        ensures range { IsRangeIfAny result self.now (killed_range self.now mvt.now) }
     {
         let _ = &self.pos;
         match self.range(mvt) {
@@ -241,12 +221,10 @@ impl LineBuffer {
         }
     }
 
-    /// The cluster beside the cursor that a kill takes where the range of its movement is empty.
+    /// Returns the cluster beside the cursor that a kill takes where the range of its movement is
+    /// empty.
     fn neighbour(&self, mvt: &Movement) -> Option<(usize, usize)>
-        ensures range { result ≡ neighbour_of self.now mvt.now }
-        ensures ordered { IfSome result (λ r. r.0 ≤ r.1) }
-        ensures start { IfSome result (λ r. IsCharBoundary self.now.text r.0) }
-        ensures end { IfSome result (λ r. IsCharBoundary self.now.text r.1) }
+        ensures { IsRangeIfAny result self.now (neighbour_of self.now mvt.now) }
     {
         match mvt {
             Movement::WholeLine | Movement::EndOfLine => self.range(&Movement::ForwardChar(1)),
@@ -256,7 +234,7 @@ impl LineBuffer {
     }
 }
 
-/// On which side of the cursor the movement leads.
+/// Returns on which side of the cursor the movement leads.
 fn direction_of(mvt: &Movement) -> Direction
     ensures { result ≡ direction_of mvt.now }
 {
@@ -272,7 +250,7 @@ fn direction_of(mvt: &Movement) -> Direction
     }
 }
 
-/// Where what the movement spans joins the kill ring; `None` for single clusters.
+/// Returns where what the movement spans joins the kill ring; `None` for single clusters.
 fn ring_mode(mvt: &Movement) -> Option<Mode>
     ensures { result ≡ ring_mode mvt.now }
 {

@@ -1,4 +1,6 @@
 //! Movements of the cursor from line to line.
+ghost use Rattle.line_buffer.specs.Line.{MovesCursor};
+ghost use Rattle.line_buffer.specs.Offset.{IsOffset, IsRangeIfAny};
 ghost use Rattle.std.specs.Prelude.{◌≡◌, ◌≤◌, ◌+◌, length, drop, take, slice_range, is_some, IfSome, IsCharBoundary};
 ghost use Rattle.line_buffer.specs.Line.{moved_to, start_of_line};
 ghost use Rattle.line_buffer.specs.Lines.{column_in, down_by, fitting, line_from, line_stop, lines_above, lines_below, lines_down, lines_up, place_in_line, up_by};
@@ -10,12 +12,11 @@ use crate::layout::Layout;
 use unicode_segmentation::UnicodeSegmentation;
 
 impl LineBuffer {
-    /// The start of the line `n` above the one that begins at `start`, or of the first.
+    /// Returns the start of the line `n` above the one that begins at `start`, or of the first.
     fn start_above(&self, start: usize, n: RepeatCount) -> usize
         requires { IsCharBoundary self.now.text start }
-        ensures place { result ≡ lines_above n self.now.text start }
+        ensures offset { IsOffset result self.now.text (lines_above n self.now.text start) }
         ensures up { result ≤ start }
-        ensures boundary { IsCharBoundary self.now.text result }
     {
         let _ = &self.pos;
         let mut place = start;
@@ -28,12 +29,11 @@ impl LineBuffer {
         place
     }
 
-    /// The start of the line `n` below the one that begins at `start`, or of the last.
+    /// Returns the start of the line `n` below the one that begins at `start`, or of the last.
     fn start_below(&self, start: usize, n: RepeatCount) -> usize
         requires { IsCharBoundary self.now.text start }
-        ensures place { result ≡ lines_below n self.now.text start }
+        ensures offset { IsOffset result self.now.text (lines_below n self.now.text start) }
         ensures down { start ≤ result }
-        ensures boundary { IsCharBoundary self.now.text result }
     {
         let _ = &self.pos;
         let mut place = start;
@@ -46,12 +46,11 @@ impl LineBuffer {
         place
     }
 
-    /// Behind the newline of the line that begins at `start`, or the text's end.
+    /// Returns the place behind the newline of the line that begins at `start`, or the text's end.
     pub(super) fn line_stop(&self, start: usize) -> usize
         requires { IsCharBoundary self.now.text start }
-        ensures place { result ≡ line_stop self.now.text start }
+        ensures offset { IsOffset result self.now.text (line_stop self.now.text start) }
         ensures down { start ≤ result }
-        ensures boundary { IsCharBoundary self.now.text result }
     {
         let _ = &self.pos;
         match next_line(self.text_from(start)) {
@@ -60,13 +59,9 @@ impl LineBuffer {
         }
     }
 
-    /// The range of the cursor's line and `n` lines above it.
+    /// Returns the range of the cursor's line and `n` lines above it.
     pub(super) fn lines_up(&self, n: RepeatCount) -> Option<(usize, usize)>
-        ensures range { result ≡ lines_up self.now n }
-        ensures ordered { IfSome result (λ r. r.0 ≤ r.1) }
-        ensures before { IfSome result (λ r. r.0 ≤ self.now.cursor) }
-        ensures start { IfSome result (λ r. IsCharBoundary self.now.text r.0) }
-        ensures end { IfSome result (λ r. IsCharBoundary self.now.text r.1) }
+        ensures { IsRangeIfAny result self.now (lines_up self.now n) }
     {
         let start = self.start_of_line();
         if start == 0 {
@@ -75,13 +70,9 @@ impl LineBuffer {
         Some((self.start_above(start, n), self.line_stop(start)))
     }
 
-    /// The range of the cursor's line and `n` lines below it.
+    /// Returns the range of the cursor's line and `n` lines below it.
     pub(super) fn lines_down(&self, n: RepeatCount) -> Option<(usize, usize)>
-        ensures range { result ≡ lines_down self.now n }
-        ensures ordered { IfSome result (λ r. r.0 ≤ r.1) }
-        ensures before { IfSome result (λ r. r.0 ≤ self.now.cursor) }
-        ensures start { IfSome result (λ r. IsCharBoundary self.now.text r.0) }
-        ensures end { IfSome result (λ r. IsCharBoundary self.now.text r.1) }
+        ensures { IsRangeIfAny result self.now (lines_down self.now n) }
     {
         let start = self.start_of_line();
         if self.end_of_line() == self.buf.len() {
@@ -90,14 +81,12 @@ impl LineBuffer {
         Some((start, self.line_stop(self.start_below(start, n))))
     }
 
-    /// Moves the cursor to the line `n` above, one for `n` = 0, or to the first: to the greatest place between
-    /// clusters whose column is not past the cursor's, or else to the line's start. Answers whether the
-    /// cursor's line is not the first; if it is, the cursor stays. Columns are those of the layout's mode, and
-    /// the first line begins behind its prompt.
+    /// Moves the cursor to the line `n` above, one for `n` = 0, or to the first: to the greatest
+    /// place between clusters whose column is not past the cursor's, or else to the line's start.
+    /// Returns whether the cursor's line is not the first; if it is, the cursor stays. Columns are
+    /// those of the layout's mode, and the first line begins behind its prompt.
     pub fn move_to_line_up(&mut self, n: RepeatCount, layout: &Layout) -> bool
-        ensures answer { result ≡ is_some (up_by layout.now self.old n) }
-        ensures line { self.new ≡ moved_to self.old (up_by layout.now self.old n) }
-        ensures cursor { IsCharBoundary self.new.text self.new.cursor }
+        ensures { MovesCursor result self.old self.new (up_by layout.now self.old n) }
     {
         let start = self.start_of_line();
         if start == 0 {
@@ -107,14 +96,12 @@ impl LineBuffer {
         self.move_to_place(Some(self.place_in_line(layout, above)))
     }
 
-    /// Moves the cursor to the line `n` below, one for `n` = 0, or to the last: to the greatest place between
-    /// clusters whose column is not past the cursor's, or else to the line's start. Answers whether the
-    /// cursor's line is not the last; if it is, the cursor stays. Columns are those of the layout's mode, and
-    /// the first line begins behind its prompt.
+    /// Moves the cursor to the line `n` below, one for `n` = 0, or to the last: to the greatest
+    /// place between clusters whose column is not past the cursor's, or else to the line's start.
+    /// Returns whether the cursor's line is not the last; if it is, the cursor stays. Columns are
+    /// those of the layout's mode, and the first line begins behind its prompt.
     pub fn move_to_line_down(&mut self, n: RepeatCount, layout: &Layout) -> bool
-        ensures answer { result ≡ is_some (down_by layout.now self.old n) }
-        ensures line { self.new ≡ moved_to self.old (down_by layout.now self.old n) }
-        ensures cursor { IsCharBoundary self.new.text self.new.cursor }
+        ensures { MovesCursor result self.old self.new (down_by layout.now self.old n) }
     {
         let start = self.start_of_line();
         if self.end_of_line() == self.len() {
@@ -124,11 +111,10 @@ impl LineBuffer {
         self.move_to_place(Some(self.place_in_line(layout, below)))
     }
 
-    /// The place in the line that begins at `start` whose column fits the cursor's.
+    /// Returns the place in the line that begins at `start` whose column fits the cursor's.
     fn place_in_line(&self, layout: &Layout, start: usize) -> usize
         requires { IsCharBoundary self.now.text start }
-        ensures place { result ≡ place_in_line layout.now self.now start }
-        ensures boundary { IsCharBoundary self.now.text result }
+        ensures { IsOffset result self.now.text (place_in_line layout.now self.now start) }
     {
         let here = self.start_of_line();
         let column = column_in(layout, here, &self.buf.as_str()[here..self.pos]);
@@ -137,7 +123,7 @@ impl LineBuffer {
     }
 }
 
-/// The column of a text in a line that begins at `start`.
+/// Returns the column of a text in a line that begins at `start`.
 fn column_in(layout: &Layout, start: usize, text: &str) -> usize
     ensures { result ≡ column_in layout.now start text.now }
 {
@@ -149,10 +135,10 @@ fn column_in(layout: &Layout, start: usize, text: &str) -> usize
     before + layout.width(text) as usize
 }
 
-/// The greatest place between clusters of the line whose column is not past `column`, or its start.
+/// Returns the greatest place between clusters of the line whose column is not past `column`, or
+/// its start.
 fn fitting(layout: &Layout, start: usize, line: &str, column: usize) -> usize
-    ensures place { result ≡ fitting layout.now start line.now column }
-    ensures boundary { IsCharBoundary line.now result }
+    ensures { IsOffset result line.now (fitting layout.now start line.now column) }
 {
     let mut rest = line.graphemes(true);
     while column_in(layout, start, rest.as_str()) > column {

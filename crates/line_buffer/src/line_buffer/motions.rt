@@ -1,4 +1,6 @@
 //! Movements of the cursor by words and to characters.
+ghost use Rattle.line_buffer.specs.Line.{MovesCursor};
+ghost use Rattle.line_buffer.specs.Offset.{IsOffset, IsOffsetBack, IsOffsetIfAny, IsOffsetOn, IsRangeIfAny};
 ghost use Rattle.std.specs.Prelude.{◌≡◌, ◌≤◌, ◌<◌, ◌^◌, is_some, IfSome, IsCharBoundary};
 ghost use Rattle.line_buffer.specs.Line.{moved_to};
 ghost use Rattle.line_buffer.specs.Range.{searched};
@@ -12,11 +14,9 @@ use crate::search::{nth_char, nth_char_back};
 use crate::words::{nth_start_back, on_by_words};
 
 impl LineBuffer {
-    /// The place of a movement on by `n` words.
+    /// Returns the place of a movement on by `n` words.
     pub(super) fn next_word_pos(&self, at: At, word: Word, n: RepeatCount) -> Option<usize>
-        ensures place { result ≡ word_on at word self.now n }
-        ensures on { IfSome result (λ place. self.now.cursor ≤ place) }
-        ensures boundary { IfSome result (λ place. IsCharBoundary self.now.text place) }
+        ensures { IsOffsetOn result self.now (word_on at word self.now n) }
     {
         if n == 0 || self.pos == self.buf.len() {
             return None;
@@ -27,11 +27,9 @@ impl LineBuffer {
         }
     }
 
-    /// The place of a movement back by `n` words.
+    /// Returns the place of a movement back by `n` words.
     pub(super) fn prev_word_pos(&self, word: Word, n: RepeatCount) -> Option<usize>
-        ensures place { result ≡ word_back word self.now n }
-        ensures back { IfSome result (λ place. place ≤ self.now.cursor) }
-        ensures boundary { IfSome result (λ place. IsCharBoundary self.now.text place) }
+        ensures { IsOffsetBack result self.now (word_back word self.now n) }
     {
         if n == 0 || self.pos == 0 {
             return None;
@@ -39,41 +37,34 @@ impl LineBuffer {
         Some(nth_start_back(self.before(), word, n))
     }
 
-    /// Moves the cursor on by `n` words, to the start of one, to before its end or to after it. Answers
-    /// whether there is such a place; if not, the cursor stays.
+    /// Moves the cursor on by `n` words, to the start of one, to before its end or to after it.
+    /// Returns whether there is such a place; if not, the cursor stays.
     pub fn move_to_next_word(&mut self, at: At, word: Word, n: RepeatCount) -> bool
-        ensures answer { result ≡ is_some (word_on at word self.old n) }
-        ensures line { self.new ≡ moved_to self.old (word_on at word self.old n) }
-        ensures cursor { IsCharBoundary self.new.text self.new.cursor }
+        ensures { MovesCursor result self.old self.new (word_on at word self.old n) }
     {
         self.move_to_place(self.next_word_pos(at, word, n))
     }
 
-    /// Moves the cursor back to the start of the `n`-th word before it. Answers whether there is such a
-    /// place; if not, the cursor stays.
+    /// Moves the cursor back to the start of the `n`-th word before it. Returns whether there is
+    /// such a place; if not, the cursor stays.
     pub fn move_to_prev_word(&mut self, word: Word, n: RepeatCount) -> bool
-        ensures answer { result ≡ is_some (word_back word self.old n) }
-        ensures line { self.new ≡ moved_to self.old (word_back word self.old n) }
-        ensures cursor { IsCharBoundary self.new.text self.new.cursor }
+        ensures { MovesCursor result self.old self.new (word_back word self.old n) }
     {
         self.move_to_place(self.prev_word_pos(word, n))
     }
 
-    /// Moves the cursor to the `n`-th place that the search leads to, or to the last where there are fewer.
-    /// A search on begins behind the cluster after the cursor. Answers whether there is such a place; if
-    /// not, and for `n` = 0, the cursor stays.
+    /// Moves the cursor to the `n`-th place that the search leads to, or to the last where there
+    /// are fewer. A search on begins behind the cluster after the cursor. Returns whether there is
+    /// such a place; if not, and for `n` = 0, the cursor stays.
     pub fn move_to(&mut self, search: CharSearch, n: RepeatCount) -> bool
-        ensures answer { result ≡ is_some (search_place search self.old n) }
-        ensures line { self.new ≡ moved_to self.old (search_place search self.old n) }
-        ensures cursor { IsCharBoundary self.new.text self.new.cursor }
+        ensures { MovesCursor result self.old self.new (search_place search self.old n) }
     {
         self.move_to_place(self.search_pos(search, n))
     }
 
-    /// The place that the search leads to.
+    /// Returns the place that the search leads to.
     fn search_pos(&self, search: CharSearch, n: RepeatCount) -> Option<usize>
-        ensures place { result ≡ search_place search self.now n }
-        ensures boundary { IfSome result (λ place. IsCharBoundary self.now.text place) }
+        ensures { IsOffsetIfAny result self.now.text (search_place search self.now n) }
     {
         match search {
             CharSearch::Forward(c) => self.next_char_pos(c, n),
@@ -89,13 +80,9 @@ impl LineBuffer {
         }
     }
 
-    /// The range of the search.
+    /// Returns the range of the search.
     pub(super) fn searched(&self, search: CharSearch, n: RepeatCount) -> Option<(usize, usize)>
-        ensures range { result ≡ searched self.now search n }
-        ensures ordered { IfSome result (λ r. r.0 ≤ r.1) }
-        ensures before { IfSome result (λ r. r.0 ≤ self.now.cursor) }
-        ensures start { IfSome result (λ r. IsCharBoundary self.now.text r.0) }
-        ensures end { IfSome result (λ r. IsCharBoundary self.now.text r.1) }
+        ensures { IsRangeIfAny result self.now (searched self.now search n) }
     {
         match search {
             CharSearch::Forward(c) => match self.next_char_pos(c, n) {
@@ -111,13 +98,13 @@ impl LineBuffer {
         }
     }
 
-    /// The place of the `n`-th `c` behind the cluster after the cursor.
+    /// Returns the place of the `n`-th `c` behind the cluster after the cursor.
     fn next_char_pos(&self, c: char, n: RepeatCount) -> Option<usize>
         ensures place { result ≡ found_on c self.now n }
         ensures on { IfSome result (λ place. self.now.cursor ≤ place) }
         ensures fits { IfSome result (λ place. behind_char c place < 2 ^ 64) }
         ensures boundary { IfSome result (λ place. IsCharBoundary self.now.text place) }
-        ensures behind { IfSome result (λ place. IsCharBoundary self.now.text (behind_char c place)) }
+        ensures behind { IfSome result (λ p. IsCharBoundary self.now.text (behind_char c p)) }
     {
         let start = self.pos + first_len(self.after(), 1);
         match nth_char(self.text_from(start), c, n) {
@@ -126,22 +113,21 @@ impl LineBuffer {
         }
     }
 
-    /// The place of the `n`-th `c` before the cursor, counted back.
+    /// Returns the place of the `n`-th `c` before the cursor, counted back.
     fn prev_char_pos(&self, c: char, n: RepeatCount) -> Option<usize>
         ensures place { result ≡ found_back c self.now n }
         ensures back { IfSome result (λ place. behind_char c place ≤ self.now.cursor) }
         ensures fits { IfSome result (λ place. behind_char c place < 2 ^ 64) }
         ensures boundary { IfSome result (λ place. IsCharBoundary self.now.text place) }
-        ensures behind { IfSome result (λ place. IsCharBoundary self.now.text (behind_char c place)) }
+        ensures behind { IfSome result (λ p. IsCharBoundary self.now.text (behind_char c p)) }
     {
         nth_char_back(self.before(), c, n)
     }
 
-    /// Where the character before a place begins.
+    /// Returns where the character before a place begins.
     fn char_before(&self, place: usize) -> usize
         requires { IsCharBoundary self.now.text place }
-        ensures place { result ≡ char_before self.now.text place }
-        ensures boundary { IsCharBoundary self.now.text result }
+        ensures { IsOffset result self.now.text (char_before self.now.text place) }
     {
         self.buf
             .as_str()

@@ -1,10 +1,11 @@
 //! Calls that exchange characters or words, or change the case of letters.
+ghost use Rattle.line_buffer.specs.Edit.{Edits, EditsIfOk, on_entries};
+ghost use Rattle.line_buffer.specs.Offset.{IsOffset, IsSpan};
 ghost use Rattle.std.specs.Prelude.{◌≡◌, ◌≤◌, true, map, if◌then◌else◌, is_some, string_bytes, slice_range, IfOk, IfSome, OnOk, OnErr, IsCharBoundary};
 ghost use Rattle.std.specs.Char.{to_ascii_lowercase, to_ascii_uppercase};
 ghost use Rattle.line_buffer.specs.Changes.{with_entries};
 ghost use Rattle.line_buffer.specs.Line.{with_cursor};
-ghost use Rattle.line_buffer.specs.Transpose.{are_apart, between_chars, cased, chars_beside, exchanged, has_two_chars, next_alphanumeric, with_case, with_cased, with_exchange, with_exchanged, word_end_from, word_start_from, words_beside};
-ghost use Rattle.line_buffer.specs.Undo.{KeepsTold, StillTells};
+ghost use Rattle.line_buffer.specs.Transpose.{chars_exchanged, parts, with_chars_exchanged, with_word_cased, with_words_exchanged, word_cased, words_exchanged, are_apart, between_chars, cased, chars_beside, exchanged, has_two_chars, next_alphanumeric, with_case, with_cased, with_exchange, with_exchanged, word_end_from, word_start_from, words_beside};
 ghost use Rattle.line_buffer.specs.Word.{word_back, word_on};
 
 use super::{LineBuffer, OutOfMemory, WordAction};
@@ -14,16 +15,18 @@ use crate::undo::Changeset;
 use std::alloc::Global;
 
 impl LineBuffer {
-    /// Exchanges the cluster before the cursor with the one at it, at the text's end the last two, and puts
-    /// the cursor behind both. Answers false, and changes nothing, at the text's start and where the text has
-    /// fewer than two clusters. `OutOfMemory` comes where the text or the list of changes cannot grow; then the
-    /// list is empty with no open group, and the line is text with its cursor on a boundary.
+    /// Exchanges the cluster before the cursor with the one at it, at the text's end the last two,
+    /// and puts the cursor behind both. Returns false, and changes nothing, at the text's start and
+    /// where the text has fewer than two clusters.
+    ///
+    /// # Errors
+    ///
+    /// `OutOfMemory` where an allocation fails; then the list of changes is empty with no open
+    /// group, and the line is text with its cursor on a boundary.
     pub fn transpose_chars(&mut self, changes: &mut Changeset) -> Result<bool, OutOfMemory>
         ensures answer { IfOk result (λ done. done ≡ has_two_chars self.old) }
-        ensures line { OnOk result (self.new ≡ (if has_two_chars self.old then with_exchanged self.old (chars_beside self.old (between_chars self.old)) else self.old)) }
-        ensures changes { OnOk result (changes.new ≡ with_entries changes.old (if has_two_chars self.old then with_exchange self.old.text (chars_beside self.old (between_chars self.old)) changes.old.entries else changes.old.entries)) }
-        ensures told { KeepsTold result changes.old self.old changes.new self.new }
-        ensures cursor { IsCharBoundary self.new.text self.new.cursor }
+        ensures edit { Edits result self.old self.new changes.old changes.new
+            (chars_exchanged self.old) (on_entries (with_chars_exchanged self.old)) }
     {
         let _ = &self.pos;
         if self.pos == 0 || !has_two_clusters(self.as_str()) {
@@ -39,10 +42,9 @@ impl LineBuffer {
     /// Exchanges the clusters before and at the cursor.
     fn exchange_chars(&mut self, changes: &mut Changeset) -> Result<bool, OutOfMemory>
         ensures answer { IfOk result (λ done. done ≡ true) }
-        ensures line { OnOk result (self.new ≡ with_exchanged self.old (chars_beside self.old self.old.cursor)) }
-        ensures changes { OnOk result (changes.new ≡ with_entries changes.old (with_exchange self.old.text (chars_beside self.old self.old.cursor) changes.old.entries)) }
-        ensures tells { OnOk result (StillTells changes.old.entries self.old.text changes.new.entries self.new.text) }
-        ensures cursor { IsCharBoundary self.new.text self.new.cursor }
+        ensures edit { EditsIfOk result self.old self.new changes.old changes.new
+            (with_exchanged self.old (chars_beside self.old self.old.cursor))
+            (on_entries (with_exchange self.old.text (chars_beside self.old self.old.cursor))) }
     {
         let place = self.pos();
         let before = self.prev_pos(1).unwrap_or(place);
@@ -60,17 +62,12 @@ impl LineBuffer {
         to2: usize,
         changes: &mut Changeset,
     ) -> Result<(), OutOfMemory>
-        requires first { from1 ≤ to1 }
         requires between { to1 ≤ from2 }
-        requires second { from2 ≤ to2 }
-        requires from1 { IsCharBoundary self.old.text from1 }
-        requires to1 { IsCharBoundary self.old.text to1 }
-        requires from2 { IsCharBoundary self.old.text from2 }
-        requires to2 { IsCharBoundary self.old.text to2 }
-        ensures line { OnOk result (self.new ≡ with_exchanged self.old (record { from1 = from1; to1 = to1; from2 = from2; to2 = to2 })) }
-        ensures changes { OnOk result (changes.new ≡ with_entries changes.old (with_exchange self.old.text (record { from1 = from1; to1 = to1; from2 = from2; to2 = to2 }) changes.old.entries)) }
-        ensures tells { OnOk result (StillTells changes.old.entries self.old.text changes.new.entries self.new.text) }
-        ensures cursor { IsCharBoundary self.new.text self.new.cursor }
+        requires first { IsSpan self.old.text from1 to1 }
+        requires second { IsSpan self.old.text from2 to2 }
+        ensures { EditsIfOk result self.old self.new changes.old changes.new
+            (with_exchanged self.old (parts from1 to1 from2 to2))
+            (on_entries (with_exchange self.old.text (parts from1 to1 from2 to2))) }
     {
         let _ = &self.pos;
         let mut text = self.copy_range(from2, to2)?;
@@ -79,20 +76,22 @@ impl LineBuffer {
         self.try_replace(from1, to2, text.as_str(), changes)
     }
 
-    /// Exchanges words: the one that ends at the end of the `n`-th word from the cursor, and the `n`-th before
-    /// it, with the cursor behind both. Answers false where these are not two words; then the cursor goes
-    /// behind the first. `OutOfMemory` comes where the text or the list of changes cannot grow; then the list
-    /// is empty with no open group, and the line is text with its cursor on a boundary.
+    /// Exchanges words: the one that ends at the end of the `n`-th word from the cursor, and the
+    /// `n`-th before it, with the cursor behind both. Returns false where these are not two words;
+    /// then the cursor goes behind the first.
+    ///
+    /// # Errors
+    ///
+    /// `OutOfMemory` where an allocation fails; then the list of changes is empty with no open
+    /// group, and the line is text with its cursor on a boundary.
     pub fn transpose_words(
         &mut self,
         n: RepeatCount,
         changes: &mut Changeset,
     ) -> Result<bool, OutOfMemory>
         ensures answer { IfOk result (λ done. done ≡ are_apart (words_beside self.old n)) }
-        ensures line { OnOk result (self.new ≡ (if are_apart (words_beside self.old n) then with_exchanged self.old (words_beside self.old n) else with_cursor self.old (words_beside self.old n).to1)) }
-        ensures changes { OnOk result (changes.new ≡ with_entries changes.old (if are_apart (words_beside self.old n) then with_exchange self.old.text (words_beside self.old n) changes.old.entries else changes.old.entries)) }
-        ensures told { KeepsTold result changes.old self.old changes.new self.new }
-        ensures cursor { IsCharBoundary self.new.text self.new.cursor }
+        ensures edit { Edits result self.old self.new changes.old changes.new
+            (words_exchanged self.old n) (on_entries (with_words_exchanged self.old n)) }
     {
         let to2 = self.word_end_from(self.pos(), n);
         let from2 = self.word_start_from(to2, 1);
@@ -107,13 +106,12 @@ impl LineBuffer {
         Ok(true)
     }
 
-    /// The end of the `n`-th word on from a place, or that place. The cursor goes there.
+    /// Returns the end of the `n`-th word on from a place, or that place. The cursor goes there.
     fn word_end_from(&mut self, place: usize, n: RepeatCount) -> usize
         requires { IsCharBoundary self.old.text place }
-        ensures place { result ≡ word_end_from self.old place n }
+        ensures end { IsOffset result self.old.text (word_end_from self.old place n) }
         ensures on { place ≤ result }
         ensures line { self.new ≡ with_cursor self.old result }
-        ensures boundary { IsCharBoundary self.old.text result }
     {
         self.pos = place;
         let end = self
@@ -123,13 +121,13 @@ impl LineBuffer {
         end
     }
 
-    /// The start of the `n`-th word back from a place, or that place. The cursor goes there.
+    /// Returns the start of the `n`-th word back from a place, or that place. The cursor goes
+    /// there.
     fn word_start_from(&mut self, place: usize, n: RepeatCount) -> usize
         requires { IsCharBoundary self.old.text place }
-        ensures place { result ≡ word_start_from self.old place n }
+        ensures start { IsOffset result self.old.text (word_start_from self.old place n) }
         ensures back { result ≤ place }
         ensures line { self.new ≡ with_cursor self.old result }
-        ensures boundary { IsCharBoundary self.old.text result }
     {
         self.pos = place;
         let start = self.prev_word_pos(Word::Emacs, n).unwrap_or(place);
@@ -137,20 +135,22 @@ impl LineBuffer {
         start
     }
 
-    /// Changes the case of the ASCII letters from the first alphanumeric cluster at or after the cursor to
-    /// that word's end, and puts the cursor there. Answers false, and changes nothing, where there is no such
-    /// cluster. `OutOfMemory` comes where the text or the list of changes cannot grow; then the list is empty
-    /// with no open group, and the line is text with its cursor on a boundary.
+    /// Changes the case of the ASCII letters from the first alphanumeric cluster at or after the
+    /// cursor to that word's end, and puts the cursor there. Returns false, and changes nothing,
+    /// where there is no such cluster.
+    ///
+    /// # Errors
+    ///
+    /// `OutOfMemory` where an allocation fails; then the list of changes is empty with no open
+    /// group, and the line is text with its cursor on a boundary.
     pub fn edit_word(
         &mut self,
         action: WordAction,
         changes: &mut Changeset,
     ) -> Result<bool, OutOfMemory>
         ensures answer { IfOk result (λ done. done ≡ is_some (next_alphanumeric self.old)) }
-        ensures line { OnOk result (self.new ≡ with_cased action self.old (next_alphanumeric self.old)) }
-        ensures changes { OnOk result (changes.new ≡ with_entries changes.old (with_case action self.old (next_alphanumeric self.old) changes.old.entries)) }
-        ensures told { KeepsTold result changes.old self.old changes.new self.new }
-        ensures cursor { IsCharBoundary self.new.text self.new.cursor }
+        ensures edit { Edits result self.old self.new changes.old changes.new
+            (word_cased action self.old) (on_entries (with_word_cased action self.old)) }
     {
         let outcome = self.try_edit_word(action, changes);
         changes.settled(outcome)
@@ -162,10 +162,8 @@ impl LineBuffer {
         changes: &mut Changeset,
     ) -> Result<bool, OutOfMemory>
         ensures answer { IfOk result (λ done. done ≡ is_some (next_alphanumeric self.old)) }
-        ensures line { OnOk result (self.new ≡ with_cased action self.old (next_alphanumeric self.old)) }
-        ensures changes { OnOk result (changes.new ≡ with_entries changes.old (with_case action self.old (next_alphanumeric self.old) changes.old.entries)) }
-        ensures tells { OnOk result (StillTells changes.old.entries self.old.text changes.new.entries self.new.text) }
-        ensures cursor { IsCharBoundary self.new.text self.new.cursor }
+        ensures edit { EditsIfOk result self.old self.new changes.old changes.new
+            (word_cased action self.old) (on_entries (with_word_cased action self.old)) }
     {
         let from = match first_alphanumeric(self.after()) {
             Some(bytes) => self.pos + bytes,
@@ -179,7 +177,7 @@ impl LineBuffer {
     }
 }
 
-/// The text with the case of its ASCII letters changed.
+/// Returns the text with the case of its ASCII letters changed.
 fn cased(alloc: Global, action: WordAction, text: &str) -> Result<String, OutOfMemory>
     ensures { IfOk result (λ changed. string_bytes changed ≡ cased action text.now) }
 {

@@ -1,4 +1,4 @@
-use Rattle.std.proofs.Common.{◌+◌, length, ap, ◌∙◌}
+use Rattle.std.proofs.Common.{rules, ◌+◌, length, ap, ◌∙◌}
 use Rattle.std.specs.List.{insert_slice}
 use Rattle.std.specs.Str.{IsCharBoundary}
 use Rattle.line_buffer.specs.Changes.{Changes}
@@ -6,13 +6,19 @@ use Rattle.line_buffer.specs.Line.{Line}
 use Rattle.line_buffer.proofs.TellsLemmas.{still-typed}
 use Rattle.line_buffer.proofs.line_buffer.LineBuffer.insert_one.Goals as goal
 
-pub returns-clause-tells : goal.returns-clause-tells
-returns-clause-tells c =
+pub returns-clause-edit : goal.returns-clause-edit
+returns-clause-edit c =
     let entries = ap (λ (s : Changes). s.entries) c.in_ok-insert_char.ensures in
     let place = ap (λ (l : Line). l.cursor) c.self.view_is in
     let here : IsCharBoundary c.args.self.now.text c.args.self.now.cursor = rw (← c.self.view_is) c.self.invariant in
     let typed = c.encode_utf8-text.ensures.value in
     let stop = ap (λ (l : Line). l.cursor) c.in_ok-at_end.ensures.line ∙ ap (λ t. c.args.self.now.cursor + length t) typed in
-    rw (entries, place) (still-typed c.args.changes.now.entries c.args.self.now.text c.insert_text.new.self.text c.args.self.now.cursor c.args.c here.0
-    (ap (λ (l : Line). l.text) c.in_ok-at_end.ensures.line ∙ ap (insert_slice c.args.self.now.text c.args.self.now.cursor) typed) c.in_ok-at_end.ensures.front here
-    (rw (← stop) c.in_ok-at_end.ensures.cursor))
+    record {
+      line = search rules;
+      changes = search rules;
+      tells =
+          rw (entries, place) (still-typed c.args.changes.now.entries c.args.self.now.text c.insert_text.new.self.text c.args.self.now.cursor c.args.c here.0
+          (ap (λ (l : Line). l.text) c.in_ok-at_end.ensures.line ∙ ap (insert_slice c.args.self.now.text c.args.self.now.cursor) typed) c.in_ok-at_end.ensures.front here
+          (rw (← stop) c.in_ok-at_end.ensures.cursor));
+      cursor = search rules;
+    }

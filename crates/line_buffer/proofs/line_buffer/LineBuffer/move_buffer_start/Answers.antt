@@ -1,8 +1,14 @@
+use Rattle.std.proofs.Common.{rules}
 use Rattle.std.proofs.lemmas.Str.{IsCharBoundary-start, IsUtf8-had}
 use Rattle.line_buffer.proofs.line_buffer.LineBuffer.move_buffer_start.Goals as goal
 
 pub invariant_of-self : goal.invariant_of-self
 invariant_of-self c = IsCharBoundary-start _ (IsUtf8-had _ c.self.inside.buf.ok)
 
-pub returns-clause-cursor : goal.returns-clause-cursor
-returns-clause-cursor c = IsCharBoundary-start _ (IsUtf8-had _ c.self.inside.buf.ok)
+pub returns : goal.returns
+returns c =
+    record {
+      answer = search rules;
+      line = search rules;
+      cursor = IsCharBoundary-start _ (IsUtf8-had _ c.self.inside.buf.ok);
+    }

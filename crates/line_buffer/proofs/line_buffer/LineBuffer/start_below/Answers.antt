@@ -1,12 +1,15 @@
-use Rattle.std.proofs.Common.{◌≡◌, ◌+◌, ◌-◌, suc, sym, ap, ◌∙◌, arith}
+use Rattle.std.proofs.Common.{rules, ◌≡◌, ◌+◌, ◌-◌, suc, sym, ap, ◌∙◌, arith}
 use Rattle.line_buffer.specs.Lines.{next_line}
 use Rattle.std.proofs.lemmas.Str.{IsCharBoundary-from_rest}
 use Rattle.line_buffer.proofs.LineLemmas.{below-none, below-some}
 use Rattle.line_buffer.proofs.line_buffer.LineBuffer.start_below.Goals as goal
 
-pub returns-in_default-clause-place : goal.returns-in_default-clause-place
-returns-in_default-clause-place c =
-    sym (below-none (c.args.n - c.loop.counter) c.args.self.now.text c.loop.place (sym c.in_default.is ∙ c.next_line.ensures.place ∙ ap next_line c.text_from.ensures)) ∙ c.loop.invariant.same
+pub returns-in_default-clause-offset : goal.returns-in_default-clause-offset
+returns-in_default-clause-offset c =
+    record {
+      place = sym (below-none (c.args.n - c.loop.counter) c.args.self.now.text c.loop.place (sym c.in_default.is ∙ c.next_line.ensures.place ∙ ap next_line c.text_from.ensures)) ∙ c.loop.invariant.same;
+      boundary = search rules;
+    }
 
 pub loop-preserved : goal.loop-preserved
 loop-preserved c =

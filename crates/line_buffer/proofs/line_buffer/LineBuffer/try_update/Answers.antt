@@ -1,15 +1,21 @@
-use Rattle.std.proofs.Common.{ap, ◌∙◌}
+use Rattle.std.proofs.Common.{rules, ap, ◌∙◌}
 use Rattle.std.proofs.lemmas.Str.{IsUtf8-had}
 use Rattle.line_buffer.specs.Changes.{Changes}
 use Rattle.line_buffer.specs.Line.{Line}
 use Rattle.line_buffer.proofs.TellsLemmas.{still-updated}
 use Rattle.line_buffer.proofs.line_buffer.LineBuffer.try_update.Goals as goal
 
-pub returns-clause-tells : goal.returns-clause-tells
-returns-clause-tells c =
+pub returns : goal.returns
+returns c =
     let deleted = ap (λ (s : Changes). s.entries) c.in_ok-delete.ensures in
     let entries = ap (λ (s : Changes). s.entries) c.in_ok-insert_str.ensures in
     let old = c.as_str.ensures.value ∙ ap (λ (l : Line). l.text) c.self.view_is in
     let new = c.in_ok-self-inside.ensures.ok in
-    rw (entries, deleted, old, ← new) (still-updated c.args.changes.now.entries c.args.self.now.text _ (rw (← c.self.view_is) (IsUtf8-had _ c.self.inside.buf.ok))
-    (IsUtf8-had _ c.in_ok-self-inside.field-0.ok))
+    record {
+      line = search rules;
+      changes = search rules;
+      tells =
+          rw (entries, deleted, old, ← new) (still-updated c.args.changes.now.entries c.args.self.now.text _ (rw (← c.self.view_is) (IsUtf8-had _ c.self.inside.buf.ok))
+          (IsUtf8-had _ c.in_ok-self-inside.field-0.ok));
+      cursor = search rules;
+    }

@@ -1,4 +1,4 @@
-use Rattle.std.proofs.Common.{length, ap, ◌∙◌, arith}
+use Rattle.std.proofs.Common.{rules, length, ap, ◌∙◌, arith}
 use Rattle.std.proofs.lemmas.Str.{IsCharBoundary-start}
 use Rattle.unicode_segmentation.specs.Iter.{graphemes_left}
 use Rattle.line_buffer.specs.Lines.{column_in}
@@ -12,15 +12,19 @@ loop-rest-preserved c =
     fitted-next c.args.layout.now c.args.start c.args.line.now c.args.column (graphemes_left c.loop-rest.rest) (graphemes_left c.next_back.new.self) c.in-Some.field-0.now
     c.loop-rest.invariant (omega (arith, column)) c.in-Some.ensures.steps
 
-pub returns-in_default-clause-boundary : goal.returns-in_default-clause-boundary
-returns-in_default-clause-boundary c = IsCharBoundary-start c.args.line.now c.utf8.line
+pub returns-in_default : goal.returns-in_default
+returns-in_default c =
+    record {
+      place = search rules;
+      boundary = IsCharBoundary-start c.args.line.now c.utf8.line;
+    }
 
-pub returns-clause-place : goal.returns-clause-place
-returns-clause-place c =
-    let column = c.column_in.ensures ∙ ap (column_in c.args.layout.now c.args.start) c.as_str.ensures in
-    ap length c.as_str-2.ensures
-    ∙ fitted-found c.args.layout.now c.args.start c.args.line.now c.args.column (graphemes_left c.loop-rest.rest) c.loop-rest.invariant (omega (arith, column))
-
-pub returns-clause-boundary : goal.returns-clause-boundary
-returns-clause-boundary c =
-    rw (ap length c.as_str-2.ensures, c.loop-rest.invariant.rest_is) (boundary-bytes_to c.args.line.now c.loop-rest.invariant.j c.utf8.line)
+pub returns : goal.returns
+returns c =
+    record {
+      place =
+          let column = c.column_in.ensures ∙ ap (column_in c.args.layout.now c.args.start) c.as_str.ensures in
+          ap length c.as_str-2.ensures
+          ∙ fitted-found c.args.layout.now c.args.start c.args.line.now c.args.column (graphemes_left c.loop-rest.rest) c.loop-rest.invariant (omega (arith, column));
+      boundary = rw (ap length c.as_str-2.ensures, c.loop-rest.invariant.rest_is) (boundary-bytes_to c.args.line.now c.loop-rest.invariant.j c.utf8.line);
+    }

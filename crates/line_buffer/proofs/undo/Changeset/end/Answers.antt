@@ -1,19 +1,5 @@
-use Rattle.std.proofs.Common.{sym, ap, ◌∙◌}
-use Rattle.line_buffer.specs.Changes.{Changes, Entry}
-use Rattle.std.proofs.Common.{List}
-use Rattle.line_buffer.proofs.UndoLemmas.{still-ended}
+use Rattle.line_buffer.proofs.GroupLemmas.{ended_fits}
 use Rattle.line_buffer.proofs.undo.Changeset.end.Goals as goal
 
--- the list with these entries and no open group
-abbrev shut : List Entry → Changes
-shut entries = record { entries = entries; open_groups = 0 }
-
-pub returns-in-Ok-clause-told : goal.returns-in-Ok-clause-told
-returns-in-Ok-clause-told c =
-    record {
-      of = λ line. record {
-        tells = still-ended c.args.self.now c.add_ends.new.self
-            (c.in-Ok.ensures.changes ∙ ap shut (sym c.take_newest_begins.ensures.done ∙ c.take_newest_begins.ensures.closed)) line.text;
-        err = tt;
-      };
-    }
+pub invariant_of-self : goal.invariant_of-self
+invariant_of-self c = ended_fits c.end.result c.self.inside.list c.end.new.self c.self.invariant c.end.ensures.changes c.end.ensures.told.err

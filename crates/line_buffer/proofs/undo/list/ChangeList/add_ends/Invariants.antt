@@ -1,0 +1,11 @@
+use Rattle.std.proofs.Common.{◌≡◌, ◌++◌, replicate}
+use Rattle.line_buffer.specs.Changes.{ends}
+use Rattle.line_buffer.specs.KeptChanges.{entries_of}
+use Rattle.line_buffer.proofs.undo.list.ChangeList.add_ends.Given as goal
+
+abbrev pub invariant-loop-self : goal.invariant-loop-self
+invariant-loop-self l =
+    replicate l.self-inside.open_groups ends ++ entries_of l.self-inside.changes.items ≡ replicate l.fn.self.open_groups ends ++ l.fn.self.entries
+
+abbrev pub decreases-loop-self : goal.decreases-loop-self
+decreases-loop-self l = l.self-inside.open_groups
