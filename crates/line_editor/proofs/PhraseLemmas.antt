@@ -4,7 +4,7 @@ use Rattle.line_parts.specs.Environment.{Environment}
 use Rattle.line_keys.specs.Command.{Command, plain}
 use Rattle.line_keys.specs.Draft.{Draft}
 use Rattle.line_keys.specs.Item.{Item, key}
-use Rattle.line_keys.specs.Table.{Row, Tail, nothing, row_of, command_at, one, IsCount}
+use Rattle.line_keys.specs.Table.{Row, Tail, no_tail, row_of, command_at, one, IsCount}
 use Rattle.line_keys.specs.Key.{event}
 use Rattle.line_keys.specs.declared.keys.KeyCode.TheVariants.{Enter}
 use Rattle.line_keys.specs.declared.keys.TheConstants.Modifiers.{NONE}
@@ -22,7 +22,7 @@ nothing-behind (x ∷ xs) more e f = absurd (cc)
 
 -- a tail that goes on is no tail of the same kind
 Tailed-fits : (t : Tail) (tail more : List Item) → Tailed t tail → Tailed t (tail ++ more) → more ≡ []
-Tailed-fits nothing tail more e f = nothing-behind tail more e f
+Tailed-fits no_tail tail more e f = nothing-behind tail more e f
 
 -- what is read behind a key is fixed by the key, and gives one command
 Answers-fit : (bound : Option Command) (row : Row) (count : Count) (tail more : List Item) (c c' : Command)
@@ -62,7 +62,7 @@ phrases-fit keymap environment draft input items more c c' d d' i i' p q =
 
 -- each kind of tail may end at once
 Tailed-ends : (t : Tail) → Tailed t []
-Tailed-ends nothing = refl
+Tailed-ends no_tail = refl
 
 -- a key with a binding is a phrase
 pub bound-phrase : (keymap : Keymap) (environment : Environment) (draft : Draft) (input : Input) (k : KeyEvent) (command : Command)

@@ -4,7 +4,7 @@ use Rattle.line_parts.specs.Environment.{Environment}
 use Rattle.line_keys.specs.Command.{Command, plain}
 use Rattle.line_keys.specs.Draft.{Draft, hinted}
 use Rattle.line_keys.specs.Item.{Item, key}
-use Rattle.line_keys.specs.Table.{Row, Tail, nothing, row_of, command_at, IsCount}
+use Rattle.line_keys.specs.Table.{Row, Tail, no_tail, row_of, command_at, IsCount}
 use Rattle.line_keys.specs.declared.keys.KeyEvent.{KeyEvent}
 use Rattle.line_keys.specs.declared.tables.Count.{Count}
 use Rattle.line_keys.specs.declared.tables.Seen.{Seen}
@@ -22,7 +22,7 @@ seen_of draft = record { line_is_empty = length draft.line.text == 0 }
 
 -- the items that a row reads after its key
 abbrev pub Tailed : Tail → List Item → Type 0
-Tailed nothing tail = tail ≡ []
+Tailed no_tail tail = tail ≡ []
 
 -- a key with a binding is its command alone; for another one its row says what is read after it
 abbrev pub Answers : Option Command → Row → Count → List Item → Command → Type 0

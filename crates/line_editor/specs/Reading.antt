@@ -1,6 +1,6 @@
 -- Reading a command from the items that a reader has left.
 use Rattle.std.specs.Prelude.{◌≡◌, ◌⊎◌, ℕ, ◌+◌, ◌-◌, ◌<◌, ◌≤◌, ◌++◌, [], true, List, length, Result, OnOk, OnErr, IsErrOf}
-use Rattle.line_config.specs.Error.{IoOnlyIf, greatest}
+use Rattle.line_config.specs.Error.{IoOnlyIf, max_count}
 use Rattle.line_config.specs.declared.error.ReadlineError.{ReadlineError}
 use Rattle.line_config.specs.declared.error.ReadlineError.TheVariants.{Eof, Interrupted}
 use Rattle.line_parts.specs.Environment.{Environment}
@@ -16,7 +16,7 @@ use Rattle.line_editor.specs.declared.keymap.InputState.{InputState}
 
 -- the failures of the one or of the other party rose, where both counts can
 abbrev pub EitherRose : ℕ → ℕ → ℕ → ℕ → Type 0
-EitherRose one other one' other' = one < greatest → other < greatest → one + other < one' + other'
+EitherRose one other one' other' = one < max_count → other < max_count → one + other < one' + other'
 
 -- a phrase that was cut short leaves the draft, with its hint as it was or asked again
 abbrev pub LeftByCut : Environment → Draft → Draft → Type 0

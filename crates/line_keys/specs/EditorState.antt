@@ -1,7 +1,7 @@
 -- What is said of an editor by what contracts see of it.
 use Rattle.std.specs.Prelude.{◌≡◌, ◌+◌, ◌≤◌, ◌⊎◌, true, Bool, MatchBool, List, Option, None, OnOk, Result, ℕ}
 use Rattle.line_buffer.specs.Line.{Line}
-use Rattle.line_config.specs.Error.{FaultsOnly, IoOnlyIf, Rose, greatest}
+use Rattle.line_config.specs.Error.{FaultsOnly, IoOnlyIf, Rose, max_count}
 use Rattle.line_config.specs.declared.error.ReadlineError.{ReadlineError}
 use Rattle.line_keys.specs.Display.{HasCursorAt, ShowsInFull, IsRight, lit_after, shown_end}
 use Rattle.line_keys.specs.Draft.{Draft, KeepsText, hint_shown}
@@ -35,7 +35,7 @@ pub record Shows {X : Type 0} (e : Ghosts X) (editor : X) (trailing : Option (Li
 
 -- a count of full redraws rose by at least so many and at most so many, where it can
 abbrev pub Rises : ℕ → ℕ → ℕ → ℕ → Type 0
-Rises least most old new = old + most ≤ greatest → (old + least ≤ new) × (new ≤ old + most)
+Rises least most old new = old + most ≤ max_count → (old + least ≤ new) × (new ≤ old + most)
 
 -- so many full redraws were made, at least and at most
 abbrev pub Redraws : {X : Type 0} → Ghosts X → ℕ → ℕ → X → X → Type 0

@@ -4,7 +4,7 @@ use Rattle.line_buffer.proofs.TellsLemmas.{told_kept, told_kept_anywhere}
 use Rattle.line_buffer.specs.Changes.{Changes, Entry}
 use Rattle.line_buffer.specs.Line.{Line}
 use Rattle.line_state.specs.Edited.{Edited}
-use Rattle.line_buffer.specs.Undo.{KeepsTold, KeepsToldAnywhere, StillTells, Tells, TellsOf, all_taken_back, taken_back}
+use Rattle.line_buffer.specs.Undo.{KeepsTold, KeepsToldAnywhere, StillTells, TellTheSame, Tells, TellsOf, all_taken_back, taken_back}
 
 -- entries that tell how a text came from another give that one when all are taken back
 all_back : (entries : List Entry) (l : Line) (start : List ℕ) → TellsOf entries l.text start → (all_taken_back entries l).text ≡ start
@@ -28,9 +28,15 @@ pub kept_anywhere : {T E : Type 0} (r : Result T E) (old new : Changes) (line : 
     → Tells old.entries line.text → Tells new.entries line.text
 kept_anywhere r old new line k h = told_kept_anywhere r old new line k h
 
+first_on_anywhere : {T E : Type 0} (r : Result T E) (old new : Changes) (line : Line) → OnOk r (TellTheSame old.entries new.entries)
+    → Tells old.entries line.text → OnOk r ((all_taken_back new.entries line).text ≡ (all_taken_back old.entries line).text)
+first_on_anywhere (Ok x) old new line t h =
+    all_back new.entries line h.start ((t.of line.text).tells h.start h.told) ∙ sym (all_back old.entries line h.start h.told)
+first_on_anywhere (Err e) old new line t h = tt
+
 pub first_kept_anywhere : {T E : Type 0} (r : Result T E) (old new : Changes) (line : Line) → KeepsToldAnywhere r old new
     → Tells old.entries line.text → OnOk r ((all_taken_back new.entries line).text ≡ (all_taken_back old.entries line).text)
-first_kept_anywhere r old new line k h = first_kept r old new line line (k.of line) h
+first_kept_anywhere r old new line k h = first_on_anywhere r old new line k.tells h
 
 -- entries that still tell what others told lead back to the same text
 pub first_stays : (old new : Changes) (line line' : Line) → StillTells old.entries line.text new.entries line'.text

@@ -1,11 +1,10 @@
 -- A line with its changes.
-use Rattle.std.specs.Prelude.{◌≡◌, ℕ, ◌+◌, Bool, List, drop, take, Option, Some, None, encode_utf8, Result, OnOk, OnErr}
+use Rattle.std.specs.Prelude.{◌≡◌, ℕ, List, Option, encode_utf8, Result, OnOk, OnErr}
 use Rattle.std.specs.List.{repeat}
-use Rattle.line_buffer.specs.Changes.{Changes, begun, ended, no_changes, with_entries, with_typed}
-use Rattle.line_buffer.specs.Kill.{killed_range, with_killed}
+use Rattle.line_buffer.specs.Changes.{Changes, no_changes, with_entries, with_typed}
+use Rattle.line_buffer.specs.Kill.{with_killed}
 use Rattle.line_buffer.specs.Line.{Line, inserted_at_cursor, without}
-use Rattle.line_buffer.specs.Undo.{Tells, all_taken_back, steps_len}
-use Rattle.line_buffer.specs.declared.keymap.Movement.{Movement}
+use Rattle.line_buffer.specs.Undo.{all_taken_back, newest_steps, without_steps}
 
 -- a line, and the changes that led to it
 pub record Edited : Type 0 where
@@ -33,8 +32,8 @@ without_range range e = record {
 -- n steps are taken back
 abbrev pub undone : ℕ → Edited → Edited
 undone n e = record {
-  line = all_taken_back (take (steps_len e.changes.entries n) e.changes.entries) e.line;
-  changes = with_entries e.changes (drop (steps_len e.changes.entries n) e.changes.entries);
+  line = all_taken_back (newest_steps n e.changes.entries) e.line;
+  changes = without_steps n e.changes;
 }
 
 -- what an edit leaves: the edited line, of which taking all changes back gives the same text; after an error there are no changes

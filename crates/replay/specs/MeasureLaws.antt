@@ -24,7 +24,7 @@ use Rattle.unicode_segmentation.proofs.GraphemeLemmas.{is_grapheme_break-others}
 use Rattle.unicode_width.specs.Width.{str_width}
 use Rattle.unicode_width.proofs.Rules.{str_width-printable}
 use Rattle.line_buffer.specs.declared.layout.Position.{Position}
-use Rattle.line_editor.specs.Printable.{IsPrintable, IsPrintableOrNewline}
+use Rattle.line_state.specs.Printable.{IsPrintable, IsPrintableOrNewline}
 use Rattle.line_keys.specs.Display.{next_column}
 use Rattle.replay.specs.Measure.{ends_row, columns_of, start_below, advanced, after_cluster, wrapped, measured}
 

@@ -6,7 +6,7 @@ use crate::measure::measured;
 use crate::script::Script;
 use line_buffer::{GraphemeClusterMode, Layout, LineBuffer, Position, Unit};
 use line_config::{Prompt, Result};
-use line_editor::tty::Renderer;
+use line_editor::{Renderer, ScreenState};
 use line_parts::Highlighter;
 use std::alloc::Global;
 
@@ -69,21 +69,24 @@ impl Plain {
     }
 }
 
-impl Renderer for Plain {
-    type Reader = Script;
-
+impl ScreenState for Plain {
     ghost use Rattle.std.specs.Prelude.{false};
     ghost use Rattle.line_buffer.specs.declared.layout.GraphemeClusterMode.TheVariants.{Unicode};
     ghost use Rattle.replay.specs.Measure.{measured};
-    ghost use Rattle.replay.specs.MeasureLaws as laws;
 
     ghost surface = { λ p. record { measure = measured p.columns; columns = p.columns; colors = false; mode = Unicode } };
 
-    ghost screen = { λ p. record { place = p.place; text = string_bytes p.text; origin = p.origin } };
+    ghost screen = { λ p. record { position = p.place; text = string_bytes p.text; origin = p.origin } };
 
     ghost redraws = { λ p. p.redraws };
 
     ghost failures = { λ p. p.failures };
+}
+
+impl Renderer for Plain {
+    type Reader = Script;
+
+    ghost use Rattle.replay.specs.MeasureLaws as laws;
 
     fn move_cursor(&mut self, old: Position, new: Position) -> Result<()> {
         let _ = old;

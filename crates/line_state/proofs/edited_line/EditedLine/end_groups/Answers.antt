@@ -7,5 +7,5 @@ returns-clause-edit c =
     (record {
       edited = edited_on _ _ _ _ c.end.ensures.changes;
       first = first_kept_anywhere _ _ _ _ c.end.ensures.told c.self.invariant;
-      err = (c.end.ensures.told.of c.self.inside.line).err;
+      err = c.end.ensures.told.err;
     })

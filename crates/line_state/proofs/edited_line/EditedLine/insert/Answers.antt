@@ -5,7 +5,7 @@ pub returns : goal.returns
 returns c =
     rw (← c.self.view_is)
     (record {
-      edited = edited_is _ _ _ _ c.in_ok-insert.ensures.line c.in_ok-insert.ensures.changes;
-      first = first_stays c.self.inside.changes c.insert.new.changes _ _ c.in_ok-insert.ensures.told.tells c.self.invariant;
+      edited = edited_is _ _ _ _ c.in_ok-insert.ensures.edit.line c.in_ok-insert.ensures.edit.changes;
+      first = first_stays c.self.inside.changes c.insert.new.changes _ _ c.in_ok-insert.ensures.edit.told.tells c.self.invariant;
       err = tt;
     })

@@ -5,7 +5,7 @@ pub returns-clause-edit : goal.returns-clause-edit
 returns-clause-edit c =
     rw (← c.self.view_is)
     (record {
-      edited = edited_is _ _ _ _ c.in_ok-killed.ensures.line c.in_ok-killed.ensures.changes;
-      first = first_stays c.self.inside.changes c.kill.new.changes _ _ c.in_ok-killed.ensures.told.tells c.self.invariant;
+      edited = edited_is _ _ _ _ c.in_ok-killed.ensures.edit.line c.in_ok-killed.ensures.edit.changes;
+      first = first_stays c.self.inside.changes c.kill.new.changes _ _ c.in_ok-killed.ensures.edit.told.tells c.self.invariant;
       err = tt;
     })
