@@ -1,7 +1,6 @@
 -- What the measure of the tests' screen promises.
-use Rattle.std.proofs.Common.{◌≡◌, ℕ, ◌+◌, ◌<◌, Bool, true, false, ◌==◌, List, [], ◌∷◌, ◌++◌, refl, ap, ◌∙◌, arith}
+use Rattle.std.proofs.Common.{◌≡◌, ℕ, ◌+◌, ◌<◌, List, [], ◌∷◌, ◌++◌, ◌∙◌, arith}
 use Rattle.std.specs.List.{fold, All}
-use Rattle.std.proofs.lemmas.Bool.{cond_both}
 use Rattle.std.proofs.lemmas.Bool.Decides.{nat_tests}
 use Rattle.std.proofs.lemmas.List.Sums.{fold-append}
 use Rattle.line_buffer.specs.declared.layout.Position.{Position}
@@ -9,7 +8,8 @@ use Rattle.line_editor.specs.Printable.{IsPrintable, IsPrintableOrNewline}
 use Rattle.line_keys.specs.Display.{next_column}
 use Rattle.tests.specs.Screen.{after_byte, measured}
 
-after_byte-below : (columns : ℕ) (p : Position) (byte : ℕ) → 0 < columns → (after_byte columns p byte).col < columns
+after_byte-below : (columns : ℕ) (p : Position) (byte : ℕ) → 0 < columns
+    → (after_byte columns p byte).col < columns
 after_byte-below columns p byte some = grind (arith, nat_tests)
 
 fold-below : (columns : ℕ) (text : List ℕ) (p : Position) → p.col < columns

@@ -70,7 +70,8 @@ impl Hinter for Advisor {
 
     ghost sure = { λ _. true };
 
-    ghost hint_at = { λ advisor _. option_map (λ text. record { display = text.now; completion = Some text.now }) advisor.hint };
+    ghost hint_at = { λ advisor _.
+        option_map (λ text. record { display = text.now; completion = Some text.now }) advisor.hint };
 
     fn hint<S: History>(
         &self,

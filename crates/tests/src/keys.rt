@@ -355,6 +355,12 @@ fn of_the_table(rt: HostRuntime) {
     for row in &table {
         rows(&rt, row);
     }
+    let empty = Seen {
+        line_is_empty: true,
+    };
+    let key = KeyEvent(K::Char('D'), M::CTRL);
+    let found = table_command(EditMode::Emacs, InputMode::Insert, key, Count::one(), empty);
+    assert_eq!(rt; found, Cmd::Unknown);
 }
 
 #[test]

@@ -135,7 +135,9 @@ fn answers<H: Helper>(
     assert_eq!(rt; helper.highlight_char("ab", 2, CmdKind::MoveCursor), lit);
     let hint = helper.hint(alloc, "ab", 2, &Context::new(&history))?;
     assert!(rt; is_hinted(&hint, text));
-    let verdict = helper.validate(alloc, &ValidationContext::new("ab"))?;
+    let context = ValidationContext::new("ab");
+    assert_eq!(rt; context.input(), "ab");
+    let verdict = helper.validate(alloc, &context)?;
     assert!(rt; is_said(&verdict, name, message));
     assert!(rt; !helper.validate_while_typing());
     Ok(())

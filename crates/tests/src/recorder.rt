@@ -153,7 +153,11 @@ impl Renderer for Recorder {
       mode = Unicode;
     } };
 
-    ghost screen = { λ r. record { place = r.place; text = string_bytes r.text; origin = r.origin } };
+    ghost screen = { λ r. record {
+      place = r.place;
+      text = string_bytes r.text;
+      origin = r.origin;
+    } };
 
     ghost redraws = { λ r. r.redraws };
 

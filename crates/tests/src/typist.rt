@@ -76,7 +76,8 @@ impl RawReader for Typist {
     ghost use Rattle.line_keys.specs.Item.{key, paste};
     ghost use Rattle.tests.specs.Typist.{typed_binding};
 
-    ghost rest = { λ t. map (λ i. unwrap_or (option_map key i.key) (paste (string_bytes i.pasted))) t.items.items };
+    ghost rest = { λ t.
+        map (λ i. unwrap_or (option_map key i.key) (paste (string_bytes i.pasted))) t.items.items };
 
     ghost failures = { λ t. t.failures };
 

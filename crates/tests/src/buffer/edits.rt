@@ -28,6 +28,39 @@ pub(super) enum Edit {
     Undo(RepeatCount),
 }
 
+/// Makes a call that names a place; none for another step.
+fn placed(
+    rt: &impl Abort,
+    line: &mut LineBuffer,
+    changes: &mut Changeset,
+    step: &Edit,
+) -> Result<(), OutOfMemory>
+    requires { Tells changes.old.entries line.old.text }
+    ensures { OnOk result (Tells changes.new.entries line.new.text) }
+{
+    match step {
+        Edit::InsertText(place, text) => {
+            assert!(rt; line.as_str().is_char_boundary(*place) && line.pos() <= *place);
+            line.insert_str(*place, text, changes)
+        }
+        Edit::Update(text, pos) => {
+            assert!(rt; text.is_char_boundary(*pos));
+            line.update(text, *pos, changes)
+        }
+        Edit::Replace(start, end, text) => {
+            assert!(rt; start <= end && line.as_str().is_char_boundary(*start));
+            assert!(rt; line.as_str().is_char_boundary(*end));
+            line.replace(*start..*end, text, changes)
+        }
+        Edit::Go(place) => {
+            assert!(rt; line.as_str().is_char_boundary(*place));
+            line.set_pos(*place);
+            Ok(())
+        }
+        _ => Ok(()),
+    }
+}
+
 /// Makes the call. Its answer, where it has one.
 pub(super) fn edited(
     rt: &impl Abort,
@@ -38,44 +71,28 @@ pub(super) fn edited(
     requires { Tells changes.old.entries line.old.text }
     ensures { OnOk result (Tells changes.new.entries line.new.text) }
 {
-    match step {
-        Edit::Insert(c, n) => Ok(Some(line.insert(*c, *n, changes)?)),
-        Edit::InsertText(place, text) => {
-            assert!(rt; line.as_str().is_char_boundary(*place) && line.pos() <= *place);
-            line.insert_str(*place, text, changes)?;
-            Ok(None)
-        }
-        Edit::Yank(text, n) => line.yank(text, *n, changes),
-        Edit::YankPop(size, text) => line.yank_pop(*size, text, changes),
-        Edit::Update(text, pos) => {
-            assert!(rt; text.is_char_boundary(*pos));
-            line.update(text, *pos, changes)?;
-            Ok(None)
-        }
-        Edit::Replace(start, end, text) => {
-            assert!(rt; start <= end && line.as_str().is_char_boundary(*start));
-            assert!(rt; line.as_str().is_char_boundary(*end));
-            line.replace(*start..*end, text, changes)?;
-            Ok(None)
-        }
-        Edit::Delete(n) => Ok(Some(line.delete(*n, changes)?.is_some())),
-        Edit::Go(place) => {
-            assert!(rt; line.as_str().is_char_boundary(*place));
-            line.set_pos(*place);
-            Ok(None)
-        }
-        Edit::TransposeChars => Ok(Some(line.transpose_chars(changes)?)),
-        Edit::TransposeWords(n) => Ok(Some(line.transpose_words(*n, changes)?)),
-        Edit::EditWord(action) => Ok(Some(line.edit_word(*action, changes)?)),
-        Edit::Indent(mvt, amount) => Ok(Some(line.indent(mvt, *amount, false, changes)?)),
-        Edit::Dedent(mvt, amount) => Ok(Some(line.indent(mvt, *amount, true, changes)?)),
+    let answer = match step {
+        Edit::Insert(c, n) => line.insert(*c, *n, changes)?,
+        Edit::Yank(text, n) => return line.yank(text, *n, changes),
+        Edit::YankPop(size, text) => return line.yank_pop(*size, text, changes),
+        Edit::Delete(n) => line.delete(*n, changes)?.is_some(),
+        Edit::TransposeChars => line.transpose_chars(changes)?,
+        Edit::TransposeWords(n) => line.transpose_words(*n, changes)?,
+        Edit::EditWord(action) => line.edit_word(*action, changes)?,
+        Edit::Indent(mvt, amount) => line.indent(mvt, *amount, false, changes)?,
+        Edit::Dedent(mvt, amount) => line.indent(mvt, *amount, true, changes)?,
         Edit::Begin => {
             changes.begin()?;
-            Ok(None)
+            return Ok(None);
         }
-        Edit::End => Ok(Some(changes.end()?)),
-        Edit::Undo(n) => Ok(Some(changes.undo(line, *n)?)),
-    }
+        Edit::End => changes.end()?,
+        Edit::Undo(n) => changes.undo(line, *n)?,
+        _ => {
+            placed(rt, line, changes, step)?;
+            return Ok(None);
+        }
+    };
+    Ok(Some(answer))
 }
 
 /// The line, its changes and the last answer after the calls.

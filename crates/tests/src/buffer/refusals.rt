@@ -91,7 +91,6 @@ const EDITS: &[Case] = &[
             Edit::Insert('-', 1),
             Edit::Begin,
             Edit::Insert('-', 1),
-            Edit::Begin,
             Edit::End,
         ],
         Some(true),
