@@ -13,6 +13,7 @@ use line_editor::run::run;
 use line_keys::command::Cmd;
 use line_keys::keymap::Refresher;
 use line_keys::keys::KeyEvent;
+use line_keys::tty::RawReader;
 use line_parts::{CmdKind, Context, MemHistory};
 use std::alloc::Global;
 use std::io::ErrorKind;
@@ -22,15 +23,17 @@ use std::test::Fail;
 mod draws;
 mod faults;
 mod lines;
+mod turns;
 
 /// What the editor stands on: the style, the screen's columns and whether it has colours, which call of the renderer
-/// fails (0 for none), and the helper's hint, verdict and answer of `highlight_char`.
+/// fails (0 for none), whether there is a helper, and its hint, verdict and answer of `highlight_char`.
 #[derive(Clone, Copy)]
 struct Setup {
     style: EditMode,
     columns: Unit,
     colors: bool,
     failing: u64,
+    helped: bool,
     hint: Option<&'static str>,
     verdict: Verdict,
     lit: bool,
@@ -42,14 +45,19 @@ const PLAIN: Setup = Setup {
     columns: 80,
     colors: false,
     failing: 0,
+    helped: true,
     hint: None,
     verdict: (true, true, None),
     lit: false,
 };
 
-/// Something that is done with the editor: keys that it runs on, a command that it executes, or a call of its state.
+/// Something that is done with the editor: keys that it runs on, keys and one turn by the first of them with the flag for
+/// a single Esc, a command that it executes, or a call of its state.
 enum Step {
     Run(&'static [KeyEvent]),
+    Turn(&'static [KeyEvent], bool),
+    Paste(&'static str),
+    TakePasted,
     Type(char, RepeatCount),
     Back(RepeatCount),
     On(RepeatCount),
@@ -71,6 +79,8 @@ enum Step {
     MoveCursor(CmdKind),
     MoveToEnd,
     Validate,
+    Group,
+    EndGroup,
 }
 
 /// The command of a step, where it is one.
@@ -112,6 +122,8 @@ fn called(state: &mut Editor<'_, '_>, step: &Step) -> Result<()> {
             let _ = state.validate()?;
             Ok(())
         }
+        Step::Group => state.doing_insert(),
+        Step::EndGroup => state.done_inserting(),
         _ => Ok(()),
     }
 }
@@ -125,12 +137,22 @@ fn done(
     config: &Config,
     step: &Step,
 ) -> Result<Status> {
-    if let Step::Run(keys) = step {
-        for key in *keys {
-            typist.press(*key)?;
+    match step {
+        Step::Run(keys) => {
+            typist.press(keys)?;
+            run(state, input, typist, kills, config)?;
+            return Ok(Status::Submit);
         }
-        run(state, input, typist, kills, config)?;
-        return Ok(Status::Submit);
+        Step::Turn(keys, single_esc_abort) => {
+            typist.press(keys)?;
+            let command = state.next_cmd(input, typist, *single_esc_abort)?;
+            return execute(command, state, input, kills, config);
+        }
+        Step::Paste(text) => typist.paste(text)?,
+        Step::TakePasted => {
+            let _ = typist.read_pasted_text()?;
+        }
+        _ => {}
     }
     match command(step) {
         Some(command) => execute(command, state, input, kills, config),
@@ -166,6 +188,10 @@ enum Wanted {
     /// Whether there is a hint, what it completes the line with, whether the editor's own prompt is shown, and whether
     /// the cursor is at the end.
     Hint(bool, Option<&'static str>, bool, bool),
+    /// The text that came in last.
+    LastInsert(Option<&'static str>),
+    /// The flags for a single Esc that the reader was handed.
+    Flags(&'static [bool]),
     /// What the renderer wrote down.
     Log(&'static str),
     /// The last kinds of which the highlighter was asked, the newest first.
@@ -180,7 +206,11 @@ fn holds(rt: &impl Abort, alloc: Global, case: &Case) -> std::result::Result<(),
     let columns = setup.columns.max(1);
     let mut screen = Recorder::new(alloc, columns, setup.colors, setup.failing);
     let mut helper = Advisor::new(setup.hint, setup.verdict, setup.lit);
-    edits(rt, alloc, &mut screen, &mut helper, case)?;
+    if setup.helped {
+        edits(rt, alloc, &mut screen, Some(&mut helper), case)?;
+    } else {
+        edits(rt, alloc, &mut screen, None, case)?;
+    }
     match wanted {
         Wanted::Log(log) => assert_eq!(rt; screen.log(), *log),
         Wanted::Kinds(kinds) => assert_eq!(rt; helper.kinds(), *kinds),
@@ -194,7 +224,7 @@ fn edits(
     rt: &impl Abort,
     alloc: Global,
     screen: &mut Recorder,
-    helper: &mut Advisor,
+    helper: Option<&mut Advisor>,
     case: &Case,
 ) -> std::result::Result<(), Fail> {
     let (setup, steps, end, wanted) = case;
@@ -207,7 +237,7 @@ fn edits(
     let mut kills = KillRing::new(alloc, 60);
     let mut typist = Typist::new(alloc);
     let context = Context::new(&history);
-    let mut state = State::new(alloc, &mut *screen, &"> ", Some(&mut *helper), context)?;
+    let mut state = State::new(alloc, screen, &"> ", helper, context)?;
     let mut last = Ok(Status::Proceed);
     for step in *steps {
         last = done(
@@ -220,12 +250,17 @@ fn edits(
         );
     }
     assert_eq!(rt; ended(&last), *end);
-    looks(rt, &state, wanted);
+    let styles = (input.is_emacs_mode(), input.is_vi_cmd_mode());
+    assert_eq!(rt; styles, (setup.style == EditMode::Emacs, false));
+    if let Wanted::Flags(flags) = wanted {
+        assert_eq!(rt; typist.flags(), *flags);
+    }
+    looks(rt, &state, wanted)?;
     Ok(())
 }
 
 /// Looks at the state.
-fn looks(rt: &impl Abort, state: &Editor<'_, '_>, wanted: &Wanted) {
+fn looks(rt: &impl Abort, state: &Editor<'_, '_>, wanted: &Wanted) -> Result<()> {
     match wanted {
         Wanted::Line(line, pos, cursor, end) => {
             let layout = state.layout();
@@ -247,6 +282,18 @@ fn looks(rt: &impl Abort, state: &Editor<'_, '_>, wanted: &Wanted) {
             );
             assert_eq!(rt; found, (*is_there, *text, *own_prompt, *at_end));
         }
-        _ => {}
+        Wanted::LastInsert(text) => {
+            let last = state.last_insert()?;
+            assert!(rt; is_text(&last, *text));
+        }
+        _ => assert_eq!(rt; state.place(), 0),
+    }
+    Ok(())
+}
+
+fn is_text(found: &Option<String>, wanted: Option<&str>) -> bool {
+    match (found, wanted) {
+        (Some(found), Some(wanted)) => found.as_str() == wanted,
+        (found, wanted) => found.is_none() && wanted.is_none(),
     }
 }

@@ -9,11 +9,11 @@ mod buffer;
 mod editor;
 pub mod example;
 #[cfg(test)]
+mod examples;
+#[cfg(test)]
 mod keys;
 #[cfg(test)]
 mod parties;
-#[cfg(test)]
-mod reads;
 #[cfg(test)]
 mod recorder;
 #[cfg(test)]

@@ -37,12 +37,14 @@ impl Typist {
         }
     }
 
-    /// Adds a key.
-    pub(crate) fn press(&mut self, key: KeyEvent) -> Result<(), AllocError> {
-        self.items.push_back(Item {
-            key: Some(key),
-            pasted: String::new(self.alloc),
-        })?;
+    /// Adds keys.
+    pub(crate) fn press(&mut self, keys: &[KeyEvent]) -> Result<(), AllocError> {
+        for key in keys {
+            self.items.push_back(Item {
+                key: Some(*key),
+                pasted: String::new(self.alloc),
+            })?;
+        }
         Ok(())
     }
 
