@@ -108,8 +108,4 @@ fn edit<O: Write>(
 }
 
 #[cfg(test)]
-mod editor_tests;
-#[cfg(test)]
-mod guide;
-#[cfg(test)]
 mod tests;

@@ -182,36 +182,76 @@ impl Renderer for Plain {
 #[cfg(test)]
 mod tests {
     use super::*;
-    use std::result::Result;
+    use std::process::Abort;
     use std::test::Fail;
 
-    #[test]
-    fn keeps_what_it_shows(rt: HostRuntime) -> Result<(), Fail> {
-        let mut screen = Plain::new(rt.alloc(), 10);
-        let line = LineBuffer::init(rt.alloc(), "ab\nc", 3)?;
-        let layout = screen.compute_layout(Position { row: 0, col: 2 }, true, &line, Some("de"));
-        assert_eq!(rt; layout.cursor, Position { row: 1, col: 0 });
-        assert_eq!(rt; layout.end, Position { row: 1, col: 3 });
-        screen.refresh_line(&"> ", &line, Some("de"), None, &layout, None::<&()>)?;
-        assert_eq!(rt; screen.redraws(), 1);
-        screen.move_cursor(layout.cursor, Position { row: 1, col: 1 })?;
-        screen.write_and_flush("x")?;
-        assert_eq!(rt; shown(&screen), "ab\ncx");
-        assert_eq!(rt; place(&screen), Position { row: 1, col: 2 });
-        screen.move_cursor(Position { row: 1, col: 2 }, Position { row: 1, col: 0 })?;
-        screen.clear_to_eol()?;
-        assert_eq!(rt; shown(&screen), "ab\n");
-        screen.clear_screen()?;
-        assert_eq!(rt; shown(&screen), "");
+    /// A call of the screen. The first draws a line of two rows with something behind it.
+    enum Call {
+        Draw,
+        Move(Unit, Unit),
+        Write(&'static str),
+        ClearToEnd,
+        Clear,
+    }
+
+    fn called(alloc: Global, screen: &mut Plain, call: &Call) -> std::result::Result<(), Fail> {
+        match call {
+            Call::Draw => {
+                let line = LineBuffer::init(alloc, "ab\nc", 3)?;
+                let prompt_end = Position { row: 0, col: 2 };
+                let layout = screen.compute_layout(prompt_end, true, &line, Some("de"));
+                screen.refresh_line(&"> ", &line, Some("de"), None, &layout, None::<&()>)?;
+            }
+            Call::Move(row, col) => {
+                let place = Position {
+                    row: *row,
+                    col: *col,
+                };
+                screen.move_cursor(screen.place, place)?;
+            }
+            Call::Write(text) => screen.write_and_flush(text)?,
+            Call::ClearToEnd => screen.clear_to_eol()?,
+            Call::Clear => screen.clear_screen()?,
+        }
+        Ok(())
+    }
+
+    /// Calls, and what the screen shows then, with the row and the column of its cursor.
+    type Case = (&'static [Call], &'static str, (Unit, Unit));
+
+    fn shows(rt: &impl Abort, alloc: Global, case: &Case) -> std::result::Result<(), Fail> {
+        let (calls, text, place) = case;
+        let mut screen = Plain::new(alloc, 10);
+        for call in *calls {
+            called(alloc, &mut screen, call)?;
+        }
+        let found = (screen.text.as_str(), (screen.place.row, screen.place.col));
+        assert_eq!(rt; found, (*text, *place));
         assert_eq!(rt; screen.redraws(), 1);
         Ok(())
     }
 
-    fn shown(screen: &Plain) -> &str {
-        &screen.text
-    }
+    const CALLS: &[Case] = &[
+        (&[Call::Draw], "ab\nc", (1, 0)),
+        (
+            &[Call::Draw, Call::Move(1, 1), Call::Write("x")],
+            "ab\ncx",
+            (1, 2),
+        ),
+        (&[Call::Draw, Call::ClearToEnd], "ab\n", (1, 0)),
+        (
+            &[Call::Draw, Call::Move(1, 1), Call::ClearToEnd],
+            "ab\nc",
+            (1, 1),
+        ),
+        (&[Call::Draw, Call::Clear], "", (0, 0)),
+    ];
 
-    fn place(screen: &Plain) -> Position {
-        screen.place
+    #[test]
+    fn keeps_what_it_shows(rt: HostRuntime) -> std::result::Result<(), Fail> {
+        for case in CALLS {
+            shows(&rt, rt.alloc(), case)?;
+        }
+        Ok(())
     }
 }

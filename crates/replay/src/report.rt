@@ -102,48 +102,60 @@ fn write_escaped<O: Write>(text: &str, out: &mut O) -> io::Result<()> {
 #[cfg(test)]
 mod tests {
     use super::*;
+    use std::alloc::Global;
+    use std::process::Abort;
     use std::result::Result;
     use std::test::Fail;
 
+    fn names(rt: &impl Abort, alloc: Global, case: (Outcome, &str, u8)) -> Result<(), Fail> {
+        let (outcome, name, status) = case;
+        let shown = format!(in alloc; "{outcome}")?;
+        assert_eq!(rt; (shown.as_str(), outcome.status()), (name, status));
+        Ok(())
+    }
+
+    const OUTCOMES: &[(Outcome, &str, u8)] = &[
+        (Outcome::Submitted, "submitted", 0),
+        (Outcome::Eof, "eof", 1),
+        (Outcome::Interrupted, "interrupted", 2),
+        (Outcome::Fault, "fault", 3),
+    ];
+
     #[test]
     fn names_each_outcome(rt: HostRuntime) -> Result<(), Fail> {
-        let fault = io::Error::from(io::ErrorKind::Other);
-        let cases = [
-            (Ok(()), "submitted", 0),
-            (Err(ReadlineError::Eof), "eof", 1),
-            (Err(ReadlineError::Interrupted), "interrupted", 2),
-            (Err(ReadlineError::Io(fault)), "fault", 3),
-            (Err(ReadlineError::Memory), "fault", 3),
-        ];
-        for (answer, name, status) in cases {
-            let outcome = Outcome::of(answer);
-            let shown = format!(in rt.alloc(); "{outcome}")?;
-            assert_eq!(rt; shown.as_str(), name);
-            assert_eq!(rt; outcome.status(), status, "{name}");
+        for case in OUTCOMES {
+            names(&rt, rt.alloc(), *case)?;
         }
         Ok(())
     }
 
+    fn writes(rt: &impl Abort, alloc: Global, case: (&str, &str)) -> Result<(), Fail> {
+        let (line, printed) = case;
+        let report = Report {
+            outcome: Outcome::Eof,
+            line,
+            cursor: 3,
+            place: 7,
+            at: Position { row: 2, col: 5 },
+        };
+        let mut out = Vec::new(alloc);
+        report.write_to(&mut out)?;
+        assert_eq!(rt; out.as_slice(), printed.as_bytes(), "{line:?}");
+        Ok(())
+    }
+
+    const LINES: &[(&str, &str)] = &[
+        ("", "outcome eof\nline \ncursor 3\nplace 7\nat 2 5\n"),
+        (
+            "a\\\n世",
+            "outcome eof\nline a\\\\\\n世\ncursor 3\nplace 7\nat 2 5\n",
+        ),
+    ];
+
     #[test]
     fn escapes_the_line(rt: HostRuntime) -> Result<(), Fail> {
-        let cases = [
-            ("", "outcome eof\nline \ncursor 3\nplace 7\nat 2 5\n"),
-            (
-                "a\\\n世",
-                "outcome eof\nline a\\\\\\n世\ncursor 3\nplace 7\nat 2 5\n",
-            ),
-        ];
-        for (line, printed) in cases {
-            let report = Report {
-                outcome: Outcome::Eof,
-                line,
-                cursor: 3,
-                place: 7,
-                at: Position { row: 2, col: 5 },
-            };
-            let mut out = Vec::new(rt.alloc());
-            report.write_to(&mut out)?;
-            assert_eq!(rt; out.as_slice(), printed.as_bytes(), "{line:?}");
+        for case in LINES {
+            writes(&rt, rt.alloc(), *case)?;
         }
         Ok(())
     }

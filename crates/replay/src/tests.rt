@@ -1,94 +1,74 @@
 //! Whole scripts, and what is printed of them.
 
 use super::*;
+use std::process::Abort;
 use std::result::Result;
 use std::test::Fail;
 
+/// A script, what is printed, and the status.
+type Case = (&'static str, &'static str, u8);
+
+fn prints(rt: &impl Abort, alloc: Global, case: Case) -> Result<(), Fail> {
+    let (script, printed, status) = case;
+    let mut out = Vec::new(alloc);
+    let ended = play(alloc, script.as_bytes(), &mut out);
+    let shown = str::from_utf8(&out)?;
+    assert_eq!(rt; (shown, ended), (printed, status), "{script}");
+    Ok(())
+}
+
+const SCRIPTS: &[Case] = &[
+    (
+        "type ab\nkey Left\ntype c\nkey Enter\n",
+        "outcome submitted\nline acb\ncursor 2\nplace 0\nat 0 4\nredraws 5\n",
+        0,
+    ),
+    (
+        "",
+        "outcome eof\nline \ncursor 0\nplace 0\nat 0 2\nredraws 1\n",
+        1,
+    ),
+    (
+        "type ab\nkey C-a\nkey C-d\nkey Enter\n",
+        "outcome submitted\nline b\ncursor 0\nplace 0\nat 0 2\nredraws 5\n",
+        0,
+    ),
+    (
+        "type ab\nkey C-a\nkey C-c\n",
+        "outcome interrupted\nline ab\ncursor 0\nplace 0\nat 0 4\nredraws 4\n",
+        2,
+    ),
+    ("type a\nkey Left\nkey Foo\n", "bad script line 3\n", 4),
+    (
+        "key C-d\n",
+        "outcome eof\nline \ncursor 0\nplace 0\nat 0 2\nredraws 1\n",
+        1,
+    ),
+    (
+        "key PasteStart\n",
+        "outcome eof\nline \ncursor 0\nplace 0\nat 0 2\nredraws 1\n",
+        1,
+    ),
+    // 77 and 78 characters behind a prompt of two columns, on 80 columns
+    (
+        "type 12345678901234567890123456789012345678901234567890123456789012345678901234567\n",
+        "outcome eof\nline 12345678901234567890123456789012345678901234567890123456789012345678901234567\ncursor 77\nplace 0\nat 0 79\nredraws 78\n",
+        1,
+    ),
+    (
+        "type 123456789012345678901234567890123456789012345678901234567890123456789012345678\n",
+        "outcome eof\nline 123456789012345678901234567890123456789012345678901234567890123456789012345678\ncursor 78\nplace 0\nat 1 0\nredraws 79\n",
+        1,
+    ),
+];
+
 #[test]
 fn prints_what_became_of_the_line(rt: HostRuntime) -> Result<(), Fail> {
-    let cases = [
-        (
-            "type ab\nkey Left\ntype c\nkey Enter\n",
-            "outcome submitted\nline acb\ncursor 2\nplace 0\nat 0 4\nredraws 5\n",
-            0,
-        ),
-        (
-            "",
-            "outcome eof\nline \ncursor 0\nplace 0\nat 0 2\nredraws 1\n",
-            1,
-        ),
-        (
-            "type ab\nkey C-a\nkey C-d\nkey Enter\n",
-            "outcome submitted\nline b\ncursor 0\nplace 0\nat 0 2\nredraws 5\n",
-            0,
-        ),
-        (
-            "type ab\nkey C-a\nkey C-c\n",
-            "outcome interrupted\nline ab\ncursor 0\nplace 0\nat 0 4\nredraws 4\n",
-            2,
-        ),
-        ("type a\nkey Left\nkey Foo\n", "bad script line 3\n", 4),
-        (
-            "key C-d\n",
-            "outcome eof\nline \ncursor 0\nplace 0\nat 0 2\nredraws 1\n",
-            1,
-        ),
-        (
-            "key PasteStart\n",
-            "outcome eof\nline \ncursor 0\nplace 0\nat 0 2\nredraws 1\n",
-            1,
-        ),
-    ];
-    for (script, printed, status) in cases {
-        let mut out = Vec::new(rt.alloc());
-        assert_eq!(rt;
-            play(rt.alloc(), script.as_bytes(), &mut out),
-            status,
-            "{script}"
-        );
-        let shown = str::from_utf8(&out)?;
-        assert_eq!(rt; shown, printed, "{script}");
+    for case in SCRIPTS {
+        prints(&rt, rt.alloc(), *case)?;
     }
     Ok(())
 }
-
-#[test]
-fn ends_with_the_fault_of_a_stream(rt: HostRuntime) -> Result<(), Fail> {
-    let mut out = Vec::new(rt.alloc());
-    assert_eq!(rt; play(rt.alloc(), Broken, &mut out), FAULT);
-    assert_eq!(rt; out.len(), 0);
-    let scripts = [
-        (
-            SUBMITTED,
-            "outcome submitted\nline a\ncursor 1\nplace 0\nat 0 3\nredraws 2\n",
-            0,
-        ),
-        ("key\n", "bad script line 1\n", BAD_SCRIPT),
-    ];
-    for (script, whole, status) in scripts {
-        for room in 0..whole.len() {
-            let mut out = Narrow {
-                bytes: Vec::new(rt.alloc()),
-                room,
-            };
-            assert_eq!(rt;
-                play(rt.alloc(), script.as_bytes(), &mut out),
-                FAULT,
-                "{room}"
-            );
-            assert_eq!(rt; out.bytes.as_slice(), &whole.as_bytes()[..room]);
-        }
-        let mut out = Narrow {
-            bytes: Vec::new(rt.alloc()),
-            room: whole.len(),
-        };
-        assert_eq!(rt; play(rt.alloc(), script.as_bytes(), &mut out), status);
-        assert_eq!(rt; out.bytes.as_slice(), whole.as_bytes());
-    }
-    Ok(())
-}
-
-const SUBMITTED: &str = "type a\nkey Enter\n";
 
 /// A stream that can't be read.
 #[derive(Drop)]
@@ -101,16 +81,31 @@ impl Read for Broken {
     }
 }
 
-/// A stream that takes so many bytes, one at a time, and then fails.
-#[derive(Drop)]
-struct Narrow {
-    bytes: Vec<u8>,
-    room: usize,
+#[test]
+fn ends_with_the_fault_of_its_input(rt: HostRuntime) {
+    let mut out = Vec::new(rt.alloc());
+    assert_eq!(rt; play(rt.alloc(), Broken, &mut out), FAULT);
+    assert_eq!(rt; out.len(), 0);
 }
 
-impl Write for Narrow {
+/// A stream that takes one byte a call. One write of it fails, or each from one on, or each flush.
+#[derive(Drop)]
+struct Faulty {
+    bytes: Vec<u8>,
+    writes: usize,
+    failing: usize,
+    goes_on: bool,
+    flushes: bool,
+}
+
+impl Write for Faulty {
     fn write(&mut self, buf: &[u8]) -> io::Result<usize> {
-        if self.bytes.len() == self.room {
+        let failed = self.writes == self.failing;
+        if failed && !self.goes_on {
+            return Err(io::Error::from(io::ErrorKind::Other));
+        }
+        self.writes = self.writes.saturating_add(1);
+        if failed {
             return Err(io::Error::from(io::ErrorKind::Other));
         }
         match buf.first() {
@@ -123,6 +118,77 @@ impl Write for Narrow {
     }
 
     fn flush(&mut self) -> io::Result<()> {
-        Ok(())
+        if self.flushes {
+            Ok(())
+        } else {
+            Err(io::Error::from(io::ErrorKind::Other))
+        }
+    }
+}
+
+/// A script and what is printed where nothing fails, with the status.
+const WHOLE: &[Case] = &[
+    (
+        "type a\nkey Enter\n",
+        "outcome submitted\nline a\ncursor 1\nplace 0\nat 0 3\nredraws 2\n",
+        0,
+    ),
+    ("key\n", "bad script line 1\n", BAD_SCRIPT),
+];
+
+/// Plays to a stream of which the write after `failing` bytes fails, once or for good, or whose flush does: what is
+/// printed is a beginning of the whole, and the status is that of a fault.
+fn faults(
+    rt: &impl Abort,
+    alloc: Global,
+    case: Case,
+    failing: usize,
+    goes_on: bool,
+    flushes: bool,
+) {
+    let (script, whole, status) = case;
+    let mut out = Faulty {
+        bytes: Vec::new(alloc),
+        writes: 0,
+        failing,
+        goes_on,
+        flushes,
+    };
+    let ended = play(alloc, script.as_bytes(), &mut out);
+    let printed = failing.min(whole.len());
+    let wanted = if failing < whole.len() || !flushes {
+        FAULT
+    } else {
+        status
+    };
+    assert_eq!(rt;
+        (out.bytes.as_slice(), ended),
+        (&whole.as_bytes()[..printed], wanted),
+        "{failing}"
+    );
+}
+
+#[test]
+fn ends_with_the_fault_of_a_write(rt: HostRuntime) {
+    for case in WHOLE {
+        for failing in 0..=case.1.len() {
+            faults(&rt, rt.alloc(), *case, failing, false, true);
+        }
+    }
+}
+
+#[test]
+fn ends_with_the_fault_of_one_write(rt: HostRuntime) {
+    for case in WHOLE {
+        for failing in 0..=case.1.len() {
+            faults(&rt, rt.alloc(), *case, failing, true, true);
+        }
+    }
+}
+
+#[test]
+fn ends_with_the_fault_of_a_flush(rt: HostRuntime) {
+    for case in WHOLE {
+        faults(&rt, rt.alloc(), *case, case.1.len(), false, false);
     }
 }

@@ -73,77 +73,115 @@ fn function_key(name: &str) -> Option<KeyCode> {
 #[cfg(test)]
 mod tests {
     use super::*;
+    use std::process::Abort;
+
+    /// A name, and its key, if it has one.
+    type Named = (&'static str, Option<(KeyCode, Modifiers)>);
+
+    fn names(rt: &impl Abort, case: Named) {
+        let (name, key) = case;
+        let wanted = match key {
+            Some((code, modifiers)) => Some(KeyEvent(code, modifiers)),
+            None => None,
+        };
+        assert_eq!(rt; key_named(name), wanted, "{name}");
+    }
+
+    const NAMES: &[Named] = &[
+        ("Enter", Some((KeyCode::Enter, Modifiers::NONE))),
+        ("Esc", Some((KeyCode::Esc, Modifiers::NONE))),
+        ("Tab", Some((KeyCode::Tab, Modifiers::NONE))),
+        ("BackTab", Some((KeyCode::BackTab, Modifiers::NONE))),
+        ("Backspace", Some((KeyCode::Backspace, Modifiers::NONE))),
+        ("Delete", Some((KeyCode::Delete, Modifiers::NONE))),
+        ("Insert", Some((KeyCode::Insert, Modifiers::NONE))),
+        ("Home", Some((KeyCode::Home, Modifiers::NONE))),
+        ("End", Some((KeyCode::End, Modifiers::NONE))),
+        ("Left", Some((KeyCode::Left, Modifiers::NONE))),
+        ("Right", Some((KeyCode::Right, Modifiers::NONE))),
+        ("Up", Some((KeyCode::Up, Modifiers::NONE))),
+        ("Down", Some((KeyCode::Down, Modifiers::NONE))),
+        ("PageUp", Some((KeyCode::PageUp, Modifiers::NONE))),
+        ("PageDown", Some((KeyCode::PageDown, Modifiers::NONE))),
+        ("Null", Some((KeyCode::Null, Modifiers::NONE))),
+        ("Unknown", Some((KeyCode::UnknownEscSeq, Modifiers::NONE))),
+        (
+            "PasteStart",
+            Some((KeyCode::BracketedPasteStart, Modifiers::NONE)),
+        ),
+        (
+            "PasteEnd",
+            Some((KeyCode::BracketedPasteEnd, Modifiers::NONE)),
+        ),
+        ("Space", Some((KeyCode::Char(' '), Modifiers::NONE))),
+        ("F1", Some((KeyCode::F(1), Modifiers::NONE))),
+        ("F9", Some((KeyCode::F(9), Modifiers::NONE))),
+        ("F10", Some((KeyCode::F(10), Modifiers::NONE))),
+        ("F24", Some((KeyCode::F(24), Modifiers::NONE))),
+        ("F", Some((KeyCode::Char('F'), Modifiers::NONE))),
+        ("a", Some((KeyCode::Char('a'), Modifiers::NONE))),
+        (" ", Some((KeyCode::Char(' '), Modifiers::NONE))),
+        ("-", Some((KeyCode::Char('-'), Modifiers::NONE))),
+        ("世", Some((KeyCode::Char('世'), Modifiers::NONE))),
+    ];
 
     #[test]
     fn knows_each_name(rt: HostRuntime) {
-        let named = [
-            ("Enter", KeyCode::Enter),
-            ("Esc", KeyCode::Esc),
-            ("Tab", KeyCode::Tab),
-            ("BackTab", KeyCode::BackTab),
-            ("Backspace", KeyCode::Backspace),
-            ("Delete", KeyCode::Delete),
-            ("Insert", KeyCode::Insert),
-            ("Home", KeyCode::Home),
-            ("End", KeyCode::End),
-            ("Left", KeyCode::Left),
-            ("Right", KeyCode::Right),
-            ("Up", KeyCode::Up),
-            ("Down", KeyCode::Down),
-            ("PageUp", KeyCode::PageUp),
-            ("PageDown", KeyCode::PageDown),
-            ("Null", KeyCode::Null),
-            ("Unknown", KeyCode::UnknownEscSeq),
-            ("PasteStart", KeyCode::BracketedPasteStart),
-            ("PasteEnd", KeyCode::BracketedPasteEnd),
-            ("Space", KeyCode::Char(' ')),
-            ("F1", KeyCode::F(1)),
-            ("F9", KeyCode::F(9)),
-            ("F10", KeyCode::F(10)),
-            ("F24", KeyCode::F(24)),
-            ("F", KeyCode::Char('F')),
-            ("a", KeyCode::Char('a')),
-            (" ", KeyCode::Char(' ')),
-            ("-", KeyCode::Char('-')),
-            ("世", KeyCode::Char('世')),
-        ];
-        for (name, code) in named {
-            let key = KeyEvent(code, Modifiers::NONE);
-            assert_eq!(rt; key_named(name), Some(key), "{name}");
+        for case in NAMES {
+            names(&rt, *case);
         }
     }
+
+    const WITH_MODIFIERS: &[Named] = &[
+        ("C-a", Some((KeyCode::Char('A'), Modifiers::CTRL))),
+        ("C-_", Some((KeyCode::Char('_'), Modifiers::CTRL))),
+        ("C-Space", Some((KeyCode::Char(' '), Modifiers::CTRL))),
+        ("M-a", Some((KeyCode::Char('a'), Modifiers::ALT))),
+        ("M--", Some((KeyCode::Char('-'), Modifiers::ALT))),
+        ("C-M", Some((KeyCode::Char('M'), Modifiers::CTRL))),
+        ("S-a", Some((KeyCode::Char('a'), Modifiers::SHIFT))),
+        ("S-A", Some((KeyCode::Char('A'), Modifiers::NONE))),
+        ("S-Tab", Some((KeyCode::BackTab, Modifiers::NONE))),
+        ("C-M-g", Some((KeyCode::Char('G'), Modifiers::CTRL_ALT))),
+        ("C-S-Left", Some((KeyCode::Left, Modifiers::CTRL_SHIFT))),
+        ("M-S-F5", Some((KeyCode::F(5), Modifiers::ALT_SHIFT))),
+        ("C-M-S-Up", Some((KeyCode::Up, Modifiers::CTRL_ALT_SHIFT))),
+    ];
 
     #[test]
     fn takes_modifiers_in_order(rt: HostRuntime) {
-        let named = [
-            ("C-a", KeyCode::Char('A'), Modifiers::CTRL),
-            ("C-_", KeyCode::Char('_'), Modifiers::CTRL),
-            ("C-Space", KeyCode::Char(' '), Modifiers::CTRL),
-            ("M-a", KeyCode::Char('a'), Modifiers::ALT),
-            ("M--", KeyCode::Char('-'), Modifiers::ALT),
-            ("C-M", KeyCode::Char('M'), Modifiers::CTRL),
-            ("S-a", KeyCode::Char('a'), Modifiers::SHIFT),
-            ("S-A", KeyCode::Char('A'), Modifiers::NONE),
-            ("S-Tab", KeyCode::BackTab, Modifiers::NONE),
-            ("C-M-g", KeyCode::Char('G'), Modifiers::CTRL_ALT),
-            ("C-S-Left", KeyCode::Left, Modifiers::CTRL_SHIFT),
-            ("M-S-F5", KeyCode::F(5), Modifiers::ALT_SHIFT),
-            ("C-M-S-Up", KeyCode::Up, Modifiers::CTRL_ALT_SHIFT),
-        ];
-        for (name, code, modifiers) in named {
-            let key = KeyEvent(code, modifiers);
-            assert_eq!(rt; key_named(name), Some(key), "{name}");
+        for case in WITH_MODIFIERS {
+            names(&rt, *case);
         }
     }
 
+    const REFUSED: &[Named] = &[
+        ("", None),
+        ("Foo", None),
+        ("enter", None),
+        ("ab", None),
+        ("Enter ", None),
+        ("C-", None),
+        ("M-", None),
+        ("S-", None),
+        ("C-M-S-", None),
+        ("M-C-a", None),
+        ("S-M-a", None),
+        ("C-C-a", None),
+        ("C-Foo", None),
+        ("F0", None),
+        ("F25", None),
+        ("F01", None),
+        ("F+1", None),
+        ("F1x", None),
+        ("F100", None),
+        ("e\u{301}", None),
+    ];
+
     #[test]
     fn refuses_other_names(rt: HostRuntime) {
-        let refused = [
-            "", "Foo", "enter", "ab", "Enter ", "C-", "M-", "S-", "C-M-S-", "M-C-a", "S-M-a",
-            "C-C-a", "C-Foo", "F0", "F25", "F01", "F+1", "F1x", "F100", "e\u{301}",
-        ];
-        for name in refused {
-            assert_eq!(rt; key_named(name), None, "{name}");
+        for case in REFUSED {
+            names(&rt, *case);
         }
     }
 }

@@ -1,13 +1,26 @@
 //! Scripts, line by line.
 
 use super::*;
+use std::process::Abort;
 use std::test::Fail;
 
 const NEWLINE: char = '\n';
 
+fn keeps(rt: &impl Abort, alloc: Global, case: (&str, &[KeyEvent])) -> Result<(), Fail> {
+    let (script, keys) = case;
+    let Ok(items) = read_script(alloc, script.as_bytes()) else {
+        return Err(Fail::from("a good script"));
+    };
+    assert_eq!(rt; items.len(), keys.len(), "{script}");
+    for (item, key) in items.iter().zip(keys) {
+        assert!(rt; matches!(item, Item::Key(read) if read == key), "{script}");
+    }
+    Ok(())
+}
+
 #[test]
 fn keeps_the_items_of_good_lines(rt: HostRuntime) -> Result<(), Fail> {
-    let scripts: [(&str, &[KeyEvent]); 10] = [
+    let good: [(&str, &[KeyEvent]); 10] = [
         ("", &[]),
         ("\n\n", &[]),
         ("type ", &[]),
@@ -31,52 +44,52 @@ fn keeps_the_items_of_good_lines(rt: HostRuntime) -> Result<(), Fail> {
             &[CTRL_A, typed('x'), ENTER],
         ),
     ];
-    for (script, keys) in scripts {
-        let Ok(items) = read_script(rt.alloc(), script.as_bytes()) else {
-            return Err(Fail::from("a good script"));
-        };
-        assert_eq!(rt; items.len(), keys.len(), "{script}");
-        for (item, key) in items.iter().zip(keys) {
-            assert!(rt; matches!(item, Item::Key(read) if read == key), "{script}");
-        }
+    for case in &good {
+        keeps(&rt, rt.alloc(), *case)?;
     }
     Ok(())
 }
 
+fn refuses(rt: &impl Abort, alloc: Global, case: (&[u8], usize)) {
+    let (script, line) = case;
+    let bad = match read_script(alloc, script) {
+        Err(ScriptError::BadLine(number)) => Some(number),
+        _ => None,
+    };
+    assert_eq!(rt; bad, Some(line), "{script:?}");
+}
+
+const BAD: &[(&[u8], usize)] = &[
+    (b"key Foo", 1),
+    (b"type a\nkey Left\nkey Foo\ntype b\n", 3),
+    (b"\n\nkey\n", 3),
+    (b"key ", 1),
+    (b"type", 1),
+    (b"type\ta", 1),
+    (b" type a", 1),
+    (b"Type a", 1),
+    (b"types a", 1),
+    (b"\r\n", 1),
+    (b"key Enter\r\n", 1),
+    (b"type \\t", 1),
+    (b"type a\\", 1),
+    (b"type \\\\\\", 1),
+    (b"type \xff", 1),
+    (b"type a\n\xc3\n", 2),
+    (b"key Foo\n\xff", 1),
+    (b"mode vi", 1),
+    (b"columns 80", 1),
+    (b"prompt $", 1),
+    (b"history ls", 1),
+    (b"hints", 1),
+    (b"brackets", 1),
+    (b"paste a", 1),
+];
+
 #[test]
 fn names_the_first_bad_line(rt: HostRuntime) {
-    let scripts: [(&[u8], usize); 24] = [
-        (b"key Foo", 1),
-        (b"type a\nkey Left\nkey Foo\ntype b\n", 3),
-        (b"\n\nkey\n", 3),
-        (b"key ", 1),
-        (b"type", 1),
-        (b"type\ta", 1),
-        (b" type a", 1),
-        (b"Type a", 1),
-        (b"types a", 1),
-        (b"\r\n", 1),
-        (b"key Enter\r\n", 1),
-        (b"type \\t", 1),
-        (b"type a\\", 1),
-        (b"type \\\\\\", 1),
-        (b"type \xff", 1),
-        (b"type a\n\xc3\n", 2),
-        (b"key Foo\n\xff", 1),
-        (b"mode vi", 1),
-        (b"columns 80", 1),
-        (b"prompt $", 1),
-        (b"history ls", 1),
-        (b"hints", 1),
-        (b"brackets", 1),
-        (b"paste a", 1),
-    ];
-    for (script, line) in scripts {
-        let bad = match read_script(rt.alloc(), script) {
-            Err(ScriptError::BadLine(number)) => Some(number),
-            _ => None,
-        };
-        assert_eq!(rt; bad, Some(line), "{script:?}");
+    for case in BAD {
+        refuses(&rt, rt.alloc(), *case);
     }
 }
 

@@ -1,0 +1,139 @@
+//! A helper whose answers are set beforehand, which notes what it is asked.
+ghost use Rattle.std.specs.Prelude.{true, Some, None, option_map, if◌then◌else◌};
+ghost use Rattle.line_parts.specs.Verdict.{incomplete, invalid, valid};
+
+use line_buffer::{Changeset, LineBuffer};
+use line_config::Result;
+use line_parts::{
+    CmdKind, Completer, Context, Helper, Highlighter, Hinter, History, ValidationContext,
+    ValidationResult, Validator,
+};
+use std::alloc::Global;
+
+/// The last four kinds that it was asked, the newest first.
+pub(crate) type Kinds = (
+    Option<CmdKind>,
+    Option<CmdKind>,
+    Option<CmdKind>,
+    Option<CmdKind>,
+);
+
+/// Its answers, which are the same for each line, and what it was asked.
+#[derive(Drop)]
+pub(crate) struct Advisor {
+    hint: Option<&'static str>,
+    verdict: Verdict,
+    lit: bool,
+    kinds: Kinds,
+}
+
+/// Whether a line is whole, whether it is valid then, and the message.
+pub(crate) type Verdict = (bool, bool, Option<&'static str>);
+
+impl Advisor {
+    /// A helper with these answers, which was asked nothing yet.
+    pub(crate) fn new(hint: Option<&'static str>, verdict: Verdict, lit: bool) -> Advisor {
+        Advisor {
+            hint,
+            verdict,
+            lit,
+            kinds: (None, None, None, None),
+        }
+    }
+
+    /// The last four kinds that it was asked, the newest first.
+    pub(crate) fn kinds(&self) -> Kinds {
+        self.kinds
+    }
+}
+
+impl Completer for Advisor {
+    type Candidate = String;
+
+    ghost sure = { λ _. true };
+
+    ghost own_update = { λ _ written _ _. Some written };
+
+    fn update(
+        &self,
+        _line: &mut LineBuffer,
+        _start: usize,
+        _elected: &str,
+        _changes: &mut Changeset,
+    ) -> Result<()> {
+        Ok(())
+    }
+}
+
+impl Hinter for Advisor {
+    type Hint = &'static str;
+
+    ghost sure = { λ _. true };
+
+    ghost hint_at = { λ advisor _.
+        option_map (λ text. record { display = text.now; completion = Some text.now }) advisor.hint };
+
+    fn hint<S: History>(
+        &self,
+        _alloc: Global,
+        _line: &str,
+        _pos: usize,
+        _ctx: &Context<'_, S>,
+    ) -> Result<Option<&'static str>> {
+        Ok(self.hint)
+    }
+}
+
+impl Highlighter for Advisor {
+    ghost sure = { λ _. true };
+
+    ghost lights = { λ advisor _ _ _. advisor.lit };
+
+    ghost steady = { λ advisor. record advisor { kinds = (None, None, None, None) } };
+
+    fn highlight_char(&mut self, _line: &str, _pos: usize, kind: CmdKind) -> bool {
+        let (first, second, third, _) = self.kinds;
+        self.kinds = (Some(kind), first, second, third);
+        self.lit
+    }
+}
+
+impl Validator for Advisor {
+    ghost sure = { λ _. true };
+
+    ghost verdict_at = { λ advisor _. if advisor.verdict.0
+        then (if advisor.verdict.1 then valid (option_map (λ text. text.now) advisor.verdict.2)
+        else invalid (option_map (λ text. text.now) advisor.verdict.2))
+        else incomplete };
+
+    fn validate(&self, alloc: Global, _ctx: &ValidationContext<'_>) -> Result<ValidationResult> {
+        let (whole, is_valid, message) = self.verdict;
+        let message = match message {
+            Some(text) => Some(String::from_str(alloc, text)?),
+            None => None,
+        };
+        if !whole {
+            Ok(ValidationResult::Incomplete)
+        } else if is_valid {
+            Ok(ValidationResult::Valid(message))
+        } else {
+            Ok(ValidationResult::Invalid(message))
+        }
+    }
+}
+
+impl Helper for Advisor {
+    ghost use Rattle.std.proofs.Common.{ap, refl};
+
+    ghost hints_kept = { λ _ _ same. ap Self.hint_at same };
+
+    ghost verdicts_kept = { λ _ _ same. ap Self.verdict_at same };
+
+    ghost completions_kept = { λ _ _ _. refl };
+
+    ghost hinter_kept = { λ _ _ _. refl };
+
+    ghost validator_kept = { λ _ _ _. refl };
+
+    ghost completer_kept = { λ _ _ _. refl };
+}

@@ -1,0 +1,126 @@
+//! Kills by movements.
+
+use super::{FAMILY, line_at};
+use line_buffer::Direction::{self, *};
+use line_buffer::Movement::{self, *};
+use line_buffer::{Changeset, CharSearch as Search, KillRing};
+use std::alloc::Global;
+use std::process::Abort;
+use std::test::Fail;
+
+/// A text, the cursor, a movement; the text afterwards, and where what text went on which side.
+type Case = (
+    &'static str,
+    usize,
+    Movement,
+    &'static str,
+    Option<(usize, &'static str, Direction)>,
+);
+
+fn kills(rt: &impl Abort, alloc: Global, case: &Case) -> Result<(), Fail> {
+    let (text, pos, mvt, after, gone) = case;
+    let mut line = line_at(rt, alloc, text, *pos)?;
+    let mut changes = Changeset::new(alloc);
+    let mut ring = KillRing::new(alloc, 2);
+    let killed = line.kill(mvt, &mut changes, &mut ring)?;
+    assert_eq!(rt; line.as_str(), *after, "{mvt:?} from {pos} in {text:?}");
+    match (&killed, gone) {
+        (Some((place, text, side)), Some((at, went, from))) => {
+            assert_eq!(rt; (*place, text.as_str(), *side), (*at, *went, *from));
+            assert_eq!(rt; (line.pos(), changes.len()), (*at, 1));
+        }
+        (None, None) => assert_eq!(rt; (line.pos(), changes.len()), (*pos, 0)),
+        _ => panic!(rt; "{mvt:?} from {pos} in {text:?} gave {killed:?}"),
+    }
+    Ok(())
+}
+
+const KILLS: &[Case] = &[
+    ("abc", 1, ForwardChar(1), "ac", Some((1, "b", Forward))),
+    ("abc", 1, ForwardChar(9), "a", Some((1, "bc", Forward))),
+    ("abc", 1, BackwardChar(1), "bc", Some((0, "a", Backward))),
+    ("abc", 1, BackwardChar(0), "abc", None),
+    ("abc", 3, ForwardChar(1), "abc", None),
+    (
+        FAMILY,
+        19,
+        BackwardChar(1),
+        "ab",
+        Some((1, "👨\u{200d}👩\u{200d}👧", Backward)),
+    ),
+    ("ab\ncd", 4, WholeLine, "ab\n", Some((3, "cd", Forward))),
+    ("ab\n\ncd", 3, WholeLine, "ab\ncd", Some((3, "\n", Forward))),
+    ("ab\ncd", 1, EndOfLine, "a\ncd", Some((1, "b", Forward))),
+    ("ab\ncd", 2, EndOfLine, "abcd", Some((2, "\n", Forward))),
+    ("ab", 2, EndOfLine, "ab", None),
+    (
+        "ab\ncd",
+        4,
+        BeginningOfLine,
+        "ab\nd",
+        Some((3, "c", Backward)),
+    ),
+    (
+        "ab\ncd",
+        3,
+        BeginningOfLine,
+        "abcd",
+        Some((2, "\n", Backward)),
+    ),
+    ("ab", 0, BeginningOfLine, "ab", None),
+    ("ab\ncd", 4, WholeBuffer, "", Some((0, "ab\ncd", Forward))),
+    (
+        "ab\ncd",
+        4,
+        BeginningOfBuffer,
+        "d",
+        Some((0, "ab\nc", Backward)),
+    ),
+    ("ab\ncd", 4, EndOfBuffer, "ab\nc", Some((4, "d", Forward))),
+    ("ab\ncd", 5, EndOfBuffer, "ab\ncd", None),
+    ("ab", 1, ViFirstPrint, "ab", None),
+    (
+        "axbxcx",
+        0,
+        ViCharSearch(2, Search::Forward('x')),
+        "cx",
+        Some((0, "axbx", Forward)),
+    ),
+    (
+        "axbxcx",
+        0,
+        ViCharSearch(2, Search::ForwardBefore('x')),
+        "xcx",
+        Some((0, "axb", Forward)),
+    ),
+    (
+        "axbxcx",
+        4,
+        ViCharSearch(1, Search::Backward('x')),
+        "axbcx",
+        Some((3, "x", Backward)),
+    ),
+    (
+        "axbxcx",
+        4,
+        ViCharSearch(2, Search::BackwardAfter('x')),
+        "axcx",
+        Some((2, "bx", Backward)),
+    ),
+    (
+        "axbxcx",
+        4,
+        ViCharSearch(1, Search::BackwardAfter('x')),
+        "axbxcx",
+        None,
+    ),
+    ("axb", 1, ViCharSearch(1, Search::Forward('x')), "axb", None),
+];
+
+#[test]
+fn by_movements(rt: HostRuntime) -> Result<(), Fail> {
+    for case in KILLS {
+        kills(&rt, rt.alloc(), case)?;
+    }
+    Ok(())
+}

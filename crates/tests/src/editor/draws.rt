@@ -1,0 +1,242 @@
+//! What the renderer is handed, and of what the highlighter is asked.
+
+use super::Step::*;
+use super::{Case, PLAIN, Setup, Wanted, holds};
+use line_keys::keys::{KeyCode, KeyEvent, Modifiers};
+use line_parts::CmdKind::{ForcedRefresh, MoveCursor as Moved, Other};
+use std::test::Fail;
+
+const A: KeyEvent = KeyEvent(KeyCode::Char('a'), Modifiers::NONE);
+
+const B: KeyEvent = KeyEvent(KeyCode::Char('b'), Modifiers::NONE);
+
+const C: KeyEvent = KeyEvent(KeyCode::Char('c'), Modifiers::NONE);
+
+const LEFT: KeyEvent = KeyEvent(KeyCode::Left, Modifiers::NONE);
+
+const ENTER: KeyEvent = KeyEvent(KeyCode::Enter, Modifiers::NONE);
+
+const CTRL_C: KeyEvent = KeyEvent(KeyCode::Char('C'), Modifiers::CTRL);
+
+const HINTED: Setup = Setup {
+    hint: Some("!!"),
+    ..PLAIN
+};
+
+const MESSAGE: Setup = Setup {
+    verdict: (true, true, Some("ok")),
+    ..PLAIN
+};
+
+const COLOURED: Setup = Setup {
+    colors: true,
+    ..PLAIN
+};
+
+const LIT: Setup = Setup {
+    colors: true,
+    lit: true,
+    ..PLAIN
+};
+
+const NARROW: Setup = Setup {
+    columns: 4,
+    ..PLAIN
+};
+
+/// No old layout is handed over before the first draw; then it is the one that was drawn.
+const RUNS: &[Case] = &[
+    (
+        PLAIN,
+        &[Run(&[A, B, LEFT, C, ENTER])],
+        "submits",
+        Wanted::Log(
+            "draw \"> \" \"\" 0 None old none new 0:2 0:2 0:2 plain
+draw \"> \" \"a\" 1 None old 0:2 0:2 0:2 new 0:2 0:3 0:3 plain
+draw \"> \" \"ab\" 2 None old 0:2 0:3 0:3 new 0:2 0:4 0:4 plain
+draw \"> \" \"ab\" 1 None old 0:2 0:4 0:4 new 0:2 0:3 0:4 plain
+draw \"> \" \"acb\" 2 None old 0:2 0:3 0:4 new 0:2 0:4 0:5 plain
+",
+        ),
+    ),
+    (
+        HINTED,
+        &[Run(&[A, LEFT, ENTER])],
+        "submits",
+        Wanted::Log(
+            "draw \"> \" \"\" 0 Some(\"!!\") old none new 0:2 0:2 0:4+ plain
+draw \"> \" \"a\" 1 Some(\"!!\") old 0:2 0:2 0:4+ new 0:2 0:3 0:5+ plain
+draw \"> \" \"a\" 0 None old 0:2 0:3 0:5+ new 0:2 0:2 0:3 plain
+draw \"> \" \"a\" 0 None old 0:2 0:2 0:3 new 0:2 0:2 0:3 plain
+",
+        ),
+    ),
+    (
+        MESSAGE,
+        &[Run(&[A, ENTER])],
+        "submits",
+        Wanted::Log(
+            "draw \"> \" \"\" 0 None old none new 0:2 0:2 0:2 plain
+draw \"> \" \"a\" 1 None old 0:2 0:2 0:2 new 0:2 0:3 0:3 plain
+draw \"> \" \"a\" 1 Some(\"ok\") old 0:2 0:3 0:3 new 0:2 0:3 0:5+ plain
+",
+        ),
+    ),
+    (
+        NARROW,
+        &[Run(&[A, B, C, LEFT, CTRL_C])],
+        "interrupted",
+        Wanted::Log(
+            "draw \"> \" \"\" 0 None old none new 0:2 0:2 0:2 plain
+draw \"> \" \"a\" 1 None old 0:2 0:2 0:2 new 0:2 0:3 0:3 plain
+draw \"> \" \"ab\" 2 None old 0:2 0:3 0:3 new 0:2 1:0 1:0 plain
+draw \"> \" \"abc\" 3 None old 0:2 1:0 1:0 new 0:2 1:1 1:1 plain
+draw \"> \" \"abc\" 2 None old 0:2 1:1 1:1 new 0:2 1:0 1:1 plain
+move (1, 0) to (1, 1)
+",
+        ),
+    ),
+    (
+        PLAIN,
+        &[Prompt("(arg: 2) "), Type('a', 1)],
+        "proceeds",
+        Wanted::Log(
+            "draw \"(arg: 2) \" \"\" 0 None old none new 0:9 0:9 0:9 plain
+draw \"> \" \"a\" 1 None old 0:9 0:9 0:9 new 0:2 0:3 0:3 plain
+",
+        ),
+    ),
+];
+
+#[test]
+fn are_handed_what_was_drawn(rt: HostRuntime) -> Result<(), Fail> {
+    for case in RUNS {
+        holds(&rt, rt.alloc(), case)?;
+    }
+    Ok(())
+}
+
+const FAILING: Setup = Setup {
+    failing: 2,
+    ..PLAIN
+};
+
+/// No old layout is handed over after a draw that failed.
+const AFTER_A_FAULT: &[Case] = &[
+    (
+        FAILING,
+        &[Refresh, Type('a', 1)],
+        "fails",
+        Wanted::Log(
+            "draw \"> \" \"\" 0 None old none new 0:2 0:2 0:2 plain
+draw \"> \" \"a\" 1 None old 0:2 0:2 0:2 new 0:2 0:3 0:3 plain
+",
+        ),
+    ),
+    (
+        FAILING,
+        &[Refresh, Type('a', 1), Type('b', 1), Type('c', 1)],
+        "proceeds",
+        Wanted::Log(
+            "draw \"> \" \"\" 0 None old none new 0:2 0:2 0:2 plain
+draw \"> \" \"a\" 1 None old 0:2 0:2 0:2 new 0:2 0:3 0:3 plain
+draw \"> \" \"ab\" 2 None old none new 0:2 0:4 0:4 plain
+draw \"> \" \"abc\" 3 None old 0:2 0:4 0:4 new 0:2 0:5 0:5 plain
+",
+        ),
+    ),
+];
+
+#[test]
+fn start_anew_after_a_fault(rt: HostRuntime) -> Result<(), Fail> {
+    for case in AFTER_A_FAULT {
+        holds(&rt, rt.alloc(), case)?;
+    }
+    Ok(())
+}
+
+/// A highlighter is handed over with colours alone. Where its last answer was yes, a submit draws once more.
+const COLOURS: &[Case] = &[
+    (
+        COLOURED,
+        &[Run(&[A, ENTER])],
+        "submits",
+        Wanted::Log(
+            "draw \"> \" \"\" 0 None old none new 0:2 0:2 0:2 highlighted
+draw \"> \" \"a\" 1 None old 0:2 0:2 0:2 new 0:2 0:3 0:3 highlighted
+",
+        ),
+    ),
+    (
+        LIT,
+        &[Run(&[A, ENTER])],
+        "submits",
+        Wanted::Log(
+            "draw \"> \" \"\" 0 None old none new 0:2 0:2 0:2 highlighted
+draw \"> \" \"a\" 1 None old 0:2 0:2 0:2 new 0:2 0:3 0:3 highlighted
+draw \"> \" \"a\" 1 None old 0:2 0:3 0:3 new 0:2 0:3 0:3 highlighted
+",
+        ),
+    ),
+];
+
+#[test]
+fn with_colours(rt: HostRuntime) -> Result<(), Fail> {
+    for case in COLOURS {
+        holds(&rt, rt.alloc(), case)?;
+    }
+    Ok(())
+}
+
+const HINTED_AND_COLOURED: Setup = Setup {
+    colors: true,
+    hint: Some("!!"),
+    ..PLAIN
+};
+
+const MESSAGE_AND_COLOURED: Setup = Setup {
+    colors: true,
+    verdict: (true, false, Some("no")),
+    ..PLAIN
+};
+
+const KINDS: &[Case] = &[
+    (
+        PLAIN,
+        &[Run(&[A, LEFT, ENTER])],
+        "submits",
+        Wanted::Kinds((None, None, None, None)),
+    ),
+    (
+        COLOURED,
+        &[Run(&[A, LEFT, ENTER])],
+        "submits",
+        Wanted::Kinds((Some(Moved), Some(Other), Some(Other), None)),
+    ),
+    (
+        LIT,
+        &[Run(&[A, LEFT, ENTER])],
+        "submits",
+        Wanted::Kinds((Some(ForcedRefresh), Some(Moved), Some(Other), Some(Other))),
+    ),
+    (
+        HINTED_AND_COLOURED,
+        &[Run(&[A, ENTER])],
+        "submits",
+        Wanted::Kinds((Some(ForcedRefresh), Some(Other), Some(Other), None)),
+    ),
+    (
+        MESSAGE_AND_COLOURED,
+        &[Type('a', 1), Accept],
+        "submits",
+        Wanted::Kinds((Some(Other), Some(Other), None, None)),
+    ),
+];
+
+#[test]
+fn ask_by_kind(rt: HostRuntime) -> Result<(), Fail> {
+    for case in KINDS {
+        holds(&rt, rt.alloc(), case)?;
+    }
+    Ok(())
+}

@@ -1,0 +1,22 @@
+//! The tests of the libraries below, as tables of cases, and the examples of their documents.
+#![tactic(auto)]
+
+#[cfg(test)]
+mod advisor;
+#[cfg(test)]
+mod buffer;
+#[cfg(test)]
+mod editor;
+pub mod example;
+#[cfg(test)]
+mod examples;
+#[cfg(test)]
+mod keys;
+#[cfg(test)]
+mod parties;
+#[cfg(test)]
+mod recorder;
+#[cfg(test)]
+mod settings;
+#[cfg(test)]
+mod typist;

@@ -1,0 +1,273 @@
+//! A renderer that writes down each call that it gets, and can fail one of them.
+ghost use Rattle.std.specs.Prelude.{◌≡◌, ◌≤◌, ◌<◌, string_bytes, OnOk};
+ghost use Rattle.line_config.specs.Error.{FaultsOnly, IoOnlyIf, Rose};
+ghost use Rattle.tests.specs.Screen.{after_byte, measured};
+
+use crate::typist::Typist;
+use line_buffer::{GraphemeClusterMode, Layout, LineBuffer, Position, Unit};
+use line_config::{Prompt, ReadlineError, Result};
+use line_editor::tty::Renderer;
+use line_parts::Highlighter;
+use std::alloc::Global;
+use std::fmt::{Display, Formatter};
+use std::{fmt, io};
+
+const ORIGIN: Position = Position { row: 0, col: 0 };
+
+/// A screen of so many columns, each of one byte, that keeps a line of text for each call that draws.
+#[derive(Drop)]
+pub(crate) struct Recorder {
+    alloc: Global,
+    columns: Unit,
+    colors: bool,
+    place: Position,
+    text: String,
+    origin: Position,
+    redraws: u64,
+    failures: u64,
+    calls: u64,
+    failing: u64,
+    log: String,
+    ghost some_columns: { 0 < columns },
+}
+
+impl Recorder {
+    /// An empty screen. Its call of the number `failing`, from 1 on, fails; none does where that is 0.
+    pub(crate) fn new(alloc: Global, columns: Unit, colors: bool, failing: u64) -> Recorder
+        requires { 0 < columns }
+    {
+        Recorder {
+            alloc,
+            columns,
+            colors,
+            place: ORIGIN,
+            text: String::new(alloc),
+            origin: ORIGIN,
+            redraws: 0,
+            failures: 0,
+            calls: 0,
+            failing,
+            log: String::new(alloc),
+        }
+    }
+
+    /// What was written down, a line for each call that drew.
+    pub(crate) fn log(&self) -> &str {
+        self.log.as_str()
+    }
+
+    /// Counts a call, writes it down, and fails where it is the one that is to fail.
+    fn note(&mut self, call: &str) -> Result<()>
+        ensures columns { self.new.columns ≡ self.old.columns }
+        ensures colors { self.new.colors ≡ self.old.colors }
+        ensures place { self.new.place ≡ self.old.place }
+        ensures text { self.new.text ≡ self.old.text }
+        ensures origin { self.new.origin ≡ self.old.origin }
+        ensures redraws { self.new.redraws ≡ self.old.redraws }
+        ensures io { IoOnlyIf result (Rose self.old.failures self.new.failures) }
+        ensures faults { FaultsOnly result }
+        ensures counts { self.old.failures ≤ self.new.failures }
+    {
+        self.log.push_str(call)?;
+        self.log.push('\n')?;
+        self.calls = self.calls.saturating_add(1);
+        if self.calls == self.failing {
+            self.failures = self.failures.saturating_add(1);
+            return Err(ReadlineError::from(io::ErrorKind::Other));
+        }
+        Ok(())
+    }
+
+    /// Forgets what is shown. The cursor goes to the first place.
+    fn clear(&mut self)
+        ensures columns { self.new.columns ≡ self.old.columns }
+        ensures colors { self.new.colors ≡ self.old.colors }
+        ensures redraws { self.new.redraws ≡ self.old.redraws }
+        ensures failures { self.new.failures ≡ self.old.failures }
+    {
+        self.text.clear();
+        self.origin = ORIGIN;
+        self.place = ORIGIN;
+    }
+}
+
+/// Shows where the prompt ends, where the cursor is and where what is shown ends, by row and column, and a `+` where
+/// something is shown behind the line; or that nothing was drawn.
+#[derive(Clone, Copy)]
+struct Places<'l>(Option<&'l Layout>);
+
+impl Display for Places<'_> {
+    fn fmt<W: fmt::Write>(&self, f: &mut Formatter<W>) -> fmt::Result {
+        match self.0 {
+            Some(layout) => {
+                let (prompt, cursor, end) = (layout.prompt_size, layout.cursor, layout.end);
+                write!(f, "{}:{}", prompt.row, prompt.col)?;
+                write!(f, " {}:{}", cursor.row, cursor.col)?;
+                write!(f, " {}:{}", end.row, end.col)?;
+                f.write_str(if layout.has_info { "+" } else { "" })
+            }
+            None => f.write_str("none"),
+        }
+    }
+}
+
+/// Where the text ends that begins at `origin`.
+#[tactic(auto, unfolding(crate::specs::Screen::measured))]
+fn measured(columns: Unit, text: &str, origin: Position) -> Position
+    ensures { result ≡ measured columns text.now origin }
+{
+    let mut place = origin;
+    for byte in text.as_bytes() {
+        place = after_byte(columns, place, *byte);
+    }
+    place
+}
+
+/// The place after one more byte.
+fn after_byte(columns: Unit, place: Position, byte: u8) -> Position
+    ensures { result ≡ after_byte columns place byte }
+{
+    if byte != b'\n' && usize::from(place.col) + 1 < usize::from(columns) {
+        return Position {
+            row: place.row,
+            col: place.col + 1,
+        };
+    }
+    Position {
+        row: place.row.saturating_add(1),
+        col: 0,
+    }
+}
+
+impl Renderer for Recorder {
+    type Reader = Typist;
+
+    ghost use Rattle.line_buffer.specs.declared.layout.GraphemeClusterMode.TheVariants.{Unicode};
+    ghost use Rattle.tests.specs.Screen.{measured};
+    ghost use Rattle.tests.specs.ScreenLaws as laws;
+
+    ghost surface = { λ r. record {
+      measure = measured r.columns;
+      columns = r.columns;
+      colors = r.colors;
+      mode = Unicode;
+    } };
+
+    ghost screen = { λ r. record {
+      place = r.place;
+      text = string_bytes r.text;
+      origin = r.origin;
+    } };
+
+    ghost redraws = { λ r. r.redraws };
+
+    ghost failures = { λ r. r.failures };
+
+    fn move_cursor(&mut self, old: Position, new: Position) -> Result<()> {
+        let (from, to) = ((old.row, old.col), (new.row, new.col));
+        let call = format!(in self.alloc; "move {from:?} to {to:?}")?;
+        self.note(&call)?;
+        self.place = new;
+        Ok(())
+    }
+
+    fn refresh_line<P: Prompt, H: Highlighter>(
+        &mut self,
+        prompt: &P,
+        line: &LineBuffer,
+        hint: Option<&str>,
+        old_layout: Option<&Layout>,
+        new_layout: &Layout,
+        highlighter: Option<&H>,
+    ) -> Result<()> {
+        let call = format!(in self.alloc;
+            "draw {:?} {:?} {} {hint:?} old {} new {} {}",
+            prompt.raw(),
+            line.as_str(),
+            line.pos(),
+            Places(old_layout),
+            Places(Some(new_layout)),
+            if highlighter.is_some() {
+                "highlighted"
+            } else {
+                "plain"
+            },
+        )?;
+        self.note(&call)?;
+        self.text.clear();
+        self.text.push_str(line.as_str())?;
+        self.place = new_layout.cursor;
+        self.origin = new_layout.prompt_size;
+        self.redraws = self.redraws.saturating_add(1);
+        Ok(())
+    }
+
+    fn calculate_position(&self, s: &str, orig: Position) -> Position {
+        measured(self.columns, s, orig)
+    }
+
+    fn write_and_flush(&mut self, buf: &str) -> Result<()> {
+        let call = format!(in self.alloc; "write {buf:?}")?;
+        self.note(&call)?;
+        self.text.push_str(buf)?;
+        self.place = measured(self.columns, buf, self.place);
+        Ok(())
+    }
+
+    fn beep(&mut self) -> Result<()> {
+        self.note("beep")
+    }
+
+    fn clear_screen(&mut self) -> Result<()> {
+        self.note("clear screen")?;
+        self.clear();
+        Ok(())
+    }
+
+    fn clear_rows(&mut self, layout: &Layout) -> Result<()> {
+        let call = format!(in self.alloc; "clear rows of {}", Places(Some(layout)))?;
+        self.note(&call)?;
+        self.clear();
+        Ok(())
+    }
+
+    fn clear_to_eol(&mut self) -> Result<()> {
+        self.note("clear to the end of the row")?;
+        let end = measured(self.columns, self.text.as_str(), self.origin);
+        let gone = usize::from(end.col.saturating_sub(self.place.col));
+        let kept = self.text.len().saturating_sub(gone);
+        if end.row == self.place.row && self.text.is_char_boundary(kept) {
+            self.text.truncate(kept);
+        }
+        Ok(())
+    }
+
+    fn update_size(&mut self) {}
+
+    fn get_columns(&self) -> Unit {
+        self.columns
+    }
+
+    fn get_rows(&self) -> Unit {
+        24
+    }
+
+    fn colors_enabled(&self) -> bool {
+        self.colors
+    }
+
+    fn grapheme_cluster_mode(&self) -> GraphemeClusterMode {
+        GraphemeClusterMode::Unicode
+    }
+
+    fn move_cursor_at_leftmost(&mut self, rdr: &mut Typist) -> Result<()> {
+        let _ = rdr;
+        self.note("move to the first column")?;
+        self.place.col = 0;
+        Ok(())
+    }
+
+    ghost column_below = { λ r. laws.measured-below r.columns };
+
+    ghost one_column = { λ r. laws.measured-push r.columns };
+}
