@@ -60,9 +60,9 @@ pub record MovesCursor (result : Bool) (old new : Line) (place : Option ℕ) : T
 
 -- a cursor that is put at a place says whether it stood elsewhere
 pub record PutsCursor (result : Bool) (old new : Line) (place : ℕ) : Type 0 where
+  pub cursor : IsCharBoundary new.text new.cursor
   pub answer : result ≡ not (place == old.cursor)
   pub line : new ≡ with_cursor old place
-  pub cursor : IsCharBoundary new.text new.cursor
 
 -- the cursor is at the text's end
 abbrev pub is_at_end : Line → Bool
