@@ -14,14 +14,14 @@ Adds result c c' add = OnOk result (c' ≡ on_entries add c)
 
 -- a success leaves this line and these changes; after an error too the changes tell of the line, and its cursor stands on a boundary
 pub record Edits {T E : Type 0} (result : Result T E) (old new : Line) (c c' : Changes) (made : Line) (add : Changes → Changes) : Type 0 where
+  pub cursor : IsCharBoundary new.text new.cursor
   pub line : OnOk result (new ≡ made)
   pub changes : OnOk result (c' ≡ add c)
   pub told : KeepsTold result c old c' new
-  pub cursor : IsCharBoundary new.text new.cursor
 
 -- the same, where the changes are still to be given up after an error
 pub record EditsIfOk {T E : Type 0} (result : Result T E) (old new : Line) (c c' : Changes) (made : Line) (add : Changes → Changes) : Type 0 where
+  pub cursor : IsCharBoundary new.text new.cursor
   pub line : OnOk result (new ≡ made)
   pub changes : OnOk result (c' ≡ add c)
   pub tells : OnOk result (StillTells c.entries old.text c'.entries new.text)
-  pub cursor : IsCharBoundary new.text new.cursor

@@ -54,15 +54,15 @@ start_of_line l = l.cursor - suffix_len is_no_newline (before l)
 
 -- a move of the cursor to a place, if there is one, says whether there is
 pub record MovesCursor (result : Bool) (old new : Line) (place : Option ℕ) : Type 0 where
+  pub cursor : IsCharBoundary new.text new.cursor
   pub answer : result ≡ is_some place
   pub line : new ≡ moved_to old place
-  pub cursor : IsCharBoundary new.text new.cursor
 
 -- a cursor that is put at a place says whether it stood elsewhere
 pub record PutsCursor (result : Bool) (old new : Line) (place : ℕ) : Type 0 where
+  pub cursor : IsCharBoundary new.text new.cursor
   pub answer : result ≡ not (place == old.cursor)
   pub line : new ≡ with_cursor old place
-  pub cursor : IsCharBoundary new.text new.cursor
 
 -- the cursor is at the text's end
 abbrev pub is_at_end : Line → Bool

@@ -196,7 +196,8 @@ fn before_end(text: &str, word: Word, n: RepeatCount) -> Option<usize>
     requires count { 0 < n }
     requires some { 0 < length text.now }
     ensures { let cs = clusters text.now in
-        IsOffsetIfAny result text.now (option_map (bytes_to cs) (word_edge At.BeforeEnd word cs n)) }
+        let edge = word_edge At.BeforeEnd word cs n in
+        IsOffsetIfAny result text.now (option_map (bytes_to cs) edge) }
 {
     match (nth_end_behind(text, word, n), word) {
         (Some((_, end)), Word::Emacs) => Some(end),

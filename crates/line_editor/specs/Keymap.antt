@@ -15,7 +15,7 @@ pub record Keymap : Type 0 where
   pub bound : Asked → Option Command
   pub own : KeyEvent → Option Command
 
--- the end of the input counts on an empty line alone
+-- the reader's end of input counts only on an empty line
 abbrev pub on_line : List ℕ → Option Command → Option Command
 on_line (_ ∷ _) (Some (plain EndOfFile)) = None
 on_line _ command = command

@@ -11,7 +11,7 @@ use Rattle.line_editor.specs.Reading.{LeftByCut}
 use Rattle.line_editor.specs.Run.{End, Run, Turn, Turns, stopped}
 use Rattle.line_editor.specs.Step.{Editor, Answer}
 
--- no phrase is a proper beginning of another, and one list of items has one command
+-- no phrase is a proper beginning of another, and one list of items gives one command, and leaves one draft and one input
 abbrev pub IsPrefixFree : Type 0
 IsPrefixFree = (keymap : Keymap) (environment : Environment) (draft : Draft) (input : Input) (items more : List Item)
     → (command command' : Command) (left left' : Draft) (after after' : Input)
@@ -41,6 +41,12 @@ TurnsFollow = (keymap : Keymap) (environment : Environment) (editor middle last 
     → Turns keymap environment middle i more last j rest
     → Turns keymap environment editor input items last j rest
 
+-- turns that proceed leave items unread that come behind theirs
+abbrev pub TurnsBeforeMore : Type 0
+TurnsBeforeMore = (keymap : Keymap) (environment : Environment) (editor last : Editor) (input i : Input) (items rest more : List Item)
+    → Turns keymap environment editor input items last i rest
+    → Turns keymap environment editor input (items ++ more) last i (rest ++ more)
+
 -- turns that proceed and a run behind them are a run
 abbrev pub TurnsAndRun : Type 0
 TurnsAndRun = (keymap : Keymap) (environment : Environment) (editor middle last : Editor) (input i j : Input) (items more : List Item) (end : End)
@@ -48,11 +54,18 @@ TurnsAndRun = (keymap : Keymap) (environment : Environment) (editor middle last 
     → Run keymap environment middle i more last j end
     → Run keymap environment editor input items last j end
 
--- a turn whose items were cut short once is the same turn when they are read again, where the cut left the hint as it was or the
--- phrase began with a count
+-- From the draft that a phrase left which was cut short, reading it again with more items behind it gives the turn that the whole
+-- gives from the first draft, and no other: where the cut left the hint as it was, or the phrase began with a count
 abbrev pub ReadingAgain : Type 0
 ReadingAgain = (keymap : Keymap) (environment : Environment) (editor left : Editor) (cut : Draft) (input i : Input) (items more : List Item) (answer : Answer)
     → LeftByCut environment editor.draft cut
     → (turn : Turn keymap environment editor input items left i more answer)
     → (cut.hint ≡ editor.draft.hint) ⊎ (turn.reads.typed ≢ [])
     → Turn keymap environment (record { draft = cut; kills = editor.kills }) input items left i more answer
+
+abbrev pub ReadFromTheCut : Type 0
+ReadFromTheCut = (keymap : Keymap) (environment : Environment) (editor left : Editor) (cut : Draft) (input i : Input) (items more : List Item) (answer : Answer)
+    → LeftByCut environment editor.draft cut
+    → (turn : Turn keymap environment (record { draft = cut; kills = editor.kills }) input items left i more answer)
+    → (cut.hint ≡ editor.draft.hint) ⊎ (turn.reads.typed ≢ [])
+    → Turn keymap environment editor input items left i more answer

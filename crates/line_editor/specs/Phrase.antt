@@ -46,7 +46,7 @@ pub record Phrase (keymap : Keymap) (environment : Environment) (draft : Draft) 
   pub draft_left : draft' ≡ after_count environment typed draft
   pub input_left : input' ≡ input
 
--- the items begin a phrase, and are none
+-- the items are a proper beginning of a phrase
 pub record IsBeginning (keymap : Keymap) (environment : Environment) (draft : Draft) (input : Input) (items : List Item) : Type 0 where
   pub rest : List Item
   pub command : Command

@@ -29,7 +29,7 @@ module _ {X Y : Type 0} (e : editors.Ghosts X) (r : readers.Ghosts Y) where
     pub cut : r.rest reader ≡ items ++ r.rest reader'
     pub phrase : Phrase (keymap_of input (r.own_binding reader)) (e.environment editor) (e.draft editor) (input_of input) items command draft (input_of input')
 
-  -- the items that are left begin a phrase and end in it: all are read, and the draft is left
+  -- the items end before a phrase or inside of one: all are read, and of the draft at most the hint changes
   pub record RunsOut (editor : X) (input : InputState) (reader : Y) (editor' : X) (reader' : Y) : Type 0 where
     pub begins : IsBeginning (keymap_of input (r.own_binding reader)) (e.environment editor) (e.draft editor) (input_of input) (r.rest reader)
     pub empty : r.rest reader' ≡ []

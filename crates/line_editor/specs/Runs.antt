@@ -14,7 +14,7 @@ use Rattle.line_editor.specs.InputState.{input_of, keymap_of}
 use Rattle.line_editor.specs.Phrase.{IsBeginning}
 use Rattle.line_editor.specs.Reading.{RedrawsItems, RunsOut}
 use Rattle.line_editor.specs.Run.{CutShort, End, Run, Turn, dry, stopped}
-use Rattle.line_editor.specs.Status.{answer_of, answer_of_turn}
+use Rattle.line_editor.specs.Status.{answer_of}
 use Rattle.line_editor.specs.Step.{Answer, Editor, Leaves, ended, interrupted, proceeds, step, submitted}
 use Rattle.line_editor.specs.declared.command.Status.{Status}
 use Rattle.line_editor.specs.declared.command.Status.TheVariants.{Submit}
@@ -88,10 +88,16 @@ module _ {X Y : Type 0} (e : editors.Ghosts X) (r : readers.Ghosts Y) where
 
   -- what a turn leaves, by the way in which it ended
   abbrev pub TurnedTo : Turned → X → InputState → Y → Ring → X → InputState → Y → Ring → Type 0
+  TurnedTo Turned.Proceeds state input reader kills state' input' reader' kills' =
+      TakesTurn state input reader kills state' input' reader' kills' proceeds
+  TurnedTo Turned.Submitted state input reader kills state' input' reader' kills' =
+      TakesTurn state input reader kills state' input' reader' kills' submitted
+  TurnedTo Turned.Ended state input reader kills state' input' reader' kills' =
+      TakesTurn state input reader kills state' input' reader' kills' ended
+  TurnedTo Turned.Interrupted state input reader kills state' input' reader' kills' =
+      TakesTurn state input reader kills state' input' reader' kills' interrupted
   TurnedTo Turned.NeedsMore state input reader kills state' input' reader' kills' =
       DriesUp state input reader kills state' input' reader' kills'
-  TurnedTo turned state input reader kills state' input' reader' kills' =
-      TakesTurn state input reader kills state' input' reader' kills' (answer_of_turn turned)
 
   -- from the first four values, once the hint was asked, to the next three there is a run with this end
   abbrev pub RunsTo : X → InputState → Y → Ring → X → InputState → Ring → End → Type 0

@@ -73,14 +73,14 @@ validated environment draft =
     then unhinted_by (verdict_on environment draft.line.text) (out_of_group (in_group draft))
     else draft
 
--- by a verdict, with the line whole or not: it is submitted, it gets a newline, or a message says why it is refused
+-- a valid line is submitted where it may be; a refusal with a message leaves it; else a newline comes
 abbrev pub accepted_as : Verdict → Bool → Draft → Draft → Draft × Answer
-accepted_as (valid message) whole left longer = if whole then (left, submitted) else (longer, proceeds)
-accepted_as (invalid (Some message)) whole left longer = (left, proceeds)
-accepted_as (invalid None) whole left longer = (longer, proceeds)
-accepted_as incomplete whole left longer = (longer, proceeds)
+accepted_as (valid message) may left longer = if may then (left, submitted) else (longer, proceeds)
+accepted_as (invalid (Some message)) may left longer = (left, proceeds)
+accepted_as (invalid None) may left longer = (longer, proceeds)
+accepted_as incomplete may left longer = (longer, proceeds)
 
--- a line is accepted by its verdict; in its middle it is whole only where that is allowed
+-- a line is accepted by its verdict: with the cursor at the end of input, or anywhere where that is allowed
 abbrev pub accepted : Environment → Bool → Draft → Draft × Answer
 accepted environment in_the_middle draft =
     accepted_as (verdict_on environment draft.line.text) (in_the_middle || ends_in_white_space draft.line)

@@ -7,7 +7,7 @@ use Rattle.line_parts.specs.Verdict.{Verdict, incomplete, invalid, valid, messag
 use Rattle.line_parts.specs.declared.highlight.CmdKind.{CmdKind}
 use Rattle.line_parts.specs.declared.highlight.CmdKind.TheVariants.{ForcedRefresh, Other}
 
--- a verdict is drawn where it has a message or something is to be taken away, but not that the line goes on
+-- an incomplete verdict draws nothing; another one draws its message, or takes away what is stale
 abbrev pub draws_verdict_on : Verdict → Bool → Bool
 draws_verdict_on incomplete stale = false
 draws_verdict_on verdict stale = stale || is_some (message_of verdict)
@@ -19,7 +19,7 @@ draws_verdict environment draft =
     && draws_verdict_on (verdict_on environment draft.line.text)
     (adds_end (in_group draft).changes.open_groups (in_group draft).changes.entries || is_some draft.hint)
 
--- the kind that `highlight_char` is told: a valid line is drawn for the last time
+-- the kind that `highlight_char` is told
 abbrev pub kind_of_verdict : Verdict → CmdKind
 kind_of_verdict (valid message) = ForcedRefresh
 kind_of_verdict verdict = Other

@@ -96,11 +96,12 @@ impl<'out, 'prompt, W: Renderer, H: Helper, P: Prompt, S: History> State<
     fn end_of_file(&mut self, input_state: &InputState<'_>) -> Result<Status>
         ensures draft { let d = ⟦<Self as EditorState>⟧.draft in
             OnOk result (d self.new ≡ unhinted (d self.old)) }
-        ensures answer { let style = (input_of input_state.now).style in let e = ⟦<Self as EditorState>⟧ in
-            IfOk result (λ status. answer_at_end style (e.draft self.old).line.text ≡ answer_of status) }
-        ensures eof { let d = ⟦<Self as EditorState>⟧.draft in let style = (input_of input_state.now).style in
-            IsErrOf result ReadlineError.Eof → (d self.new ≡ unhinted (d self.old))
-            × (answer_at_end style (d self.old).line.text ≡ ended) }
+        ensures answer { let text = (⟦<Self as EditorState>⟧.draft self.old).line.text in
+            IfOk result (λ status.
+            answer_at_end (input_of input_state.now).style text ≡ answer_of status) }
+        ensures eof { let d = ⟦<Self as EditorState>⟧.draft in IsErrOf result ReadlineError.Eof
+            → (d self.new ≡ unhinted (d self.old))
+            × (answer_at_end (input_of input_state.now).style (d self.old).line.text ≡ ended) }
         ensures drawn { OnOk result (LosesHint ⟦<Self as EditorState>⟧ self.old self.new) }
         ensures drawn_at_eof { IsErrOf result ReadlineError.Eof
             → LosesHint ⟦<Self as EditorState>⟧ self.old self.new }

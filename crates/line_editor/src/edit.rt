@@ -187,8 +187,10 @@ impl<'out, 'prompt, W: Renderer, H: Helper, P: Prompt, S: History> State<
     pub fn hint(&mut self) -> Result<()>
         ensures draft { let e = ⟦<Self as EditorState>⟧ in OnOk result
             (e.draft self.new ≡ hinted (e.environment self.old) (e.draft self.old)) }
-        ensures err { let d = ⟦<Self as EditorState>⟧.draft in OnErr result (d self.new ≡ d self.old) }
-        ensures text { let d = ⟦<Self as EditorState>⟧.draft in KeepsText (d self.old) (d self.new) }
+        ensures err { let d = ⟦<Self as EditorState>⟧.draft in
+            OnErr result (d self.new ≡ d self.old) }
+        ensures text { let d = ⟦<Self as EditorState>⟧.draft in
+            KeepsText (d self.old) (d self.new) }
         ensures undrawn { Undrawn ⟦<Self as EditorState>⟧ self.old self.new }
         ensures fails { FailsOnlyIf result (⟦<Self as EditorState>⟧.sure self.old ≡ true → ⊥) }
     {
@@ -200,10 +202,13 @@ impl<'out, 'prompt, W: Renderer, H: Helper, P: Prompt, S: History> State<
     fn ask_highlight(&mut self, kind: CmdKind)
         ensures draft { let d = ⟦<Self as EditorState>⟧.draft in d self.new ≡ d self.old }
         ensures display { let e = ⟦<Self as EditorState>⟧ in
-            let lit = lit_after (e.environment self.old) (e.display self.old) (e.draft self.old).line kind
-            in e.display self.new ≡ record (e.display self.old) { lit = lit } }
-        ensures redraws { let e = ⟦<Self as EditorState>⟧ in e.redraws self.new ≡ e.redraws self.old }
-        ensures failures { let e = ⟦<Self as EditorState>⟧ in e.failures self.new ≡ e.failures self.old }
+            let line = (e.draft self.old).line in
+            let lit = lit_after (e.environment self.old) (e.display self.old) line kind in
+            e.display self.new ≡ record (e.display self.old) { lit = lit } }
+        ensures redraws { let e = ⟦<Self as EditorState>⟧ in
+            e.redraws self.new ≡ e.redraws self.old }
+        ensures failures { let e = ⟦<Self as EditorState>⟧ in
+            e.failures self.new ≡ e.failures self.old }
         ensures hint { self.new.hint ≡ self.old.hint }
         ensures frame { Frame ⟦<Self as EditorState>⟧ self.old self.new }
     {
@@ -218,7 +223,8 @@ impl<'out, 'prompt, W: Renderer, H: Helper, P: Prompt, S: History> State<
         ensures draft { let d = ⟦<Self as EditorState>⟧.draft in d self.new ≡ d self.old }
         ensures shown { OnOk result (Shows ⟦<Self as EditorState>⟧ self.new
             (shown_info info.entry (option_map H.Hint.display_text self.old.hint))) }
-        ensures lit { let d = ⟦<Self as EditorState>⟧.display in (d self.new).lit ≡ (d self.old).lit }
+        ensures lit { let d = ⟦<Self as EditorState>⟧.display in
+            (d self.new).lit ≡ (d self.old).lit }
         ensures redraws { OnOk result (Redraws ⟦<Self as EditorState>⟧ 1 1 self.old self.new) }
         ensures frame { Frame ⟦<Self as EditorState>⟧ self.old self.new }
         ensures fails { let e = ⟦<Self as EditorState>⟧ in

@@ -1,13 +1,13 @@
 //! Laws of the definitions that the contracts cite. No call of the editor is made here.
-ghost use Rattle.line_editor.specs.Laws.{HasOneEnd, IsPrefixFree, ReadingAgain, TurnsAndRun, TurnsFollow};
+ghost use Rattle.line_editor.specs.Laws.{HasOneEnd, IsPrefixFree, ReadFromTheCut, ReadingAgain, TurnsAndRun, TurnsBeforeMore, TurnsFollow};
 
 /// No phrase is a proper beginning of another, and one list of items has one command.
 pub fn phrases_are_prefix_free()
     ensures { IsPrefixFree }
 {}
 
-/// From one editor, one input and one list of items there is one run: it ends in one way, and leaves one line, history
-/// index, kill ring and input value, and the same items unread.
+/// From one editor, one input and one list of items there is at most one run: it ends in one way, and leaves one line,
+/// history index, kill ring and input value, and the same items unread.
 pub fn runs_have_one_end()
     ensures { HasOneEnd }
 {}
@@ -15,6 +15,12 @@ pub fn runs_have_one_end()
 /// Turns that proceed, and more such turns behind them, are one list of turns.
 pub fn turns_follow_each_other()
     ensures { TurnsFollow }
+{}
+
+/// Turns that proceed leave unread what comes behind their items. So turns over items that came in parts are one list of
+/// turns over all of them.
+pub fn turns_leave_more_unread()
+    ensures { TurnsBeforeMore }
 {}
 
 /// Turns that proceed, and a run behind them, are one run.
@@ -26,4 +32,9 @@ pub fn turns_and_a_run_are_a_run()
 /// left the hint as it was, or the phrase began with a count.
 pub fn reading_again_gives_the_turn()
     ensures { ReadingAgain }
+{}
+
+/// The other way round: what is read from the draft that the cut left is the whole phrase's turn from the first draft.
+pub fn a_turn_read_again_is_the_whole_phrases()
+    ensures { ReadFromTheCut }
 {}

@@ -102,7 +102,8 @@ pub fn run<'out, 'prompt, W: Renderer, H: Helper, P: Prompt, S: History>(
     config: &Config,
 ) -> Result<()>
     ensures submitted { let e = ⟦<State<'out, 'prompt, W, H, P, S> as EditorState>⟧ in
-        OnOk result (RunsToSubmit e W.Reader.RawReader state.old input_state.old rdr.old kill_ring.old
+        OnOk result (RunsToSubmit e W.Reader.RawReader
+        state.old input_state.old rdr.old kill_ring.old
         state.new input_state.new rdr.new kill_ring.new) }
     ensures eof { let e = ⟦<State<'out, 'prompt, W, H, P, S> as EditorState>⟧ in
         IsErrOf result ReadlineError.Eof → RunsToEnd e W.Reader.RawReader

@@ -49,7 +49,8 @@ pub trait Refresher: EditorState {
     /// Asks for the hint and draws all again.
     fn refresh_line(&mut self) -> Result<()>
         ensures refreshed { let e = Self.EditorState in
-            Refreshes e result self.old self.new (hinted (e.environment self.old) (e.draft self.old)) }
+            Refreshes e result self.old self.new
+            (hinted (e.environment self.old) (e.draft self.old)) }
         ensures drew { let e = Self.EditorState in
             OnOk result (Drew e self.old self.new (hint_shown (e.draft self.new)) Other) };
 
@@ -63,7 +64,8 @@ pub trait Refresher: EditorState {
     /// Asks for the hint and draws all again, with another prompt in place of the editor's.
     fn refresh_prompt_and_line(&mut self, prompt: &str) -> Result<()>
         ensures refreshed { let e = Self.EditorState in
-            Refreshes e result self.old self.new (hinted (e.environment self.old) (e.draft self.old)) }
+            Refreshes e result self.old self.new
+            (hinted (e.environment self.old) (e.draft self.old)) }
         ensures redraws { OnOk result (Redraws Self.EditorState 1 1 self.old self.new) }
         ensures shown { let e = Self.EditorState in let d = e.display self.new in
             OnOk result (ShowsInFull d (d.surface.measure prompt.now corner) (e.draft self.new).line

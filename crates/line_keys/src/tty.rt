@@ -34,7 +34,8 @@ pub trait RawReader {
 
     /// Takes the next item, which is the key of a character without a modifier, and gives the character.
     fn next_char(&mut self) -> Result<char, ReadlineError>
-        ensures took { IfOk result (λ c. rest self.old ≡ key (event (KeyCode.Char c) Modifiers.NONE) ∷ rest self.new) }
+        ensures took { IfOk result (λ c.
+            rest self.old ≡ key (event (KeyCode.Char c) Modifiers.NONE) ∷ rest self.new) }
         ensures kept { OnErr result (rest self.new ≡ rest self.old) }
         ensures fault { IfErr result (λ e. ReadFault e (rest self.old)) }
         ensures io { IoOnlyIf result (Rose (failures self.old) (failures self.new)) }

@@ -36,7 +36,8 @@ impl Model for EditedLine {
 impl EditedLine {
     /// Returns an empty line with no changes.
     pub fn new(alloc: Global) -> Self
-        ensures { result ≡ record { line = record { text = []; cursor = 0 }; changes = no_changes } }
+        ensures { result
+            ≡ record { line = record { text = []; cursor = 0 }; changes = no_changes } }
     {
         EditedLine {
             line: LineBuffer::new(alloc),
@@ -87,7 +88,8 @@ impl EditedLine {
 
     /// Opens a group of changes.
     pub fn begin_group(&mut self) -> Result<(), OutOfMemory>
-        ensures edit { EditsTo result self.old self.new (record self.old { changes = begun self.old.changes }) }
+        ensures edit { EditsTo result self.old self.new
+            (record self.old { changes = begun self.old.changes }) }
         ensures line { self.new.line ≡ self.old.line }
     {
         self.changes.begin()
@@ -97,7 +99,8 @@ impl EditedLine {
     pub fn end_groups(&mut self) -> Result<bool, OutOfMemory>
         ensures answer { IfOk result (λ added.
             added ≡ adds_end self.old.changes.open_groups self.old.changes.entries) }
-        ensures edit { EditsTo result self.old self.new (record self.old { changes = ended self.old.changes }) }
+        ensures edit { EditsTo result self.old self.new
+            (record self.old { changes = ended self.old.changes }) }
         ensures line { self.new.line ≡ self.old.line }
     {
         self.changes.end()
@@ -106,7 +109,8 @@ impl EditedLine {
     /// Returns the text that came in last: that of the newest insert or replacement, unless a group was begun or a text
     /// deleted since.
     pub fn last_insert(&self) -> Result<Option<String>, OutOfMemory>
-        ensures { IfOk result (λ r. option_map string_bytes r ≡ last_insert_of self.now.changes.entries) }
+        ensures { IfOk result (λ r.
+            option_map string_bytes r ≡ last_insert_of self.now.changes.entries) }
     {
         self.changes.last_insert()
     }
@@ -114,7 +118,8 @@ impl EditedLine {
     /// Moves the cursor `n` clusters back, or as many as there are. Returns whether it moved.
     pub fn move_backward(&mut self, n: RepeatCount) -> bool
         ensures answer { result ≡ is_some (place_back self.old.line n) }
-        ensures line { self.new ≡ record self.old { line = moved_to self.old.line (place_back self.old.line n) } }
+        ensures line { self.new
+            ≡ record self.old { line = moved_to self.old.line (place_back self.old.line n) } }
     {
         self.line.move_backward(n)
     }
@@ -122,7 +127,8 @@ impl EditedLine {
     /// Moves the cursor `n` clusters on, or as many as there are. Returns whether it moved.
     pub fn move_forward(&mut self, n: RepeatCount) -> bool
         ensures answer { result ≡ is_some (place_on self.old.line n) }
-        ensures line { self.new ≡ record self.old { line = moved_to self.old.line (place_on self.old.line n) } }
+        ensures line { self.new
+            ≡ record self.old { line = moved_to self.old.line (place_on self.old.line n) } }
     {
         self.line.move_forward(n)
     }

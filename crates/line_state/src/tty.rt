@@ -44,9 +44,9 @@ pub trait Renderer: ScreenState {
         new_layout: &Layout,
         highlighter: Option<&H>,
     ) -> Result<()>
-        ensures shown { Agrees (Self.surface self.old) (Self.screen self.old) (P.raw_text prompt.now) line.now
-            (option_map (λ s. s.now) hint.entry) (option_map (λ l. l.now) old_layout.entry) new_layout.now
-            (is_some highlighter.entry)
+        ensures shown { Agrees (Self.surface self.old) (Self.screen self.old)
+            (P.raw_text prompt.now) line.now (option_map (λ s. s.now) hint.entry)
+            (option_map (λ l. l.now) old_layout.entry) new_layout.now (is_some highlighter.entry)
             → OnOk result (Self.screen self.new ≡ shown_by new_layout.now line.now) }
         ensures redraws { OnOk result (IsOneMore (Self.redraws self.old) (Self.redraws self.new)) }
         ensures tries { Tries Self.ScreenState result self.old self.new };

@@ -28,7 +28,8 @@ impl<'out, 'prompt, W: Renderer, H: Helper, P: Prompt, S: History> State<
     pub fn move_cursor(&mut self, kind: CmdKind) -> Result<()>
         ensures draft { let d = ⟦<Self as EditorState>⟧.draft in d self.new ≡ d self.old }
         ensures right { let e = ⟦<Self as EditorState>⟧ in let line = (e.draft self.old).line in
-            OnOk result (ShowsText (e.display self.old) line.text → IsRight (e.display self.new) line) }
+            OnOk result
+            (ShowsText (e.display self.old) line.text → IsRight (e.display self.new) line) }
         ensures drew { let e = ⟦<Self as EditorState>⟧ in OnOk result
             (Drew e self.old self.new None kind
             ⊎ (DrewNothing e self.old self.new × HasCursorDrawn e self.old)) }
@@ -131,7 +132,8 @@ impl<'out, 'prompt, W: Renderer, H: Helper, P: Prompt, S: History> State<
             (d self.new).screen.origin ≡ (d self.old).screen.origin }
         ensures ends { let e = ⟦<Self as EditorState>⟧ in
             OnOk result (ShowsLine e self.old → EndsLine e self.new) }
-        ensures redraws { let e = ⟦<Self as EditorState>⟧ in e.redraws self.new ≡ e.redraws self.old }
+        ensures redraws { let e = ⟦<Self as EditorState>⟧ in
+            e.redraws self.new ≡ e.redraws self.old }
         ensures frame { Frame ⟦<Self as EditorState>⟧ self.old self.new }
         ensures fails { let e = ⟦<Self as EditorState>⟧ in
             FailsOnlyIf result (RendererFailed e self.old self.new) }

@@ -39,14 +39,16 @@ impl<'out, 'prompt, W: Renderer, H: Helper, P: Prompt, S: History> State<
         single_esc_abort: bool,
     ) -> Result<Cmd>
         ensures phrase { let e = ⟦<Self as EditorState>⟧ in IfOk result (λ c. (draft : Draft)
-            × ReadsPhrase e W.Reader.RawReader self.old input_state.old rdr.old rdr.new (command_of c)
-            draft input_state.new × (e.draft self.new ≡ grouped (command_of c) draft)) }
+            × ReadsPhrase e W.Reader.RawReader self.old input_state.old rdr.old rdr.new
+            (command_of c) draft input_state.new
+            × (e.draft self.new ≡ grouped (command_of c) draft)) }
         ensures eof { IsErrOf result ReadlineError.Eof → RunsOut ⟦<Self as EditorState>⟧
             W.Reader.RawReader self.old input_state.old rdr.old self.new rdr.new }
         // Where nothing was left to read, nothing changes.
         ensures dry { let e = ⟦<Self as EditorState>⟧ in W.Reader.rest rdr.old ≡ []
             → (e.draft self.new ≡ e.draft self.old) × DrewNothing e self.old self.new }
-        ensures line { let d = ⟦<Self as EditorState>⟧.draft in KeepsLine (d self.old) (d self.new) }
+        ensures line { let d = ⟦<Self as EditorState>⟧.draft in
+            KeepsLine (d self.old) (d self.new) }
         ensures reading { ReadsOn ⟦<Self as EditorState>⟧ W.Reader.RawReader result
             self.old input_state.old rdr.old self.new input_state.new rdr.new }
     {
@@ -60,8 +62,10 @@ impl<'out, 'prompt, W: Renderer, H: Helper, P: Prompt, S: History> State<
     fn begin_group(&mut self, command: &Cmd) -> Result<()>
         ensures draft { let d = ⟦<Self as EditorState>⟧.draft in OnOk result
             (d self.new ≡ grouped (command_of command.now) (d self.old)) }
-        ensures line { let d = ⟦<Self as EditorState>⟧.draft in KeepsLine (d self.old) (d self.new) }
-        ensures hint { let d = ⟦<Self as EditorState>⟧.draft in (d self.new).hint ≡ (d self.old).hint }
+        ensures line { let d = ⟦<Self as EditorState>⟧.draft in
+            KeepsLine (d self.old) (d self.new) }
+        ensures hint { let d = ⟦<Self as EditorState>⟧.draft in
+            (d self.new).hint ≡ (d self.old).hint }
         ensures undrawn { Undrawn ⟦<Self as EditorState>⟧ self.old self.new }
         ensures drawn { KeepsDrawn ⟦<Self as EditorState>⟧ self.old self.new }
         ensures memory { MemoryOnly result }

@@ -65,7 +65,8 @@ impl<'out, 'prompt, W: Renderer, H: Helper, P: Prompt, S: History> State<
     fn ask_verdict(&mut self) -> Result<(ValidationResult, bool)>
         ensures verdict { let e = ⟦<Self as EditorState>⟧ in IfOk result (λ r.
             verdict_of r.0 ≡ verdict_on (e.environment self.old) (e.draft self.old).line.text) }
-        ensures corrected { let changes = (in_group (⟦<Self as EditorState>⟧.draft self.old)).changes in
+        ensures corrected {
+            let changes = (in_group (⟦<Self as EditorState>⟧.draft self.old)).changes in
             IfOk result (λ r. r.1 ≡ adds_end changes.open_groups changes.entries) }
         ensures draft { let d = ⟦<Self as EditorState>⟧.draft in OnOk result
             (d self.new ≡ out_of_group (in_group (d self.old))) }
@@ -90,15 +91,17 @@ impl<'out, 'prompt, W: Renderer, H: Helper, P: Prompt, S: History> State<
         ensures draft { let e = ⟦<Self as EditorState>⟧ in OnOk result
             (e.draft self.new ≡ unhinted_by (verdict_of verdict.now) (e.draft self.old)) }
         ensures drew { let e = ⟦<Self as EditorState>⟧ in let v = verdict_of verdict.now in
-            OnOk result (DrewIf e (draws_verdict_on v (corrected || is_some (e.draft self.old).hint))
+            OnOk result (DrewIf e
+            (draws_verdict_on v (corrected || is_some (e.draft self.old).hint))
             self.old self.new (message_of v) (kind_of_verdict v)) }
         ensures right { OnOk result
             (KeepsLayoutRight ⟦<Self as EditorState>⟧ self.old self.new) }
-        ensures line { let e = ⟦<Self as EditorState>⟧ in
-            verdict_of verdict.now ≡ verdict_on (e.environment self.old) (e.draft self.old).line.text
+        ensures line { let e = ⟦<Self as EditorState>⟧ in let text = (e.draft self.old).line.text in
+            verdict_of verdict.now ≡ verdict_on (e.environment self.old) text
             → OnOk result (ShowsLine e self.old → ShowsLine e self.new) }
         ensures no_hint { let e = ⟦<Self as EditorState>⟧ in
-            verdict_of verdict.now ≡ verdict_on (e.environment self.old) (e.draft self.old).line.text
+            let text = (e.draft self.old).line.text in
+            verdict_of verdict.now ≡ verdict_on (e.environment self.old) text
             → OnOk result (ShowsNoHint e self.old → ShowsNoHint e self.new) }
         ensures frame { Frame ⟦<Self as EditorState>⟧ self.old self.new }
         ensures fails { let e = ⟦<Self as EditorState>⟧ in

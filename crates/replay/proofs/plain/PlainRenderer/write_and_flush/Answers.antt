@@ -2,6 +2,6 @@ use Rattle.replay.specs.MeasureLaws.{measured-one}
 use Rattle.replay.proofs.plain.PlainRenderer.write_and_flush.Goals as goal
 
 pub returns-clause-shown : goal.returns-clause-shown
-returns-clause-shown c = λ ch e print at room.
-    let one = measured-one c.args.self.now.columns ch c.args.self.now.place room print in
+returns-clause-shown c = λ ch e print room.
+    let one = measured-one c.args.self.now.columns ch c.args.self.now.place room.1 print in
     cc (c.in_ok-push_str.ensures.bytes)
