@@ -1,5 +1,5 @@
 -- Steps, turns and runs of a program's state, input state, reader and kill ring.
-use Rattle.std.specs.Prelude.{◌≡◌, ◌⊎◌, ℕ, ◌+◌, ◌-◌, ◌*◌, List, [], length, Result, Ok, IfOk, OnOk, IsErrOf}
+use Rattle.std.specs.Prelude.{◌≡◌, ◌+◌, ◌-◌, ◌*◌, List, [], length, Result, IfOk, OnOk, IsErrOf}
 use Rattle.line_buffer.specs.KillRing.{Ring}
 use Rattle.line_config.specs.declared.error.ReadlineError.{ReadlineError}
 use Rattle.line_config.specs.declared.error.ReadlineError.TheVariants.{Eof, Interrupted}
@@ -11,16 +11,13 @@ use Rattle.line_keys.specs.declared.editor_state.EditorState as editors
 use Rattle.line_keys.specs.declared.tty.RawReader as readers
 use Rattle.line_config.specs.Error.{IoOnlyIf}
 use Rattle.line_editor.specs.InputState.{input_of, keymap_of}
-use Rattle.line_editor.specs.Phrase.{IsBeginning}
 use Rattle.line_editor.specs.Reading.{RedrawsItems, OutOfItems}
-use Rattle.line_editor.specs.Run.{CutShort, End, Run, Turn, dry, stopped}
+use Rattle.line_editor.specs.Run.{End, Run, Turn, dry, stopped}
 use Rattle.line_editor.specs.Status.{answer_of}
 use Rattle.line_editor.specs.Step.{Answer, Editor, Leaves, ended, interrupted, proceeds, step, submitted}
 use Rattle.line_editor.specs.declared.command.Status.{Status}
-use Rattle.line_editor.specs.declared.command.Status.TheVariants.{Submit}
 use Rattle.line_editor.specs.declared.keymap.InputState.{InputState}
 use Rattle.line_editor.specs.declared.run.Turned.{Turned}
-use Rattle.line_editor.specs.declared.run.Turned.TheVariants as Turned
 
 module _ {X : Type 0} (e : editors.Ghosts X) where
   -- the abstract editor of a state and a kill ring
