@@ -1,5 +1,5 @@
 -- Facts on counts of full redraws.
-use Rattle.std.proofs.Common.{◌≡◌, ℕ, ◌+◌, ◌-◌, ◌*◌, ◌≤◌, ◌<◌, arith, subst, sym}
+use Rattle.std.proofs.Common.{◌≡◌, ℕ, ◌+◌, ◌≤◌, arith, subst, sym}
 use Rattle.line_keys.specs.EditorState.{Rises}
 
 -- a count that stays rises by at most any number

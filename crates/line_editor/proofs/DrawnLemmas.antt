@@ -1,6 +1,5 @@
 -- Facts on what is drawn of a line.
-use Rattle.std.proofs.Common.{◌≡◌, ◌⊎◌, inl, inr, ℕ, Bool, true, false, List, Option, None, option_map, refl, sym, ◌∙◌, ap, subst, arith, ◌≤◌}
-use Rattle.std.specs.Prelude.{MatchBool}
+use Rattle.std.proofs.Common.{◌≡◌, ◌⊎◌, inl, inr, ℕ, List, Option, None, option_map, refl, sym, ◌∙◌, ap, subst, arith}
 use Rattle.line_buffer.specs.Line.{Line}
 use Rattle.line_keys.specs.Display.{Display, HasCursorAt, ShowsInFull, IsRight, ShowsText, shown_end}
 use Rattle.line_keys.specs.Draft.{Draft, hint_shown}
@@ -124,10 +123,10 @@ keeps_move e old middle new text hint same count environment draft' environment'
           elim drew [
             | inl d ↦ nothing_trails e new d.shows
             | inr n ↦
-              line_moved e old new (environment' ∙ environment) (ap (λ (d : Draft). d.line.text) draft' ∙ text)
-              (ap (λ (d : Draft). d.hint) draft' ∙ hint)
-              (record { display = n.0.display ∙ same; redraws = n.0.redraws ∙ count })
-              (subst S (sym draft') (subst T (sym n.0.display) n.1)) shown
+                line_moved e old new (environment' ∙ environment) (ap (λ (d : Draft). d.line.text) draft' ∙ text)
+                (ap (λ (d : Draft). d.hint) draft' ∙ hint)
+                (record { display = n.0.display ∙ same; redraws = n.0.redraws ∙ count })
+                (subst S (sym draft') (subst T (sym n.0.display) n.1)) shown
           ];
     }
 

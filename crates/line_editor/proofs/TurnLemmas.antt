@@ -1,12 +1,11 @@
 -- Facts on turns of a program's state.
-use Rattle.std.proofs.Common.{◌≡◌, ℕ, ◌+◌, ◌-◌, ◌≤◌, length, arith}
+use Rattle.std.proofs.Common.{◌≡◌, ℕ, ◌+◌, ◌-◌, length, arith}
 use Rattle.line_buffer.specs.KillRing.{Ring}
 use Rattle.line_keys.specs.Command.{Command}
 use Rattle.line_keys.specs.Draft.{Draft}
 use Rattle.line_keys.specs.EditorState.{Frame, IsInPlace, KeepsDrawn, Redraws}
 use Rattle.line_keys.specs.declared.editor_state.EditorState as editors
 use Rattle.line_keys.specs.declared.tty.RawReader as readers
-use Rattle.line_editor.specs.InputState.{input_of}
 use Rattle.line_editor.specs.Reading.{ReadsPhrase, RedrawsItems}
 use Rattle.line_editor.specs.Run.{kills_before}
 use Rattle.line_editor.specs.Runs.{DrawnAfter, StepsTo, TakesTurn, editor_of}

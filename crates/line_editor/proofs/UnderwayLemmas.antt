@@ -1,20 +1,18 @@
 -- Facts on a run that is underway.
-use Rattle.std.proofs.Common.{◌≡◌, ◌≢◌, ℕ, ◌+◌, ◌-◌, ◌*◌, ◌≤◌, ◌<◌, List, length, arith, refl, sym, ◌∙◌, ap, subst}
+use Rattle.std.proofs.Common.{◌≡◌, ◌≢◌, ℕ, ◌+◌, ◌-◌, ◌≤◌, ◌<◌, length, arith, refl, sym, ◌∙◌, ap, subst}
 use Rattle.line_buffer.specs.KillRing.{Ring}
 use Rattle.line_keys.specs.Display.{Display, IsRight}
 use Rattle.line_keys.specs.Draft.{Draft, hinted, hint_shown}
-use Rattle.line_keys.specs.EditorState.{Drew, DrewNothing, Frame, HasRightLayout, IsInPlace, Redraws, Rises, Shows, ShowsLine}
+use Rattle.line_keys.specs.EditorState.{Frame, HasRightLayout, Redraws, Shows, ShowsLine}
 use Rattle.line_keys.specs.declared.editor_state.EditorState as editors
 use Rattle.line_keys.specs.declared.tty.RawReader as readers
 use Rattle.line_editor.specs.Input.{Input}
 use Rattle.line_editor.specs.InputState.{input_of, keymap_of}
-use Rattle.line_editor.specs.Keymap.{Keymap}
 use Rattle.line_editor.specs.Reading.{KeepsReading}
 use Rattle.line_editor.specs.Run.{CutShort, End, Run, stopped, dry}
-use Rattle.line_editor.specs.Runs.{DriesUp, RedrawsOfRun, RunsDry, RunsTo, RunsToEnd, RunsToInterrupt, RunsToSubmit, TakesTurn, editor_of}
+use Rattle.line_editor.specs.Runs.{NeedsMoreItems, RedrawsOfRun, RunsDry, RunsTo, RunsToEnd, RunsToInterrupt, RunsToSubmit, TakesTurn, editor_of}
 use Rattle.line_editor.specs.Step.{Answer, Editor, proceeds, submitted, ended, interrupted}
 use Rattle.line_editor.specs.declared.keymap.InputState.{InputState}
-use Rattle.line_editor.proofs.CountLemmas.{rises_more, rises_twice}
 use Rattle.line_editor.proofs.DrawnLemmas.{frame_then, hint_trails, line_stays}
 use Rattle.line_editor.proofs.RunLemmas.{run-goes, run-ends, run-dry}
 
@@ -121,7 +119,7 @@ module _ {X Y : Type 0} (e : editors.Ghosts X) (r : readers.Ghosts Y) (start : X
       }
 
       -- items that run dry end the run
-      pub dries : DriesUp e r now input' reader' kills' next input'' reader'' kills'' → KeepsReading e r now input' reader' next input'' reader''
+      pub dries : NeedsMoreItems e r now input' reader' kills' next input'' reader'' kills'' → KeepsReading e r now input' reader' next input'' reader''
           → RunsDry e r start input reader kills next input'' reader'' kills''
       dries dry_up k =
           let Q : Input → Type 0 = λ i. Run (keymap_of input (r.own_binding reader)) (e.environment start) (editor_of e now kills') (input_of input') (r.rest reader') (editor_of e next kills'') i (dry (r.rest reader')) in

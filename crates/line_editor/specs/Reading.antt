@@ -30,7 +30,7 @@ module _ {X Y : Type 0} (e : editors.Ghosts X) (r : readers.Ghosts Y) where
     pub phrase : Phrase (keymap_of input (r.own_binding reader)) (e.environment editor) (e.draft editor) (input_of input) items command draft (input_of input')
 
   -- the items end before a phrase or inside of one: all are read, and of the draft at most the hint changes
-  pub record RunsOut (editor : X) (input : InputState) (reader : Y) (editor' : X) (reader' : Y) : Type 0 where
+  pub record OutOfItems (editor : X) (input : InputState) (reader : Y) (editor' : X) (reader' : Y) : Type 0 where
     pub begins : IsBeginning (keymap_of input (r.own_binding reader)) (e.environment editor) (e.draft editor) (input_of input) (r.rest reader)
     pub empty : r.rest reader' ≡ []
     pub draft : LeftByCut (e.environment editor) (e.draft editor) (e.draft editor')

@@ -1,5 +1,5 @@
 -- A run: commands read from the items and executed, one after another.
-use Rattle.std.specs.Prelude.{◌≡◌, ◌≢◌, Bool, true, false, if◌then◌else◌, List, [], ◌++◌}
+use Rattle.std.specs.Prelude.{◌≡◌, ◌≢◌, Bool, true, false, if◌then◌else◌, List, ◌++◌}
 use Rattle.line_buffer.specs.KillRing.{Ring, with_last, other}
 use Rattle.line_parts.specs.Environment.{Environment}
 use Rattle.line_keys.specs.Command.{Command, plain, insertion, replacement, resets_kill_ring}
@@ -9,7 +9,7 @@ use Rattle.line_editor.specs.Input.{Input}
 use Rattle.line_editor.specs.Keymap.{Keymap}
 use Rattle.line_editor.specs.Phrase.{Phrase, IsBeginning}
 use Rattle.line_editor.specs.Reading.{LeftByCut}
-use Rattle.line_editor.specs.Step.{Editor, Answer, Leaves, proceeds, ended, step, grouped}
+use Rattle.line_editor.specs.Step.{Editor, Answer, Leaves, proceeds, step, grouped}
 
 -- whether a command ends a row of kills
 abbrev pub ends_kills : Command → Bool

@@ -1,5 +1,5 @@
 -- Steps, turns and runs of a program's state, input state, reader and kill ring.
-use Rattle.std.specs.Prelude.{◌≡◌, ◌⊎◌, ℕ, ◌+◌, ◌-◌, ◌*◌, List, [], length, Result, Ok, IfOk, OnOk, IsErrOf}
+use Rattle.std.specs.Prelude.{◌≡◌, ◌+◌, ◌-◌, ◌*◌, List, [], length, Result, IfOk, OnOk, IsErrOf}
 use Rattle.line_buffer.specs.KillRing.{Ring}
 use Rattle.line_config.specs.declared.error.ReadlineError.{ReadlineError}
 use Rattle.line_config.specs.declared.error.ReadlineError.TheVariants.{Eof, Interrupted}
@@ -11,16 +11,13 @@ use Rattle.line_keys.specs.declared.editor_state.EditorState as editors
 use Rattle.line_keys.specs.declared.tty.RawReader as readers
 use Rattle.line_config.specs.Error.{IoOnlyIf}
 use Rattle.line_editor.specs.InputState.{input_of, keymap_of}
-use Rattle.line_editor.specs.Phrase.{IsBeginning}
-use Rattle.line_editor.specs.Reading.{RedrawsItems, RunsOut}
-use Rattle.line_editor.specs.Run.{CutShort, End, Run, Turn, dry, stopped}
+use Rattle.line_editor.specs.Reading.{RedrawsItems, OutOfItems}
+use Rattle.line_editor.specs.Run.{End, Run, Turn, dry, stopped}
 use Rattle.line_editor.specs.Status.{answer_of}
 use Rattle.line_editor.specs.Step.{Answer, Editor, Leaves, ended, interrupted, proceeds, step, submitted}
 use Rattle.line_editor.specs.declared.command.Status.{Status}
-use Rattle.line_editor.specs.declared.command.Status.TheVariants.{Submit}
 use Rattle.line_editor.specs.declared.keymap.InputState.{InputState}
 use Rattle.line_editor.specs.declared.run.Turned.{Turned}
-use Rattle.line_editor.specs.declared.run.Turned.TheVariants as Turned
 
 module _ {X : Type 0} (e : editors.Ghosts X) where
   -- the abstract editor of a state and a kill ring
@@ -66,38 +63,38 @@ module _ {X : Type 0} (e : editors.Ghosts X) where
 
 module _ {X Y : Type 0} (e : editors.Ghosts X) (r : readers.Ghosts Y) where
   -- from the first four values to the last four there is a turn with this answer
-  abbrev pub TurnsTo : X → InputState → Y → Ring → X → InputState → Y → Ring → Answer → Type 0
-  TurnsTo state input reader kills state' input' reader' kills' answer =
+  abbrev pub LeadsTo : X → InputState → Y → Ring → X → InputState → Y → Ring → Answer → Type 0
+  LeadsTo state input reader kills state' input' reader' kills' answer =
       Turn (keymap_of input (r.own_binding reader)) (e.environment state)
       (editor_of e state kills) (input_of input) (r.rest reader)
       (editor_of e state' kills') (input_of input') (r.rest reader') answer
 
   -- a turn that was made: it draws what its answer says, in at most three full redraws and one for each item read
   pub record TakesTurn (state : X) (input : InputState) (reader : Y) (kills : Ring) (state' : X) (input' : InputState) (reader' : Y) (kills' : Ring) (answer : Answer) : Type 0 where
-    pub turn : TurnsTo state input reader kills state' input' reader' kills' answer
+    pub turn : LeadsTo state input reader kills state' input' reader' kills' answer
     pub drawn : DrawnAfter e answer state state'
     pub redraws : Redraws e 0 (3 + (length (r.rest reader) - length (r.rest reader'))) state state'
 
   -- the items run dry before a phrase or inside of one: the kills and the input value stay, and where none was read all stays
-  pub record DriesUp (state : X) (input : InputState) (reader : Y) (kills : Ring) (state' : X) (input' : InputState) (reader' : Y) (kills' : Ring) : Type 0 where
-    pub out : RunsOut e r state input reader state' reader'
+  pub record NeedsMoreItems (state : X) (input : InputState) (reader : Y) (kills : Ring) (state' : X) (input' : InputState) (reader' : Y) (kills' : Ring) : Type 0 where
+    pub out : OutOfItems e r state input reader state' reader'
     pub input_left : input_of input' ≡ input_of input
     pub kills_left : kills' ≡ kills
     pub nothing_read : r.rest reader ≡ [] → (e.draft state' ≡ e.draft state) × DrewNothing e state state'
     pub redraws : RedrawsItems e r state reader state' reader'
 
   -- what a turn leaves, by the way in which it ended
-  abbrev pub TurnedTo : Turned → X → InputState → Y → Ring → X → InputState → Y → Ring → Type 0
-  TurnedTo Turned.Proceeds state input reader kills state' input' reader' kills' =
+  abbrev pub AdvancesTo : Turned → X → InputState → Y → Ring → X → InputState → Y → Ring → Type 0
+  AdvancesTo Turned.Proceeds state input reader kills state' input' reader' kills' =
       TakesTurn state input reader kills state' input' reader' kills' proceeds
-  TurnedTo Turned.Submitted state input reader kills state' input' reader' kills' =
+  AdvancesTo Turned.Submitted state input reader kills state' input' reader' kills' =
       TakesTurn state input reader kills state' input' reader' kills' submitted
-  TurnedTo Turned.Ended state input reader kills state' input' reader' kills' =
+  AdvancesTo Turned.Ended state input reader kills state' input' reader' kills' =
       TakesTurn state input reader kills state' input' reader' kills' ended
-  TurnedTo Turned.Interrupted state input reader kills state' input' reader' kills' =
+  AdvancesTo Turned.Interrupted state input reader kills state' input' reader' kills' =
       TakesTurn state input reader kills state' input' reader' kills' interrupted
-  TurnedTo Turned.NeedsMore state input reader kills state' input' reader' kills' =
-      DriesUp state input reader kills state' input' reader' kills'
+  AdvancesTo Turned.NeedsMore state input reader kills state' input' reader' kills' =
+      NeedsMoreItems state input reader kills state' input' reader' kills'
 
   -- from the first four values, once the hint was asked, to the next three there is a run with this end
   abbrev pub RunsTo : X → InputState → Y → Ring → X → InputState → Ring → End → Type 0

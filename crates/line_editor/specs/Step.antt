@@ -1,5 +1,5 @@
 -- What a command does to the editor.
-use Rattle.std.specs.Prelude.{◌≡◌, ℕ, Bool, true, false, ◌||◌, if◌then◌else◌, List, [], ◌∷◌, Option, Some, None, is_some}
+use Rattle.std.specs.Prelude.{◌≡◌, ℕ, Bool, ◌||◌, if◌then◌else◌, List, [], ◌∷◌, Option, Some, None, is_some}
 use Rattle.line_buffer.specs.Cluster.{place_on, place_back}
 use Rattle.line_buffer.specs.Kill.{killed_range, ring_with_killed}
 use Rattle.line_buffer.specs.KillRing.{Ring}

@@ -3,7 +3,7 @@ use Rattle.std.specs.Prelude.{Bool, false, ◌||◌, ◌&&◌, is_some}
 use Rattle.line_buffer.specs.Changes.{adds_end}
 use Rattle.line_keys.specs.Draft.{Draft, in_group}
 use Rattle.line_parts.specs.Environment.{Environment, verdict_on}
-use Rattle.line_parts.specs.Verdict.{Verdict, incomplete, invalid, valid, message_of}
+use Rattle.line_parts.specs.Verdict.{Verdict, incomplete, valid, message_of}
 use Rattle.line_parts.specs.declared.highlight.CmdKind.{CmdKind}
 use Rattle.line_parts.specs.declared.highlight.CmdKind.TheVariants.{ForcedRefresh, Other}
 

@@ -5,7 +5,7 @@ ghost use Rattle.line_editor.specs.Keymap.{on_line};
 ghost use Rattle.line_editor.specs.Input.{first_input};
 ghost use Rattle.line_editor.specs.InputState.{input_of, keymap_of};
 ghost use Rattle.line_editor.specs.Phrase.{seen_of};
-ghost use Rattle.line_editor.specs.Reading.{ReadsOn, ReadsPhrase, RunsOut};
+ghost use Rattle.line_editor.specs.Reading.{ReadsOn, ReadsPhrase, OutOfItems};
 ghost use Rattle.line_keys.specs.Command.{Command, command_of};
 ghost use Rattle.line_keys.specs.Draft.{KeepsText};
 ghost use Rattle.line_keys.specs.EditorState.{DrewNothing};
@@ -80,7 +80,7 @@ impl<'b> InputState<'b> {
         ensures phrase { IfOk result (λ c. ReadsPhrase W.EditorState R.RawReader
             wrt.old self.old rdr.old rdr.new (command_of c) (W.draft wrt.new) self.new) }
         ensures eof { IsErrOf result ReadlineError.Eof
-            → RunsOut W.EditorState R.RawReader wrt.old self.old rdr.old wrt.new rdr.new }
+            → OutOfItems W.EditorState R.RawReader wrt.old self.old rdr.old wrt.new rdr.new }
         // Where nothing was left to read, nothing changes.
         ensures dry { R.rest rdr.old ≡ []
             → (W.draft wrt.new ≡ W.draft wrt.old) × DrewNothing W.EditorState wrt.old wrt.new }

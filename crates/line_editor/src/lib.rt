@@ -15,6 +15,5 @@ pub use keymap::InputState;
 pub use line_config as config;
 pub use line_keys as keys;
 pub use line_parts as parts;
-pub use line_state::tty;
-pub use line_state::{Drawn, EditedLine, Renderer, ScreenState, View};
+pub use line_state::{Drawn, EditedLine, Renderer, ScreenState, View, tty};
 pub use run::{Turned, advance};

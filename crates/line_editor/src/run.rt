@@ -3,7 +3,7 @@ ghost use Rattle.std.specs.Prelude.{◌≡◌, ◌≢◌, ◌<◌, ◌⊎◌, le
 ghost use Rattle.line_config.specs.Error.{FaultsOnly};
 ghost use Rattle.line_editor.specs.Reading.{FailsByReading, KeepsReading};
 ghost use Rattle.line_editor.specs.Run.{kills_before};
-ghost use Rattle.line_editor.specs.Runs.{RunsDry, RunsToEnd, RunsToInterrupt, RunsToSubmit, TurnedTo};
+ghost use Rattle.line_editor.specs.Runs.{RunsDry, RunsToEnd, RunsToInterrupt, RunsToSubmit, AdvancesTo};
 ghost use Rattle.line_keys.specs.Command.{command_of};
 
 use crate::command::{Status, execute};
@@ -60,7 +60,7 @@ pub fn advance<'out, 'prompt, W: Renderer, H: Helper, P: Prompt, S: History>(
     config: &Config,
 ) -> Result<Turned>
     ensures turned { let e = ⟦<State<'out, 'prompt, W, H, P, S> as EditorState>⟧ in
-        IfOk result (λ turned. TurnedTo e W.Reader.RawReader turned
+        IfOk result (λ turned. AdvancesTo e W.Reader.RawReader turned
         state.old input_state.old rdr.old kill_ring.old
         state.new input_state.new rdr.new kill_ring.new) }
     ensures reads { IfOk result (λ turned. turned ≢ Turned.NeedsMore

@@ -1,9 +1,10 @@
 -- What is drawn of a line, and what a full redraw of it would give.
-use Rattle.std.specs.Prelude.{◌≡◌, ℕ, ◌+◌, Bool, false, if◌then◌else◌, nat_lt, min, List, take, Option, Some, None, is_some}
+use Rattle.std.specs.Prelude.{◌≡◌, ℕ, ◌+◌, Bool, false, if◌then◌else◌, nat_lt, min, List, take, Option, Some, None, is_some, OnOk, Result}
 use Rattle.line_buffer.specs.Line.{Line}
 use Rattle.line_buffer.specs.declared.layout.Position.{Position}
 use Rattle.line_buffer.specs.declared.layout.Layout.{Layout}
 use Rattle.line_buffer.specs.declared.layout.GraphemeClusterMode.{GraphemeClusterMode}
+use Rattle.line_config.specs.declared.error.ReadlineError.{ReadlineError}
 use Rattle.line_parts.specs.Environment.{Environment}
 use Rattle.line_parts.specs.declared.highlight.CmdKind.{CmdKind}
 
@@ -100,6 +101,14 @@ pub record ShowsText (display : Display) (text : List ℕ) : Type 0 where
 pub record IsRight (display : Display) (line : Line) : Type 0 where
   pub drawn : ShowsText display line.text
   pub cursor : HasCursorAt display line
+
+-- the cursor goes to the end of what is shown: the kept one does, and the drawn one with it, and all else stays
+pub record GoesToShownEnd {T : Type 0} (result : Result T ReadlineError) (old new : Display) : Type 0 where
+  pub layout : OnOk result (new.layout ≡ record old.layout { cursor = old.layout.end })
+  pub position : old.screen.position ≡ old.layout.cursor → OnOk result (new.screen.position ≡ new.layout.cursor)
+  pub shows : new.screen.text ≡ old.screen.text
+  pub origin : new.screen.origin ≡ old.screen.origin
+  pub lit : new.lit ≡ old.lit
 
 -- the last answer of `highlight_char` once it was asked, which is done with colours alone
 abbrev pub lit_after : Environment → Display → Line → CmdKind → Bool

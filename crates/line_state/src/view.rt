@@ -2,7 +2,7 @@
 ghost use Rattle.std.specs.Prelude.{◌≡◌, ◌↔◌, if◌then◌else◌, Some, None, ℕ, Bool, true, false, List, Option, is_some, option_map, OnOk, IsTrue};
 ghost use Rattle.line_buffer.specs.declared.layout.Position.{Position};
 ghost use Rattle.line_config.specs.Error.{Rose};
-ghost use Rattle.line_keys.specs.Display.{corner, cursor_position, undrawn};
+ghost use Rattle.line_keys.specs.Display.{GoesToShownEnd, corner, cursor_position, undrawn};
 ghost use Rattle.line_keys.specs.EditorState.{FailsOnlyIf};
 ghost use Rattle.line_state.specs.Drawn.{DrawsInFull, KeepsSurface};
 
@@ -168,16 +168,8 @@ impl<'out, 'prompt, W: Renderer, P: Prompt> View<'out, 'prompt, W, P> {
     /// # Errors
     /// Those of the renderer.
     pub fn move_cursor_to_end(&mut self) -> Result<()>
-        ensures layout { let d = ⟦<Self as Drawn>⟧.display in OnOk result ((d self.new).layout
-            ≡ record (d self.old).layout { cursor = (d self.old).layout.end }) }
-        ensures position { let d = ⟦<Self as Drawn>⟧.display in
-            (d self.old).screen.position ≡ (d self.old).layout.cursor
-            → OnOk result ((d self.new).screen.position ≡ (d self.new).layout.cursor) }
-        ensures text { let d = ⟦<Self as Drawn>⟧.display in
-            (d self.new).screen.text ≡ (d self.old).screen.text }
-        ensures origin { let d = ⟦<Self as Drawn>⟧.display in
-            (d self.new).screen.origin ≡ (d self.old).screen.origin }
-        ensures lit { let d = ⟦<Self as Drawn>⟧.display in (d self.new).lit ≡ (d self.old).lit }
+        ensures moved { let d = ⟦<Self as Drawn>⟧.display in
+            GoesToShownEnd result (d self.old) (d self.new) }
         ensures redraws { ⟦<Self as Drawn>⟧.redraws self.new ≡ ⟦<Self as Drawn>⟧.redraws self.old }
         ensures keeps { KeepsSurface ⟦<Self as Drawn>⟧ self.old self.new }
         ensures fails { let d = ⟦<Self as Drawn>⟧ in

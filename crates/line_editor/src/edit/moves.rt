@@ -2,8 +2,8 @@
 ghost use Rattle.std.specs.Prelude.{◌≡◌, ◌⊎◌, None, OnOk};
 ghost use Rattle.line_buffer.specs.Cluster.{place_on, place_back};
 ghost use Rattle.line_buffer.specs.Line.{moved_to, with_cursor, start_of_line, end_of_line};
-ghost use Rattle.line_keys.specs.Display.{ShowsText, IsRight};
-ghost use Rattle.line_keys.specs.EditorState.{Drew, DrewNothing, EndsLine, FailsOnlyIf, Frame, HasCursorDrawn, IsInPlace, MovesTo, RendererFailed, ShowsLine};
+ghost use Rattle.line_keys.specs.Display.{GoesToShownEnd, ShowsText, IsRight};
+ghost use Rattle.line_keys.specs.EditorState.{Drew, DrewNothing, EndsLine, FailsOnlyIf, Frame, HasCursorDrawn, MovesTo, RendererFailed, ShowsLine};
 ghost use Rattle.line_editor.specs.Step.{moved};
 
 use crate::edit::{Info, State};
@@ -122,14 +122,8 @@ impl<'out, 'prompt, W: Renderer, H: Helper, P: Prompt, S: History> State<
     /// Those of the renderer.
     pub fn move_cursor_to_end(&mut self) -> Result<()>
         ensures draft { let d = ⟦<Self as EditorState>⟧.draft in d self.new ≡ d self.old }
-        ensures layout { let d = ⟦<Self as EditorState>⟧.display in OnOk result ((d self.new).layout
-            ≡ record (d self.old).layout { cursor = (d self.old).layout.end }) }
-        ensures position { let e = ⟦<Self as EditorState>⟧ in
-            IsInPlace e self.old → OnOk result (IsInPlace e self.new) }
-        ensures text { let d = ⟦<Self as EditorState>⟧.display in
-            (d self.new).screen.text ≡ (d self.old).screen.text }
-        ensures origin { let d = ⟦<Self as EditorState>⟧.display in
-            (d self.new).screen.origin ≡ (d self.old).screen.origin }
+        ensures moved { let d = ⟦<Self as EditorState>⟧.display in
+            GoesToShownEnd result (d self.old) (d self.new) }
         ensures ends { let e = ⟦<Self as EditorState>⟧ in
             OnOk result (ShowsLine e self.old → EndsLine e self.new) }
         ensures redraws { let e = ⟦<Self as EditorState>⟧ in

@@ -1,7 +1,7 @@
 //! How the next command is read.
 ghost use Rattle.std.specs.Prelude.{◌≡◌, [], IfOk, OnOk, IsErrOf};
 ghost use Rattle.line_config.specs.Error.{MemoryOnly};
-ghost use Rattle.line_editor.specs.Reading.{ReadsOn, ReadsPhrase, RunsOut};
+ghost use Rattle.line_editor.specs.Reading.{ReadsOn, ReadsPhrase, OutOfItems};
 ghost use Rattle.line_editor.specs.Step.{grouped};
 ghost use Rattle.line_keys.specs.Command.{command_of};
 ghost use Rattle.line_keys.specs.Draft.{Draft, KeepsLine};
@@ -42,7 +42,7 @@ impl<'out, 'prompt, W: Renderer, H: Helper, P: Prompt, S: History> State<
             × ReadsPhrase e W.Reader.RawReader self.old input_state.old rdr.old rdr.new
             (command_of c) draft input_state.new
             × (e.draft self.new ≡ grouped (command_of c) draft)) }
-        ensures eof { IsErrOf result ReadlineError.Eof → RunsOut ⟦<Self as EditorState>⟧
+        ensures eof { IsErrOf result ReadlineError.Eof → OutOfItems ⟦<Self as EditorState>⟧
             W.Reader.RawReader self.old input_state.old rdr.old self.new rdr.new }
         // Where nothing was left to read, nothing changes.
         ensures dry { let e = ⟦<Self as EditorState>⟧ in W.Reader.rest rdr.old ≡ []

@@ -1,5 +1,5 @@
 use Rattle.std.proofs.Common.{inl, inr}
-use Rattle.line_editor.proofs.UnderwayLemmas.{begins, proceeds_on, submits, ends_input, interrupts, dries, keeps_on}
+use Rattle.line_editor.proofs.UnderwayLemmas.{begins, proceeds_on, submits, ends_input, interrupts, dries}
 use Rattle.line_editor.proofs.run.run.Goals as goal
 
 pub turns-init : goal.turns-init

@@ -1,4 +1,4 @@
-use Rattle.std.proofs.Common.{◌≡◌, inl, inr, refl, ◌∙◌, ap}
+use Rattle.std.proofs.Common.{inl, inr, refl, ◌∙◌, ap}
 use Rattle.line_editor.proofs.DrawnLemmas.{keeps_move, still_move}
 use Rattle.line_editor.proofs.EditLemmas.{moved_text}
 use Rattle.line_state.specs.Edited.{Edited}
