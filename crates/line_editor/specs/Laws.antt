@@ -54,8 +54,8 @@ TurnsAndRun = (keymap : Keymap) (environment : Environment) (editor middle last 
     → Run keymap environment middle i more last j end
     → Run keymap environment editor input items last j end
 
--- From the draft that a phrase left which was cut short, reading it again with more items behind it gives the turn that the whole
--- gives from the first draft, and no other: where the cut left the hint as it was, or the phrase began with a count
+-- from the draft that a phrase left which was cut short, reading it again with more items behind it gives the turn that the whole
+-- gives from the first draft: where the cut left the hint as it was, or the phrase began with a count
 abbrev pub ReadingAgain : Type 0
 ReadingAgain = (keymap : Keymap) (environment : Environment) (editor left : Editor) (cut : Draft) (input i : Input) (items more : List Item) (answer : Answer)
     → LeftByCut environment editor.draft cut
@@ -63,6 +63,7 @@ ReadingAgain = (keymap : Keymap) (environment : Environment) (editor left : Edit
     → (cut.hint ≡ editor.draft.hint) ⊎ (turn.reads.typed ≢ [])
     → Turn keymap environment (record { draft = cut; kills = editor.kills }) input items left i more answer
 
+-- and a turn read from that draft is the whole phrase's turn from the first one
 abbrev pub ReadFromTheCut : Type 0
 ReadFromTheCut = (keymap : Keymap) (environment : Environment) (editor left : Editor) (cut : Draft) (input i : Input) (items more : List Item) (answer : Answer)
     → LeftByCut environment editor.draft cut

@@ -65,8 +65,8 @@ impl<'out, 'prompt, W: Renderer, H: Helper, P: Prompt, S: History> State<
     fn ask_verdict(&mut self) -> Result<(ValidationResult, bool)>
         ensures verdict { let e = ⟦<Self as EditorState>⟧ in IfOk result (λ r.
             verdict_of r.0 ≡ verdict_on (e.environment self.old) (e.draft self.old).line.text) }
-        ensures corrected { let changes = (in_group (⟦<Self as EditorState>⟧.draft self.old)).changes in
-            IfOk result (λ r. r.1 ≡ adds_end changes.open_groups changes.entries) }
+        ensures corrected { let c = (in_group (⟦<Self as EditorState>⟧.draft self.old)).changes in
+            IfOk result (λ r. r.1 ≡ adds_end c.open_groups c.entries) }
         ensures draft { let d = ⟦<Self as EditorState>⟧.draft in OnOk result
             (d self.new ≡ out_of_group (in_group (d self.old))) }
         ensures drew { DrewNothing ⟦<Self as EditorState>⟧ self.old self.new }
