@@ -4,7 +4,7 @@ use Rattle.std.specs.List.{fold, All}
 use Rattle.std.proofs.lemmas.Bool.Decides.{nat_tests}
 use Rattle.std.proofs.lemmas.List.Sums.{fold-append}
 use Rattle.line_buffer.specs.declared.layout.Position.{Position}
-use Rattle.line_editor.specs.Printable.{IsPrintable, IsPrintableOrNewline}
+use Rattle.line_state.specs.Printable.{IsPrintable, IsPrintableOrNewline}
 use Rattle.line_keys.specs.Display.{next_column}
 use Rattle.tests.specs.Screen.{after_byte, measured}
 

@@ -1,6 +1,7 @@
 //! A helper whose answers are set beforehand, which notes what it is asked.
 ghost use Rattle.std.specs.Prelude.{true, Some, None, option_map, if◌then◌else◌};
 ghost use Rattle.line_parts.specs.Verdict.{incomplete, invalid, valid};
+ghost use Rattle.tests.specs.Advisor.{is_lit_for};
 
 use line_buffer::{Changeset, LineBuffer};
 use line_config::Result;
@@ -18,12 +19,12 @@ pub(crate) type Kinds = (
     Option<CmdKind>,
 );
 
-/// Its answers, which are the same for each line, and what it was asked.
+/// Its answers, which are the same for each line, and what it was asked. It asks for a full drawing of one kind alone.
 #[derive(Drop)]
 pub(crate) struct Advisor {
     hint: Option<&'static str>,
     verdict: Verdict,
-    lit: bool,
+    lit: Option<CmdKind>,
     kinds: Kinds,
 }
 
@@ -32,7 +33,11 @@ pub(crate) type Verdict = (bool, bool, Option<&'static str>);
 
 impl Advisor {
     /// A helper with these answers, which was asked nothing yet.
-    pub(crate) fn new(hint: Option<&'static str>, verdict: Verdict, lit: bool) -> Advisor {
+    pub(crate) fn new(
+        hint: Option<&'static str>,
+        verdict: Verdict,
+        lit: Option<CmdKind>,
+    ) -> Advisor {
         Advisor {
             hint,
             verdict,
@@ -87,14 +92,19 @@ impl Hinter for Advisor {
 impl Highlighter for Advisor {
     ghost sure = { λ _. true };
 
-    ghost lights = { λ advisor _ _ _. advisor.lit };
+    ghost lights = { λ advisor _ _ kind. is_lit_for advisor.lit kind };
 
     ghost steady = { λ advisor. record advisor { kinds = (None, None, None, None) } };
 
     fn highlight_char(&mut self, _line: &str, _pos: usize, kind: CmdKind) -> bool {
         let (first, second, third, _) = self.kinds;
         self.kinds = (Some(kind), first, second, third);
-        self.lit
+        match (self.lit, kind) {
+            (Some(CmdKind::MoveCursor), CmdKind::MoveCursor) => true,
+            (Some(CmdKind::Other), CmdKind::Other) => true,
+            (Some(CmdKind::ForcedRefresh), CmdKind::ForcedRefresh) => true,
+            _ => false,
+        }
     }
 }
 
@@ -128,6 +138,8 @@ impl Helper for Advisor {
     ghost hints_kept = { λ _ _ same. ap Self.hint_at same };
 
     ghost verdicts_kept = { λ _ _ same. ap Self.verdict_at same };
+
+    ghost lights_kept = { λ _ _ same. ap Self.lights same };
 
     ghost completions_kept = { λ _ _ _. refl };
 

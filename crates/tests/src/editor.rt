@@ -10,6 +10,7 @@ use line_editor::command::{Status, execute};
 use line_editor::edit::State;
 use line_editor::keymap::InputState;
 use line_editor::run::run;
+use line_editor::{Turned, advance};
 use line_keys::command::Cmd;
 use line_keys::keymap::Refresher;
 use line_keys::keys::KeyEvent;
@@ -26,7 +27,7 @@ mod lines;
 mod turns;
 
 /// What the editor stands on: the style, the screen's columns and whether it has colours, which call of the renderer
-/// fails (0 for none), whether there is a helper, and its hint, verdict and answer of `highlight_char`.
+/// fails (0 for none), whether there is a helper, its hint and verdict, and for which kind `highlight_char` answers yes.
 #[derive(Clone, Copy)]
 struct Setup {
     style: EditMode,
@@ -36,7 +37,7 @@ struct Setup {
     helped: bool,
     hint: Option<&'static str>,
     verdict: Verdict,
-    lit: bool,
+    lit: Option<CmdKind>,
 }
 
 /// A screen of 80 columns without colours, and a helper that hints nothing and takes each line.
@@ -48,13 +49,14 @@ const PLAIN: Setup = Setup {
     helped: true,
     hint: None,
     verdict: (true, true, None),
-    lit: false,
+    lit: None,
 };
 
-/// Something that is done with the editor: keys that it runs on, keys and one turn by the first of them with the flag for
-/// a single Esc, a command that it executes, or a call of its state.
+/// Something that is done with the editor: keys that it runs on; keys that are added before one turn; keys and one turn by
+/// the first of them with the flag for a single Esc; a command that it executes; or a call of its state.
 enum Step {
     Run(&'static [KeyEvent]),
+    Advance(&'static [KeyEvent]),
     Turn(&'static [KeyEvent], bool),
     Paste(&'static str),
     TakePasted,
@@ -128,6 +130,14 @@ fn called(state: &mut Editor<'_, '_>, step: &Step) -> Result<()> {
     }
 }
 
+/// How a turn ended by the status of its command.
+fn turned(status: Status) -> Turned {
+    match status {
+        Status::Proceed => Turned::Proceeds,
+        Status::Submit => Turned::Submitted,
+    }
+}
+
 /// Does the step.
 fn done(
     state: &mut Editor<'_, '_>,
@@ -136,17 +146,21 @@ fn done(
     kills: &mut KillRing,
     config: &Config,
     step: &Step,
-) -> Result<Status> {
+) -> Result<Turned> {
     match step {
         Step::Run(keys) => {
             typist.press(keys)?;
             run(state, input, typist, kills, config)?;
-            return Ok(Status::Submit);
+            return Ok(Turned::Submitted);
+        }
+        Step::Advance(keys) => {
+            typist.press(keys)?;
+            return advance(state, input, typist, kills, config);
         }
         Step::Turn(keys, single_esc_abort) => {
             typist.press(keys)?;
             let command = state.next_cmd(input, typist, *single_esc_abort)?;
-            return execute(command, state, input, kills, config);
+            return Ok(turned(execute(command, state, input, kills, config)?));
         }
         Step::Paste(text) => typist.paste(text)?,
         Step::TakePasted => {
@@ -155,21 +169,22 @@ fn done(
         _ => {}
     }
     match command(step) {
-        Some(command) => execute(command, state, input, kills, config),
+        Some(command) => Ok(turned(execute(command, state, input, kills, config)?)),
         None => {
             called(state, step)?;
-            Ok(Status::Proceed)
+            Ok(Turned::Proceeds)
         }
     }
 }
 
 /// How a step ended, in a word.
-fn ended(outcome: &Result<Status>) -> &'static str {
+fn ended(outcome: &Result<Turned>) -> &'static str {
     match outcome {
-        Ok(Status::Proceed) => "proceeds",
-        Ok(Status::Submit) => "submits",
-        Err(ReadlineError::Eof) => "eof",
-        Err(ReadlineError::Interrupted) => "interrupted",
+        Ok(Turned::Proceeds) => "proceeds",
+        Ok(Turned::Submitted) => "submits",
+        Ok(Turned::NeedsMore) => "needs more",
+        Ok(Turned::Ended) | Err(ReadlineError::Eof) => "eof",
+        Ok(Turned::Interrupted) | Err(ReadlineError::Interrupted) => "interrupted",
         Err(ReadlineError::Io(cause)) if cause.kind() == ErrorKind::Other => "fails",
         Err(ReadlineError::Io(_)) => "fails otherwise",
         Err(ReadlineError::Memory) => "out of memory",
@@ -238,7 +253,7 @@ fn edits(
     let mut typist = Typist::new(alloc);
     let context = Context::new(&history);
     let mut state = State::new(alloc, screen, &"> ", helper, context)?;
-    let mut last = Ok(Status::Proceed);
+    let mut last = Ok(Turned::Proceeds);
     for step in *steps {
         last = done(
             &mut state,

@@ -1,6 +1,7 @@
 //! The examples, at concrete types.
 
-use crate::example::{read_line, type_in};
+use crate::caller::type_in;
+use crate::example::read_line;
 use crate::recorder::Recorder;
 use crate::typist::Typist;
 use line_buffer::{Changeset, LineBuffer};

@@ -5,6 +5,7 @@
 mod advisor;
 #[cfg(test)]
 mod buffer;
+pub mod caller;
 #[cfg(test)]
 mod editor;
 pub mod example;

@@ -147,7 +147,11 @@ fn answers<H: Helper>(
 fn a_helper_keeps_its_answers(rt: HostRuntime) -> Result<()> {
     let alloc = rt.alloc();
     answers(&rt, alloc, &mut (), (false, "", "valid", ""))?;
-    let mut advisor = Advisor::new(Some("!"), (true, false, Some("no")), true);
+    let mut advisor = Advisor::new(
+        Some("!"),
+        (true, false, Some("no")),
+        Some(CmdKind::MoveCursor),
+    );
     for _ in 0..2 {
         answers(&rt, alloc, &mut advisor, (true, "!", "invalid", "no"))?;
     }

@@ -6,7 +6,7 @@ ghost use Rattle.tests.specs.Screen.{after_byte, measured};
 use crate::typist::Typist;
 use line_buffer::{GraphemeClusterMode, Layout, LineBuffer, Position, Unit};
 use line_config::{Prompt, ReadlineError, Result};
-use line_editor::tty::Renderer;
+use line_editor::{Renderer, ScreenState};
 use line_parts::Highlighter;
 use std::alloc::Global;
 use std::fmt::{Display, Formatter};
@@ -139,12 +139,9 @@ fn after_byte(columns: Unit, place: Position, byte: u8) -> Position
     }
 }
 
-impl Renderer for Recorder {
-    type Reader = Typist;
-
+impl ScreenState for Recorder {
     ghost use Rattle.line_buffer.specs.declared.layout.GraphemeClusterMode.TheVariants.{Unicode};
     ghost use Rattle.tests.specs.Screen.{measured};
-    ghost use Rattle.tests.specs.ScreenLaws as laws;
 
     ghost surface = { λ r. record {
       measure = measured r.columns;
@@ -154,7 +151,7 @@ impl Renderer for Recorder {
     } };
 
     ghost screen = { λ r. record {
-      place = r.place;
+      position = r.place;
       text = string_bytes r.text;
       origin = r.origin;
     } };
@@ -162,6 +159,12 @@ impl Renderer for Recorder {
     ghost redraws = { λ r. r.redraws };
 
     ghost failures = { λ r. r.failures };
+}
+
+impl Renderer for Recorder {
+    type Reader = Typist;
+
+    ghost use Rattle.tests.specs.ScreenLaws as laws;
 
     fn move_cursor(&mut self, old: Position, new: Position) -> Result<()> {
         let (from, to) = ((old.row, old.col), (new.row, new.col));

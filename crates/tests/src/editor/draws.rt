@@ -33,10 +33,21 @@ const COLOURED: Setup = Setup {
     ..PLAIN
 };
 
-const LIT: Setup = Setup {
-    colors: true,
-    lit: true,
-    ..PLAIN
+const COLOURED_ALONE: Setup = Setup {
+    helped: false,
+    ..COLOURED
+};
+
+/// The last answer of `highlight_char` is yes after an edit.
+const LIT_BY_EDITS: Setup = Setup {
+    lit: Some(Other),
+    ..COLOURED
+};
+
+/// The last answer of `highlight_char` is yes after a move.
+const LIT_BY_MOVES: Setup = Setup {
+    lit: Some(Moved),
+    ..COLOURED
 };
 
 const NARROW: Setup = Setup {
@@ -98,6 +109,18 @@ move (1, 0) to (1, 1)
     ),
     (
         PLAIN,
+        &[Type('a', 1), Home, Interrupt, Refresh],
+        "proceeds",
+        Wanted::Log(
+            "draw \"> \" \"a\" 1 None old none new 0:2 0:3 0:3 plain
+draw \"> \" \"a\" 0 None old 0:2 0:3 0:3 new 0:2 0:2 0:3 plain
+move (0, 2) to (0, 3)
+draw \"> \" \"a\" 0 None old 0:2 0:3 0:3 new 0:2 0:2 0:3 plain
+",
+        ),
+    ),
+    (
+        PLAIN,
         &[Prompt("(arg: 2) "), Type('a', 1)],
         "proceeds",
         Wanted::Log(
@@ -121,7 +144,12 @@ const FAILING: Setup = Setup {
     ..PLAIN
 };
 
-/// No old layout is handed over after a draw that failed.
+const FAILING_MOVE: Setup = Setup {
+    failing: 3,
+    ..PLAIN
+};
+
+/// No old layout is handed over after a draw or a move that failed.
 const AFTER_A_FAULT: &[Case] = &[
     (
         FAILING,
@@ -145,6 +173,18 @@ draw \"> \" \"abc\" 3 None old 0:2 0:4 0:4 new 0:2 0:5 0:5 plain
 ",
         ),
     ),
+    (
+        FAILING_MOVE,
+        &[Type('a', 1), Home, Interrupt, Refresh],
+        "proceeds",
+        Wanted::Log(
+            "draw \"> \" \"a\" 1 None old none new 0:2 0:3 0:3 plain
+draw \"> \" \"a\" 0 None old 0:2 0:3 0:3 new 0:2 0:2 0:3 plain
+move (0, 2) to (0, 3)
+draw \"> \" \"a\" 0 None old none new 0:2 0:2 0:3 plain
+",
+        ),
+    ),
 ];
 
 #[test]
@@ -155,7 +195,8 @@ fn start_anew_after_a_fault(rt: HostRuntime) -> Result<(), Fail> {
     Ok(())
 }
 
-/// A highlighter is handed over with colours alone. Where its last answer was yes, a submit draws once more.
+/// A highlighter is handed over where colours are on and a helper is there. Where its last answer was yes, a submit draws
+/// once more.
 const COLOURS: &[Case] = &[
     (
         COLOURED,
@@ -168,13 +209,67 @@ draw \"> \" \"a\" 1 None old 0:2 0:2 0:2 new 0:2 0:3 0:3 highlighted
         ),
     ),
     (
-        LIT,
+        COLOURED_ALONE,
+        &[Run(&[A, ENTER])],
+        "submits",
+        Wanted::Log(
+            "draw \"> \" \"\" 0 None old none new 0:2 0:2 0:2 plain
+draw \"> \" \"a\" 1 None old 0:2 0:2 0:2 new 0:2 0:3 0:3 plain
+",
+        ),
+    ),
+    (
+        COLOURED,
+        &[Prompt("? "), Message(Some("ok"), Other)],
+        "proceeds",
+        Wanted::Log(
+            "draw \"? \" \"\" 0 None old none new 0:2 0:2 0:2 highlighted
+draw \"> \" \"\" 0 Some(\"ok\") old 0:2 0:2 0:2 new 0:2 0:2 0:4+ highlighted
+",
+        ),
+    ),
+    (
+        LIT_BY_EDITS,
         &[Run(&[A, ENTER])],
         "submits",
         Wanted::Log(
             "draw \"> \" \"\" 0 None old none new 0:2 0:2 0:2 highlighted
 draw \"> \" \"a\" 1 None old 0:2 0:2 0:2 new 0:2 0:3 0:3 highlighted
 draw \"> \" \"a\" 1 None old 0:2 0:3 0:3 new 0:2 0:3 0:3 highlighted
+",
+        ),
+    ),
+    (
+        LIT_BY_EDITS,
+        &[Run(&[A, LEFT, ENTER])],
+        "submits",
+        Wanted::Log(
+            "draw \"> \" \"\" 0 None old none new 0:2 0:2 0:2 highlighted
+draw \"> \" \"a\" 1 None old 0:2 0:2 0:2 new 0:2 0:3 0:3 highlighted
+draw \"> \" \"a\" 0 None old 0:2 0:3 0:3 new 0:2 0:2 0:3 highlighted
+",
+        ),
+    ),
+    (
+        LIT_BY_MOVES,
+        &[Run(&[A, LEFT, ENTER])],
+        "submits",
+        Wanted::Log(
+            "draw \"> \" \"\" 0 None old none new 0:2 0:2 0:2 highlighted
+draw \"> \" \"a\" 1 None old 0:2 0:2 0:2 new 0:2 0:3 0:3 highlighted
+draw \"> \" \"a\" 0 None old 0:2 0:3 0:3 new 0:2 0:2 0:3 highlighted
+draw \"> \" \"a\" 0 None old 0:2 0:2 0:3 new 0:2 0:2 0:3 highlighted
+",
+        ),
+    ),
+    (
+        HINTED_AND_COLOURED,
+        &[Run(&[A, ENTER])],
+        "submits",
+        Wanted::Log(
+            "draw \"> \" \"\" 0 Some(\"!!\") old none new 0:2 0:2 0:4+ highlighted
+draw \"> \" \"a\" 1 Some(\"!!\") old 0:2 0:2 0:4+ new 0:2 0:3 0:5+ highlighted
+draw \"> \" \"a\" 1 None old 0:2 0:3 0:5+ new 0:2 0:3 0:3 highlighted
 ",
         ),
     ),
@@ -200,6 +295,13 @@ const MESSAGE_AND_COLOURED: Setup = Setup {
     ..PLAIN
 };
 
+const TAKEN_AND_COLOURED: Setup = Setup {
+    colors: true,
+    verdict: (true, true, Some("ok")),
+    ..PLAIN
+};
+
+/// Of which kinds `highlight_char` is asked, the newest first.
 const KINDS: &[Case] = &[
     (
         PLAIN,
@@ -214,10 +316,16 @@ const KINDS: &[Case] = &[
         Wanted::Kinds((Some(Moved), Some(Other), Some(Other), None)),
     ),
     (
-        LIT,
+        LIT_BY_MOVES,
         &[Run(&[A, LEFT, ENTER])],
         "submits",
         Wanted::Kinds((Some(ForcedRefresh), Some(Moved), Some(Other), Some(Other))),
+    ),
+    (
+        LIT_BY_EDITS,
+        &[Run(&[A, LEFT, ENTER])],
+        "submits",
+        Wanted::Kinds((Some(Moved), Some(Other), Some(Other), None)),
     ),
     (
         HINTED_AND_COLOURED,
@@ -230,6 +338,24 @@ const KINDS: &[Case] = &[
         &[Type('a', 1), Accept],
         "submits",
         Wanted::Kinds((Some(Other), Some(Other), None, None)),
+    ),
+    (
+        TAKEN_AND_COLOURED,
+        &[Type('a', 1), Accept],
+        "submits",
+        Wanted::Kinds((Some(ForcedRefresh), Some(Other), None, None)),
+    ),
+    (
+        COLOURED,
+        &[Type('a', 1), Home, KillLine, Prompt("? ")],
+        "proceeds",
+        Wanted::Kinds((Some(Other), Some(Other), Some(Moved), Some(Other))),
+    ),
+    (
+        COLOURED,
+        &[Message(None, Moved), Message(Some("ok"), ForcedRefresh)],
+        "proceeds",
+        Wanted::Kinds((Some(ForcedRefresh), Some(Moved), None, None)),
     ),
 ];
 
