@@ -4,6 +4,8 @@ ghost use Rattle.line_buffer.specs.Changes.{adds_end, begun, ended, last_insert_
 ghost use Rattle.line_buffer.specs.Cluster.{place_on, place_back};
 ghost use Rattle.line_buffer.specs.Kill.{killed_range, ring_with_killed};
 ghost use Rattle.line_buffer.specs.Line.{moved_to, with_cursor, start_of_line, end_of_line};
+ghost use Rattle.std.specs.List.{list_any};
+ghost use Rattle.line_buffer.specs.Undo.{is_change, newest_steps};
 ghost use Rattle.line_state.specs.Edited.{EditsTo, undone, with_copies, without_range};
 
 use line_buffer::{Changeset, KillRing, LineBuffer, Movement, OutOfMemory, RepeatCount};
@@ -79,9 +81,11 @@ impl EditedLine {
         Ok(killed.is_some())
     }
 
-    /// Takes `n` steps back, one for `n` = 0, or as many as there are.
+    /// Takes `n` steps back, one for `n` = 0, or as many as there are. Returns whether a change of the text was taken back.
     pub fn undo(&mut self, n: RepeatCount) -> Result<bool, OutOfMemory>
-        ensures { EditsTo result self.old self.new (undone n self.old) }
+        ensures answer { IfOk result (λ undone.
+            undone ≡ list_any is_change (newest_steps n self.old.changes.entries)) }
+        ensures edit { EditsTo result self.old self.new (undone n self.old) }
     {
         self.changes.undo(&mut self.line, n)
     }
