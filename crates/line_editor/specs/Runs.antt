@@ -5,7 +5,7 @@ use Rattle.line_config.specs.declared.error.ReadlineError.{ReadlineError}
 use Rattle.line_config.specs.declared.error.ReadlineError.TheVariants.{Eof, Interrupted}
 use Rattle.line_keys.specs.Command.{Command}
 use Rattle.line_keys.specs.Draft.{hinted}
-use Rattle.line_keys.specs.EditorState.{DrewNothing, EndsLine, Frame, HasRightLayout, IsAtEnd, IsInPlace, KeepsDrawn, KeepsLayoutRight, PartyFailed, Redraws, ShowsLine, ShowsNoHint}
+use Rattle.line_keys.specs.EditorState.{DrewNothing, HasShownEnd, Frame, HasRightLayout, IsAtEnd, IsInPlace, KeepsDrawn, KeepsLayoutRight, PartyFailed, Redraws, ShowsLine, ShowsNoHint}
 use Rattle.line_keys.specs.Item.{Item}
 use Rattle.line_keys.specs.declared.editor_state.EditorState as editors
 use Rattle.line_keys.specs.declared.tty.RawReader as readers
@@ -38,7 +38,7 @@ module _ {X : Type 0} (e : editors.Ghosts X) where
   pub record GoesToEnd (state state' : X) : Type 0 where
     pub at_end : IsAtEnd e state'
     pub in_place : IsInPlace e state → IsInPlace e state'
-    pub ends : ShowsLine e state → EndsLine e state'
+    pub ends : ShowsLine e state → HasShownEnd e state'
 
   -- what is drawn after an answer: a submitted line and one that ended the input have no hint, an interrupt goes to the end
   abbrev pub DrawnAfter : Answer → X → X → Type 0
@@ -136,5 +136,5 @@ module _ {X Y : Type 0} (e : editors.Ghosts X) (r : readers.Ghosts Y) where
     pub run : RunsTo state input reader kills state' input' kills' (stopped interrupted (r.rest reader'))
     pub at_end : IsAtEnd e state'
     pub in_place : IsInPlace e state'
-    pub ends : EndsLine e state'
+    pub ends : HasShownEnd e state'
     pub redraws : RedrawsOfRun state reader state' reader'

@@ -88,7 +88,7 @@ pub record ShowsNoHint {X : Type 0} (e : Ghosts X) (editor : X) : Type 0 where
   pub trails : (trailing ≡ message_of (verdict_on (e.environment editor) (e.draft editor).line.text)) ⊎ (trailing ≡ None)
 
 -- what is shown ends with the line and a text behind it that may trail it
-pub record EndsLine {X : Type 0} (e : Ghosts X) (editor : X) : Type 0 where
+pub record HasShownEnd {X : Type 0} (e : Ghosts X) (editor : X) : Type 0 where
   pub trailing : Option (List ℕ)
   pub ends : (e.display editor).layout.end ≡ shown_end (e.display editor).surface.measure (e.display editor).prompt_end (e.draft editor).line.text trailing
   pub text : (e.display editor).screen.text ≡ (e.draft editor).line.text

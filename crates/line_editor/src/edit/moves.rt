@@ -3,7 +3,7 @@ ghost use Rattle.std.specs.Prelude.{◌≡◌, ◌⊎◌, None, OnOk};
 ghost use Rattle.line_buffer.specs.Cluster.{place_on, place_back};
 ghost use Rattle.line_buffer.specs.Line.{moved_to, with_cursor, start_of_line, end_of_line};
 ghost use Rattle.line_keys.specs.Display.{GoesToShownEnd, ShowsText, IsRight};
-ghost use Rattle.line_keys.specs.EditorState.{Drew, DrewNothing, EndsLine, FailsOnlyIf, Frame, HasCursorDrawn, MovesTo, RendererFailed, ShowsLine};
+ghost use Rattle.line_keys.specs.EditorState.{Drew, DrewNothing, HasShownEnd, FailsOnlyIf, Frame, HasCursorDrawn, MovesTo, RendererFailed, ShowsLine};
 ghost use Rattle.line_editor.specs.Step.{moved};
 
 use crate::edit::{Info, State};
@@ -125,7 +125,7 @@ impl<'out, 'prompt, W: Renderer, H: Helper, P: Prompt, S: History> State<
         ensures moved { let d = ⟦<Self as EditorState>⟧.display in
             GoesToShownEnd result (d self.old) (d self.new) }
         ensures ends { let e = ⟦<Self as EditorState>⟧ in
-            OnOk result (ShowsLine e self.old → EndsLine e self.new) }
+            OnOk result (ShowsLine e self.old → HasShownEnd e self.new) }
         ensures redraws { let e = ⟦<Self as EditorState>⟧ in
             e.redraws self.new ≡ e.redraws self.old }
         ensures frame { Frame ⟦<Self as EditorState>⟧ self.old self.new }
