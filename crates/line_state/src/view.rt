@@ -85,7 +85,8 @@ impl<'out, 'prompt, W: Renderer, P: Prompt> View<'out, 'prompt, W, P> {
         }
     }
 
-    /// Draws the line in full behind the prompt, with `info` behind it, if there is one.
+    /// Draws the line in full behind the prompt, with `info` behind it, if there is one. A highlighter may come only
+    /// with colours.
     ///
     /// # Errors
     /// Those of the renderer.
@@ -103,7 +104,8 @@ impl<'out, 'prompt, W: Renderer, P: Prompt> View<'out, 'prompt, W, P> {
         self.redraw(self.prompt, self.prompt_size, true, line, info, highlighter)
     }
 
-    /// Draws the line in full behind another prompt, with `info` behind it, if there is one.
+    /// Draws the line in full behind another prompt, with `info` behind it, if there is one. A highlighter may
+    /// come only with colours.
     ///
     /// # Errors
     /// Those of the renderer.
