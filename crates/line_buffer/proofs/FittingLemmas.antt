@@ -1,11 +1,17 @@
 -- Going back from a line's end to the place that fits.
-use Rattle.std.proofs.Common.{◌≡◌, ℕ, ◌-◌, ◌<◌, ◌≤◌, zero, suc, nat_le, Bool, true, false, List, [], ◌∷◌, ◌++◌, length, take, refl, sym, ap, ◌∙◌, arith, length-append}
+use Rattle.std.proofs.Common.{ap₂, min, ◌+◌, ◌≡◌, ℕ, ◌-◌, ◌<◌, ◌≤◌, zero, suc, nat_le, Bool, true, false, List, [], ◌∷◌, ◌++◌, length, take, refl, sym, ap, ◌∙◌, subst, arith, length-append}
+use Rattle.std.proofs.Math.Seq.{take-append_seam}
+use Rattle.std.proofs.lemmas.Str.{IsCharBoundary-from_take}
+use Rattle.std.specs.Str.{IsCharBoundary, IsUtf8}
 use Rattle.std.proofs.lemmas.Bool.Decides.{nat_tests}
 use Rattle.std.proofs.lemmas.List.{length-take, take_all}
 use Rattle.std.specs.List.{concat}
-use Rattle.line_buffer.proofs.ListLemmas.{take_one_less}
+use Rattle.line_buffer.proofs.ListLemmas.{concat-append, take_one_less}
 use Rattle.line_buffer.specs.Cluster.{clusters}
-use Rattle.line_buffer.specs.Lines.{column_in, fitting, last_fitting}
+use Rattle.line_buffer.specs.Lines.{column_in, columns_before, fitting, last_fitting}
+use Rattle.unicode_segmentation.proofs.SegmentsLemmas.{concat-segments}
+use Rattle.unicode_segmentation.specs.Grapheme.{is_grapheme_break}
+use Rattle.line_buffer.specs.Width.{text_width}
 use Rattle.line_buffer.specs.Word.{bytes_to}
 use Rattle.line_buffer.specs.declared.layout.Layout.{Layout}
 
@@ -79,3 +85,21 @@ fitted-none layout start line column rest f e =
     let within = f.within in
     let none : f.j ≡ 0 = omega (arith, ap length (sym f.rest_is ∙ e), length-take f.j (clusters line)) in
     sym (ap (bytes_to (clusters line)) (f.same ∙ last_fitting-below (fits layout start line column) f.j none))
+
+-- the text without its last cluster is a text of it
+pub shorter : (text front : List ℕ) (rest rest' : List (List ℕ)) (cluster : List ℕ) → IsUtf8 text → IsUtf8 front
+    → text ≡ concat rest → front ≡ concat rest' → rest ≡ rest' ++ cluster ∷ [] → IsCharBoundary text (length front) × (take (length front) text ≡ front)
+shorter text front rest rest' cluster u v e f g =
+    let cut : text ≡ front ++ concat (cluster ∷ []) = e ∙ ap concat g ∙ concat-append rest' (cluster ∷ []) ∙ ap (λ xs. xs ++ concat (cluster ∷ [])) (sym f) in
+    let first : take (length front) text ≡ front = ap (take (length front)) cut ∙ take-append_seam front (concat (cluster ∷ [])) in
+    let within : length front ≤ length text = omega (arith, ap length cut, length-append front (concat (cluster ∷ []))) in
+    (IsCharBoundary-from_take text (length front) u within (subst IsUtf8 (sym first) v), first)
+
+-- the column that is compared is that of the clusters that are left
+pub column_left : (layout : Layout) (start before capped columns : ℕ) (rest : List (List ℕ)) → before ≡ columns_before layout start → capped ≡ min columns 65535
+    → columns ≡ text_width layout.grapheme_cluster_mode (concat rest) → before + capped ≡ column_in layout start (concat rest)
+column_left layout start before capped columns rest b m e = ap₂ (λ x y. x + y) b (m ∙ ap (λ n. min n 65535) e)
+
+pub columns-start : (layout : Layout) (line : List ℕ) (columns : ℕ) (rest : List (List ℕ)) → IsUtf8 line → rest ≡ clusters line
+    → columns ≡ text_width layout.grapheme_cluster_mode line → columns ≡ text_width layout.grapheme_cluster_mode (concat rest)
+columns-start layout line columns rest u e h = h ∙ ap (text_width layout.grapheme_cluster_mode) (sym (ap concat e ∙ concat-segments (is_grapheme_break true) line u))

@@ -8,9 +8,11 @@ pub mod GroupLemmas
 pub mod IndentLemmas
 pub mod LineLemmas
 pub mod ListLemmas
+pub mod PartLemmas
 pub mod RingLemmas
 pub mod RowLemmas
 pub mod SearchLemmas
+pub mod SeamLemmas
 pub mod SkipLemmas
 pub mod StepLemmas
 pub mod TellsLemmas

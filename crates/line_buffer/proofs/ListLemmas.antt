@@ -1,7 +1,7 @@
 -- Parts of a list that lose an element at one end.
 use Rattle.std.specs.List.{concat, repeat}
 use Rattle.std.specs.Prelude.{replicate}
-use Rattle.std.proofs.Common.{append-nil, append_assoc, ◌≡◌, ℕ, ◌+◌, ◌-◌, ◌≤◌, zero, suc, List, [], ◌∷◌, ◌++◌, length, take, drop, refl, ap, sym, ◌∙◌, arith, add-one, length-append}
+use Rattle.std.proofs.Common.{append_assoc, ◌≡◌, ℕ, ◌+◌, ◌-◌, ◌≤◌, zero, suc, List, [], ◌∷◌, ◌++◌, length, take, drop, refl, ap, sym, ◌∙◌, arith, add-one, length-append}
 use Rattle.std.proofs.Math.Seq.{take-append_seam}
 use Rattle.std.proofs.lemmas.List.{length-take, take-append-drop}
 
@@ -46,13 +46,6 @@ concat-append (x ∷ xs) ys = ap (λ zs. x ++ zs) (concat-append xs ys) ∙ sym 
 
 pub concat-cut : (n : ℕ) (xs : List (List ℕ)) → concat (take n xs) ++ concat (drop n xs) ≡ concat xs
 concat-cut n xs = sym (concat-append (take n xs) (drop n xs)) ∙ ap concat (take-append-drop n xs)
-
-repeat-past : (n : ℕ) (xs : List ℕ) → repeat (suc n) xs ≡ repeat n xs ++ xs
-repeat-past zero xs = append-nil xs
-repeat-past (suc n) xs = ap (λ ys. xs ++ ys) (repeat-past n xs) ∙ sym (append_assoc xs (repeat n xs) xs)
-
-pub repeat_one_more : (n : ℕ) (xs : List ℕ) → repeat (n + 1) xs ≡ repeat n xs ++ xs
-repeat_one_more n xs = rw add-one (repeat-past n xs)
 
 pub repeat_one : (n x : ℕ) → repeat n (x ∷ []) ≡ replicate n x
 repeat_one zero x = refl

@@ -31,6 +31,10 @@ abbrev pub all_taken_back : List Entry → Line → Line
 all_taken_back [] l = l
 all_taken_back (e ∷ entries) l = all_taken_back entries (taken_back e l)
 
+-- the text before all changes of a line
+abbrev pub first_text : Changes → Line → List ℕ
+first_text changes line = (all_taken_back changes.entries line).text
+
 -- a text stands at a place of another
 pub record OccursAt (text : List ℕ) (place : ℕ) (t : List ℕ) : Type 0 where
   pub is : slice_range text place (place + length t) ≡ t

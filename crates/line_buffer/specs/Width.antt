@@ -1,5 +1,5 @@
 -- How many columns a text takes.
-use Rattle.std.specs.Prelude.{ℕ, min, ◌==◌, Bool, false, List, chars, unwrap_or}
+use Rattle.std.specs.Prelude.{◌≡◌, ℕ, ◌+◌, min, ◌==◌, Bool, false, List, [], ◌∷◌, ◌++◌, chars, take, drop, unwrap_or, IsCharBoundary}
 use Rattle.std.specs.List.{sum_by, slice_split}
 use Rattle.unicode_width.specs.Width.{str_width, char_width}
 use Rattle.line_buffer.specs.declared.layout.GraphemeClusterMode.{GraphemeClusterMode}
@@ -25,3 +25,23 @@ text_width NoZwj text = sum_by columns_as_one (slice_split is_joiner (chars text
 -- the same, at most the greatest number of columns
 abbrev pub unit_width : GraphemeClusterMode → List ℕ → ℕ
 unit_width mode text = min (text_width mode text) 65535
+
+-- the columns of a text are those of its two parts, however they are counted
+abbrev pub AddUp : List ℕ → List ℕ → Type 0
+AddUp front behind = (mode : GraphemeClusterMode) → text_width mode (front ++ behind) ≡ text_width mode front + text_width mode behind
+
+-- columns add up before the character wherever no joiner stands there
+abbrev pub BeginsAnew : ℕ → Type 0
+BeginsAnew c = (front behind : List ℕ) (before : ℕ) → is_joiner before ≡ false
+    → columns_as_one ((front ++ before ∷ []) ++ c ∷ behind) ≡ columns_as_one (front ++ before ∷ []) + columns_as_one (c ∷ behind)
+
+-- columns add up between texts of which one ends in the first character and the other begins with the second
+abbrev pub IsSeam : ℕ → ℕ → Type 0
+IsSeam last first = (front behind before after : List ℕ) → chars (front ++ behind) ≡ chars front ++ chars behind
+    → chars front ≡ before ++ last ∷ [] → chars behind ≡ first ∷ after → AddUp front behind
+
+-- a text's columns are those before the place and those from it, with another text behind it and without
+pub record PartsAt (text behind : List ℕ) (place : ℕ) : Type 0 where
+  pub boundary : IsCharBoundary text place
+  pub whole : AddUp (take place text) (drop place text ++ behind)
+  pub alone : AddUp (take place text) (drop place text)

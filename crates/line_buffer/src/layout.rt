@@ -1,11 +1,9 @@
-ghost use Rattle.std.specs.Prelude.{◌≡◌, false, min, chars, IsUtf8};
+ghost use Rattle.std.specs.Prelude.{◌≡◌, ◌≤◌, ◌*◌, false, chars, length, take, IsCharBoundary, IsUtf8};
 ghost use Rattle.std.specs.List.{slice_split, sum_by};
-ghost use Rattle.line_buffer.specs.Width.{columns_as_one, columns_of_char, is_joiner, unit_width};
+ghost use Rattle.line_buffer.specs.Width.{columns_as_one, columns_of_char, is_joiner, text_width, unit_width};
 
+use crate::seams::{JOINER, seam};
 use unicode_width::{UnicodeWidthChar, UnicodeWidthStr};
-
-/// The zero width joiner, which makes one cluster of several.
-const JOINER: char = '\u{200d}';
 
 /// A count of columns or of rows.
 pub type Unit = u16;
@@ -81,43 +79,66 @@ impl GraphemeClusterMode {
     pub fn width(&self, text: &str) -> Unit
         ensures { result ≡ unit_width self.now text.now }
     {
+        self.columns(text).min(65535) as Unit
+    }
+
+    /// Returns the columns that the text takes, however many.
+    pub(crate) fn columns(&self, text: &str) -> usize
+        ensures { result ≡ text_width self.now text.now }
+    {
         match self {
             GraphemeClusterMode::Unicode => columns_of(text),
             GraphemeClusterMode::WcWidth => columns_of_chars(text),
             GraphemeClusterMode::NoZwj => columns_between_joiners(text),
         }
     }
+
+    /// Returns the columns that the text takes up to `end`, given those of all of it.
+    pub(crate) fn columns_to(&self, text: &str, end: usize, columns: usize) -> usize
+        requires end { IsCharBoundary text.now end }
+        requires columns { columns ≡ text_width self.now text.now }
+        ensures { result ≡ text_width self.now (take end text.now) }
+    {
+        let place = seam(&text[..end], &text[end..]);
+        let with = self.columns(&text[place..]);
+        let without = self.columns(&text[place..end]);
+        if without <= with {
+            columns - (with - without)
+        } else {
+            self.columns(&text[..end])
+        }
+    }
 }
 
-/// Returns the columns of the text, at most the greatest `Unit`.
-fn columns_of(text: &str) -> Unit
-    ensures columns { result ≡ min (columns_as_one (chars text.now)) 65535 }
+/// Returns the columns of the text.
+fn columns_of(text: &str) -> usize
+    ensures columns { result ≡ columns_as_one (chars text.now) }
+    ensures bound { result ≤ 2 * length text.now }
     ensures text { IsUtf8 text.now }
 {
-    text.width().min(65535) as Unit
+    text.width()
 }
 
-/// Returns the columns of the text's characters, each by itself, at most the greatest `Unit`.
-fn columns_of_chars(text: &str) -> Unit
-    ensures { result ≡ min (sum_by columns_of_char (chars text.now)) 65535 }
+/// Returns the columns of the text's characters, each by itself.
+fn columns_of_chars(text: &str) -> usize
+    ensures { result ≡ sum_by columns_of_char (chars text.now) }
 {
-    let mut columns: Unit = 0;
+    let mut columns: usize = 0;
     for c in text.chars() {
-        columns = columns.saturating_add(c.width().unwrap_or(0) as Unit);
+        columns = columns.saturating_add(c.width().unwrap_or(0));
     }
     columns
 }
 
-/// Returns the columns of the text's pieces between zero width joiners, at most the greatest
-/// `Unit`.
-fn columns_between_joiners(text: &str) -> Unit
-    ensures { result ≡ min (sum_by columns_as_one (slice_split is_joiner (chars text.now))) 65535 }
+/// Returns the columns of the text's pieces between zero width joiners.
+fn columns_between_joiners(text: &str) -> usize
+    ensures { result ≡ sum_by columns_as_one (slice_split is_joiner (chars text.now)) }
 {
-    let mut columns: Unit = 0;
+    let mut columns = 0;
     let mut rest = text;
     while let Some((piece, behind)) = rest.split_once(JOINER) {
-        columns = columns.saturating_add(columns_of(piece));
+        columns += columns_of(piece);
         rest = behind;
     }
-    columns.saturating_add(columns_of(rest))
+    columns + columns_of(rest)
 }

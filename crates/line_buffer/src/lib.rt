@@ -8,6 +8,7 @@ pub mod kill_ring;
 pub mod laws;
 pub mod layout;
 pub mod line_buffer;
+mod seams;
 mod search;
 pub mod undo;
 mod words;

@@ -321,13 +321,8 @@ impl LineBuffer {
 }
 
 /// Returns `n` copies of the text.
-#[tactic(auto, using(crate::proofs::ListLemmas::repeat_one_more))]
 pub(super) fn repeated(alloc: Global, text: &str, n: RepeatCount) -> Result<String, OutOfMemory>
     ensures { IfOk result (λ copies. string_bytes copies ≡ repeat n text.now) }
 {
-    let mut copies = String::new(alloc);
-    for _ in 0..n {
-        copies.push_str(text)?;
-    }
-    Ok(copies)
+    Ok(text.repeat(alloc, n as usize)?)
 }

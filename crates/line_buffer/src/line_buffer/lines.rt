@@ -3,12 +3,12 @@ ghost use Rattle.line_buffer.specs.Line.{MovesCursor};
 ghost use Rattle.line_buffer.specs.Offset.{IsOffset, IsRangeIfAny};
 ghost use Rattle.std.specs.Prelude.{◌≡◌, ◌≤◌, ◌+◌, length, drop, take, slice_range, is_some, IfSome, IsCharBoundary};
 ghost use Rattle.line_buffer.specs.Line.{moved_to, start_of_line};
-ghost use Rattle.line_buffer.specs.Lines.{column_in, down_by, fitting, line_from, line_stop, lines_above, lines_below, lines_down, lines_up, place_in_line, up_by};
+ghost use Rattle.line_buffer.specs.Lines.{column_in, columns_before, down_by, fitting, line_from, line_stop, lines_above, lines_below, lines_down, lines_up, place_in_line, up_by};
 
 use super::LineBuffer;
 use crate::clusters::{first_line_len, line_above, next_line};
 use crate::keymap::RepeatCount;
-use crate::layout::Layout;
+use crate::layout::{Layout, Unit};
 use unicode_segmentation::UnicodeSegmentation;
 
 impl LineBuffer {
@@ -123,16 +123,22 @@ impl LineBuffer {
     }
 }
 
+/// Returns the columns before the start of a line: those of the prompt on the first.
+fn columns_before(layout: &Layout, start: usize) -> Unit
+    ensures { result ≡ columns_before layout.now start }
+{
+    if start == 0 {
+        layout.prompt_size.col
+    } else {
+        0
+    }
+}
+
 /// Returns the column of a text in a line that begins at `start`.
 fn column_in(layout: &Layout, start: usize, text: &str) -> usize
     ensures { result ≡ column_in layout.now start text.now }
 {
-    let before = if start == 0 {
-        layout.prompt_size.col as usize
-    } else {
-        0
-    };
-    before + layout.width(text) as usize
+    columns_before(layout, start) as usize + layout.width(text) as usize
 }
 
 /// Returns the greatest place between clusters of the line whose column is not past `column`, or
@@ -140,11 +146,16 @@ fn column_in(layout: &Layout, start: usize, text: &str) -> usize
 fn fitting(layout: &Layout, start: usize, line: &str, column: usize) -> usize
     ensures { IsOffset result line.now (fitting layout.now start line.now column) }
 {
+    let mode = &layout.grapheme_cluster_mode;
+    let before = columns_before(layout, start) as usize;
+    let mut columns = mode.columns(line);
     let mut rest = line.graphemes(true);
-    while column_in(layout, start, rest.as_str()) > column {
+    while before + columns.min(65535) > column {
+        let text = rest.as_str();
         let Some(_) = rest.next_back() else {
             return 0;
         };
+        columns = mode.columns_to(text, rest.as_str().len(), columns);
     }
     rest.as_str().len()
 }

@@ -1,16 +1,19 @@
-use Rattle.std.proofs.Common.{sym, ◌∙◌}
-use Rattle.line_buffer.proofs.WidthLemmas.{behind_is_text, fewer_columns, last_columns}
+use Rattle.std.proofs.Common.{arith}
+use Rattle.line_buffer.proofs.WidthLemmas.{behind_is_text, fewer_bytes, fewer_columns, last_columns}
 use Rattle.line_buffer.proofs.layout.columns_between_joiners.Goals as goal
 
 pub loop-piece-preserved : goal.loop-piece-preserved
-loop-piece-preserved c = (
-  behind_is_text c.loop-piece.rest.now c.in-Some.piece.now c.in-Some.behind.now c.loop-piece.invariant.0 c.in-Some.ensures.cases,
-  rw (c.saturating_add-columns.ensures, c.columns_of.ensures.columns)
-      (sym (fewer_columns c.loop-piece.columns c.loop-piece.rest.now c.in-Some.piece.now c.in-Some.behind.now c.columns_of.ensures.text c.in-Some.ensures.cases)
-      ∙ c.loop-piece.invariant.1),
-)
+loop-piece-preserved c =
+    let before = c.loop-piece.invariant in
+    let columns = c.columns_of-columns.ensures in
+    let cases = c.in-Some.ensures.cases in (
+      behind_is_text c.loop-piece.rest.now c.in-Some.piece.now c.in-Some.behind.now before.0 cases,
+      omega (arith, before.1, columns.columns, fewer_columns c.loop-piece.rest.now c.in-Some.piece.now c.in-Some.behind.now columns.text cases),
+      omega (arith, before.2, columns.bound, fewer_bytes c.loop-piece.rest.now c.in-Some.piece.now c.in-Some.behind.now cases),
+    )
 
 pub returns : goal.returns
 returns c =
-    c.saturating_add.ensures ∙ rw c.columns_of-2.ensures.columns
-    (sym (last_columns c.loop-piece.columns c.loop-piece.rest.now c.columns_of-2.ensures.text c.in_default.ensures.cases) ∙ c.loop-piece.invariant.1)
+    let before = c.loop-piece.invariant in
+    let columns = c.columns_of.ensures in
+    omega (arith, before.1, columns.columns, last_columns c.loop-piece.rest.now columns.text c.in_default.ensures.cases)
