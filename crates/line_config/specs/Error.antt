@@ -48,6 +48,11 @@ abbrev pub FaultsOnly : {T : Type 0} → Result T ReadlineError → Type 0
 FaultsOnly (Ok _) = Unit {0}
 FaultsOnly (Err e) = is_fault e ≡ true
 
+-- unless the error is one of input or output, or a failed allocation, this holds
+abbrev pub UnlessFault : {T : Type 0} → Result T ReadlineError → Type 0 → Type 0
+UnlessFault (Ok _) P = P
+UnlessFault (Err e) P = is_fault e ≡ false → P
+
 -- the only error is a failed allocation
 abbrev pub MemoryOnly : {T : Type 0} → Result T ReadlineError → Type 0
 MemoryOnly (Ok _) = Unit {0}
