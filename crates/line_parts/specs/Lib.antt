@@ -4,6 +4,11 @@ pub mod Context
 pub mod Environment
 pub mod Helped
 pub mod Hint
+pub mod History
+pub mod HistoryLaws
+pub mod HistoryPlace
+pub mod HistoryText
+pub mod HistoryTextLaws
 pub mod Shown
 pub mod Verdict
 pub use Rattle.line_config.specs.Error

@@ -1,17 +1,114 @@
 //! The lines that were entered before.
-ghost use Rattle.std.specs.Prelude.{◌≡◌, ℕ, Bool, List, [], length, ◌↔◌, IsTrue, true};
+ghost use Rattle.std.specs.Prelude.{◌≡◌, ℕ, Bool, false, List, [], length, not, if◌then◌else◌, ◌↔◌};
+ghost use Rattle.std.specs.Prelude.{IsTrue, is_ok, option_map, string_bytes, IfOk};
+ghost use Rattle.line_config.specs.Error.{FaultsOnly, IoOnlyIf, MemoryOnly};
 
-use std::alloc::Global;
-use std::collections::VecDeque;
-use std::marker::Model;
+mod file;
+mod mem;
+mod search;
+mod text;
+
+pub use file::FileHistory;
+use line_config::Result;
+pub use mem::MemHistory;
+use std::borrow::CowStr;
+
+/// The history that an editor uses by default.
+pub type DefaultHistory = FileHistory;
+
+/// The direction of a search in a history.
+#[derive(Debug, Clone, Copy, PartialEq, Eq)]
+pub enum SearchDirection {
+    /// Towards the newer lines.
+    Forward,
+    /// Towards the older lines.
+    Reverse,
+}
+
+/// A line that was found in a history.
+#[derive(Debug, PartialEq, Eq, Drop)]
+pub struct SearchResult<'a> {
+    /// The line.
+    pub entry: CowStr<'a>,
+    /// The index of the line.
+    pub idx: usize,
+    /// The byte offset in the line of what was looked for.
+    pub pos: usize,
+}
+
+impl<'a> SearchResult<'a> {
+    ghost use Rattle.line_parts.specs.History.{found_of};
+
+    /// Returns an equal result. A borrowed line stays borrowed.
+    ///
+    /// # Errors
+    /// `Memory`, where an allocation fails.
+    pub fn clone(&self) -> Result<Self>
+        ensures answer { IfOk result (λ copy. found_of copy ≡ found_of self.now) }
+        ensures memory { MemoryOnly result }
+    {
+        Ok(SearchResult {
+            entry: self.entry.clone()?,
+            idx: self.idx,
+            pos: self.pos,
+        })
+    }
+}
 
 /// Lines that were entered before, the oldest first.
 pub trait History {
+    ghost use Rattle.line_parts.specs.History.{HistoryRules, added, entry_at, found_of, last_of};
+    ghost use Rattle.line_parts.specs.History.{leaves_out, search_in, starting_with};
+
     // The lines, the oldest first.
     ghost lines: { Self → List (List ℕ) };
 
+    // Which lines it takes.
+    ghost rules: { Self → HistoryRules };
+
     // Whether no error of input or output comes from it.
     ghost sure: { Self → Bool };
+
+    /// Returns the line at `index`, with 0 as the place in it, or None from the number of lines on,
+    /// whatever the direction.
+    ///
+    /// # Errors
+    /// `Io`, only where the history is not sure, and `Memory`.
+    fn get(&self, index: usize, dir: SearchDirection) -> Result<Option<SearchResult<'_>>>
+        ensures answer { IfOk result (λ found.
+            option_map found_of found ≡ entry_at (lines self.now) index) }
+        ensures io { IoOnlyIf result (sure self.now ≡ false) }
+        ensures faults { FaultsOnly result };
+
+    /// Adds a copy of `line` as the newest one, and drops the oldest where there are too many.
+    /// Returns whether it was added: it is left out where it is empty, where no line is kept, where
+    /// it begins with white space or equals the newest line and such lines are ignored.
+    ///
+    /// # Errors
+    /// `Io`, only where the history is not sure, and `Memory`. The lines then stay as they were.
+    fn add(&mut self, line: &str) -> Result<bool>
+        ensures answer { IfOk result (λ taken.
+            taken ≡ not (leaves_out (rules self.old) (lines self.old) line.now)) }
+        ensures lines { lines self.new ≡ (if is_ok result
+            then added (rules self.old) (lines self.old) line.now else lines self.old) }
+        ensures rules { rules self.new ≡ rules self.old }
+        ensures sure { sure self.new ≡ sure self.old }
+        ensures io { IoOnlyIf result (sure self.old ≡ false) }
+        ensures faults { FaultsOnly result };
+
+    /// Adds `line` as `add` adds a copy of it.
+    ///
+    /// # Errors
+    /// `Io`, only where the history is not sure, and `Memory`. The lines then stay as they were.
+    fn add_owned(&mut self, line: String) -> Result<bool>
+        ensures answer { IfOk result (λ taken.
+            taken ≡ not (leaves_out (rules self.old) (lines self.old) (string_bytes line))) }
+        ensures lines { lines self.new ≡ (if is_ok result
+            then added (rules self.old) (lines self.old) (string_bytes line) else lines self.old) }
+        ensures rules { rules self.new ≡ rules self.old }
+        ensures sure { sure self.new ≡ sure self.old }
+        ensures io { IoOnlyIf result (sure self.old ≡ false) }
+        ensures faults { FaultsOnly result };
 
     /// Returns the number of lines.
     fn len(&self) -> usize
@@ -23,39 +120,80 @@ pub trait History {
     {
         self.len() == 0
     }
-}
 
-/// A history that is kept in memory.
-#[derive(Drop)]
-pub struct MemHistory {
-    entries: VecDeque<String>,
-}
+    /// Sets how many lines are kept at most. Where there are more, the oldest are dropped.
+    ///
+    /// # Errors
+    /// `Io`, only where the history is not sure, and `Memory`. Nothing has then changed.
+    fn set_max_len(&mut self, len: usize) -> Result<()>
+        ensures lines { lines self.new
+            ≡ (if is_ok result then last_of len (lines self.old) else lines self.old) }
+        ensures rules { rules self.new
+            ≡ (if is_ok result then record (rules self.old) { max_len = len } else rules self.old) }
+        ensures sure { sure self.new ≡ sure self.old }
+        ensures io { IoOnlyIf result (sure self.old ≡ false) }
+        ensures faults { FaultsOnly result };
 
-impl Model for MemHistory {
-    ghost use Rattle.std.specs.Prelude.{ℕ, List, map, string_bytes};
+    /// Sets whether a line that equals the newest one is left out.
+    ///
+    /// # Errors
+    /// `Io`, only where the history is not sure, and `Memory`. Nothing has then changed.
+    fn ignore_dups(&mut self, yes: bool) -> Result<()>
+        ensures lines { lines self.new ≡ lines self.old }
+        ensures rules { rules self.new ≡ (if is_ok result
+            then record (rules self.old) { ignore_dups = yes } else rules self.old) }
+        ensures sure { sure self.new ≡ sure self.old }
+        ensures io { IoOnlyIf result (sure self.old ≡ false) }
+        ensures faults { FaultsOnly result };
 
-    ghost Value = { List (List ℕ) };
+    /// Sets whether a line that begins with white space is left out.
+    fn ignore_space(&mut self, yes: bool)
+        ensures lines { lines self.new ≡ lines self.old }
+        ensures rules { rules self.new ≡ record (rules self.old) { ignore_space = yes } }
+        ensures sure { sure self.new ≡ sure self.old };
 
-    ghost view = { λ h. map string_bytes h.entries.items };
-}
+    /// Drops all lines.
+    ///
+    /// # Errors
+    /// `Io`, only where the history is not sure, and `Memory`. Nothing has then changed.
+    fn clear(&mut self) -> Result<()>
+        ensures lines { lines self.new ≡ (if is_ok result then [] else lines self.old) }
+        ensures rules { rules self.new ≡ rules self.old }
+        ensures sure { sure self.new ≡ sure self.old }
+        ensures io { IoOnlyIf result (sure self.old ≡ false) }
+        ensures faults { FaultsOnly result };
 
-impl MemHistory {
-    /// Returns a history without lines. It grows from `alloc`.
-    pub fn new(alloc: Global) -> MemHistory
-        ensures { result ≡ [] }
-    {
-        MemHistory {
-            entries: VecDeque::new(alloc),
-        }
-    }
-}
+    /// Returns the line that contains `term` and is nearest to the index `start`, itself included,
+    /// in this direction, with the byte offset of the first occurrence. None for an empty term, and
+    /// where `start` is not the index of a line.
+    ///
+    /// # Errors
+    /// `Io`, only where the history is not sure, and `Memory`.
+    fn search(
+        &self,
+        term: &str,
+        start: usize,
+        dir: SearchDirection,
+    ) -> Result<Option<SearchResult<'_>>>
+        ensures answer { IfOk result (λ found.
+            option_map found_of found ≡ search_in (lines self.now) term.now start dir) }
+        ensures io { IoOnlyIf result (sure self.now ≡ false) }
+        ensures faults { FaultsOnly result };
 
-impl History for MemHistory {
-    ghost lines = { λ h. h };
-
-    ghost sure = { λ _. true };
-
-    fn len(&self) -> usize {
-        self.entries.len()
-    }
+    /// Returns the line that begins with `term` and is nearest to the index `start`, itself
+    /// included, in this direction, with the byte offset behind `term`. None for an empty term, and
+    /// where `start` is not the index of a line.
+    ///
+    /// # Errors
+    /// `Io`, only where the history is not sure, and `Memory`.
+    fn starts_with(
+        &self,
+        term: &str,
+        start: usize,
+        dir: SearchDirection,
+    ) -> Result<Option<SearchResult<'_>>>
+        ensures answer { IfOk result (λ found.
+            option_map found_of found ≡ starting_with (lines self.now) term.now start dir) }
+        ensures io { IoOnlyIf result (sure self.now ≡ false) }
+        ensures faults { FaultsOnly result };
 }

@@ -8,6 +8,7 @@ pub mod helper;
 pub mod highlight;
 pub mod hint;
 pub mod history;
+pub mod laws;
 pub mod parties;
 pub mod validate;
 
@@ -17,6 +18,8 @@ pub use context::Context;
 pub use helper::Helper;
 pub use highlight::{CmdKind, Highlighter};
 pub use hint::{Hint, Hinter};
-pub use history::{History, MemHistory};
+pub use history::{
+    DefaultHistory, FileHistory, History, MemHistory, SearchDirection, SearchResult,
+};
 pub use parties::Parties;
 pub use validate::{ValidationContext, ValidationResult, Validator};

@@ -214,7 +214,8 @@ impl<'out, H: Helper, S: History> Parties<'out, H, S> {
 
     /// Returns the history.
     pub fn history(&self) -> &'out S
-        ensures { S.lines result.now ≡ (⟦<Self as Consulted>⟧.environment self.now).lines }
+        ensures lines { S.lines result.now ≡ (⟦<Self as Consulted>⟧.environment self.now).lines }
+        ensures sure { ⟦<Self as Consulted>⟧.sure self.now ≡ true → S.sure result.now ≡ true }
     {
         self.ctx.history()
     }

@@ -1,0 +1,67 @@
+-- What a writer holds, with a text that waits to be written.
+use Rattle.std.proofs.Common.{◌≡◌, ℕ, ◌+◌, ◌-◌, ◌<◌, ◌≤◌, Bool, true, false, List, [], ◌∷◌, ◌++◌, length, drop, get_or, Option, None, Some, ap, sym, ◌∙◌, refl, append_assoc, append-nil}
+use Rattle.std.specs.Io.KnownBytes.{Appends, append_known, Keeps}
+use Rattle.std.proofs.lemmas.List.{drop_more, drop_all}
+use Rattle.line_parts.specs.History.{FiledHistory}
+use Rattle.line_parts.specs.HistoryText.{escaped, to_save, written}
+
+-- so much was written or waits to be, and these lines are left
+pub record Written (start now : Option (List ℕ)) (lines : List (List ℕ)) (first index : ℕ) : Type 0 where
+  pub done : List ℕ
+  pub appends : Appends start now done
+  pub rest : done ++ written (drop index lines) ≡ written (drop first lines)
+
+appends-none : (start : Option (List ℕ)) → Appends start start []
+appends-none None = tt
+appends-none (Some xs) = sym (append-nil xs)
+
+appends-more : (start known : Option (List ℕ)) (text new done line : List ℕ) → Appends start (append_known known text) done → new ≡ text ++ line → Appends start (append_known known new) (done ++ line)
+appends-more None known text new done line h e = tt
+appends-more (Some xs) None text new done line h e = h
+appends-more (Some xs) (Some ys) text new done line h e = rw (e, ← append_assoc ys text line, h) (append_assoc xs done line)
+
+appends-out : (start known new : Option (List ℕ)) (text emptied done : List ℕ) → Appends start (append_known known text) done → Appends known new text → emptied ≡ [] → Appends start (append_known new emptied) done
+appends-out None known new text emptied done h out e = tt
+appends-out (Some xs) None new text emptied done h out e = absurd h
+appends-out (Some xs) (Some ys) None text emptied done h out e = out
+appends-out (Some xs) (Some ys) (Some zs) text emptied done h out e = rw (e, append-nil zs, out) h
+
+pub written_none : (start : Option (List ℕ)) (lines : List (List ℕ)) (first : ℕ) → Written start start lines first first
+written_none start lines first = record { done = []; appends = appends-none start; rest = refl }
+
+pub written_more : (start known : Option (List ℕ)) (text new line : List ℕ) (lines : List (List ℕ)) (first index : ℕ) → index < length lines → line ≡ get_or lines index [] → Written start (append_known known text) lines first index → new ≡ text ++ (escaped line ++ 10 ∷ []) → Written start (append_known known new) lines first (index + 1)
+written_more start known text new line lines first index lt is w e = record {
+  done = w.done ++ (escaped line ++ 10 ∷ []);
+  appends = appends-more start known text new w.done (escaped line ++ 10 ∷ []) w.appends e;
+  rest = append_assoc w.done (escaped line ++ 10 ∷ []) (written (drop (index + 1) lines))
+      ∙ ap (λ bs. w.done ++ bs) (rw (drop_more lines index [] lt, is) refl) ∙ w.rest;
+}
+
+pub written_out : (start known out : Option (List ℕ)) (text emptied : List ℕ) (lines : List (List ℕ)) (first index : ℕ) → Written start (append_known known text) lines first index → Appends known out text → emptied ≡ [] → Written start (append_known out emptied) lines first index
+written_out start known out text emptied lines first index w wrote e = record {
+  done = w.done;
+  appends = appends-out start known out text emptied w.done w.appends wrote e;
+  rest = w.rest;
+}
+
+pub written_all : (start now : Option (List ℕ)) (lines : List (List ℕ)) (first index : ℕ) → length lines ≤ index → Written start now lines first index → Appends start now (written (drop first lines))
+written_all start now lines first index le w =
+    rw (← w.rest, drop_all index lines le, append-nil w.done) w.appends
+
+pub saved_text : (start held out flushed : Option (List ℕ)) (before waits part whole : List ℕ) → Appends (append_known start before) (append_known held waits) part → Appends held out waits → Keeps out flushed → before ++ part ≡ whole → Appends start flushed whole
+saved_text None held out flushed before waits part whole h k s e = tt
+saved_text (Some xs) None out flushed before waits part whole h k s e = absurd h
+saved_text (Some xs) (Some ys) None flushed before waits part whole h k s e = absurd k
+saved_text (Some xs) (Some ys) (Some zs) None before waits part whole h k s e = absurd s
+saved_text (Some xs) (Some ys) (Some zs) (Some ws) before waits part whole h k s e =
+    s ∙ k ∙ h ∙ append_assoc xs before part ∙ ap (λ t. xs ++ t) e
+
+drop_zero : {X : Type 0} (xs : List X) → drop 0 xs ≡ xs
+drop_zero [] = refl
+drop_zero (x ∷ xs) = refl
+
+pub saved_whole : (append : Bool) (h : FiledHistory) (before : List ℕ) (first : ℕ) → append ≡ false → before ≡ 35 ∷ 86 ∷ 50 ∷ 10 ∷ [] → first ≡ 0 → before ++ written (drop first h.lines) ≡ to_save append h
+saved_whole append h before first e f g = rw (e, f, g, drop_zero h.lines) refl
+
+pub saved_new : (append : Bool) (h : FiledHistory) (before : List ℕ) (first : ℕ) → append ≡ true → before ≡ [] → first ≡ length h.lines - h.new_lines → before ++ written (drop first h.lines) ≡ to_save append h
+saved_new append h before first e f g = rw (e, f, g) refl

@@ -1,0 +1,328 @@
+//! The text in which a history is saved and loaded.
+ghost use Rattle.std.specs.Prelude.{◌≡◌, ◌≢◌, ◌+◌, ◌<◌, ◌≤◌, ℕ, length, drop, slice_index};
+ghost use Rattle.std.specs.Prelude.{if◌then◌else◌, ◌++◌, ◌∷◌, [], true, false, not};
+ghost use Rattle.std.specs.Prelude.{List, All, OnOk, OnErr, IfErr, IfOk, MatchOption, IfSome};
+ghost use Rattle.std.specs.Io.BufRead.{ends_with_byte, strip_last};
+ghost use Rattle.std.specs.Str.{IsUtf8};
+ghost use Rattle.std.specs.declared.io.ErrorKind.TheVariants.{InvalidData};
+ghost use Rattle.line_config.specs.Error.{FaultsOnly, IoOnlyIf, IsIoOfKind, MemoryOnly};
+ghost use Rattle.line_config.specs.Error.{is_fault, is_io};
+ghost use Rattle.line_config.specs.declared.error.ReadlineError.TheVariants.{Io};
+ghost use Rattle.memchr.specs.Find.{is_byte2};
+ghost use Rattle.std.specs.Io.{StopsAt};
+ghost use Rattle.std.specs.Io.KnownBytes.{append_known, Appends};
+ghost use Rattle.line_parts.specs.History.{filed, leaves_out, settled};
+ghost use Rattle.line_parts.specs.HistoryText.{escaped_byte, escaped, lines_of, to_save, written};
+ghost use Rattle.line_parts.specs.HistoryText.{Adds, AddsBeginning, AddsSome, Begins, FilesSome};
+ghost use Rattle.line_parts.specs.HistoryText.{GoesOn, Loads, LoadsBeginning, Says};
+
+use crate::history::{FileHistory, History};
+use line_config::{ReadlineError, Result};
+use memchr::{memchr, memchr2};
+use std::io::{BufRead, BufReader, Read, Write};
+use std::{io, str};
+
+/// Puts the escape of a backslash or a newline behind a text.
+fn push_escape(text: &mut Vec<u8>, byte: u8) -> Result<()>
+    requires { is_byte2 92 10 byte ≡ true }
+    ensures text { OnOk result (text.new.items ≡ text.old.items ++ escaped_byte byte) }
+    ensures faults { MemoryOnly result }
+{
+    let escape = if byte == b'\n' { b"\\n" } else { b"\\\\" };
+    text.extend_from_slice(escape)?;
+    Ok(())
+}
+
+/// Puts a line behind a text, with its escapes and a line feed.
+fn push_line(text: &mut Vec<u8>, line: &str) -> Result<()>
+    ensures text { OnOk result (text.new.items ≡ text.old.items ++ (escaped line.now ++ 10 ∷ [])) }
+    ensures faults { MemoryOnly result }
+{
+    let mut rest = line.as_bytes();
+    while let Some(at) = memchr2(b'\\', b'\n', rest) {
+        text.extend_from_slice(&rest[..at])?;
+        push_escape(text, rest[at])?;
+        rest = &rest[at + 1..];
+    }
+    text.extend_from_slice(rest)?;
+    text.push(b'\n')?;
+    Ok(())
+}
+
+/// Returns the byte that the escape at `at` stands for: `None` where none stands there.
+fn read_escape(line: &[u8], at: usize) -> Option<u8>
+    requires { at < length line.now }
+    ensures { MatchOption result
+        ((b : ℕ) (rest : List ℕ) → escaped_byte b ++ rest ≡ drop at line.now
+        → slice_index line.now at ≢ 92)
+        (λ b. slice_index line.now at ≡ 92
+        → drop at line.now ≡ escaped_byte b ++ drop (at + 2) line.now) }
+{
+    match line[at + 1..].first() {
+        Some(b'\\') => Some(b'\\'),
+        Some(b'n') => Some(b'\n'),
+        _ => None,
+    }
+}
+
+/// Reads a line with escapes into `text`, and returns whether all of them are good.
+fn unescape(line: &[u8], text: &mut Vec<u8>) -> Result<bool>
+    requires { All (λ b. b ≢ 10) line.now }
+    ensures says { IfOk result
+        (λ good. Says line.now (if good then text.new.items else line.now)) }
+    ensures faults { MemoryOnly result }
+{
+    text.clear();
+    let mut rest = line;
+    while let Some(at) = memchr(b'\\', rest) {
+        text.extend_from_slice(&rest[..at])?;
+        let Some(byte) = read_escape(rest, at) else {
+            return Ok(false);
+        };
+        text.push(byte)?;
+        rest = &rest[at + 2..];
+    }
+    text.extend_from_slice(rest)?;
+    Ok(true)
+}
+
+/// Takes the last byte off, where it is `byte`, and returns whether it was.
+#[tactic(auto, using(crate::proofs::LinesLemmas::gone))]
+fn pop_if_last(bytes: &mut Vec<u8>, byte: u8) -> bool
+    ensures popped { result ≡ ends_with_byte byte bytes.old.items }
+    ensures rest { bytes.new.items ≡ strip_last byte bytes.old.items }
+    ensures gone { StopsAt bytes.old.items byte → All (λ b. b ≢ byte) bytes.new.items }
+{
+    let len = bytes.len();
+    if len == 0 || bytes[len - 1] != byte {
+        return false;
+    }
+    bytes.truncate(len - 1);
+    true
+}
+
+/// Reads the next line into `line`, without its line feed and one carriage return before that.
+/// Returns whether there was one.
+#[tactic(auto, using(crate::proofs::LoadLemmas::read_none, crate::proofs::LoadLemmas::ended_none, crate::proofs::LoadLemmas::read_one, crate::proofs::LoadLemmas::trimmed_kept, crate::proofs::LoadLemmas::trimmed_cut, crate::proofs::LoadLemmas::plain_cut))]
+fn read_line<B: BufRead>(reader: &mut B, line: &mut Vec<u8>) -> Result<bool>
+    ensures goes_on { IfOk result (λ more. GoesOn (B.remaining reader.old) (B.remaining reader.new)
+        (if more then line.new.items ∷ [] else [])) }
+    ensures ended { IfOk result (λ more. more ≡ false
+        → IfSome (B.remaining reader.old) (λ text. lines_of text ≡ [])) }
+    ensures plain { OnOk result (All (λ b. b ≢ 10) line.new.items) }
+    ensures faults { FaultsOnly result }
+{
+    line.clear();
+    match reader.read_until(b'\n', line) {
+        Ok(0) => return Ok(false),
+        Ok(_) => {}
+        Err(cause) => return Err(stream_fault(cause)),
+    }
+    if !pop_if_last(line, b'\n') {
+        return Ok(true);
+    }
+    pop_if_last(line, b'\r');
+    Ok(true)
+}
+
+// The first line of a text with escapes.
+const HEADER: &[u8] = b"#V2";
+
+// How long a text grows before it is handed to the writer.
+const BUFFERED: usize = 8192;
+
+// Returns the error of a stream: a refused allocation is a want of memory.
+fn stream_fault(cause: io::Error) -> ReadlineError
+    ensures fault { is_fault result ≡ true }
+    ensures kept { is_io result ≡ true → result ≡ Io cause }
+{
+    if cause.kind() == io::ErrorKind::OutOfMemory {
+        return ReadlineError::Memory;
+    }
+    ReadlineError::Io(cause)
+}
+
+// Writes a text, and empties it.
+fn write_out<T: Write>(text: &mut Vec<u8>, out: &mut T) -> Result<()>
+    ensures text { OnOk result (Appends (T.contents out.old) (T.contents out.new) text.old.items) }
+    ensures empty { OnOk result (text.new.items ≡ []) }
+    ensures faults { FaultsOnly result }
+{
+    out.write_all(text.as_slice()).map_err(stream_fault)?;
+    text.clear();
+    Ok(())
+}
+
+impl FileHistory {
+    // Writes the lines from an index on behind a text that waits to be written, and leaves the last
+    // of them waiting.
+    #[tactic(auto, using(crate::proofs::SaveLemmas::written_none, crate::proofs::SaveLemmas::written_more, crate::proofs::SaveLemmas::written_out, crate::proofs::SaveLemmas::written_all))]
+    fn write_lines<T: Write>(&self, first: usize, text: &mut Vec<u8>, out: &mut T) -> Result<()>
+        requires { first ≤ length self.now.lines }
+        ensures text { OnOk result (Appends
+            (append_known (T.contents out.old) text.old.items)
+            (append_known (T.contents out.new) text.new.items)
+            (written (drop first self.now.lines))) }
+        ensures faults { FaultsOnly result }
+    {
+        for index in first..self.len() {
+            push_line(text, self.entry(index))?;
+            if text.len() >= BUFFERED {
+                write_out(text, out)?;
+            }
+        }
+        Ok(())
+    }
+
+    /// Writes the lines to `out`. With `append` only the new lines are written, those that came
+    /// since all were saved or loaded, and without the header.
+    ///
+    /// # Errors
+    /// `Io`, where the writer fails, and `Memory`. The history then stays as it was, and so do its
+    /// new lines.
+    pub fn save_to<T: Write>(&mut self, out: &mut T, append: bool) -> Result<()>
+        ensures text { OnOk result
+            (Appends (T.contents out.old) (T.contents out.new) (to_save append self.old)) }
+        ensures history { OnOk result (self.new ≡ settled self.old) }
+        ensures unchanged { OnErr result (self.new ≡ self.old) }
+        ensures faults { FaultsOnly result }
+    {
+        let mut text = Vec::new(self.alloc());
+        let mut first = self.first_new();
+        if !append {
+            text.extend_from_slice(b"#V2\n")?;
+            first = 0;
+        }
+        self.write_lines(first, &mut text, out)?;
+        write_out(&mut text, out)?;
+        out.flush().map_err(stream_fault)?;
+        self.settle();
+        Ok(())
+    }
+}
+
+impl FileHistory {
+    // Adds a line that was read, which has to be UTF-8.
+    fn add_bytes(&mut self, line: &[u8]) -> Result<bool>
+        ensures answer { IfOk result (λ taken.
+            taken ≡ not (leaves_out self.old.rules self.old.lines line.now)) }
+        ensures filed { OnOk result (self.new ≡ filed self.old line.now) }
+        ensures unchanged { OnErr result (self.new ≡ self.old) }
+        ensures io { IoOnlyIf result (¬ (IsUtf8 line.now)) }
+        ensures kind { IfErr result (λ e. is_io e ≡ true → IsIoOfKind e InvalidData) }
+        ensures faults { FaultsOnly result }
+    {
+        match str::from_utf8(line) {
+            Ok(line) => self.add(line),
+            Err(_) => Err(ReadlineError::from(io::ErrorKind::InvalidData)),
+        }
+    }
+
+    // Adds what a line says, unless it is empty. Its text is built in `text`.
+    #[tactic(auto, using(crate::proofs::LoadLemmas::adds_empty, crate::proofs::LoadLemmas::adds_plain, crate::proofs::LoadLemmas::adds_says))]
+    fn load_line(&mut self, line: &[u8], headed: bool, text: &mut Vec<u8>) -> Result<bool>
+        requires { All (λ b. b ≢ 10) line.now }
+        ensures adds { IfOk result (Adds headed (line.now ∷ []) self.old self.new) }
+        ensures unchanged { OnErr result (self.new ≡ self.old) }
+        ensures kind { IfErr result (λ e. is_io e ≡ true → IsIoOfKind e InvalidData) }
+        ensures faults { FaultsOnly result }
+    {
+        if line.is_empty() {
+            return Ok(true);
+        }
+        if !headed {
+            return self.add_bytes(line);
+        }
+        if unescape(line, text)? {
+            return self.add_bytes(text.as_slice());
+        }
+        self.add_bytes(line)
+    }
+
+    // Reads the header, or else the first line, and adds that. Returns whether it was the header.
+    #[tactic(auto, using(crate::proofs::LoadLemmas::begins_empty, crate::proofs::LoadLemmas::begins_header, crate::proofs::LoadLemmas::begins_line, crate::proofs::LoadLemmas::begins_blank))]
+    fn load_first<B: BufRead>(&mut self, reader: &mut B) -> Result<bool>
+        ensures begins { IfOk result
+            (Begins (B.remaining reader.old) (B.remaining reader.new) self.old self.new) }
+        ensures unchanged { OnErr result (self.new ≡ self.old) }
+        ensures faults { FaultsOnly result }
+    {
+        let mut line = Vec::new(self.alloc());
+        if !read_line(reader, &mut line)? {
+            return Ok(false);
+        }
+        if line.as_slice() == HEADER {
+            return Ok(true);
+        }
+        if !line.is_empty() {
+            self.add_bytes(line.as_slice())?;
+        }
+        Ok(false)
+    }
+
+    // Reads the lines behind the first one and adds them. Returns whether all were taken.
+    #[tactic(auto, using(crate::proofs::LoadLemmas::loading_none, crate::proofs::LoadLemmas::loading_more, crate::proofs::LoadLemmas::loading_ended, crate::proofs::LoadLemmas::loading_beginning, crate::proofs::LoadLemmas::loading_some))]
+    fn load_rest<B: BufRead>(&mut self, reader: &mut B, headed: bool) -> Result<bool>
+        ensures all { IfOk result (λ taken. IfSome (B.remaining reader.old)
+            (λ text. Adds headed (lines_of text) self.old self.new taken)) }
+        ensures beginning { OnErr result (IfSome (B.remaining reader.old)
+            (λ text. AddsBeginning headed (lines_of text) self.old self.new)) }
+        ensures some { AddsSome self.old self.new }
+        ensures faults { FaultsOnly result }
+    {
+        let mut line = Vec::new(self.alloc());
+        let mut text = Vec::new(self.alloc());
+        let mut taken = true;
+        for _ in 0..u64::MAX {
+            if !read_line(reader, &mut line)? {
+                return Ok(taken);
+            }
+            let added = self.load_line(line.as_slice(), headed, &mut text)?;
+            taken = taken && added;
+        }
+        Err(ReadlineError::from(io::ErrorKind::FileTooLarge))
+    }
+
+    // Reads a whole text and adds its lines, as `load_from` says.
+    #[tactic(auto, using(crate::proofs::LoadLemmas::loads_headed, crate::proofs::LoadLemmas::loads_bare, crate::proofs::LoadLemmas::adds_some_none, crate::proofs::LoadLemmas::adds_some_more))]
+    fn load_text<B: BufRead>(&mut self, reader: &mut B) -> Result<bool>
+        ensures loads { IfOk result (λ answer. IfSome (B.remaining reader.old)
+            (λ text. Loads text self.old self.new answer)) }
+        ensures beginning { OnErr result (IfSome (B.remaining reader.old)
+            (λ text. LoadsBeginning text self.old self.new)) }
+        ensures adds { FilesSome result self.old self.new }
+        ensures faults { FaultsOnly result }
+    {
+        let headed = self.load_first(reader)?;
+        let taken = self.load_rest(reader, headed)?;
+        self.settle();
+        if !headed {
+            return Ok(false);
+        }
+        Ok(taken)
+    }
+
+    /// Reads lines from `reader` to its end, and adds each. A text that begins with the line `#V2`
+    /// has escapes, as `save_to` writes them; in any other each line is added as it stands. Empty
+    /// lines are skipped. Returns whether the text began so, and every line was taken. After that no
+    /// line counts as new.
+    ///
+    /// # Errors
+    /// `Io`, where the reader fails, a line is not UTF-8 (of kind `InvalidData`), or there are more
+    /// lines than a `u64` can count (of kind `FileTooLarge`), and `Memory`. The lines before the
+    /// fault are then there, and count as new.
+    #[tactic(auto, using(crate::proofs::LoadLemmas::nothing_read, crate::proofs::LoadLemmas::adds_some_none, crate::proofs::LoadLemmas::reader_known))]
+    pub fn load_from<T: Read + Drop>(&mut self, reader: T) -> Result<bool>
+        ensures loads { IfOk result (λ answer. IfSome (T.remaining reader)
+            (λ text. Loads text self.old self.new answer)) }
+        ensures beginning { OnErr result (IfSome (T.remaining reader)
+            (λ text. LoadsBeginning text self.old self.new)) }
+        ensures adds { FilesSome result self.old self.new }
+        ensures faults { FaultsOnly result }
+    {
+        match BufReader::new(self.alloc(), reader) {
+            Ok(mut reader) => self.load_text(&mut reader),
+            Err(cause) => Err(stream_fault(cause)),
+        }
+    }
+}
