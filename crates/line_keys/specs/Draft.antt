@@ -2,6 +2,7 @@
 use Rattle.std.specs.Prelude.{◌≡◌, ℕ, List, [], Option, None, option_map}
 use Rattle.line_buffer.specs.Changes.{Changes, begun, ended, no_changes}
 use Rattle.line_buffer.specs.Line.{Line}
+use Rattle.line_buffer.specs.Undo.{first_text}
 use Rattle.line_parts.specs.Environment.{Environment, hint_for}
 use Rattle.line_parts.specs.Hint.{Suggestion}
 
@@ -59,3 +60,7 @@ pub record KeepsLine (old new : Draft) : Type 0 where
   pub line : new.line ≡ old.line
   pub saved : new.saved ≡ old.saved
   pub index : new.index ≡ old.index
+
+-- the text that taking back all changes gives
+abbrev pub start_text : Draft → List ℕ
+start_text draft = first_text draft.changes draft.line

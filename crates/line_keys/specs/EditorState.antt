@@ -1,10 +1,11 @@
 -- What is said of an editor by what contracts see of it.
-use Rattle.std.specs.Prelude.{◌≡◌, ◌+◌, ◌≤◌, ◌⊎◌, true, Bool, MatchBool, List, Option, None, OnOk, Result, ℕ}
+use Rattle.std.specs.Prelude.{◌≡◌, ◌+◌, ◌≤◌, ◌⊎◌, true, false, if◌then◌else◌, Bool, MatchBool, List, Option, None, OnOk, Result, ℕ}
 use Rattle.line_buffer.specs.Line.{Line}
+use Rattle.line_buffer.specs.declared.layout.Layout.{Layout}
 use Rattle.line_config.specs.Error.{FaultsOnly, IoOnlyIf, Rose, max_count}
 use Rattle.line_config.specs.declared.error.ReadlineError.{ReadlineError}
-use Rattle.line_keys.specs.Display.{HasCursorAt, ShowsInFull, IsRight, lit_after, shown_end}
-use Rattle.line_keys.specs.Draft.{Draft, KeepsText, hint_shown}
+use Rattle.line_keys.specs.Display.{HasCursorAt, IsFullRedraw, ShowsInFull, ShowsText, IsRight, lit_after, shown_end}
+use Rattle.line_keys.specs.Draft.{Draft, KeepsText, hint_shown, hinted, start_text}
 use Rattle.line_keys.specs.declared.editor_state.EditorState.{Ghosts}
 use Rattle.line_parts.specs.Environment.{Environment, verdict_on}
 use Rattle.line_parts.specs.Verdict.{message_of}
@@ -107,19 +108,54 @@ pub record Refreshes {X T : Type 0} (e : Ghosts X) (result : Result T ReadlineEr
   pub frame : Frame e old new
   pub fails : FailsOnlyIf result (PartyFailed e old new)
 
--- what an edit leaves: the draft, drawn with its hint
-pub record DrawsEdit {X T : Type 0} (e : Ghosts X) (result : Result T ReadlineError) (old new : X) (left : Draft) : Type 0 where
+-- the kept cursor is that of a full redraw of the line
+abbrev pub HasCursorDrawn : {X : Type 0} → Ghosts X → X → Type 0
+HasCursorDrawn e editor = HasCursorAt (e.display editor) (e.draft editor).line
+
+-- what a call leaves that edits the line or moves its cursor: the draft, and the text that all changes taken back give; what is
+-- drawn stays good, with so many full redraws at most
+pub record Does {X T : Type 0} (e : Ghosts X) (result : Result T ReadlineError) (old new : X) (left : Draft) (most : ℕ) : Type 0 where
   pub draft : OnOk result (e.draft new ≡ left)
-  pub drew : OnOk result (Drew e old new (hint_shown (e.draft new)) Other)
+  pub start : OnOk result (start_text (e.draft new) ≡ start_text (e.draft old))
   pub keeps : OnOk result (KeepsDrawn e old new)
+  pub redraws : OnOk result (Redraws e 0 most old new)
   pub frame : Frame e old new
   pub fails : FailsOnlyIf result (PartyFailed e old new)
 
+-- the line was drawn in full with nothing behind it, or its cursor stood where it is drawn and nothing was drawn
+abbrev pub DrewMove : {X : Type 0} → Ghosts X → CmdKind → X → X → Type 0
+DrewMove e kind old new = Drew e old new None kind ⊎ DrewNothing e old new
+
+-- an edit that was reported was drawn in full with its hint; without one the cursor was drawn where it is
+abbrev pub DrewEdit : {X : Type 0} → Ghosts X → Bool → X → X → Type 0
+DrewEdit e reported old new = MatchBool reported (Drew e old new (hint_shown (e.draft new)) Other) (DrewMove e MoveCursor old new)
+
+-- what showing an edit leaves: where it was reported the hint is asked again and the line is drawn in full with it; else the drawn
+-- cursor goes to the line's
+pub record ShowsEdit {X T : Type 0} (e : Ghosts X) (edited : Bool) (result : Result T ReadlineError) (old new : X) : Type 0 where
+  pub draft : OnOk result (e.draft new ≡ (if edited then hinted (e.environment old) (e.draft old) else e.draft old))
+  pub reported : edited ≡ true → OnOk result (Drew e old new (hint_shown (e.draft new)) Other)
+  pub moved : edited ≡ false → OnOk result (Drew e old new None MoveCursor ⊎ (DrewNothing e old new × HasCursorDrawn e old))
+  pub right : OnOk result (ShowsText (e.display old) (e.draft old).line.text → IsRight (e.display new) (e.draft old).line)
+  pub frame : Frame e old new
+  pub fails : FailsOnlyIf result (PartyFailed e old new)
+
+-- what an edit leaves that is always reported: the draft, drawn with its hint
+pub record DrawsEdit {X T : Type 0} (e : Ghosts X) (result : Result T ReadlineError) (old new : X) (left : Draft) : Type 0 where
+  pub does : Does e result old new left 1
+  pub drew : OnOk result (Drew e old new (hint_shown (e.draft new)) Other)
+
+-- what an edit leaves that may be reported or not: the draft, drawn with its hint or with its cursor
+pub record DrawsEditIf {X T : Type 0} (e : Ghosts X) (reported : Bool) (result : Result T ReadlineError) (old new : X) (left : Draft) : Type 0 where
+  pub does : Does e result old new left 1
+  pub drew : OnOk result (DrewEdit e reported old new)
+
 -- what a move of the cursor leaves: the line, and where the cursor has to be drawn elsewhere the line with nothing behind it
-pub record MovesTo {X T : Type 0} (e : Ghosts X) (result : Result T ReadlineError) (old new : X) (line : Line) : Type 0 where
+pub record MovesTo {X T : Type 0} (e : Ghosts X) (result : Result T ReadlineError) (old new : X) (kind : CmdKind) (line : Line) : Type 0 where
   pub draft : e.draft new ≡ record (e.draft old) { line = line }
+  pub start : start_text (e.draft new) ≡ start_text (e.draft old)
   pub keeps : OnOk result (KeepsDrawn e old new)
-  pub drew : OnOk result (Drew e old new None MoveCursor ⊎ DrewNothing e old new)
+  pub drew : OnOk result (DrewMove e kind old new)
   pub still : HasCursorAt (e.display old) line → OnOk result (DrewNothing e old new)
   pub frame : Frame e old new
   pub fails : FailsOnlyIf result (RendererFailed e old new)
@@ -127,10 +163,6 @@ pub record MovesTo {X T : Type 0} (e : Ghosts X) (result : Result T ReadlineErro
 -- the kept cursor is at the end of what is shown
 abbrev pub IsAtEnd : {X : Type 0} → Ghosts X → X → Type 0
 IsAtEnd e editor = (e.display editor).layout.cursor ≡ (e.display editor).layout.end
-
--- the kept cursor is that of a full redraw of the line
-abbrev pub HasCursorDrawn : {X : Type 0} → Ghosts X → X → Type 0
-HasCursorDrawn e editor = HasCursorAt (e.display editor) (e.draft editor).line
 
 -- the renderer stands at the kept cursor
 abbrev pub IsInPlace : {X : Type 0} → Ghosts X → X → Type 0
@@ -141,3 +173,12 @@ pub record Undrawn {X : Type 0} (e : Ghosts X) (old new : X) : Type 0 where
   pub drew : DrewNothing e old new
   pub failures : e.failures new ≡ e.failures old
   pub frame : Frame e old new
+
+-- what stands behind a line that is drawn by a kept layout: the hint where that has room for an info, and else nothing
+abbrev pub info_kept : Layout → Draft → Option (List ℕ)
+info_kept layout draft = if layout.has_info then hint_shown draft else None
+
+-- the kept layout is that of a full redraw of the line behind the own prompt, with its hint or with nothing as the layout has it
+pub record ShowsByLayout {X : Type 0} (e : Ghosts X) (editor : X) : Type 0 where
+  pub layout : IsFullRedraw (e.display editor).surface (e.display editor).prompt_end (e.draft editor).line (info_kept (e.display editor).layout (e.draft editor)) (e.display editor).layout
+  pub own_prompt : (e.display editor).layout.default_prompt ≡ true

@@ -1,6 +1,6 @@
 //! The commands that keys stand for.
 ghost use Rattle.std.specs.Prelude.{◌≡◌};
-ghost use Rattle.line_keys.specs.Command.{resets_kill_ring};
+ghost use Rattle.line_keys.specs.Command.{command_of, resets_kill_ring};
 
 use line_buffer::{Movement, RepeatCount};
 
@@ -112,7 +112,7 @@ pub enum Cmd {
 impl Cmd {
     /// Returns whether a kill after this command begins a new slot of the kill ring.
     pub const fn should_reset_kill_ring(&self) -> bool
-        ensures { result ≡ resets_kill_ring self.now }
+        ensures { result ≡ resets_kill_ring (command_of self.now) }
     {
         match self {
             Cmd::Kill(Movement::BackwardChar(_) | Movement::ForwardChar(_)) => true,

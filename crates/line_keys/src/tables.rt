@@ -1,6 +1,6 @@
 //! The tables of keys: which command a key stands for.
 ghost use Rattle.std.specs.Prelude.{◌≡◌, if◌then◌else◌};
-ghost use Rattle.line_keys.specs.Command.{command_of, plain};
+ghost use Rattle.line_keys.specs.Command.{command_of};
 ghost use Rattle.line_keys.specs.Key.{bits_of};
 ghost use Rattle.line_keys.specs.Table.{row_of, row_or_unknown, common_row, command_at, one};
 
@@ -46,9 +46,7 @@ pub fn table_command(
     count: Count,
     seen: Seen,
 ) -> Cmd
-    ensures value { result ≡ command_at (row_of mode input_mode key seen) count }
-    // The command holds no text.
-    ensures plain { command_of result ≡ plain result }
+    ensures { command_of result ≡ command_at (row_of mode input_mode key seen) count }
 {
     match mode {
         EditMode::Emacs => emacs(key, count, seen),
@@ -57,8 +55,8 @@ pub fn table_command(
 }
 
 fn emacs(key: KeyEvent, count: Count, seen: Seen) -> Cmd
-    ensures value { result ≡ command_at (row_of EditMode.Emacs InputMode.Insert key seen) count }
-    ensures plain { command_of result ≡ plain result }
+    ensures { command_of result
+        ≡ command_at (row_of EditMode.Emacs InputMode.Insert key seen) count }
 {
     match key {
         E(K::Char(c), M::NONE) => {
@@ -77,9 +75,8 @@ fn emacs(key: KeyEvent, count: Count, seen: Seen) -> Cmd
 }
 
 fn common(key: KeyEvent, count: Count, seen: Seen) -> Cmd
-    ensures value { result ≡ command_at
-        (row_or_unknown (common_row key.0 (bits_of key.1) seen)) count }
-    ensures plain { command_of result ≡ plain result }
+    ensures { command_of result
+        ≡ command_at (row_or_unknown (common_row key.0 (bits_of key.1) seen)) count }
 {
     match key {
         E(K::Home, M::NONE) => Cmd::Move(Movement::BeginningOfLine),
