@@ -1,10 +1,11 @@
 -- What is said of a drawn line by what contracts see of it.
 use Rattle.std.specs.Prelude.{◌≡◌, ◌≤◌, Bool, List, ℕ, Option, Result, OnOk}
 use Rattle.line_buffer.specs.Line.{Line}
+use Rattle.line_buffer.specs.declared.layout.Layout.{Layout}
 use Rattle.line_buffer.specs.declared.layout.Position.{Position}
 use Rattle.line_config.specs.Error.{IsOneMore, Rose}
 use Rattle.line_config.specs.declared.error.ReadlineError.{ReadlineError}
-use Rattle.line_keys.specs.Display.{ShowsInFull}
+use Rattle.line_keys.specs.Display.{IsFullRedraw, ShowsInFull, corner}
 use Rattle.line_keys.specs.EditorState.{FailsOnlyIf}
 use Rattle.line_state.specs.declared.drawn.Drawn.{Ghosts}
 
@@ -23,3 +24,24 @@ pub record DrawsInFull {X T : Type 0} (d : Ghosts X) (result : Result T Readline
   pub redraws : OnOk result (IsOneMore (d.redraws old) (d.redraws new))
   pub keeps : KeepsSurface d old new
   pub fails : FailsOnlyIf result (Rose (d.failures old) (d.failures new))
+
+-- a kept layout is drawn again behind the own prompt, and stays; where it is a full redraw's, the line is shown in full
+pub record RedrawsKept {X T : Type 0} (d : Ghosts X) (result : Result T ReadlineError) (old new : X) (line : Line) (trailing : Option (List ℕ)) : Type 0 where
+  pub layout : (d.display new).layout ≡ (d.display old).layout
+  pub lit : (d.display new).lit ≡ (d.display old).lit
+  pub shown : IsFullRedraw (d.display old).surface (d.display old).prompt_end line trailing (d.display old).layout
+      → OnOk result (ShowsInFull (d.display new) (d.display old).prompt_end line trailing)
+  pub redraws : OnOk result (IsOneMore (d.redraws old) (d.redraws new))
+  pub keeps : KeepsSurface d old new
+  pub fails : FailsOnlyIf result (Rose (d.failures old) (d.failures new))
+
+-- a call of the renderer that draws nothing in full
+pub record DrawsNoneInFull {X T : Type 0} (d : Ghosts X) (result : Result T ReadlineError) (old new : X) : Type 0 where
+  pub lit : (d.display new).lit ≡ (d.display old).lit
+  pub redraws : d.redraws new ≡ d.redraws old
+  pub keeps : KeepsSurface d old new
+  pub fails : FailsOnlyIf result (Rose (d.failures old) (d.failures new))
+
+-- a layout once the screen was cleared: its cursor and its end are at the corner
+abbrev pub cleared : Layout → Layout
+cleared layout = record layout { cursor = corner; end = corner }

@@ -1,19 +1,24 @@
 -- A line with its changes.
-use Rattle.std.specs.Prelude.{◌≡◌, ℕ, List, Option, encode_utf8, Result, OnOk, OnErr}
+use Rattle.std.specs.Prelude.{◌≡◌, ℕ, min, Bool, true, false, List, length, ◌==◌, ◌&&◌, if◌then◌else◌, Option, Some, None, encode_utf8, Result, OnOk, OnErr}
 use Rattle.std.specs.List.{repeat}
-use Rattle.line_buffer.specs.Changes.{Changes, no_changes, with_entries, with_typed}
+use Rattle.line_buffer.specs.Changes.{Changes, Entry, begun, ended, no_changes, with_entries, with_insert, with_replaced, with_typed, with_update}
+use Rattle.line_keys.specs.declared.command.Anchor.{Anchor}
+use Rattle.line_keys.specs.declared.command.Anchor.TheVariants.{After, Before}
+use Rattle.line_buffer.specs.Cluster.{clusters, place_back, place_on}
+use Rattle.line_buffer.specs.Edit.{on_entries}
+use Rattle.line_buffer.specs.Indent.{indented, indented_range, with_indents}
 use Rattle.line_buffer.specs.Kill.{with_killed}
-use Rattle.line_buffer.specs.Line.{Line, inserted_at_cursor, without}
-use Rattle.line_buffer.specs.Undo.{all_taken_back, newest_steps, without_steps}
+use Rattle.line_buffer.specs.Line.{Line, after, inserted_at, inserted_at_cursor, moved_to, replaced_in, without}
+use Rattle.line_buffer.specs.Transpose.{chars_exchanged, with_chars_exchanged, with_word_cased, with_words_exchanged, word_cased, words_exchanged}
+use Rattle.line_buffer.specs.Undo.{all_taken_back, first_text, newest_steps, without_steps}
+use Rattle.line_buffer.specs.Yank.{can_pop, line_yank_popped, line_yanked, with_yank, with_yank_pop}
+use Rattle.line_buffer.specs.declared.keymap.Movement.{Movement}
+use Rattle.line_buffer.specs.declared.line_buffer.WordAction.{WordAction}
 
 -- a line, and the changes that led to it
 pub record Edited : Type 0 where
   pub line : Line
   pub changes : Changes
-
--- the text before all changes
-abbrev pub first_text : Edited → List ℕ
-first_text e = (all_taken_back e.changes.entries e.line).text
 
 -- n copies of a character come in at the cursor
 abbrev pub with_copies : ℕ → ℕ → Edited → Edited
@@ -29,6 +34,100 @@ without_range range e = record {
   changes = with_killed e.line range e.changes;
 }
 
+-- the line becomes another, and entries are added for it
+abbrev pub edited_to : Line → (List Entry → List Entry) → Edited → Edited
+edited_to line add e = record { line = line; changes = on_entries add e.changes }
+
+-- an edit as one group of changes
+abbrev pub in_one_group : (Edited → Edited) → Edited → Edited
+in_one_group edit e =
+    let inside = edit (record e { changes = begun e.changes }) in
+    record inside { changes = ended inside.changes }
+
+-- the cursor goes to a place, if there is one
+abbrev pub with_place : Option ℕ → Edited → Edited
+with_place place e = record e { line = moved_to e.line place }
+
+-- a text comes in behind the cursor
+abbrev pub with_text : List ℕ → Edited → Edited
+with_text text e =
+    edited_to (inserted_at e.line e.line.cursor text) (with_insert e.line.cursor text) e
+
+-- n copies of a text come in at the cursor
+abbrev pub with_yanked : List ℕ → ℕ → Edited → Edited
+with_yanked text n e =
+    edited_to (line_yanked e.line text n) (with_yank e.line.cursor text n) e
+
+-- a text is put before the cluster under the cursor or behind it: then the cursor goes one cluster on
+abbrev pub at_anchor : Anchor → Edited → Edited
+at_anchor Before e = e
+at_anchor After e = with_place (place_on e.line 1) e
+
+-- in Vi's command mode a yank ends on the last cluster of what came
+abbrev pub stepped_back : Bool → Edited → Edited
+stepped_back true e = with_place (place_back e.line 1) e
+stepped_back false e = e
+
+-- n copies of a text are yanked at an anchor; the cursor then steps back or not, which it doesn't for the empty text
+abbrev pub yanked_at : Anchor → List ℕ → ℕ → Bool → Edited → Edited
+yanked_at anchor text n back e =
+    if length text == 0 then at_anchor anchor e else stepped_back back (with_yanked text n (at_anchor anchor e))
+
+-- so many bytes go from before the cursor and a text comes, one of which is not empty
+abbrev pub pops_text : Line → ℕ → List ℕ → Bool
+pops_text line size text = if size == 0 && length text == 0 then false else can_pop line size
+
+-- a text comes in the place of so many bytes before the cursor
+abbrev pub with_popped : ℕ → List ℕ → Edited → Edited
+with_popped size text e = in_one_group
+    (λ e. edited_to (line_yank_popped e.line size text) (with_yank_pop e.line size text) e) e
+
+-- another text comes for the whole line, with the cursor at a place in it
+abbrev pub with_update_to : List ℕ → ℕ → Edited → Edited
+with_update_to text cursor e =
+    edited_to (record { text = text; cursor = cursor }) (with_update e.line.text text) e
+
+-- a character comes in the place of the cluster at the cursor, if there is one
+abbrev pub with_overwritten : ℕ → Option ℕ → Edited → Edited
+with_overwritten c None e = e
+with_overwritten c (Some stop) e =
+    edited_to (replaced_in e.line e.line.cursor stop (encode_utf8 c))
+    (with_replaced e.line.text e.line.cursor stop (encode_utf8 c)) e
+
+-- as many copies of a character come in the place of the clusters up to a place, if there is one;
+-- the cursor is then on the last
+abbrev pub with_copies_to : ℕ → ℕ → Option ℕ → Edited → Edited
+with_copies_to c count None e = e
+with_copies_to c count (Some stop) e =
+    let left = with_copies count c (without_range (Some (e.line.cursor, stop)) e) in
+    with_place (place_back left.line 1) left
+
+-- a character comes in the place of each of n clusters, or of as many as there are
+abbrev pub with_char_for : ℕ → ℕ → Edited → Edited
+with_char_for c n e = in_one_group
+    (with_copies_to c (min n (length (clusters (after e.line)))) (place_on e.line n)) e
+
+-- the clusters before and at the cursor change places; or two words do
+abbrev pub with_chars_swapped : Edited → Edited
+with_chars_swapped e = in_one_group
+    (λ e. edited_to (chars_exchanged e.line) (with_chars_exchanged e.line) e) e
+
+abbrev pub with_words_swapped : ℕ → Edited → Edited
+with_words_swapped n e = in_one_group
+    (λ e. edited_to (words_exchanged e.line n) (with_words_exchanged e.line n) e) e
+
+-- the next word changes case
+abbrev pub with_next_word : WordAction → Edited → Edited
+with_next_word action e = in_one_group
+    (λ e. edited_to (word_cased action e.line) (with_word_cased action e.line) e) e
+
+-- the lines of a movement get spaces at their front, or lose white space there
+abbrev pub with_lines_shifted : Bool → ℕ → Movement → Edited → Edited
+with_lines_shifted dedent amount movement e =
+    let range = indented_range e.line movement in
+    edited_to (indented dedent amount e.line range)
+    (with_indents dedent amount e.line.text range) e
+
 -- n steps are taken back
 abbrev pub undone : ℕ → Edited → Edited
 undone n e = record {
@@ -39,5 +138,5 @@ undone n e = record {
 -- what an edit leaves: the edited line, of which taking all changes back gives the same text; after an error there are no changes
 pub record EditsTo {T E : Type 0} (result : Result T E) (old new left : Edited) : Type 0 where
   pub edited : OnOk result (new ≡ left)
-  pub first : OnOk result (first_text new ≡ first_text old)
+  pub first : OnOk result (first_text new.changes new.line ≡ first_text old.changes old.line)
   pub err : OnErr result (new.changes ≡ no_changes)

@@ -1,5 +1,6 @@
 pub mod Drawn
 pub mod Edited
+pub mod Moves
 pub mod Printable
 pub mod ScreenState
 pub use Rattle.line_buffer.specs.Line

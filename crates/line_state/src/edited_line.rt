@@ -1,12 +1,15 @@
 //! The line with its changes.
-ghost use Rattle.std.specs.Prelude.{◌≡◌, ◌==◌, ◌≤◌, not, [], ℕ, List, Option, IfOk, OnOk, OnErr, option_map, string_bytes, is_some, length};
-ghost use Rattle.line_buffer.specs.Changes.{adds_end, begun, ended, last_insert_of, no_changes};
-ghost use Rattle.line_buffer.specs.Cluster.{place_on, place_back};
-ghost use Rattle.line_buffer.specs.Kill.{killed_range, ring_with_killed};
-ghost use Rattle.line_buffer.specs.Line.{moved_to, with_cursor, start_of_line, end_of_line};
+ghost use Rattle.std.specs.Prelude.{◌≡◌, IsCharBoundary, ◌≤◌, [], false, Option, IfOk, OnOk, OnErr, option_map, string_bytes, is_some, length};
 ghost use Rattle.std.specs.List.{list_any};
+ghost use Rattle.line_buffer.specs.Changes.{adds_end, begun, ended, last_insert_of, no_changes};
+ghost use Rattle.line_buffer.specs.Kill.{killed_range, ring_with_killed};
+ghost use Rattle.line_buffer.specs.Range.{range_of, text_in, unless_empty};
 ghost use Rattle.line_buffer.specs.Undo.{is_change, newest_steps};
 ghost use Rattle.line_state.specs.Edited.{EditsTo, undone, with_copies, without_range};
+
+mod exchanges;
+mod moves;
+mod texts;
 
 use line_buffer::{Changeset, KillRing, LineBuffer, Movement, OutOfMemory, RepeatCount};
 use std::alloc::Global;
@@ -47,6 +50,21 @@ impl EditedLine {
         }
     }
 
+    /// Returns a line with no changes: a text with the cursor at byte `pos` of it.
+    ///
+    /// # Errors
+    /// `OutOfMemory` alone.
+    pub fn with_line(alloc: Global, text: &str, pos: usize) -> Result<Self, OutOfMemory>
+        requires { IsCharBoundary text.now pos }
+        ensures { IfOk result (λ e. e
+            ≡ record { line = record { text = text.now; cursor = pos }; changes = no_changes }) }
+    {
+        Ok(EditedLine {
+            line: LineBuffer::init(alloc, text, pos)?,
+            changes: Changeset::new(alloc),
+        })
+    }
+
     /// Returns the line.
     pub fn line(&self) -> &LineBuffer
         ensures { result.now ≡ self.now.line }
@@ -81,11 +99,20 @@ impl EditedLine {
         Ok(killed.is_some())
     }
 
+    /// Returns a copy of the text of a movement, if it has one.
+    pub fn copy(&self, movement: &Movement) -> Result<Option<String>, OutOfMemory>
+        ensures { IfOk result (λ r. option_map string_bytes r
+            ≡ text_in self.now.line.text (unless_empty (range_of self.now.line movement.now))) }
+    {
+        self.line.copy(movement)
+    }
+
     /// Takes `n` steps back, one for `n` = 0, or as many as there are. Returns whether a change of the text was taken back.
     pub fn undo(&mut self, n: RepeatCount) -> Result<bool, OutOfMemory>
         ensures answer { IfOk result (λ undone.
             undone ≡ list_any is_change (newest_steps n self.old.changes.entries)) }
         ensures edit { EditsTo result self.old self.new (undone n self.old) }
+        ensures unreported { IfOk result (λ done. done ≡ false → self.new.line ≡ self.old.line) }
     {
         self.changes.undo(&mut self.line, n)
     }
@@ -117,41 +144,5 @@ impl EditedLine {
             option_map string_bytes r ≡ last_insert_of self.now.changes.entries) }
     {
         self.changes.last_insert()
-    }
-
-    /// Moves the cursor `n` clusters back, or as many as there are. Returns whether it moved.
-    pub fn move_backward(&mut self, n: RepeatCount) -> bool
-        ensures answer { result ≡ is_some (place_back self.old.line n) }
-        ensures line { self.new
-            ≡ record self.old { line = moved_to self.old.line (place_back self.old.line n) } }
-    {
-        self.line.move_backward(n)
-    }
-
-    /// Moves the cursor `n` clusters on, or as many as there are. Returns whether it moved.
-    pub fn move_forward(&mut self, n: RepeatCount) -> bool
-        ensures answer { result ≡ is_some (place_on self.old.line n) }
-        ensures line { self.new
-            ≡ record self.old { line = moved_to self.old.line (place_on self.old.line n) } }
-    {
-        self.line.move_forward(n)
-    }
-
-    /// Moves the cursor to the start of its line. Returns whether it moved.
-    pub fn move_home(&mut self) -> bool
-        ensures answer { result ≡ not (start_of_line self.old.line == self.old.line.cursor) }
-        ensures line { self.new
-            ≡ record self.old { line = with_cursor self.old.line (start_of_line self.old.line) } }
-    {
-        self.line.move_home()
-    }
-
-    /// Moves the cursor to the end of its line. Returns whether it moved.
-    pub fn move_end(&mut self) -> bool
-        ensures answer { result ≡ not (end_of_line self.old.line == self.old.line.cursor) }
-        ensures line { self.new
-            ≡ record self.old { line = with_cursor self.old.line (end_of_line self.old.line) } }
-    {
-        self.line.move_end()
     }
 }

@@ -11,4 +11,4 @@ pub use drawn::Drawn;
 pub use edited_line::EditedLine;
 pub use screen_state::ScreenState;
 pub use tty::Renderer;
-pub use view::View;
+pub use view::{RefreshKind, View};

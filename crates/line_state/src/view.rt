@@ -1,10 +1,10 @@
 //! What is drawn of a line: the renderer, the prompt, and the layout that is kept of them.
-ghost use Rattle.std.specs.Prelude.{◌≡◌, ◌↔◌, if◌then◌else◌, Some, None, ℕ, Bool, true, false, List, Option, is_some, option_map, OnOk, IsTrue};
+ghost use Rattle.std.specs.Prelude.{◌≡◌, ◌↔◌, if◌then◌else◌, Some, None, ℕ, Bool, true, false, List, Option, is_some, option_map, OnOk, OnErr, IsTrue};
 ghost use Rattle.line_buffer.specs.declared.layout.Position.{Position};
 ghost use Rattle.line_config.specs.Error.{Rose};
 ghost use Rattle.line_keys.specs.Display.{GoesToShownEnd, corner, cursor_position, undrawn};
 ghost use Rattle.line_keys.specs.EditorState.{FailsOnlyIf};
-ghost use Rattle.line_state.specs.Drawn.{DrawsInFull, KeepsSurface};
+ghost use Rattle.line_state.specs.Drawn.{DrawsInFull, DrawsNoneInFull, KeepsSurface, RedrawsKept, cleared};
 
 use crate::drawn::Drawn;
 use crate::screen_state::ScreenState;
@@ -12,6 +12,15 @@ use crate::tty::Renderer;
 use line_buffer::{Layout, LineBuffer, Position};
 use line_config::{Prompt, Result};
 use line_parts::Highlighter;
+
+/// How much of the layout is measured anew for a drawing.
+#[derive(PartialEq, Eq)]
+pub enum RefreshKind {
+    /// Nothing: the kept layout is drawn again.
+    Min,
+    /// All of it.
+    All,
+}
 
 /// The drawn line: the renderer and the prompt, the layout of what is drawn, and whether characters are highlighted that
 /// the next drawing has to show without their colours.
@@ -61,6 +70,18 @@ fn if_drawn(drawn: bool, layout: &Layout) -> Option<&Layout>
     ensures { option_map (λ l. l.now) result ≡ if drawn then Some layout.now else None }
 {
     if drawn { Some(layout) } else { None }
+}
+
+// Returns whether two layouts are the same but for whose prompt stands there.
+fn has_places_of(layout: &Layout, other: &Layout) -> bool
+    ensures { IsTrue result
+        ↔ (layout.now ≡ record other.now { default_prompt = layout.now.default_prompt }) }
+{
+    layout.grapheme_cluster_mode == other.grapheme_cluster_mode
+        && layout.prompt_size == other.prompt_size
+        && layout.cursor == other.cursor
+        && layout.end == other.end
+        && layout.has_info == other.has_info
 }
 
 impl<'out, 'prompt, W: Renderer, P: Prompt> View<'out, 'prompt, W, P> {
@@ -156,6 +177,33 @@ impl<'out, 'prompt, W: Renderer, P: Prompt> View<'out, 'prompt, W, P> {
         Ok(())
     }
 
+    /// Draws the kept layout again behind the prompt, with `info` behind the line, if there is one, and keeps it. A
+    /// highlighter may come only with colours.
+    ///
+    /// # Errors
+    /// Those of the renderer.
+    pub fn repaint_kept<H: Highlighter>(
+        &mut self,
+        line: &LineBuffer,
+        info: Option<&str>,
+        highlighter: Option<&H>,
+    ) -> Result<()>
+        requires { let d = ⟦<Self as Drawn>⟧ in
+            is_some highlighter ≡ true → (d.display self.old).surface.colors ≡ true }
+        ensures { let d = ⟦<Self as Drawn>⟧ in
+            RedrawsKept d result self.old self.new line.now (option_map (λ s. s.now) info.entry) }
+    {
+        let own_prompt = self.layout.default_prompt;
+        let measured = self
+            .out
+            .compute_layout(self.prompt_size, own_prompt, line, info);
+        self.in_place = false;
+        self.out
+            .refresh_line(self.prompt, line, info, None, &self.layout, highlighter)?;
+        self.in_place = has_places_of(&self.layout, &measured);
+        Ok(())
+    }
+
     /// Returns whether the kept cursor is where a full redraw would have the line's.
     pub fn is_cursor_drawn(&self, line: &LineBuffer) -> bool
         ensures { let d = ⟦<Self as Drawn>⟧.display self.now in IsTrue result
@@ -186,6 +234,50 @@ impl<'out, 'prompt, W: Renderer, P: Prompt> View<'out, 'prompt, W, P> {
         self.layout.cursor = self.layout.end;
         self.in_place = in_place;
         Ok(())
+    }
+
+    /// Tells the person that nothing could be done. Nothing drawn changes.
+    ///
+    /// # Errors
+    /// Those of the renderer.
+    pub fn beep(&mut self) -> Result<()>
+        ensures display { let d = ⟦<Self as Drawn>⟧.display in d self.new ≡ d self.old }
+        ensures part { DrawsNoneInFull ⟦<Self as Drawn>⟧ result self.old self.new }
+    {
+        self.out.beep()
+    }
+
+    /// Clears the whole screen, and takes the kept cursor and end to the first column of the first row. What is shown
+    /// then is not said: a full redraw is to follow.
+    ///
+    /// # Errors
+    /// Those of the renderer. Then the kept layout stays.
+    pub fn clear_screen(&mut self) -> Result<()>
+        ensures layout { let d = ⟦<Self as Drawn>⟧.display in
+            OnOk result ((d self.new).layout ≡ cleared (d self.old).layout) }
+        ensures err { let d = ⟦<Self as Drawn>⟧.display in
+            OnErr result ((d self.new).layout ≡ (d self.old).layout) }
+        ensures part { DrawsNoneInFull ⟦<Self as Drawn>⟧ result self.old self.new }
+    {
+        self.in_place = false;
+        self.out.clear_screen()?;
+        self.layout.cursor = Position { row: 0, col: 0 };
+        self.layout.end = Position { row: 0, col: 0 };
+        Ok(())
+    }
+
+    /// Takes the drawn cursor to the first column, below what is there. What is shown then is not said, and the kept
+    /// layout stays.
+    ///
+    /// # Errors
+    /// Those of the renderer.
+    pub fn move_cursor_at_leftmost(&mut self, rdr: &mut W::Reader) -> Result<()>
+        ensures layout { let d = ⟦<Self as Drawn>⟧.display in
+            (d self.new).layout ≡ (d self.old).layout }
+        ensures part { DrawsNoneInFull ⟦<Self as Drawn>⟧ result self.old self.new }
+    {
+        self.in_place = false;
+        self.out.move_cursor_at_leftmost(rdr)
     }
 
     /// Returns whether colours are shown.
