@@ -6,7 +6,7 @@ use Rattle.line_parts.specs.Environment.{Environment, verdict_on}
 use Rattle.line_parts.specs.Hint.{suggestion_of}
 use Rattle.line_parts.specs.Verdict.{Verdict, valid}
 use Rattle.line_parts.specs.declared.hint.Hint.{Ghosts}
-use Rattle.line_editor.specs.Step.{validated, unhinted_by}
+use Rattle.line_editor.specs.Accept.{validated, unhinted_by}
 
 -- a move keeps the text
 pub moved_text : (line : Line) (place : Option ℕ) → (moved_to line place).text ≡ line.text

@@ -1,9 +1,15 @@
+pub mod CommandLemmas
 pub mod CountLemmas
+pub mod DoneLemmas
 pub mod DrawnLemmas
 pub mod EditLemmas
+pub mod HistoryMoveLemmas
+pub mod HistoryWayLaws
+pub mod MoveLemmas
 pub mod PhraseLemmas
 pub mod RunLaws
 pub mod RunLemmas
 pub mod TurnLemmas
 pub mod UnderwayLemmas
 pub mod TurnLaws
+pub mod UndoLaws

@@ -1,7 +1,7 @@
 -- Facts on phrases.
 use Rattle.std.proofs.Common.{◌≡◌, List, [], ◌∷◌, ◌++◌, map, Option, Some, None, refl, sym, ◌∙◌, ap, subst}
 use Rattle.line_parts.specs.Environment.{Environment}
-use Rattle.line_keys.specs.Command.{Command, plain}
+use Rattle.line_keys.specs.Command.{Command}
 use Rattle.line_keys.specs.Draft.{Draft}
 use Rattle.line_keys.specs.Item.{Item, key}
 use Rattle.line_keys.specs.Table.{Row, Tail, no_tail, row_of, command_at, one, IsCount}
@@ -85,7 +85,7 @@ bound-phrase keymap environment draft input k command e = record {
 -- a key without a binding is a phrase
 pub row-phrase : (keymap : Keymap) (environment : Environment) (draft : Draft) (input : Input) (k : KeyEvent)
     → bound_command keymap draft input one k ≡ None
-    → Phrase keymap environment draft input (key k ∷ []) (plain (command_at (row_of input.style input.mode k (seen_of draft)) one)) draft input
+    → Phrase keymap environment draft input (key k ∷ []) (command_at (row_of input.style input.mode k (seen_of draft)) one) draft input
 row-phrase keymap environment draft input k e = record {
   typed = [];
   count = one;
@@ -95,7 +95,7 @@ row-phrase keymap environment draft input k e = record {
   counted = refl;
   keyed =
       let row : Row = row_of input.style input.mode k (seen_of draft) in
-      let P : Option Command → Type 0 = λ o. Answers o row one [] (plain (command_at row one)) in
+      let P : Option Command → Type 0 = λ o. Answers o row one [] (command_at row one) in
       subst P (sym e) (Tailed-ends row.tail, refl);
   draft_left = refl;
   input_left = refl;
@@ -115,7 +115,7 @@ begins-with keymap environment draft input k (Some command) e = record {
 }
 begins-with keymap environment draft input k None e = record {
   rest = key k ∷ [];
-  command = plain (command_at (row_of input.style input.mode k (seen_of draft)) one);
+  command = command_at (row_of input.style input.mode k (seen_of draft)) one;
   draft' = draft;
   input' = input;
   proper = λ empty. cc;

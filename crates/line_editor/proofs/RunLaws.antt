@@ -10,7 +10,8 @@ use Rattle.line_editor.specs.Laws.{HasOneEnd, SameEnd}
 use Rattle.line_editor.specs.Phrase.{Phrase, IsBeginning}
 use Rattle.line_editor.specs.Reading.{LeftByCut}
 use Rattle.line_editor.specs.Run.{End, Run, Turn, goes_on, ends, runs_dry, stopped, ready}
-use Rattle.line_editor.specs.Step.{Editor, Step, Answer, step, proceeds}
+use Rattle.line_editor.specs.Editor.{Editor, Step, Answer, Ruler, proceeds}
+use Rattle.line_editor.specs.Step.{step}
 use Rattle.line_editor.proofs.PhraseLemmas.{phrases-fit}
 
 -- nothing is behind a list that stays as it is
@@ -43,7 +44,7 @@ record SamePhrase (p q m n : List Item) (c c' : Command) (d d' : Draft) (i i' : 
   draft : d ≡ d'
   input : i ≡ i'
 
-module _ (keymap : Keymap) (environment : Environment) where
+module _ (keymap : Keymap) (ruler : Ruler) (environment : Environment) where
   -- a phrase that begins another one is the other
   begins-same : (draft : Draft) (input : Input) (p q m n d : List Item) (c c' : Command) (l l' : Draft) (i i' : Input)
       → Phrase keymap environment draft input p c l i → Phrase keymap environment draft input q c' l' i'
@@ -78,12 +79,12 @@ module _ (keymap : Keymap) (environment : Environment) where
     answer : a ≡ a'
 
   one-turn : (editor left left' : Editor) (input i i' : Input) (items m n : List Item) (a a' : Answer)
-      → Turn keymap environment editor input items left i m a
-      → Turn keymap environment editor input items left' i' n a'
+      → Turn keymap ruler environment editor input items left i m a
+      → Turn keymap ruler environment editor input items left' i' n a'
       → SameTurn left left' i i' m n a a'
   one-turn editor left left' input i i' items m n a a' one other =
       let s = one-phrase editor.draft input one.phrase other.phrase m n one.command other.command one.draft other.draft i i' one.reads other.reads (sym one.cut ∙ other.cut) in
-      let done : Input → Command → Draft → Step = λ j c d. step environment j (ready c d editor.kills) c in
+      let done : Input → Command → Draft → Step = λ j c d. step ruler environment j (ready c d editor.kills) c in
       let same : done i one.command one.draft ≡ done i' other.command other.draft =
       ap (λ j. done j one.command one.draft) s.input ∙ ap (λ c. done i' c one.draft) s.command ∙ ap (λ d. done i' other.command d) s.draft in
       record {
@@ -95,7 +96,7 @@ module _ (keymap : Keymap) (environment : Environment) where
 
   -- where a turn is made the items don't run dry
   not-dry : {B : Type 0} (editor left : Editor) (input i : Input) (items m : List Item) (a : Answer)
-      → Turn keymap environment editor input items left i m a
+      → Turn keymap ruler environment editor input items left i m a
       → IsBeginning keymap environment editor.draft input items
       → B
   not-dry editor left input i items m a turn begins =
@@ -129,14 +130,14 @@ module _ (keymap : Keymap) (environment : Environment) where
   }
 
   one-end : (editor last last' : Editor) (input i i' : Input) (items : List Item) (end end' : End)
-      → Run keymap environment editor input items last i end
-      → Run keymap environment editor input items last' i' end'
+      → Run keymap ruler environment editor input items last i end
+      → Run keymap ruler environment editor input items last' i' end'
       → SameEnd last last' i i' end end'
   one-end editor last last' input i i' items end end' (goes_on {middle = middle} {input' = j} {more = m} turn run) (goes_on {middle = middle'} {input' = j'} {more = n} turn' run') =
       let s = one-turn editor middle middle' input j j' items m n proceeds proceeds turn turn' in
-      let P : Editor → Type 0 = λ e. Run keymap environment e j' n last' i' end' in
-      let Q : Input → Type 0 = λ k. Run keymap environment middle k n last' i' end' in
-      let R : List Item → Type 0 = λ x. Run keymap environment middle j x last' i' end' in
+      let P : Editor → Type 0 = λ e. Run keymap ruler environment e j' n last' i' end' in
+      let Q : Input → Type 0 = λ k. Run keymap ruler environment middle k n last' i' end' in
+      let R : List Item → Type 0 = λ x. Run keymap ruler environment middle j x last' i' end' in
       one-end middle last last' j i i' m end end' run
       (subst R (sym s.more) (subst Q (sym s.input) (subst P (sym s.editor) run')))
   one-end editor last last' input i i' items end end' (goes_on {middle = middle} {input' = j} {more = m} turn run) (ends {rest = rest'} {answer = answer'} turn' other) =
@@ -173,5 +174,5 @@ module _ (keymap : Keymap) (environment : Environment) where
 
 -- a run has one end
 pub runs-fit : HasOneEnd
-runs-fit keymap environment editor last last' input i i' items end end' =
-    one-end keymap environment editor last last' input i i' items end end'
+runs-fit keymap ruler environment editor last last' input i i' items end end' =
+    one-end keymap ruler environment editor last last' input i i' items end end'

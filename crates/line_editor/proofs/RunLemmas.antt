@@ -1,82 +1,78 @@
 -- Facts on runs.
-use Rattle.std.proofs.Common.{◌≡◌, ◌≢◌, List, ◌++◌, refl, subst}
+use Rattle.std.proofs.Common.{◌≡◌, ◌≢◌, List, ◌++◌, subst}
 use Rattle.line_buffer.specs.KillRing.{Ring}
 use Rattle.line_parts.specs.Environment.{Environment}
-use Rattle.line_keys.specs.Command.{Command, command_of, resets_kill_ring}
+use Rattle.line_keys.specs.Command.{Command}
 use Rattle.line_keys.specs.Draft.{Draft}
 use Rattle.line_keys.specs.Item.{Item}
-use Rattle.line_keys.specs.declared.command.Cmd.{Cmd}
-use Rattle.line_keys.specs.declared.command.Cmd.TheVariants.{Insert, Replace}
 use Rattle.line_editor.specs.Input.{Input}
 use Rattle.line_editor.specs.Keymap.{Keymap}
 use Rattle.line_editor.specs.Phrase.{Phrase, IsBeginning}
-use Rattle.line_editor.specs.Run.{Run, End, Turn, CutShort, goes_on, ends, runs_dry, stopped, dry, ends_kills, kills_before}
-use Rattle.line_editor.specs.Step.{Editor, Answer, Leaves, step, grouped, proceeds}
-
--- a command and its value agree on the kill ring
-pub ends_kills_of : (cmd : Cmd) → ends_kills (command_of cmd) ≡ resets_kill_ring cmd
-ends_kills_of (Insert n text) = refl
-ends_kills_of (Replace movement text) = refl
-ends_kills_of _ = refl
+use Rattle.line_editor.specs.Run.{Run, End, Turn, CutShort, goes_on, ends, runs_dry, stopped, dry, kills_before}
+use Rattle.line_editor.specs.Editor.{Editor, Answer, Leaves, Ruler, grouped, proceeds}
+use Rattle.line_editor.specs.Step.{step}
 
 -- a phrase read and its command executed are a turn
-pub turn-of : (keymap : Keymap) (environment environment' : Environment) (editor left : Editor) (input input' : Input) (items more phrase : List Item)
-    → (command : Command) (read before : Draft) (kills : Ring) (answer : Answer)
+pub turn-of : (keymap : Keymap) (ruler ruler' : Ruler) (environment environment' : Environment) (editor left : Editor) (input input' : Input)
+    → (items more phrase : List Item) (command : Command) (read before : Draft) (kills : Ring) (answer : Answer)
     → items ≡ phrase ++ more
     → Phrase keymap environment editor.draft input phrase command read input'
     → before ≡ grouped command read
     → kills ≡ kills_before command editor.kills
+    → ruler' ≡ ruler
     → environment' ≡ environment
-    → Leaves (step environment' input' (record { draft = before; kills = kills }) command) left answer
-    → Turn keymap environment editor input items left input' more answer
-turn-of keymap environment environment' editor left input input' items more phrase command read before kills answer cut reads group reset same leaves =
-    let P : Environment → Type 0 = λ w. Leaves (step w input' (record { draft = before; kills = kills }) command) left answer in
-    let Q : Draft → Type 0 = λ d. Leaves (step environment input' (record { draft = d; kills = kills }) command) left answer in
-    let R : Ring → Type 0 = λ k. Leaves (step environment input' (record { draft = grouped command read; kills = k }) command) left answer in
+    → Leaves (step ruler' environment' input' (record { draft = before; kills = kills }) command) left answer
+    → Turn keymap ruler environment editor input items left input' more answer
+turn-of keymap ruler ruler' environment environment' editor left input input' items more phrase command read before kills answer cut reads group reset measured same leaves =
+    let O : Ruler → Type 0 = λ r. Leaves (step r environment' input' (record { draft = before; kills = kills }) command) left answer in
+    let P : Environment → Type 0 = λ w. Leaves (step ruler w input' (record { draft = before; kills = kills }) command) left answer in
+    let Q : Draft → Type 0 = λ d. Leaves (step ruler environment input' (record { draft = d; kills = kills }) command) left answer in
+    let R : Ring → Type 0 = λ k. Leaves (step ruler environment input' (record { draft = grouped command read; kills = k }) command) left answer in
     record {
       phrase = phrase;
       command = command;
       draft = read;
       cut = cut;
       reads = reads;
-      leaves = subst R reset (subst Q group (subst P same leaves));
+      leaves = subst R reset (subst Q group (subst P same (subst O measured leaves)));
     }
 
--- the keymap and the environment of two moments of a run are the same
-module _ (keymap keymap' : Keymap) (environment environment' : Environment) (same_keymap : keymap' ≡ keymap) (same_environment : environment' ≡ environment) where
+-- the keymap, the ruler and the environment of two moments of a run are the same
+module _ (keymap keymap' : Keymap) (ruler ruler' : Ruler) (environment environment' : Environment) (same_keymap : keymap' ≡ keymap) (same_ruler : ruler' ≡ ruler) (same_environment : environment' ≡ environment) where
   retold : (editor left : Editor) (input input' : Input) (items more : List Item) (answer : Answer)
-      → Turn keymap' environment' editor input items left input' more answer
-      → Turn keymap environment editor input items left input' more answer
+      → Turn keymap' ruler' environment' editor input items left input' more answer
+      → Turn keymap ruler environment editor input items left input' more answer
   retold editor left input input' items more answer turn =
-      let P : Keymap → Type 0 = λ k. Turn k environment' editor input items left input' more answer in
-      let Q : Environment → Type 0 = λ w. Turn keymap w editor input items left input' more answer in
-      subst Q same_environment (subst P same_keymap turn)
+      let P : Keymap → Type 0 = λ k. Turn k ruler' environment' editor input items left input' more answer in
+      let O : Ruler → Type 0 = λ r. Turn keymap r environment' editor input items left input' more answer in
+      let Q : Environment → Type 0 = λ w. Turn keymap ruler w editor input items left input' more answer in
+      subst Q same_environment (subst O same_ruler (subst P same_keymap turn))
 
   -- a turn that proceeds and a run behind it are a run
   pub run-goes : (editor left last : Editor) (input input' input'' : Input) (items more : List Item) (end : End) (answer : Answer)
       → answer ≡ proceeds
-      → Turn keymap' environment' editor input items left input' more answer
-      → Run keymap environment left input' more last input'' end
-      → Run keymap environment editor input items last input'' end
+      → Turn keymap' ruler' environment' editor input items left input' more answer
+      → Run keymap ruler environment left input' more last input'' end
+      → Run keymap ruler environment editor input items last input'' end
   run-goes editor left last input input' input'' items more end answer proceeded turn run =
-      let P : Answer → Type 0 = λ a. Turn keymap environment editor input items left input' more a in
+      let P : Answer → Type 0 = λ a. Turn keymap ruler environment editor input items left input' more a in
       goes_on (subst P proceeded (retold editor left input input' items more answer turn)) run
 
   -- a turn that doesn't proceed ends a run
   pub run-ends : (editor left : Editor) (input input' : Input) (items more : List Item) (answer answer' : Answer)
       → answer' ≡ answer
       → answer ≢ proceeds
-      → Turn keymap' environment' editor input items left input' more answer'
-      → Run keymap environment editor input items left input' (stopped answer more)
+      → Turn keymap' ruler' environment' editor input items left input' more answer'
+      → Run keymap ruler environment editor input items left input' (stopped answer more)
   run-ends editor left input input' items more answer answer' same other turn =
-      let P : Answer → Type 0 = λ a. Turn keymap environment editor input items left input' more a in
+      let P : Answer → Type 0 = λ a. Turn keymap ruler environment editor input items left input' more a in
       ends (subst P same (retold editor left input input' items more answer' turn)) other
 
   -- items that run dry end a run
   pub run-dry : (editor left : Editor) (input : Input) (items : List Item)
       → IsBeginning keymap' environment' editor.draft input items
       → CutShort environment' editor left
-      → Run keymap environment editor input items left input (dry items)
+      → Run keymap ruler environment editor input items left input (dry items)
   run-dry editor left input items begins short =
       let P : Keymap → Type 0 = λ k. IsBeginning k environment' editor.draft input items in
       let Q : Environment → Type 0 = λ w. IsBeginning keymap w editor.draft input items in

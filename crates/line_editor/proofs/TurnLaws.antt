@@ -11,19 +11,19 @@ use Rattle.line_editor.specs.Laws.{ReadingAgain, TurnsFollow, TurnsAndRun}
 use Rattle.line_editor.specs.Phrase.{Phrase, Keyed, after_count}
 use Rattle.line_editor.specs.Reading.{LeftByCut}
 use Rattle.line_editor.specs.Run.{Turn, Turns, goes_on, none, first}
-use Rattle.line_editor.specs.Step.{Editor, Answer, proceeds}
+use Rattle.line_editor.specs.Editor.{Editor, Answer, Ruler, proceeds}
 
 -- turns that proceed and more such turns behind them are such turns
 pub turns-follow : TurnsFollow
-turns-follow keymap environment editor middle last input i j items more rest none others = others
-turns-follow keymap environment editor middle last input i j items more rest (first {middle = next} {input' = i'} {more = m} turn turns) others =
-    first turn (turns-follow keymap environment next middle last i' i j m more rest turns others)
+turns-follow keymap ruler environment editor middle last input i j items more rest none others = others
+turns-follow keymap ruler environment editor middle last input i j items more rest (first {middle = next} {input' = i'} {more = m} turn turns) others =
+    first turn (turns-follow keymap ruler environment next middle last i' i j m more rest turns others)
 
 -- turns that proceed and a run behind them are a run
 pub turns-and-run : TurnsAndRun
-turns-and-run keymap environment editor middle last input i j items more end none run = run
-turns-and-run keymap environment editor middle last input i j items more end (first {middle = next} {input' = i'} {more = m} turn turns) run =
-    goes_on turn (turns-and-run keymap environment next middle last i' i j m more end turns run)
+turns-and-run keymap ruler environment editor middle last input i j items more end none run = run
+turns-and-run keymap ruler environment editor middle last input i j items more end (first {middle = next} {input' = i'} {more = m} turn turns) run =
+    goes_on turn (turns-and-run keymap ruler environment next middle last i' i j m more end turns run)
 
 -- what a phrase is read with after a count is the same for a draft whose hint was asked again
 counted-again : (environment : Environment) (typed : List KeyEvent) (draft : Draft) → typed ≢ []
@@ -69,7 +69,7 @@ reads-alike keymap environment draft other input input' items command left phras
 
 -- a turn whose items were cut short is the same one when they are read again
 pub reading-again : ReadingAgain
-reading-again keymap environment editor left cut input i items more answer short turn as_before = record {
+reading-again keymap ruler environment editor left cut input i items more answer short turn as_before = record {
   phrase = turn.phrase;
   command = turn.command;
   draft = turn.draft;
@@ -81,12 +81,12 @@ reading-again keymap environment editor left cut input i items more answer short
 }
 
 -- the turn that is made when items are read again is the turn of the editor before they were cut short
-pub read-again : (keymap : Keymap) (environment : Environment) (editor left : Editor) (cut : Draft) (input i : Input) (items more : List Item) (answer : Answer)
+pub read-again : (keymap : Keymap) (ruler : Ruler) (environment : Environment) (editor left : Editor) (cut : Draft) (input i : Input) (items more : List Item) (answer : Answer)
     → LeftByCut environment editor.draft cut
-    → (turn : Turn keymap environment (record { draft = cut; kills = editor.kills }) input items left i more answer)
+    → (turn : Turn keymap ruler environment (record { draft = cut; kills = editor.kills }) input items left i more answer)
     → (cut.hint ≡ editor.draft.hint) ⊎ (turn.reads.typed ≢ [])
-    → Turn keymap environment editor input items left i more answer
-read-again keymap environment editor left cut input i items more answer short turn as_before = record {
+    → Turn keymap ruler environment editor input items left i more answer
+read-again keymap ruler environment editor left cut input i items more answer short turn as_before = record {
   phrase = turn.phrase;
   command = turn.command;
   draft = turn.draft;
@@ -98,10 +98,10 @@ read-again keymap environment editor left cut input i items more answer short tu
 }
 
 -- more items behind those of a turn stay unread
-pub turn-before-more : (keymap : Keymap) (environment : Environment) (editor left : Editor) (input i : Input) (items rest more : List Item) (answer : Answer)
-    → Turn keymap environment editor input items left i rest answer
-    → Turn keymap environment editor input (items ++ more) left i (rest ++ more) answer
-turn-before-more keymap environment editor left input i items rest more answer turn = record {
+pub turn-before-more : (keymap : Keymap) (ruler : Ruler) (environment : Environment) (editor left : Editor) (input i : Input) (items rest more : List Item) (answer : Answer)
+    → Turn keymap ruler environment editor input items left i rest answer
+    → Turn keymap ruler environment editor input (items ++ more) left i (rest ++ more) answer
+turn-before-more keymap ruler environment editor left input i items rest more answer turn = record {
   phrase = turn.phrase;
   command = turn.command;
   draft = turn.draft;
@@ -111,10 +111,10 @@ turn-before-more keymap environment editor left input i items rest more answer t
 }
 
 -- more items behind those of turns that proceed stay unread
-pub turns-before-more : (keymap : Keymap) (environment : Environment) (editor last : Editor) (input i : Input) (items rest more : List Item)
-    → Turns keymap environment editor input items last i rest
-    → Turns keymap environment editor input (items ++ more) last i (rest ++ more)
-turns-before-more keymap environment editor last input i items rest more none = none
-turns-before-more keymap environment editor last input i items rest more (first {middle = middle} {input' = j} {more = m} turn turns) =
-    first (turn-before-more keymap environment editor middle input j items m more proceeds turn)
-    (turns-before-more keymap environment middle last j i m rest more turns)
+pub turns-before-more : (keymap : Keymap) (ruler : Ruler) (environment : Environment) (editor last : Editor) (input i : Input) (items rest more : List Item)
+    → Turns keymap ruler environment editor input items last i rest
+    → Turns keymap ruler environment editor input (items ++ more) last i (rest ++ more)
+turns-before-more keymap ruler environment editor last input i items rest more none = none
+turns-before-more keymap ruler environment editor last input i items rest more (first {middle = middle} {input' = j} {more = m} turn turns) =
+    first (turn-before-more keymap ruler environment editor middle input j items m more proceeds turn)
+    (turns-before-more keymap ruler environment middle last j i m rest more turns)

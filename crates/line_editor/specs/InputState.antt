@@ -1,7 +1,7 @@
 -- What an input state remembers.
 use Rattle.line_keys.specs.Command.{Command, command_of}
 use Rattle.line_keys.specs.declared.keys.KeyEvent.{KeyEvent}
-use Rattle.std.specs.Prelude.{Option}
+use Rattle.std.specs.Prelude.{Option, option_map}
 use Rattle.line_editor.specs.Binding.{bound_answer}
 use Rattle.line_editor.specs.Input.{Input}
 use Rattle.line_editor.specs.Keymap.{Keymap}
@@ -12,7 +12,7 @@ abbrev pub input_of : InputState → Input
 input_of state = record {
   style = state.mode;
   mode = state.input_mode;
-  last_change = command_of state.last_cmd;
+  last_change = option_map command_of state.last_cmd;
   last_search = state.last_char_search;
 }
 

@@ -1,8 +1,7 @@
 -- Which command a key has before the tables are asked.
 use Rattle.std.specs.Prelude.{ℕ, List, [], ◌∷◌, Option, Some, None}
-use Rattle.line_keys.specs.Command.{Command, plain}
+use Rattle.line_keys.specs.Command.{Command, end_of_file}
 use Rattle.line_keys.specs.Draft.{Draft}
-use Rattle.line_keys.specs.declared.command.Cmd.TheVariants.{EndOfFile}
 use Rattle.line_keys.specs.declared.keys.KeyEvent.{KeyEvent}
 use Rattle.line_keys.specs.declared.tables.Count.{Count}
 use Rattle.line_editor.specs.Asked.{Asked}
@@ -17,7 +16,7 @@ pub record Keymap : Type 0 where
 
 -- the reader's end of input counts only on an empty line
 abbrev pub on_line : List ℕ → Option Command → Option Command
-on_line (_ ∷ _) (Some (plain EndOfFile)) = None
+on_line (_ ∷ _) (Some end_of_file) = None
 on_line _ command = command
 
 -- the first answer there is

@@ -1,15 +1,18 @@
 -- Laws of the definitions.
-use Rattle.std.specs.Prelude.{◌≡◌, ◌≢◌, ◌⊎◌, List, [], ◌++◌}
-use Rattle.line_keys.specs.Command.{Command}
-use Rattle.line_keys.specs.Draft.{Draft, KeepsText}
+use Rattle.std.specs.Prelude.{◌≡◌, ◌≢◌, ◌⊎◌, ℕ, ◌≤◌, Bool, true, false, List, [], ◌∷◌, ◌++◌, length, take}
+use Rattle.std.specs.List.{list_any}
+use Rattle.line_keys.specs.Command.{Command, history_search_backward, history_search_forward, undo}
+use Rattle.line_keys.specs.Draft.{Draft, KeepsText, start_text}
 use Rattle.line_keys.specs.Item.{Item}
 use Rattle.line_parts.specs.Environment.{Environment}
+use Rattle.line_editor.specs.HistoryMoves.{is_at_end}
 use Rattle.line_editor.specs.Input.{Input}
 use Rattle.line_editor.specs.Keymap.{Keymap}
 use Rattle.line_editor.specs.Phrase.{Phrase}
 use Rattle.line_editor.specs.Reading.{LeftByCut}
-use Rattle.line_editor.specs.Run.{End, Run, Turn, Turns, stopped}
-use Rattle.line_editor.specs.Step.{Editor, Answer}
+use Rattle.line_editor.specs.Run.{End, Run, Turn, Turns, ready, stopped}
+use Rattle.line_editor.specs.Step.{step}
+use Rattle.line_editor.specs.Editor.{Editor, Answer, Ruler}
 
 -- no phrase is a proper beginning of another, and one list of items gives one command, and leaves one draft and one input
 abbrev pub IsPrefixFree : Type 0
@@ -29,44 +32,72 @@ pub record SameEnd (last last' : Editor) (input input' : Input) (end end' : End)
 
 -- a run from an editor, input and list of items has one end
 abbrev pub HasOneEnd : Type 0
-HasOneEnd = (keymap : Keymap) (environment : Environment) (editor last last' : Editor) (input i i' : Input) (items : List Item) (end end' : End)
-    → Run keymap environment editor input items last i end
-    → Run keymap environment editor input items last' i' end'
+HasOneEnd = (keymap : Keymap) (ruler : Ruler) (environment : Environment) (editor last last' : Editor) (input i i' : Input) (items : List Item) (end end' : End)
+    → Run keymap ruler environment editor input items last i end
+    → Run keymap ruler environment editor input items last' i' end'
     → SameEnd last last' i i' end end'
 
 -- turns that proceed and more such turns behind them are such turns
 abbrev pub TurnsFollow : Type 0
-TurnsFollow = (keymap : Keymap) (environment : Environment) (editor middle last : Editor) (input i j : Input) (items more rest : List Item)
-    → Turns keymap environment editor input items middle i more
-    → Turns keymap environment middle i more last j rest
-    → Turns keymap environment editor input items last j rest
+TurnsFollow = (keymap : Keymap) (ruler : Ruler) (environment : Environment) (editor middle last : Editor) (input i j : Input) (items more rest : List Item)
+    → Turns keymap ruler environment editor input items middle i more
+    → Turns keymap ruler environment middle i more last j rest
+    → Turns keymap ruler environment editor input items last j rest
 
 -- turns that proceed leave items unread that come behind theirs
 abbrev pub TurnsBeforeMore : Type 0
-TurnsBeforeMore = (keymap : Keymap) (environment : Environment) (editor last : Editor) (input i : Input) (items rest more : List Item)
-    → Turns keymap environment editor input items last i rest
-    → Turns keymap environment editor input (items ++ more) last i (rest ++ more)
+TurnsBeforeMore = (keymap : Keymap) (ruler : Ruler) (environment : Environment) (editor last : Editor) (input i : Input) (items rest more : List Item)
+    → Turns keymap ruler environment editor input items last i rest
+    → Turns keymap ruler environment editor input (items ++ more) last i (rest ++ more)
 
 -- turns that proceed and a run behind them are a run
 abbrev pub TurnsAndRun : Type 0
-TurnsAndRun = (keymap : Keymap) (environment : Environment) (editor middle last : Editor) (input i j : Input) (items more : List Item) (end : End)
-    → Turns keymap environment editor input items middle i more
-    → Run keymap environment middle i more last j end
-    → Run keymap environment editor input items last j end
+TurnsAndRun = (keymap : Keymap) (ruler : Ruler) (environment : Environment) (editor middle last : Editor) (input i j : Input) (items more : List Item) (end : End)
+    → Turns keymap ruler environment editor input items middle i more
+    → Run keymap ruler environment middle i more last j end
+    → Run keymap ruler environment editor input items last j end
 
 -- from the draft that a phrase left which was cut short, reading it again with more items behind it gives the turn that the whole
 -- gives from the first draft: where the cut left the hint as it was, or the phrase began with a count
 abbrev pub ReadingAgain : Type 0
-ReadingAgain = (keymap : Keymap) (environment : Environment) (editor left : Editor) (cut : Draft) (input i : Input) (items more : List Item) (answer : Answer)
+ReadingAgain = (keymap : Keymap) (ruler : Ruler) (environment : Environment) (editor left : Editor) (cut : Draft) (input i : Input) (items more : List Item) (answer : Answer)
     → LeftByCut environment editor.draft cut
-    → (turn : Turn keymap environment editor input items left i more answer)
+    → (turn : Turn keymap ruler environment editor input items left i more answer)
     → (cut.hint ≡ editor.draft.hint) ⊎ (turn.reads.typed ≢ [])
-    → Turn keymap environment (record { draft = cut; kills = editor.kills }) input items left i more answer
+    → Turn keymap ruler environment (record { draft = cut; kills = editor.kills }) input items left i more answer
 
 -- and a turn read from that draft is the whole phrase's turn from the first one
 abbrev pub ReadFromTheCut : Type 0
-ReadFromTheCut = (keymap : Keymap) (environment : Environment) (editor left : Editor) (cut : Draft) (input i : Input) (items more : List Item) (answer : Answer)
+ReadFromTheCut = (keymap : Keymap) (ruler : Ruler) (environment : Environment) (editor left : Editor) (cut : Draft) (input i : Input) (items more : List Item) (answer : Answer)
     → LeftByCut environment editor.draft cut
-    → (turn : Turn keymap environment (record { draft = cut; kills = editor.kills }) input items left i more answer)
+    → (turn : Turn keymap ruler environment (record { draft = cut; kills = editor.kills }) input items left i more answer)
     → (cut.hint ≡ editor.draft.hint) ⊎ (turn.reads.typed ≢ [])
-    → Turn keymap environment editor input items left i more answer
+    → Turn keymap ruler environment editor input items left i more answer
+
+-- an undo of at least as many steps as there are changes leaves the text that taking back all of them gives
+abbrev pub EnoughUndo : Type 0
+EnoughUndo = (ruler : Ruler) (environment : Environment) (input : Input) (editor : Editor) (n : ℕ)
+    → length editor.draft.changes.entries ≤ n
+    → (step ruler environment input editor (undo n)).editor.draft.line.text ≡ start_text editor.draft
+
+-- the commands that search the history for what stands before the cursor
+abbrev pub searches : Command → Bool
+searches history_search_backward = true
+searches history_search_forward = true
+searches _ = false
+
+-- the editor after commands that are executed one after another, each with the input that it finds, and ready as in a run
+abbrev pub after_commands : Ruler → Environment → Editor → List (Input × Command) → Editor
+after_commands ruler environment editor [] = editor
+after_commands ruler environment editor (next ∷ more) = after_commands ruler environment
+    (step ruler environment next.0 (ready next.1 editor.draft editor.kills) next.1).editor more
+
+-- where no command searches, and the first one leaves the history's end to which the last one comes back, and none in between, the
+-- line is again as it was, with its cursor, whatever was edited on the way
+abbrev pub ComingBack : Type 0
+ComingBack = (ruler : Ruler) (environment : Environment) (editor : Editor) (first last : Input × Command) (between : List (Input × Command))
+    → list_any (λ next. searches next.1) (first ∷ between ++ last ∷ []) ≡ false
+    → is_at_end environment editor.draft ≡ true
+    → ((k : ℕ) → k ≤ length between → is_at_end environment (after_commands ruler environment editor (first ∷ take k between)).draft ≡ false)
+    → is_at_end environment (after_commands ruler environment editor (first ∷ between ++ last ∷ [])).draft ≡ true
+    → (after_commands ruler environment editor (first ∷ between ++ last ∷ [])).draft.line ≡ editor.draft.line

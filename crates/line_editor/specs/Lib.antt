@@ -1,4 +1,8 @@
+pub mod Accept
 pub mod Asked
+pub mod Editor
+pub mod Edits
+pub mod HistoryMoves
 pub mod Event
 pub mod Moment
 pub mod Info

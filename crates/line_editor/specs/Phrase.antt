@@ -1,7 +1,7 @@
 -- Phrases: the items that one command is read from.
 use Rattle.std.specs.Prelude.{◌≡◌, ◌≢◌, List, [], ◌∷◌, ◌++◌, map, length, ◌==◌, Option, Some, None}
 use Rattle.line_parts.specs.Environment.{Environment}
-use Rattle.line_keys.specs.Command.{Command, plain}
+use Rattle.line_keys.specs.Command.{Command}
 use Rattle.line_keys.specs.Draft.{Draft, hinted}
 use Rattle.line_keys.specs.Item.{Item, key}
 use Rattle.line_keys.specs.Table.{Row, Tail, no_tail, row_of, command_at, IsCount}
@@ -27,7 +27,7 @@ Tailed no_tail tail = tail ≡ []
 -- a key with a binding is its command alone; for another one its row says what is read after it
 abbrev pub Answers : Option Command → Row → Count → List Item → Command → Type 0
 Answers (Some bound) row count tail command = (tail ≡ []) × (command ≡ bound)
-Answers None row count tail command = Tailed row.tail tail × (command ≡ plain (command_at row count))
+Answers None row count tail command = Tailed row.tail tail × (command ≡ command_at row count)
 
 -- the items after a key, and the command that they give together
 abbrev pub Keyed : Keymap → Draft → Input → Count → KeyEvent → List Item → Command → Type 0

@@ -5,11 +5,13 @@ use Rattle.line_config.specs.declared.error.ReadlineError.{ReadlineError}
 use Rattle.line_config.specs.declared.error.ReadlineError.TheVariants.{Eof, Interrupted}
 use Rattle.line_parts.specs.Environment.{Environment}
 use Rattle.line_keys.specs.Command.{Command}
-use Rattle.line_keys.specs.Draft.{Draft, hinted}
+use Rattle.line_keys.specs.Draft.{Draft, hinted, start_text}
 use Rattle.line_keys.specs.EditorState.{Frame, IsInPlace, KeepsDrawn, Redraws}
 use Rattle.line_keys.specs.Item.{Item}
 use Rattle.line_keys.specs.declared.editor_state.EditorState as editors
 use Rattle.line_keys.specs.declared.tty.RawReader as readers
+use Rattle.line_config.specs.Error.{UnlessFault}
+use Rattle.line_editor.specs.Editor.{ruler_of}
 use Rattle.line_editor.specs.InputState.{input_of, keymap_of}
 use Rattle.line_editor.specs.Phrase.{Phrase, IsBeginning}
 use Rattle.line_editor.specs.declared.keymap.InputState.{InputState}
@@ -59,6 +61,8 @@ module _ {X Y : Type 0} (e : editors.Ghosts X) (r : readers.Ghosts Y) where
     pub remembers : OnErr result (input_of input' ≡ input_of input)
     pub reads : OnOk result (length (r.rest reader') < length (r.rest reader))
     pub drawn : OnOk result (KeepsDrawn e editor editor')
+    pub ruler : (indent : ℕ) → OnOk result (ruler_of (e.display editor') indent ≡ ruler_of (e.display editor) indent)
+    pub start : UnlessFault result (start_text (e.draft editor') ≡ start_text (e.draft editor))
     pub in_place : IsInPlace e editor → OnOk result (IsInPlace e editor')
     pub redraws : OnOk result (RedrawsItems editor reader editor' reader')
     pub redraws_at_eof : IsErrOf result Eof → RedrawsItems editor reader editor' reader'

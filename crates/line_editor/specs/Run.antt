@@ -1,25 +1,20 @@
 -- A run: commands read from the items and executed, one after another.
-use Rattle.std.specs.Prelude.{◌≡◌, ◌≢◌, Bool, true, false, if◌then◌else◌, List, ◌++◌}
+use Rattle.std.specs.Prelude.{◌≡◌, ◌≢◌, if◌then◌else◌, List, ◌++◌}
 use Rattle.line_buffer.specs.KillRing.{Ring, with_last, other}
 use Rattle.line_parts.specs.Environment.{Environment}
-use Rattle.line_keys.specs.Command.{Command, plain, insertion, replacement, resets_kill_ring}
+use Rattle.line_keys.specs.Command.{Command, resets_kill_ring}
 use Rattle.line_keys.specs.Draft.{Draft}
 use Rattle.line_keys.specs.Item.{Item}
 use Rattle.line_editor.specs.Input.{Input}
 use Rattle.line_editor.specs.Keymap.{Keymap}
 use Rattle.line_editor.specs.Phrase.{Phrase, IsBeginning}
 use Rattle.line_editor.specs.Reading.{LeftByCut}
-use Rattle.line_editor.specs.Step.{Editor, Answer, Leaves, proceeds, step, grouped}
-
--- whether a command ends a row of kills
-abbrev pub ends_kills : Command → Bool
-ends_kills (plain cmd) = resets_kill_ring cmd
-ends_kills (insertion _ _) = true
-ends_kills (replacement _ _) = false
+use Rattle.line_editor.specs.Editor.{Editor, Answer, Leaves, Ruler, grouped, proceeds}
+use Rattle.line_editor.specs.Step.{step}
 
 -- the kill ring as the command finds it
 abbrev pub kills_before : Command → Ring → Ring
-kills_before command kills = if ends_kills command then with_last kills other else kills
+kills_before command kills = if resets_kill_ring command then with_last kills other else kills
 
 -- the editor as the command finds it: its group has begun, and the kill ring was reset where the command says so
 abbrev pub ready : Command → Draft → Ring → Editor
@@ -27,21 +22,21 @@ ready command draft kills = record { draft = grouped command draft; kills = kill
 
 -- One turn of a run: the items begin with a phrase, whose command is executed. It leaves an editor, an input and the items past the
 -- phrase, and answers.
-pub record Turn (keymap : Keymap) (environment : Environment) (editor : Editor) (input : Input) (items : List Item) (editor' : Editor) (input' : Input) (more : List Item) (answer : Answer) : Type 0 where
+pub record Turn (keymap : Keymap) (ruler : Ruler) (environment : Environment) (editor : Editor) (input : Input) (items : List Item) (editor' : Editor) (input' : Input) (more : List Item) (answer : Answer) : Type 0 where
   pub phrase : List Item
   pub command : Command
   pub draft : Draft
   pub cut : items ≡ phrase ++ more
   pub reads : Phrase keymap environment editor.draft input phrase command draft input'
-  pub leaves : Leaves (step environment input' (ready command draft editor.kills) command) editor' answer
+  pub leaves : Leaves (step ruler environment input' (ready command draft editor.kills) command) editor' answer
 
 -- turns that proceed, one after another, lead from the first editor, input and items to the last
-pub data Turns (keymap : Keymap) (environment : Environment) : Editor → Input → List Item → Editor → Input → List Item → Type 0 where
-  none : {editor : Editor} {input : Input} {items : List Item} → Turns keymap environment editor input items editor input items
+pub data Turns (keymap : Keymap) (ruler : Ruler) (environment : Environment) : Editor → Input → List Item → Editor → Input → List Item → Type 0 where
+  none : {editor : Editor} {input : Input} {items : List Item} → Turns keymap ruler environment editor input items editor input items
   first : {editor middle last : Editor} {input input' input'' : Input} {items more rest : List Item}
-      → Turn keymap environment editor input items middle input' more proceeds
-      → Turns keymap environment middle input' more last input'' rest
-      → Turns keymap environment editor input items last input'' rest
+      → Turn keymap ruler environment editor input items middle input' more proceeds
+      → Turns keymap ruler environment middle input' more last input'' rest
+      → Turns keymap ruler environment editor input items last input'' rest
 
 -- what items that run dry leave: the draft, with its hint as it was or asked again, and the kills
 pub record CutShort (environment : Environment) (old new : Editor) : Type 0 where
@@ -55,16 +50,16 @@ pub data End : Type 0 where
 
 -- A run from an editor and an input over items: what it leaves of the editor and of the input, and how it ends. Turns follow one
 -- another until one doesn't proceed; or the items run dry before a phrase, or inside of one.
-pub data Run (keymap : Keymap) (environment : Environment) : Editor → Input → List Item → Editor → Input → End → Type 0 where
+pub data Run (keymap : Keymap) (ruler : Ruler) (environment : Environment) : Editor → Input → List Item → Editor → Input → End → Type 0 where
   goes_on : {editor middle last : Editor} {input input' input'' : Input} {items more : List Item} {end : End}
-      → Turn keymap environment editor input items middle input' more proceeds
-      → Run keymap environment middle input' more last input'' end
-      → Run keymap environment editor input items last input'' end
+      → Turn keymap ruler environment editor input items middle input' more proceeds
+      → Run keymap ruler environment middle input' more last input'' end
+      → Run keymap ruler environment editor input items last input'' end
   ends : {editor last : Editor} {input input' : Input} {items rest : List Item} {answer : Answer}
-      → Turn keymap environment editor input items last input' rest answer
+      → Turn keymap ruler environment editor input items last input' rest answer
       → answer ≢ proceeds
-      → Run keymap environment editor input items last input' (stopped answer rest)
+      → Run keymap ruler environment editor input items last input' (stopped answer rest)
   runs_dry : {editor last : Editor} {input : Input} {items : List Item}
       → IsBeginning keymap environment editor.draft input items
       → CutShort environment editor last
-      → Run keymap environment editor input items last input (dry items)
+      → Run keymap ruler environment editor input items last input (dry items)

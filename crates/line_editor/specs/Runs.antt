@@ -1,20 +1,21 @@
 -- Steps, turns and runs of a program's state, input state, reader and kill ring.
-use Rattle.std.specs.Prelude.{◌≡◌, ◌+◌, ◌-◌, ◌*◌, List, [], length, Result, IfOk, OnOk, IsErrOf}
+use Rattle.std.specs.Prelude.{◌≡◌, ℕ, ◌+◌, ◌-◌, ◌*◌, List, [], length, Result, IfOk, OnOk, IsErrOf}
 use Rattle.line_buffer.specs.KillRing.{Ring}
 use Rattle.line_config.specs.declared.error.ReadlineError.{ReadlineError}
 use Rattle.line_config.specs.declared.error.ReadlineError.TheVariants.{Eof, Interrupted}
 use Rattle.line_keys.specs.Command.{Command}
-use Rattle.line_keys.specs.Draft.{hinted}
-use Rattle.line_keys.specs.EditorState.{DrewNothing, HasShownEnd, Frame, HasRightLayout, IsAtEnd, IsInPlace, KeepsDrawn, KeepsLayoutRight, PartyFailed, Redraws, ShowsLine, ShowsNoHint}
+use Rattle.line_keys.specs.Draft.{hinted, start_text}
+use Rattle.line_keys.specs.EditorState.{Does, DrewNothing, HasShownEnd, Frame, HasRightLayout, IsAtEnd, IsInPlace, KeepsDrawn, KeepsLayoutRight, PartyFailed, Redraws, ShowsLine, ShowsNoHint}
 use Rattle.line_keys.specs.Item.{Item}
 use Rattle.line_keys.specs.declared.editor_state.EditorState as editors
 use Rattle.line_keys.specs.declared.tty.RawReader as readers
-use Rattle.line_config.specs.Error.{IoOnlyIf}
+use Rattle.line_config.specs.Error.{IoOnlyIf, UnlessFault}
 use Rattle.line_editor.specs.InputState.{input_of, keymap_of}
 use Rattle.line_editor.specs.Reading.{RedrawsItems, OutOfItems}
 use Rattle.line_editor.specs.Run.{End, Run, Turn, dry, stopped}
 use Rattle.line_editor.specs.Status.{answer_of}
-use Rattle.line_editor.specs.Step.{Answer, Editor, Leaves, ended, interrupted, proceeds, step, submitted}
+use Rattle.line_editor.specs.Editor.{Answer, Editor, Leaves, Ruler, ended, interrupted, own_ruler, proceeds, ruler_of, submitted}
+use Rattle.line_editor.specs.Step.{step}
 use Rattle.line_editor.specs.declared.command.Status.{Status}
 use Rattle.line_editor.specs.declared.keymap.InputState.{InputState}
 use Rattle.line_editor.specs.declared.run.Turned.{Turned}
@@ -24,10 +25,16 @@ module _ {X : Type 0} (e : editors.Ghosts X) where
   abbrev pub editor_of : X → Ring → Editor
   editor_of state kills = record { draft = e.draft state; kills = kills }
 
+  -- what a call leaves that edits the line and kills or yanks: the editor, and what else such an edit leaves
+  pub record DoesWithKills {T : Type 0} (result : Result T ReadlineError) (state : X) (kills : Ring) (state' : X) (kills' : Ring) (left : Editor) (most : ℕ) : Type 0 where
+    pub does : Does e result state state' left.draft most
+    pub kills_left : OnOk result (kills' ≡ left.kills)
+
   -- from a state, an input and a kill ring the command leads to a state and a kill ring with this answer
-  abbrev pub StepsTo : X → InputState → Ring → Command → X → Ring → Answer → Type 0
-  StepsTo state input kills command state' kills' answer =
-      Leaves (step (e.environment state) (input_of input) (editor_of state kills) command) (editor_of state' kills') answer
+  abbrev pub StepsTo : X → InputState → ℕ → Ring → Command → X → Ring → Answer → Type 0
+  StepsTo state input indent kills command state' kills' answer =
+      Leaves (step (ruler_of (e.display state) indent) (e.environment state) (input_of input) (editor_of state kills) command)
+      (editor_of state' kills') answer
 
   -- what is drawn stays good, and no hint stands behind the line any more
   pub record LosesHint (state state' : X) : Type 0 where
@@ -48,30 +55,32 @@ module _ {X : Type 0} (e : editors.Ghosts X) where
   DrawnAfter interrupted state state' = GoesToEnd state state'
 
   -- a command that is executed: the step, what is drawn after it, with three full redraws at most, and the frame
-  pub record Executes (result : Result Status ReadlineError) (state : X) (input : InputState) (kills : Ring) (command : Command) (state' : X) (kills' : Ring) : Type 0 where
-    pub steps : IfOk result (λ status. StepsTo state input kills command state' kills' (answer_of status))
-    pub steps_at_eof : IsErrOf result Eof → StepsTo state input kills command state' kills' ended
-    pub steps_at_interrupt : IsErrOf result Interrupted → StepsTo state input kills command state' kills' interrupted
+  pub record Executes (result : Result Status ReadlineError) (state : X) (input : InputState) (indent : ℕ) (kills : Ring) (command : Command) (state' : X) (kills' : Ring) : Type 0 where
+    pub steps : IfOk result (λ status. StepsTo state input indent kills command state' kills' (answer_of status))
+    pub steps_at_eof : IsErrOf result Eof → StepsTo state input indent kills command state' kills' ended
+    pub steps_at_interrupt : IsErrOf result Interrupted → StepsTo state input indent kills command state' kills' interrupted
     pub drawn : IfOk result (λ status. DrawnAfter (answer_of status) state state')
     pub drawn_at_eof : IsErrOf result Eof → DrawnAfter ended state state'
     pub drawn_at_interrupt : IsErrOf result Interrupted → DrawnAfter interrupted state state'
     pub redraws : OnOk result (Redraws e 0 3 state state')
     pub redraws_at_eof : IsErrOf result Eof → Redraws e 0 3 state state'
     pub redraws_at_interrupt : IsErrOf result Interrupted → Redraws e 0 3 state state'
+    pub start : UnlessFault result (start_text (e.draft state') ≡ start_text (e.draft state))
     pub frame : Frame e state state'
     pub io : IoOnlyIf result (PartyFailed e state state')
 
 module _ {X Y : Type 0} (e : editors.Ghosts X) (r : readers.Ghosts Y) where
   -- from the first four values to the last four there is a turn with this answer
-  abbrev pub LeadsTo : X → InputState → Y → Ring → X → InputState → Y → Ring → Answer → Type 0
-  LeadsTo state input reader kills state' input' reader' kills' answer =
-      Turn (keymap_of input (r.own_binding reader)) (e.environment state)
+  abbrev pub LeadsTo : X → InputState → ℕ → Y → Ring → X → InputState → Y → Ring → Answer → Type 0
+  LeadsTo state input indent reader kills state' input' reader' kills' answer =
+      Turn (keymap_of input (r.own_binding reader)) (ruler_of (e.display state) indent) (e.environment state)
       (editor_of e state kills) (input_of input) (r.rest reader)
       (editor_of e state' kills') (input_of input') (r.rest reader') answer
 
   -- a turn that was made: it draws what its answer says, in at most three full redraws and one for each item read
-  pub record TakesTurn (state : X) (input : InputState) (reader : Y) (kills : Ring) (state' : X) (input' : InputState) (reader' : Y) (kills' : Ring) (answer : Answer) : Type 0 where
-    pub turn : LeadsTo state input reader kills state' input' reader' kills' answer
+  pub record TakesTurn (state : X) (input : InputState) (indent : ℕ) (reader : Y) (kills : Ring) (state' : X) (input' : InputState) (reader' : Y) (kills' : Ring) (answer : Answer) : Type 0 where
+    pub turn : LeadsTo state input indent reader kills state' input' reader' kills' answer
+    pub start : start_text (e.draft state') ≡ start_text (e.draft state)
     pub drawn : DrawnAfter e answer state state'
     pub redraws : Redraws e 0 (3 + (length (r.rest reader) - length (r.rest reader'))) state state'
 
@@ -84,22 +93,22 @@ module _ {X Y : Type 0} (e : editors.Ghosts X) (r : readers.Ghosts Y) where
     pub redraws : RedrawsItems e r state reader state' reader'
 
   -- what a turn leaves, by the way in which it ended
-  abbrev pub AdvancesTo : Turned → X → InputState → Y → Ring → X → InputState → Y → Ring → Type 0
-  AdvancesTo Turned.Proceeds state input reader kills state' input' reader' kills' =
-      TakesTurn state input reader kills state' input' reader' kills' proceeds
-  AdvancesTo Turned.Submitted state input reader kills state' input' reader' kills' =
-      TakesTurn state input reader kills state' input' reader' kills' submitted
-  AdvancesTo Turned.Ended state input reader kills state' input' reader' kills' =
-      TakesTurn state input reader kills state' input' reader' kills' ended
-  AdvancesTo Turned.Interrupted state input reader kills state' input' reader' kills' =
-      TakesTurn state input reader kills state' input' reader' kills' interrupted
-  AdvancesTo Turned.NeedsMore state input reader kills state' input' reader' kills' =
+  abbrev pub AdvancesTo : Turned → X → InputState → ℕ → Y → Ring → X → InputState → Y → Ring → Type 0
+  AdvancesTo Turned.Proceeds state input indent reader kills state' input' reader' kills' =
+      TakesTurn state input indent reader kills state' input' reader' kills' proceeds
+  AdvancesTo Turned.Submitted state input indent reader kills state' input' reader' kills' =
+      TakesTurn state input indent reader kills state' input' reader' kills' submitted
+  AdvancesTo Turned.Ended state input indent reader kills state' input' reader' kills' =
+      TakesTurn state input indent reader kills state' input' reader' kills' ended
+  AdvancesTo Turned.Interrupted state input indent reader kills state' input' reader' kills' =
+      TakesTurn state input indent reader kills state' input' reader' kills' interrupted
+  AdvancesTo Turned.NeedsMore state input indent reader kills state' input' reader' kills' =
       NeedsMoreItems state input reader kills state' input' reader' kills'
 
   -- from the first four values, once the hint was asked, to the next three there is a run with this end
-  abbrev pub RunsTo : X → InputState → Y → Ring → X → InputState → Ring → End → Type 0
-  RunsTo state input reader kills state' input' kills' end =
-      Run (keymap_of input (r.own_binding reader)) (e.environment state)
+  abbrev pub RunsTo : X → InputState → ℕ → Y → Ring → X → InputState → Ring → End → Type 0
+  RunsTo state input indent reader kills state' input' kills' end =
+      Run (keymap_of input (r.own_binding reader)) (own_ruler (e.display state) indent) (e.environment state)
       (record { draft = hinted (e.environment state) (e.draft state); kills = kills }) (input_of input) (r.rest reader)
       (editor_of e state' kills') (input_of input') end
 
@@ -109,32 +118,36 @@ module _ {X Y : Type 0} (e : editors.Ghosts X) (r : readers.Ghosts Y) where
       Redraws e 1 (1 + 4 * (length (r.rest reader) - length (r.rest reader'))) state state'
 
   -- a run that was submitted: no hint stands behind the line
-  pub record RunsToSubmit (state : X) (input : InputState) (reader : Y) (kills : Ring) (state' : X) (input' : InputState) (reader' : Y) (kills' : Ring) : Type 0 where
-    pub run : RunsTo state input reader kills state' input' kills' (stopped submitted (r.rest reader'))
+  pub record RunsToSubmit (state : X) (input : InputState) (indent : ℕ) (reader : Y) (kills : Ring) (state' : X) (input' : InputState) (reader' : Y) (kills' : Ring) : Type 0 where
+    pub run : RunsTo state input indent reader kills state' input' kills' (stopped submitted (r.rest reader'))
     pub right : HasRightLayout e state'
     pub no_hint : ShowsNoHint e state'
+    pub start : start_text (e.draft state') ≡ start_text (e.draft state)
     pub redraws : RedrawsOfRun state reader state' reader'
 
   -- a run that the command for the end of the input ended, on an empty line: no hint stands behind it
-  pub record RunsToEnd (state : X) (input : InputState) (reader : Y) (kills : Ring) (state' : X) (input' : InputState) (reader' : Y) (kills' : Ring) : Type 0 where
-    pub run : RunsTo state input reader kills state' input' kills' (stopped ended (r.rest reader'))
+  pub record RunsToEnd (state : X) (input : InputState) (indent : ℕ) (reader : Y) (kills : Ring) (state' : X) (input' : InputState) (reader' : Y) (kills' : Ring) : Type 0 where
+    pub run : RunsTo state input indent reader kills state' input' kills' (stopped ended (r.rest reader'))
     pub right : HasRightLayout e state'
     pub no_hint : ShowsNoHint e state'
+    pub start : start_text (e.draft state') ≡ start_text (e.draft state)
     pub redraws : RedrawsOfRun state reader state' reader'
 
   -- a run whose items ran dry: all are read, and where no phrase was cut short what is drawn is right
-  pub record RunsDry (state : X) (input : InputState) (reader : Y) (kills : Ring) (state' : X) (input' : InputState) (reader' : Y) (kills' : Ring) : Type 0 where
+  pub record RunsDry (state : X) (input : InputState) (indent : ℕ) (reader : Y) (kills : Ring) (state' : X) (input' : InputState) (reader' : Y) (kills' : Ring) : Type 0 where
     pub inside : List Item
-    pub run : RunsTo state input reader kills state' input' kills' (dry inside)
+    pub run : RunsTo state input indent reader kills state' input' kills' (dry inside)
     pub empty : r.rest reader' ≡ []
+    pub start : start_text (e.draft state') ≡ start_text (e.draft state)
     pub redraws : RedrawsOfRun state reader state' reader'
     pub right : inside ≡ [] → HasRightLayout e state'
     pub shown : inside ≡ [] → ShowsLine e state'
 
   -- an interrupted run: the kept cursor is at the end of what is shown, and the renderer stands there
-  pub record RunsToInterrupt (state : X) (input : InputState) (reader : Y) (kills : Ring) (state' : X) (input' : InputState) (reader' : Y) (kills' : Ring) : Type 0 where
-    pub run : RunsTo state input reader kills state' input' kills' (stopped interrupted (r.rest reader'))
+  pub record RunsToInterrupt (state : X) (input : InputState) (indent : ℕ) (reader : Y) (kills : Ring) (state' : X) (input' : InputState) (reader' : Y) (kills' : Ring) : Type 0 where
+    pub run : RunsTo state input indent reader kills state' input' kills' (stopped interrupted (r.rest reader'))
     pub at_end : IsAtEnd e state'
     pub in_place : IsInPlace e state'
     pub ends : HasShownEnd e state'
+    pub start : start_text (e.draft state') ≡ start_text (e.draft state)
     pub redraws : RedrawsOfRun state reader state' reader'

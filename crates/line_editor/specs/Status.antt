@@ -1,5 +1,5 @@
 -- What a status of a command says.
-use Rattle.line_editor.specs.Step.{Answer, proceeds, submitted}
+use Rattle.line_editor.specs.Editor.{Answer, proceeds, submitted}
 use Rattle.line_editor.specs.declared.command.Status.{Status}
 use Rattle.line_editor.specs.declared.command.Status.TheVariants.{Proceed, Submit}
 

@@ -1,137 +1,80 @@
 -- What a command does to the editor.
-use Rattle.std.specs.Prelude.{◌≡◌, ℕ, Bool, ◌||◌, if◌then◌else◌, List, [], ◌∷◌, Option, Some, None, is_some}
-use Rattle.line_buffer.specs.Cluster.{place_on, place_back}
-use Rattle.line_buffer.specs.Kill.{killed_range, ring_with_killed}
-use Rattle.line_buffer.specs.KillRing.{Ring}
-use Rattle.line_buffer.specs.Line.{Line, moved_to, with_cursor, start_of_line, end_of_line, ends_in_white_space}
-use Rattle.line_buffer.specs.declared.keymap.Movement.{Movement}
-use Rattle.line_buffer.specs.declared.keymap.Movement.TheVariants.{BackwardChar, ForwardChar, BeginningOfLine, EndOfLine}
-use Rattle.line_config.specs.declared.config.EditMode.{EditMode}
-use Rattle.line_config.specs.declared.config.EditMode.TheVariants.{Emacs, Vi}
-use Rattle.line_keys.specs.Command.{Command, plain, replacement}
-use Rattle.line_keys.specs.Draft.{Draft, hinted, unhinted, in_group, out_of_group}
-use Rattle.line_keys.specs.declared.command.Cmd.{Cmd}
-use Rattle.line_keys.specs.declared.command.Cmd.TheVariants.{SelfInsert, Move, Kill, Newline, Repaint, EndOfFile, AcceptLine, AcceptOrInsertLine, Interrupt}
-use Rattle.line_parts.specs.Environment.{Environment, verdict_on}
-use Rattle.line_parts.specs.Verdict.{Verdict, incomplete, invalid, valid}
-use Rattle.line_state.specs.Edited.{Edited, with_copies, without_range}
+use Rattle.std.specs.Prelude.{ℕ, true, false, if◌then◌else◌, is_some}
+use Rattle.line_buffer.specs.Kill.{killed_range}
+use Rattle.line_buffer.specs.KillRing.{yank_popped, yanked_text}
+use Rattle.line_buffer.specs.Lines.{down_by, up_by}
+use Rattle.line_buffer.specs.declared.keymap.Movement.TheVariants.{LineDown, LineUp}
+use Rattle.line_buffer.specs.declared.line_buffer.WordAction.TheVariants.{Capitalize, Lowercase, Uppercase}
+use Rattle.line_keys.specs.Command.{Command, accept_line, accept_or_insert_line, beginning_of_history, capitalize_word, clear_screen, complete_hint, dedent, downcase_word, end_of_file, end_of_history, history_search_backward, history_search_forward, indent, insert, interrupt, kill, line_down_or_next_history, line_up_or_previous_history, move, newline, next_history, overwrite, previous_history, repaint, replace, replace_char, self_insert, transpose_chars, transpose_words, undo, upcase_word, vi_yank_to, yank, yank_pop}
+use Rattle.line_keys.specs.Draft.{Draft, hinted, unhinted}
+use Rattle.line_keys.specs.declared.command.Anchor.TheVariants.{Before}
+use Rattle.line_parts.specs.Environment.{Environment}
+use Rattle.line_parts.specs.declared.history.SearchDirection.TheVariants.{Forward, Reverse}
+use Rattle.line_editor.specs.Accept.{accepted, answer_at_end, validated}
+use Rattle.line_editor.specs.Editor.{Editor, Ruler, Step, interrupted, measuring, proceeding, submitted, with_draft}
+use Rattle.line_editor.specs.Edits.{chars_transposed, char_replaced, completed, copied_to, cursor_moved, kill_popped, kill_yanked, killed_by, lines_shifted, overwritten, replaced_by, steps_undone, text_of, typed_in, word_changed, words_transposed, yanked_in}
+use Rattle.line_editor.specs.HistoryMoves.{end_shown, first_shown, next_shown, previous_shown, searched}
 use Rattle.line_editor.specs.Input.{Input}
 
--- the abstract editor: the draft and the killed texts
-pub record Editor : Type 0 where
-  pub draft : Draft
-  pub kills : Ring
+-- the cursor goes up so many lines, or from the first line to the history's line before this one; or down
+abbrev pub up_or_previous : Ruler → Environment → ℕ → Draft → Draft
+up_or_previous ruler environment n draft =
+    if is_some (up_by (measuring ruler) draft.line n) then cursor_moved ruler (LineUp n) draft
+    else previous_shown environment draft
 
--- how a command answers: the next one is read, the line is submitted, or the run ends with the end of the input or an interrupt
-pub data Answer : Type 0 where
-  proceeds : Answer
-  submitted : Answer
-  ended : Answer
-  interrupted : Answer
+abbrev pub down_or_next : Ruler → Environment → ℕ → Draft → Draft
+down_or_next ruler environment n draft =
+    if is_some (down_by (measuring ruler) draft.line n) then cursor_moved ruler (LineDown n) draft
+    else next_shown environment draft
 
--- what a command leaves, and its answer
-pub record Step : Type 0 where
-  pub editor : Editor
-  pub answer : Answer
+-- what a command does to the draft that proceeds and leaves the kill ring; those that are left to the program above do nothing
+abbrev pub edited_by : Ruler → Environment → Input → Draft → Command → Draft
+edited_by ruler environment input draft (self_insert n c) = typed_in environment n c draft
+edited_by ruler environment input draft newline = typed_in environment 1 10 (unhinted draft)
+edited_by ruler environment input draft (insert n text) = yanked_in environment input Before n text draft
+edited_by ruler environment input draft (replace_char n c) = char_replaced environment n c draft
+edited_by ruler environment input draft (overwrite c) = overwritten environment c draft
+edited_by ruler environment input draft (move movement) = cursor_moved ruler movement draft
+edited_by ruler environment input draft (line_up_or_previous_history n) = up_or_previous ruler environment n draft
+edited_by ruler environment input draft (line_down_or_next_history n) = down_or_next ruler environment n draft
+edited_by ruler environment input draft (undo n) = steps_undone environment n draft
+edited_by ruler environment input draft (indent movement) = lines_shifted environment false ruler.indent_size movement draft
+edited_by ruler environment input draft (dedent movement) = lines_shifted environment true ruler.indent_size movement draft
+edited_by ruler environment input draft transpose_chars = chars_transposed environment draft
+edited_by ruler environment input draft (transpose_words n) = words_transposed environment n draft
+edited_by ruler environment input draft capitalize_word = word_changed environment Capitalize draft
+edited_by ruler environment input draft downcase_word = word_changed environment Lowercase draft
+edited_by ruler environment input draft upcase_word = word_changed environment Uppercase draft
+edited_by ruler environment input draft previous_history = previous_shown environment draft
+edited_by ruler environment input draft next_history = next_shown environment draft
+edited_by ruler environment input draft beginning_of_history = first_shown environment draft
+edited_by ruler environment input draft end_of_history = end_shown environment draft
+edited_by ruler environment input draft history_search_backward = searched environment Reverse draft
+edited_by ruler environment input draft history_search_forward = searched environment Forward draft
+edited_by ruler environment input draft complete_hint = completed environment draft.hint draft
+edited_by ruler environment input draft clear_screen = hinted environment draft
+edited_by ruler environment input draft repaint = hinted environment draft
+edited_by ruler environment input draft _ = draft
 
--- the line of a draft with its changes, and a draft with another one
-abbrev pub edited_of : Draft → Edited
-edited_of draft = record { line = draft.line; changes = draft.changes }
-
-abbrev pub with_edited : Draft → Edited → Draft
-with_edited draft edited = record draft { line = edited.line; changes = edited.changes }
-
--- n copies of a character are typed, and the hint is asked again
-abbrev pub typed_in : Environment → ℕ → ℕ → Draft → Draft
-typed_in environment n c draft = hinted environment (with_edited draft (with_copies n c (edited_of draft)))
-
--- the line with its cursor moved; a movement that isn't there yet leaves it
-abbrev pub moved : Movement → Line → Line
-moved (BackwardChar n) line = moved_to line (place_back line n)
-moved (ForwardChar n) line = moved_to line (place_on line n)
-moved BeginningOfLine line = with_cursor line (start_of_line line)
-moved EndOfLine line = with_cursor line (end_of_line line)
-moved _ line = line
-
--- a range is killed, and the hint is asked again; without a range nothing happens
-abbrev pub killed_by : Environment → Movement → Editor → Option (ℕ × ℕ) → Editor
-killed_by environment movement editor None = editor
-killed_by environment movement editor (Some range) = record {
-  draft = hinted environment (with_edited editor.draft (without_range (Some range) (edited_of editor.draft)));
-  kills = ring_with_killed editor.draft.line movement (Some range) editor.kills;
-}
-
--- a verdict other than that the line goes on takes the hint away
-abbrev pub unhinted_by : Verdict → Draft → Draft
-unhinted_by incomplete draft = draft
-unhinted_by _ draft = unhinted draft
-
--- a helper is asked for its verdict inside a group of changes
-abbrev pub validated : Environment → Draft → Draft
-validated environment draft =
-    if is_some environment.verdict_at
-    then unhinted_by (verdict_on environment draft.line.text) (out_of_group (in_group draft))
-    else draft
-
--- a valid line is submitted where it may be; a refusal with a message leaves it; else a newline comes
-abbrev pub accepted_as : Verdict → Bool → Draft → Draft → Draft × Answer
-accepted_as (valid message) may left longer = if may then (left, submitted) else (longer, proceeds)
-accepted_as (invalid (Some message)) may left longer = (left, proceeds)
-accepted_as (invalid None) may left longer = (longer, proceeds)
-accepted_as incomplete may left longer = (longer, proceeds)
-
--- a line is accepted by its verdict: with the cursor at the end of input, or anywhere where that is allowed
-abbrev pub accepted : Environment → Bool → Draft → Draft × Answer
-accepted environment in_the_middle draft =
-    accepted_as (verdict_on environment draft.line.text) (in_the_middle || ends_in_white_space draft.line)
-    (validated environment draft) (typed_in environment 1 10 (validated environment draft))
-
--- the end of the input ends the run on an empty line; another one is submitted by Vi alone
-abbrev pub answer_at_end : EditMode → List ℕ → Answer
-answer_at_end _ [] = ended
-answer_at_end Emacs (_ ∷ _) = proceeds
-answer_at_end Vi (_ ∷ _) = submitted
-
--- the draft changes and the kills stay
-abbrev pub with_draft : Editor → Draft → Editor
-with_draft editor draft = record { draft = draft; kills = editor.kills }
-
--- the next command is to be read
-abbrev pub proceeding : Editor → Step
-proceeding editor = record { editor = editor; answer = proceeds }
-
--- what a command does that holds no text; one that isn't there yet does nothing
-abbrev pub plain_step : Environment → Input → Editor → Cmd → Step
-plain_step environment input editor (SelfInsert n c) =
-    proceeding (with_draft editor (typed_in environment n c editor.draft))
-plain_step environment input editor (Move movement) =
-    proceeding (with_draft editor (record editor.draft { line = moved movement editor.draft.line }))
-plain_step environment input editor (Kill movement) =
+-- what a command does: it kills or yanks, ends the run or may end it, or only edits
+abbrev pub step : Ruler → Environment → Input → Editor → Command → Step
+step ruler environment input editor (kill movement) =
     proceeding (killed_by environment movement editor (killed_range editor.draft.line movement))
-plain_step environment input editor Newline =
-    proceeding (with_draft editor (typed_in environment 1 10 (unhinted editor.draft)))
-plain_step environment input editor Repaint = proceeding (with_draft editor (hinted environment editor.draft))
-plain_step environment input editor EndOfFile =
-    record { editor = with_draft editor (unhinted editor.draft); answer = answer_at_end input.style editor.draft.line.text }
-plain_step environment input editor AcceptLine =
+step ruler environment input editor (replace movement text) = proceeding (replaced_by environment movement text editor)
+step ruler environment input editor (vi_yank_to movement) =
+    proceeding (record editor { kills = copied_to editor.kills (text_of editor.draft.line movement) })
+step ruler environment input editor (yank n anchor) =
+    proceeding (kill_yanked environment input anchor n (yanked_text editor.kills) editor)
+step ruler environment input editor yank_pop = proceeding (kill_popped environment (yank_popped editor.kills) editor)
+step ruler environment input editor end_of_file = record {
+  editor = with_draft editor (unhinted editor.draft);
+  answer = answer_at_end input.style editor.draft.line.text;
+}
+step ruler environment input editor accept_line =
     record { editor = with_draft editor (validated environment (unhinted editor.draft)); answer = submitted }
-plain_step environment input editor (AcceptOrInsertLine in_the_middle) =
+step ruler environment input editor (accept_or_insert_line in_the_middle) =
     let left = accepted environment in_the_middle (unhinted editor.draft) in
     record { editor = with_draft editor left.0; answer = left.1 }
-plain_step environment input editor Interrupt = record { editor = editor; answer = interrupted }
-plain_step environment input editor _ = proceeding editor
-
--- what a command does
-abbrev pub step : Environment → Input → Editor → Command → Step
-step environment input editor (plain cmd) = plain_step environment input editor cmd
-step environment input editor _ = proceeding editor
-
--- a group of changes begins for each replacement
-abbrev pub grouped : Command → Draft → Draft
-grouped (replacement _ _) draft = in_group draft
-grouped _ draft = draft
-
--- the editor that is left and the answer are those of a step
-pub record Leaves (done : Step) (left : Editor) (answer : Answer) : Type 0 where
-  pub editor : left ≡ done.editor
-  pub answered : done.answer ≡ answer
+step ruler environment input editor interrupt = record { editor = editor; answer = interrupted }
+step ruler environment input editor command =
+    proceeding (with_draft editor (edited_by ruler environment input editor.draft command))

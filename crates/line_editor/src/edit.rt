@@ -1,19 +1,24 @@
 //! The line while it is edited, and how it is drawn.
-ghost use Rattle.std.specs.Prelude.{◌≡◌, ℕ, ◌≤◌, ◌&&◌, Bool, true, List, [], Option, Some, None, option_map, is_some, length, IfOk, OnOk, OnErr, IsOk};
+ghost use Rattle.std.specs.Prelude.{IsCharBoundary, if◌then◌else◌, ◌≡◌, ℕ, ◌≤◌, ◌&&◌, Bool, true, List, [], Option, Some, None, option_map, is_some, length, IfOk, OnOk, OnErr, IsOk};
 ghost use Rattle.std.specs.Borrow.{GName};
+ghost use Rattle.line_config.specs.Error.{MemoryOnly};
 ghost use Rattle.line_editor.specs.Info.{shown_info};
-ghost use Rattle.line_keys.specs.Display.{lit_after, undrawn};
+ghost use Rattle.line_keys.specs.Display.{IsRight, ShowsText, lit_after, undrawn};
 ghost use Rattle.line_keys.specs.Draft.{empty_draft, hinted, KeepsText};
-ghost use Rattle.line_keys.specs.EditorState.{DrewNothing, FailsOnlyIf, Frame, PartyFailed, Redraws, RendererFailed, Shows, Undrawn};
+ghost use Rattle.line_keys.specs.EditorState.{DrewNothing, FailsOnlyIf, Frame, PartyFailed, Redraws, RendererFailed, Shows, ShowsEdit, Undrawn};
 ghost use Rattle.line_parts.specs.Environment.{Environment};
 ghost use Rattle.line_parts.specs.Helped.{hint_by, is_sure_by, lights_by, verdict_by};
 ghost use Rattle.line_parts.specs.Hint.{suggestion_of};
 
+mod drawing;
+mod hints;
+mod history;
 mod inserts;
 mod kills;
 mod moves;
 mod reading;
 mod validation;
+mod words;
 
 use line_buffer::{Layout, LineBuffer};
 use line_config::{Prompt, Result};
@@ -144,6 +149,52 @@ impl<'out, 'prompt, W: Renderer, H: Helper, P: Prompt, S: History> State<
         })
     }
 
+    /// Returns the state of a line behind the prompt, with the cursor at byte `cursor` of it, with no changes and with nothing
+    /// drawn yet.
+    ///
+    /// # Errors
+    /// That memory ran out.
+    pub fn with_line(
+        alloc: Global,
+        out: &'out mut W,
+        prompt: &'prompt P,
+        helper: Option<&'out mut H>,
+        ctx: Context<'out, S>,
+        text: &str,
+        cursor: usize,
+    ) -> Result<Self>
+        requires { IsCharBoundary text.now cursor }
+        ensures draft { IfOk result (λ s. ⟦<Self as EditorState>⟧.draft s
+            ≡ record (empty_draft ctx.entry.index) {
+              line = record { text = text.now; cursor = cursor };
+            }) }
+        ensures display { IfOk result (λ s. ⟦<Self as EditorState>⟧.display s
+            ≡ undrawn (W.surface out.old) (W.screen out.old) (P.raw_text prompt.now)) }
+        ensures environment { IfOk result (λ s. ⟦<Self as EditorState>⟧.environment s ≡ record {
+          hint_at = hint_by H.hint_at helper.entry;
+          verdict_at = verdict_by H.verdict_at helper.entry;
+          lights = lights_by H.lights helper.entry;
+          lines = S.lines ctx.entry.history;
+        }) }
+        ensures sure { IfOk result (λ s. ⟦<Self as EditorState>⟧.sure s
+            ≡ (is_sure_by H.Hinter.sure helper.entry && is_sure_by H.Validator.sure helper.entry
+            && S.sure ctx.entry.history)) }
+        ensures failures { IfOk result (λ s.
+            ⟦<Self as EditorState>⟧.failures s ≡ W.failures out.old) }
+        ensures redraws { IfOk result (λ s. ⟦<Self as EditorState>⟧.redraws s ≡ W.redraws out.old) }
+        ensures loan { IfOk result (λ s. ⟦<Self as EditorState>⟧.loan s ≡ out.entry.ghost_name) }
+        ensures memory { MemoryOnly result }
+    {
+        Ok(State {
+            alloc,
+            edited: EditedLine::with_line(alloc, text, cursor)?,
+            saved_line_for_history: LineBuffer::new(alloc),
+            view: View::new(out, prompt),
+            parties: Parties::new(helper, ctx),
+            hint: None,
+        })
+    }
+
     /// Returns the whole text.
     pub fn line(&self) -> &str
         ensures { result.now ≡ (⟦<Self as EditorState>⟧.draft self.now).line.text }
@@ -216,6 +267,16 @@ impl<'out, 'prompt, W: Renderer, H: Helper, P: Prompt, S: History> State<
             let lit = self.parties.highlight_char(self.edited.line(), kind);
             self.view.set_lit(lit);
         }
+    }
+
+    // Asks for the hint and draws the line again where an edit was reported. Else the drawn cursor goes to where the line's is.
+    pub(crate) fn show_edit(&mut self, reported: bool) -> Result<()>
+        ensures { ShowsEdit ⟦<Self as EditorState>⟧ reported result self.old self.new }
+    {
+        if reported {
+            return self.refresh_line();
+        }
+        self.move_cursor(CmdKind::MoveCursor)
     }
 
     // Draws all again behind the own prompt, with an info behind the line.

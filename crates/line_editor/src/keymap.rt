@@ -2,7 +2,7 @@
 ghost use Rattle.std.specs.Prelude.{◌≡◌, ◌↔◌, List, [], Option, option_map, IfOk, IsErrOf, IsTrue};
 ghost use Rattle.line_editor.specs.Binding.{bound_answer};
 ghost use Rattle.line_editor.specs.Keymap.{on_line};
-ghost use Rattle.line_editor.specs.Input.{first_input};
+ghost use Rattle.line_editor.specs.Input.{first_input, is_vi_command};
 ghost use Rattle.line_editor.specs.InputState.{input_of, keymap_of};
 ghost use Rattle.line_editor.specs.Phrase.{seen_of};
 ghost use Rattle.line_editor.specs.Reading.{ReadsOn, ReadsPhrase, OutOfItems};
@@ -28,7 +28,7 @@ pub struct InputState<'b> {
     mode: EditMode,
     bindings: &'b Bindings,
     input_mode: InputMode,
-    last_cmd: Cmd,
+    last_cmd: Option<Cmd>,
     last_char_search: Option<CharSearch>,
 }
 
@@ -43,7 +43,7 @@ impl<'b> InputState<'b> {
             mode: config.edit_mode(),
             bindings,
             input_mode: InputMode::Insert,
-            last_cmd: Cmd::Noop,
+            last_cmd: None,
             last_char_search: None,
         }
     }
@@ -57,10 +57,12 @@ impl<'b> InputState<'b> {
 
     /// Returns whether the style is that of Vi, and its keys are commands.
     pub fn is_vi_cmd_mode(&self) -> bool
-        ensures { IsTrue result ↔ (((input_of self.now).style ≡ EditMode.Vi)
-            × ((input_of self.now).mode ≡ InputMode.Command)) }
+        ensures { result ≡ is_vi_command (input_of self.now) }
     {
-        self.mode == EditMode::Vi && self.input_mode == InputMode::Command
+        match (self.mode, self.input_mode) {
+            (EditMode::Vi, InputMode::Command) => true,
+            _ => false,
+        }
     }
 
     /// Reads the keys of one phrase, and nothing past it, and gives the command that they stand for.

@@ -1,5 +1,5 @@
 //! Laws of the definitions that the contracts cite. No call of the editor is made here.
-ghost use Rattle.line_editor.specs.Laws.{HasOneEnd, IsPrefixFree, ReadFromTheCut, ReadingAgain, TurnsAndRun, TurnsBeforeMore, TurnsFollow};
+ghost use Rattle.line_editor.specs.Laws.{ComingBack, EnoughUndo, HasOneEnd, IsPrefixFree, ReadFromTheCut, ReadingAgain, TurnsAndRun, TurnsBeforeMore, TurnsFollow};
 
 /// No phrase is a proper beginning of another, and one list of items has one command.
 pub fn phrases_are_prefix_free()
@@ -37,4 +37,15 @@ pub fn reading_again_gives_the_turn()
 /// The other way round: what is read from the draft that the cut left is the whole phrase's turn from the first draft.
 pub fn a_turn_read_again_is_the_whole_phrases()
     ensures { ReadFromTheCut }
+{}
+
+/// An undo with a count no less than the changes leaves the text that taking back all of them gives.
+pub fn enough_undo_gives_the_start()
+    ensures { EnoughUndo }
+{}
+
+/// Where the line that is being written is left for the history's lines and comes back, it comes back as it was, with its
+/// cursor, whatever was edited in between: where no command searches the history.
+pub fn coming_back_restores_the_line()
+    ensures { ComingBack }
 {}

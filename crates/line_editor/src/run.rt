@@ -34,7 +34,6 @@ pub enum Turned {
 }
 
 // Resets the kill ring where the command says so.
-#[tactic(auto, using(crate::proofs::RunLemmas::ends_kills_of))]
 fn reset_kills(command: &Cmd, kill_ring: &mut KillRing)
     ensures { kill_ring.new ≡ kills_before (command_of command.now) kill_ring.old }
 {
@@ -61,7 +60,7 @@ pub fn advance<'out, 'prompt, W: Renderer, H: Helper, P: Prompt, S: History>(
 ) -> Result<Turned>
     ensures turned { let e = ⟦<State<'out, 'prompt, W, H, P, S> as EditorState>⟧ in
         IfOk result (λ turned. AdvancesTo e W.Reader.RawReader turned
-        state.old input_state.old rdr.old kill_ring.old
+        state.old input_state.old config.now.indent_size rdr.old kill_ring.old
         state.new input_state.new rdr.new kill_ring.new) }
     ensures reads { IfOk result (λ turned. turned ≢ Turned.NeedsMore
         → length (W.Reader.rest rdr.new) < length (W.Reader.rest rdr.old)) }
@@ -103,17 +102,18 @@ pub fn run<'out, 'prompt, W: Renderer, H: Helper, P: Prompt, S: History>(
 ) -> Result<()>
     ensures submitted { let e = ⟦<State<'out, 'prompt, W, H, P, S> as EditorState>⟧ in
         OnOk result (RunsToSubmit e W.Reader.RawReader
-        state.old input_state.old rdr.old kill_ring.old
+        state.old input_state.old config.now.indent_size rdr.old kill_ring.old
         state.new input_state.new rdr.new kill_ring.new) }
     ensures eof { let e = ⟦<State<'out, 'prompt, W, H, P, S> as EditorState>⟧ in
         IsErrOf result ReadlineError.Eof → RunsToEnd e W.Reader.RawReader
-        state.old input_state.old rdr.old kill_ring.old
+        state.old input_state.old config.now.indent_size rdr.old kill_ring.old
         state.new input_state.new rdr.new kill_ring.new
-        ⊎ RunsDry e W.Reader.RawReader state.old input_state.old rdr.old kill_ring.old
+        ⊎ RunsDry e W.Reader.RawReader
+        state.old input_state.old config.now.indent_size rdr.old kill_ring.old
         state.new input_state.new rdr.new kill_ring.new }
     ensures interrupted { let e = ⟦<State<'out, 'prompt, W, H, P, S> as EditorState>⟧ in
         IsErrOf result ReadlineError.Interrupted → RunsToInterrupt e W.Reader.RawReader
-        state.old input_state.old rdr.old kill_ring.old
+        state.old input_state.old config.now.indent_size rdr.old kill_ring.old
         state.new input_state.new rdr.new kill_ring.new }
     ensures keeps { KeepsReading ⟦<State<'out, 'prompt, W, H, P, S> as EditorState>⟧
         W.Reader.RawReader state.old input_state.old rdr.old state.new input_state.new rdr.new }

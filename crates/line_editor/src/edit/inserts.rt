@@ -1,11 +1,16 @@
 //! What puts text into the line.
-ghost use Rattle.std.specs.Prelude.{◌≡◌};
-ghost use Rattle.line_keys.specs.EditorState.{DrawsEdit};
-ghost use Rattle.line_editor.specs.Step.{typed_in};
+ghost use Rattle.std.specs.Prelude.{◌≡◌, ◌==◌, ◌&&◌, not, is_some, length};
+ghost use Rattle.line_buffer.specs.Cluster.{place_on};
+ghost use Rattle.line_editor.specs.Edits.{char_replaced, overwritten, popped_in, text_inserted, typed_in, yanked_in};
+ghost use Rattle.line_editor.specs.InputState.{input_of};
+ghost use Rattle.line_keys.specs.EditorState.{DrawsEdit, DrawsEditIf};
+ghost use Rattle.line_state.specs.Edited.{pops_text};
 
 use crate::edit::State;
+use crate::keymap::InputState;
 use line_buffer::RepeatCount;
 use line_config::{Prompt, Result};
+use line_keys::command::Anchor;
 use line_keys::editor_state::EditorState;
 use line_keys::keymap::Refresher;
 use line_parts::{Helper, History};
@@ -19,18 +24,95 @@ impl<'out, 'prompt, W: Renderer, H: Helper, P: Prompt, S: History> State<
     P,
     S,
 > {
-    /// Inserts `n` copies of a character at the cursor, asks for the hint and draws the line again.
+    /// Inserts `n` copies of a character at the cursor, which goes behind them.
     ///
     /// # Errors
-    /// Those of the parties, and that memory ran out. The line is text with its cursor on a boundary, and the changes tell
-    /// of it.
-    #[tactic(auto, using(crate::proofs::DrawnLemmas::hint_trails))]
+    /// Those of the parties and of the renderer, and that memory ran out.
     pub fn edit_insert(&mut self, c: char, n: RepeatCount) -> Result<()>
         ensures { let e = ⟦<Self as EditorState>⟧ in DrawsEdit e result self.old self.new
             (typed_in (e.environment self.old) n c (e.draft self.old)) }
     {
         self.edited.insert(c, n)?;
-        self.refresh_line()?;
-        Ok(())
+        self.show_edit(true)
+    }
+
+    /// Inserts a text at the cursor, which stays before it. The empty text changes nothing.
+    ///
+    /// # Errors
+    /// Those of the parties and of the renderer, and that memory ran out.
+    pub fn edit_insert_text(&mut self, text: &str) -> Result<()>
+        ensures { let e = ⟦<Self as EditorState>⟧ in
+            DrawsEditIf e (not (length text.now == 0)) result self.old self.new
+            (text_inserted (e.environment self.old) text.now (e.draft self.old)) }
+    {
+        if text.is_empty() {
+            return Ok(());
+        }
+        self.edited.insert_text(text)?;
+        self.show_edit(true)
+    }
+
+    /// Puts a character in place of each of `n` clusters from the cursor on, or of as many as there are. The cursor is then
+    /// on the last of them. At the text's end, and for `n` = 0, nothing happens.
+    ///
+    /// # Errors
+    /// Those of the parties and of the renderer, and that memory ran out.
+    pub fn edit_replace_char(&mut self, c: char, n: RepeatCount) -> Result<()>
+        ensures { let e = ⟦<Self as EditorState>⟧ in
+            DrawsEditIf e (is_some (place_on (e.draft self.old).line n)) result self.old self.new
+            (char_replaced (e.environment self.old) n c (e.draft self.old)) }
+    {
+        let replaced = self.edited.replace_char(c, n)?;
+        self.show_edit(replaced)
+    }
+
+    /// Puts a character in place of the cluster at the cursor, which goes behind it. At the text's end nothing happens.
+    ///
+    /// # Errors
+    /// Those of the parties and of the renderer, and that memory ran out.
+    pub fn edit_overwrite_char(&mut self, c: char) -> Result<()>
+        ensures { let e = ⟦<Self as EditorState>⟧ in
+            DrawsEditIf e (is_some (place_on (e.draft self.old).line 1)) result self.old self.new
+            (overwritten (e.environment self.old) c (e.draft self.old)) }
+    {
+        let replaced = self.edited.overwrite(c)?;
+        self.show_edit(replaced)
+    }
+
+    /// Puts `n` copies of a text before the cluster at the cursor, or behind it, and the cursor behind them; in Vi's command
+    /// mode it is then on the last cluster before that. Of the empty text the cursor moves alone.
+    ///
+    /// # Errors
+    /// Those of the parties and of the renderer, and that memory ran out.
+    pub fn edit_yank(
+        &mut self,
+        input_state: &InputState<'_>,
+        text: &str,
+        anchor: Anchor,
+        n: RepeatCount,
+    ) -> Result<()>
+        ensures { let e = ⟦<Self as EditorState>⟧ in
+            DrawsEditIf e (not (length text.now == 0)) result self.old self.new
+            (yanked_in (e.environment self.old) (input_of input_state.now) anchor n text.now
+            (e.draft self.old)) }
+    {
+        let step_back = input_state.is_vi_cmd_mode();
+        let yanked = self.edited.yank_at(anchor, text, n, step_back)?;
+        self.show_edit(yanked)
+    }
+
+    /// Puts a text in place of the `yank_size` bytes before the cursor, which were yanked. Where fewer bytes stand there, or
+    /// they would cut a character, nothing happens.
+    ///
+    /// # Errors
+    /// Those of the parties and of the renderer, and that memory ran out.
+    pub fn edit_yank_pop(&mut self, yank_size: usize, text: &str) -> Result<()>
+        ensures { let e = ⟦<Self as EditorState>⟧ in
+            DrawsEditIf e (pops_text (e.draft self.old).line yank_size text.now) result
+            self.old self.new
+            (popped_in (e.environment self.old) yank_size text.now (e.draft self.old)) }
+    {
+        let popped = self.edited.yank_pop(yank_size, text)?;
+        self.show_edit(popped)
     }
 }

@@ -1,16 +1,20 @@
-//! What takes text out of the line.
-ghost use Rattle.std.specs.Prelude.{◌≡◌, is_some, OnOk};
+//! What takes text out of the line, and what the kill ring gives back.
+ghost use Rattle.std.specs.Prelude.{◌≡◌, is_some, option_map, OnOk};
 ghost use Rattle.line_buffer.specs.Kill.{killed_range};
+ghost use Rattle.line_buffer.specs.KillRing.{yank_popped, yanked_text};
+ghost use Rattle.line_editor.specs.Edits.{copied_to, kill_popped, kill_yanked, killed_by, replaced_by, text_of};
+ghost use Rattle.line_editor.specs.InputState.{input_of};
+ghost use Rattle.line_editor.specs.Runs.{DoesWithKills, editor_of};
 ghost use Rattle.line_keys.specs.Draft.{hint_shown};
-ghost use Rattle.line_keys.specs.EditorState.{DrewIf, FailsOnlyIf, Frame, KeepsDrawn, PartyFailed, Redraws};
+ghost use Rattle.line_keys.specs.EditorState.{DrewIf, DrewNothing};
 ghost use Rattle.line_parts.specs.declared.highlight.CmdKind.TheVariants.{Other};
-ghost use Rattle.line_editor.specs.Step.{killed_by};
 
 use crate::edit::State;
-use line_buffer::{KillRing, Movement};
+use crate::keymap::InputState;
+use line_buffer::{KillRing, Mode, Movement, RepeatCount};
 use line_config::{Prompt, Result};
+use line_keys::command::Anchor;
 use line_keys::editor_state::EditorState;
-use line_keys::keymap::Refresher;
 use line_parts::{Helper, History};
 use line_state::Renderer;
 
@@ -26,27 +30,86 @@ impl<'out, 'prompt, W: Renderer, H: Helper, P: Prompt, S: History> State<
     /// again. Where there is nothing to kill, nothing happens.
     ///
     /// # Errors
-    /// Those of the parties, and that memory ran out. The line is text with its cursor on a boundary, and the changes tell
-    /// of it.
-    #[tactic(auto, using(crate::proofs::DrawnLemmas::hint_trails, crate::proofs::CountLemmas::stays_rises))]
+    /// Those of the parties and of the renderer, and that memory ran out. The line is text with its cursor on a boundary,
+    /// and the changes tell of it.
     pub fn edit_kill(&mut self, movement: &Movement, kill_ring: &mut KillRing) -> Result<()>
-        ensures left { let e = ⟦<Self as EditorState>⟧ in OnOk result
-            (record { draft = e.draft self.new; kills = kill_ring.new }
-            ≡ killed_by (e.environment self.old) movement.now
-            (record { draft = e.draft self.old; kills = kill_ring.old })
-            (killed_range (e.draft self.old).line movement.now)) }
+        ensures does { let e = ⟦<Self as EditorState>⟧ in
+            DoesWithKills e result self.old kill_ring.old self.new kill_ring.new
+            (killed_by (e.environment self.old) movement.now (editor_of e self.old kill_ring.old)
+            (killed_range (e.draft self.old).line movement.now)) 1 }
         ensures drew { let e = ⟦<Self as EditorState>⟧ in OnOk result
             (DrewIf e (is_some (killed_range (e.draft self.old).line movement.now))
             self.old self.new (hint_shown (e.draft self.new)) Other) }
-        ensures keeps { OnOk result (KeepsDrawn ⟦<Self as EditorState>⟧ self.old self.new) }
-        ensures redraws { OnOk result (Redraws ⟦<Self as EditorState>⟧ 0 1 self.old self.new) }
-        ensures frame { Frame ⟦<Self as EditorState>⟧ self.old self.new }
-        ensures fails { let e = ⟦<Self as EditorState>⟧ in
-            FailsOnlyIf result (PartyFailed e self.old self.new) }
     {
         if self.edited.kill(movement, kill_ring)? {
-            self.refresh_line()?;
+            self.show_edit(true)?;
         }
         Ok(())
+    }
+
+    // Copies the text of a movement to the kill ring, if there is one.
+    pub(crate) fn copy_to(&mut self, movement: &Movement, kill_ring: &mut KillRing) -> Result<()>
+        ensures does { let e = ⟦<Self as EditorState>⟧ in
+            DoesWithKills e result self.old kill_ring.old self.new kill_ring.new
+            (record (editor_of e self.old kill_ring.old) {
+              kills = copied_to kill_ring.old (text_of (e.draft self.old).line movement.now);
+            }) 0 }
+        ensures drew { DrewNothing ⟦<Self as EditorState>⟧ self.old self.new }
+    {
+        if let Some(text) = self.edited.copy(movement)? {
+            kill_ring.kill(&text, Mode::Append)?;
+        }
+        Ok(())
+    }
+
+    // Yanks the current text of the kill ring, if there is one.
+    pub(crate) fn yank_killed(
+        &mut self,
+        input_state: &InputState<'_>,
+        anchor: Anchor,
+        n: RepeatCount,
+        kill_ring: &mut KillRing,
+    ) -> Result<()>
+        ensures { let e = ⟦<Self as EditorState>⟧ in
+            DoesWithKills e result self.old kill_ring.old self.new kill_ring.new
+            (kill_yanked (e.environment self.old) (input_of input_state.now) anchor n
+            (yanked_text kill_ring.old) (editor_of e self.old kill_ring.old)) 1 }
+    {
+        if let Some(text) = kill_ring.yank() {
+            self.edit_yank(input_state, text, anchor, n)?;
+        }
+        Ok(())
+    }
+
+    // Puts the text that was killed before the yanked one in its place, right after a yank.
+    pub(crate) fn pop_killed(&mut self, kill_ring: &mut KillRing) -> Result<()>
+        ensures { let e = ⟦<Self as EditorState>⟧ in
+            DoesWithKills e result self.old kill_ring.old self.new kill_ring.new
+            (kill_popped (e.environment self.old) (yank_popped kill_ring.old)
+            (editor_of e self.old kill_ring.old)) 1 }
+    {
+        if let Some((size, text)) = kill_ring.yank_pop() {
+            self.edit_yank_pop(size, text)?;
+        }
+        Ok(())
+    }
+
+    // Kills the text of a movement, and inserts a text in its place, if there is one.
+    pub(crate) fn replace(
+        &mut self,
+        movement: &Movement,
+        text: Option<&str>,
+        kill_ring: &mut KillRing,
+    ) -> Result<()>
+        ensures { let e = ⟦<Self as EditorState>⟧ in
+            DoesWithKills e result self.old kill_ring.old self.new kill_ring.new
+            (replaced_by (e.environment self.old) movement.now (option_map (λ s. s.now) text.entry)
+            (editor_of e self.old kill_ring.old)) 2 }
+    {
+        self.edit_kill(movement, kill_ring)?;
+        match text {
+            Some(text) => self.edit_insert_text(text),
+            None => Ok(()),
+        }
     }
 }

@@ -1,13 +1,19 @@
 //! Moves of the cursor.
-ghost use Rattle.std.specs.Prelude.{◌≡◌, ◌⊎◌, None, OnOk};
+ghost use Rattle.std.specs.Prelude.{◌≡◌, ◌⊎◌, false, if◌then◌else◌, is_some, length, None, IfOk, OnOk};
 ghost use Rattle.line_buffer.specs.Cluster.{place_on, place_back};
 ghost use Rattle.line_buffer.specs.Line.{moved_to, with_cursor, start_of_line, end_of_line};
+ghost use Rattle.line_buffer.specs.Lines.{down_by, up_by};
+ghost use Rattle.line_buffer.specs.Search.{search_place};
+ghost use Rattle.line_buffer.specs.Word.{word_back, word_on};
+ghost use Rattle.line_buffer.specs.declared.keymap.Movement.TheVariants.{LineDown, LineUp};
+ghost use Rattle.line_editor.specs.HistoryMoves.{next_shown, previous_shown};
 ghost use Rattle.line_keys.specs.Display.{GoesToShownEnd, ShowsText, IsRight};
-ghost use Rattle.line_keys.specs.EditorState.{Drew, DrewNothing, HasShownEnd, FailsOnlyIf, Frame, HasCursorDrawn, MovesTo, RendererFailed, ShowsLine};
-ghost use Rattle.line_editor.specs.Step.{moved};
+ghost use Rattle.line_keys.specs.EditorState.{Does, Drew, DrewNothing, HasShownEnd, FailsOnlyIf, Frame, HasCursorDrawn, MovesTo, RendererFailed, ShowsLine, Undrawn};
+ghost use Rattle.line_parts.specs.declared.highlight.CmdKind.TheVariants.{MoveCursor};
+ghost use Rattle.line_state.specs.Moves.{moved};
 
 use crate::edit::{Info, State};
-use line_buffer::{Movement, RepeatCount};
+use line_buffer::{At, CharSearch, Movement, RepeatCount, Word};
 use line_config::{Prompt, Result};
 use line_keys::editor_state::EditorState;
 use line_parts::{CmdKind, Helper, History};
@@ -52,12 +58,9 @@ impl<'out, 'prompt, W: Renderer, H: Helper, P: Prompt, S: History> State<
     /// Those of the renderer.
     pub fn edit_move_backward(&mut self, n: RepeatCount) -> Result<()>
         ensures { let e = ⟦<Self as EditorState>⟧ in let line = (e.draft self.old).line in
-            MovesTo e result self.old self.new (moved_to line (place_back line n)) }
+            MovesTo e result self.old self.new MoveCursor (moved_to line (place_back line n)) }
     {
-        if self.edited.move_backward(n) {
-            self.move_cursor(CmdKind::MoveCursor)?;
-        }
-        Ok(())
+        self.follow(&Movement::BackwardChar(n), CmdKind::MoveCursor)
     }
 
     /// Moves the cursor `n` clusters on, or as many as there are. The drawn cursor goes along.
@@ -66,12 +69,9 @@ impl<'out, 'prompt, W: Renderer, H: Helper, P: Prompt, S: History> State<
     /// Those of the renderer.
     pub fn edit_move_forward(&mut self, n: RepeatCount) -> Result<()>
         ensures { let e = ⟦<Self as EditorState>⟧ in let line = (e.draft self.old).line in
-            MovesTo e result self.old self.new (moved_to line (place_on line n)) }
+            MovesTo e result self.old self.new MoveCursor (moved_to line (place_on line n)) }
     {
-        if self.edited.move_forward(n) {
-            self.move_cursor(CmdKind::MoveCursor)?;
-        }
-        Ok(())
+        self.follow(&Movement::ForwardChar(n), CmdKind::MoveCursor)
     }
 
     /// Moves the cursor to the start of its line. The drawn cursor goes along.
@@ -80,12 +80,9 @@ impl<'out, 'prompt, W: Renderer, H: Helper, P: Prompt, S: History> State<
     /// Those of the renderer.
     pub fn edit_move_home(&mut self) -> Result<()>
         ensures { let e = ⟦<Self as EditorState>⟧ in let line = (e.draft self.old).line in
-            MovesTo e result self.old self.new (with_cursor line (start_of_line line)) }
+            MovesTo e result self.old self.new MoveCursor (with_cursor line (start_of_line line)) }
     {
-        if self.edited.move_home() {
-            self.move_cursor(CmdKind::MoveCursor)?;
-        }
-        Ok(())
+        self.follow(&Movement::BeginningOfLine, CmdKind::MoveCursor)
     }
 
     /// Moves the cursor to the end of its line. The drawn cursor goes along.
@@ -94,26 +91,173 @@ impl<'out, 'prompt, W: Renderer, H: Helper, P: Prompt, S: History> State<
     /// Those of the renderer.
     pub fn edit_move_end(&mut self) -> Result<()>
         ensures { let e = ⟦<Self as EditorState>⟧ in let line = (e.draft self.old).line in
-            MovesTo e result self.old self.new (with_cursor line (end_of_line line)) }
+            MovesTo e result self.old self.new MoveCursor (with_cursor line (end_of_line line)) }
     {
-        if self.edited.move_end() {
-            self.move_cursor(CmdKind::MoveCursor)?;
-        }
-        Ok(())
+        self.follow(&Movement::EndOfLine, CmdKind::MoveCursor)
     }
 
-    // Moves the cursor by a movement.
+    /// Moves the cursor to the start of the text. The drawn cursor goes along.
+    ///
+    /// # Errors
+    /// Those of the renderer.
+    pub fn edit_move_buffer_start(&mut self) -> Result<()>
+        ensures { let e = ⟦<Self as EditorState>⟧ in let line = (e.draft self.old).line in
+            MovesTo e result self.old self.new MoveCursor (with_cursor line 0) }
+    {
+        self.follow(&Movement::BeginningOfBuffer, CmdKind::MoveCursor)
+    }
+
+    /// Moves the cursor to the end of the text. The drawn cursor goes along; `kind` says why.
+    ///
+    /// # Errors
+    /// Those of the renderer.
+    pub fn edit_move_buffer_end(&mut self, kind: CmdKind) -> Result<()>
+        ensures { let e = ⟦<Self as EditorState>⟧ in let line = (e.draft self.old).line in
+            MovesTo e result self.old self.new kind (with_cursor line (length line.text)) }
+    {
+        self.follow(&Movement::EndOfBuffer, kind)
+    }
+
+    /// Moves the cursor back to the start of the `n`th word before it. The drawn cursor goes along.
+    ///
+    /// # Errors
+    /// Those of the renderer.
+    pub fn edit_move_to_prev_word(&mut self, word_def: Word, n: RepeatCount) -> Result<()>
+        ensures { let e = ⟦<Self as EditorState>⟧ in let line = (e.draft self.old).line in
+            MovesTo e result self.old self.new MoveCursor
+            (moved_to line (word_back word_def line n)) }
+    {
+        self.follow(&Movement::BackwardWord(n, word_def), CmdKind::MoveCursor)
+    }
+
+    /// Moves the cursor on to a place at the `n`th word from it. The drawn cursor goes along.
+    ///
+    /// # Errors
+    /// Those of the renderer.
+    pub fn edit_move_to_next_word(&mut self, at: At, word_def: Word, n: RepeatCount) -> Result<()>
+        ensures { let e = ⟦<Self as EditorState>⟧ in let line = (e.draft self.old).line in
+            MovesTo e result self.old self.new MoveCursor
+            (moved_to line (word_on at word_def line n)) }
+    {
+        self.follow(&Movement::ForwardWord(n, at, word_def), CmdKind::MoveCursor)
+    }
+
+    /// Moves the cursor to the `n`th place of a character, or to the last one. The drawn cursor goes along.
+    ///
+    /// # Errors
+    /// Those of the renderer.
+    pub fn edit_move_to(&mut self, cs: CharSearch, n: RepeatCount) -> Result<()>
+        ensures { let e = ⟦<Self as EditorState>⟧ in let line = (e.draft self.old).line in
+            MovesTo e result self.old self.new MoveCursor (moved_to line (search_place cs line n)) }
+    {
+        self.follow(&Movement::ViCharSearch(n, cs), CmdKind::MoveCursor)
+    }
+
+    /// Moves the cursor `n` lines up, one for `n` = 0, to the column where it stands. The drawn cursor goes along. Returns
+    /// whether there is such a line: on the first line nothing moves and nothing is drawn.
+    ///
+    /// # Errors
+    /// Those of the renderer.
+    #[tactic(auto, using(crate::proofs::EditLemmas::moved_text, crate::proofs::MoveLemmas::first_placed))]
+    pub fn edit_move_line_up(&mut self, n: RepeatCount) -> Result<bool>
+        ensures answer { let e = ⟦<Self as EditorState>⟧ in IfOk result (λ found. found
+            ≡ is_some (up_by (e.display self.old).layout (e.draft self.old).line n)) }
+        ensures stays { IfOk result (λ found.
+            found ≡ false → Undrawn ⟦<Self as EditorState>⟧ self.old self.new) }
+        ensures moves { let e = ⟦<Self as EditorState>⟧ in let line = (e.draft self.old).line in
+            MovesTo e result self.old self.new MoveCursor
+            (moved_to line (up_by (e.display self.old).layout line n)) }
+    {
+        if !self.edited.move_to_line_up(n, self.view.layout()) {
+            return Ok(false);
+        }
+        self.move_cursor(CmdKind::MoveCursor)?;
+        Ok(true)
+    }
+
+    /// Moves the cursor `n` lines down, one for `n` = 0, to the column where it stands. The drawn cursor goes along. Returns
+    /// whether there is such a line: on the last line nothing moves and nothing is drawn.
+    ///
+    /// # Errors
+    /// Those of the renderer.
+    #[tactic(auto, using(crate::proofs::EditLemmas::moved_text, crate::proofs::MoveLemmas::first_placed))]
+    pub fn edit_move_line_down(&mut self, n: RepeatCount) -> Result<bool>
+        ensures answer { let e = ⟦<Self as EditorState>⟧ in IfOk result (λ found. found
+            ≡ is_some (down_by (e.display self.old).layout (e.draft self.old).line n)) }
+        ensures stays { IfOk result (λ found.
+            found ≡ false → Undrawn ⟦<Self as EditorState>⟧ self.old self.new) }
+        ensures moves { let e = ⟦<Self as EditorState>⟧ in let line = (e.draft self.old).line in
+            MovesTo e result self.old self.new MoveCursor
+            (moved_to line (down_by (e.display self.old).layout line n)) }
+    {
+        if !self.edited.move_to_line_down(n, self.view.layout()) {
+            return Ok(false);
+        }
+        self.move_cursor(CmdKind::MoveCursor)?;
+        Ok(true)
+    }
+
+    // Moves the cursor by a movement. To the first character of a line that is no white space it goes in two moves.
     pub(crate) fn move_by(&mut self, movement: &Movement) -> Result<()>
-        ensures { let e = ⟦<Self as EditorState>⟧ in
-            MovesTo e result self.old self.new (moved movement.now (e.draft self.old).line) }
+        ensures { let e = ⟦<Self as EditorState>⟧ in Does e result self.old self.new
+            (record (e.draft self.old) {
+              line = moved (e.display self.old).layout movement.now (e.draft self.old).line;
+            }) 2 }
     {
         match movement {
-            Movement::BackwardChar(n) => self.edit_move_backward(*n),
-            Movement::ForwardChar(n) => self.edit_move_forward(*n),
-            Movement::BeginningOfLine => self.edit_move_home(),
-            Movement::EndOfLine => self.edit_move_end(),
-            _ => Ok(()),
+            Movement::ViFirstPrint => {
+                self.edit_move_home()?;
+                if self.edited.begins_blank() {
+                    self.edit_move_to_next_word(At::Start, Word::Big, 1)?;
+                }
+                Ok(())
+            }
+            _ => self.follow(movement, CmdKind::MoveCursor),
         }
+    }
+
+    // Moves the cursor `n` lines up, or from the first line to the line of the history before this one.
+    pub(crate) fn up_or_previous(&mut self, n: RepeatCount) -> Result<()>
+        ensures { let e = ⟦<Self as EditorState>⟧ in let layout = (e.display self.old).layout in
+            Does e result self.old self.new
+            (if is_some (up_by layout (e.draft self.old).line n)
+            then record (e.draft self.old) {
+              line = moved layout (LineUp n) (e.draft self.old).line;
+            }
+            else previous_shown (e.environment self.old) (e.draft self.old)) 1 }
+    {
+        if self.edit_move_line_up(n)? {
+            return Ok(());
+        }
+        self.edit_history_next(true)
+    }
+
+    // Moves the cursor `n` lines down, or from the last line to the line of the history behind this one.
+    pub(crate) fn down_or_next(&mut self, n: RepeatCount) -> Result<()>
+        ensures { let e = ⟦<Self as EditorState>⟧ in let layout = (e.display self.old).layout in
+            Does e result self.old self.new
+            (if is_some (down_by layout (e.draft self.old).line n)
+            then record (e.draft self.old) {
+              line = moved layout (LineDown n) (e.draft self.old).line;
+            }
+            else next_shown (e.environment self.old) (e.draft self.old)) 1 }
+    {
+        if self.edit_move_line_down(n)? {
+            return Ok(());
+        }
+        self.edit_history_next(false)
+    }
+
+    // Moves the cursor by a movement, and the drawn cursor with it.
+    fn follow(&mut self, movement: &Movement, kind: CmdKind) -> Result<()>
+        ensures { let e = ⟦<Self as EditorState>⟧ in
+            MovesTo e result self.old self.new kind
+            (moved (e.display self.old).layout movement.now (e.draft self.old).line) }
+    {
+        if self.edited.move_by(movement, self.view.layout()) {
+            self.move_cursor(kind)?;
+        }
+        Ok(())
     }
 
     /// Takes the drawn cursor to where what is shown ends, a hint or message behind the line included.

@@ -2,9 +2,9 @@
 ghost use Rattle.std.specs.Prelude.{◌≡◌, [], IfOk, OnOk, IsErrOf};
 ghost use Rattle.line_config.specs.Error.{MemoryOnly};
 ghost use Rattle.line_editor.specs.Reading.{ReadsOn, ReadsPhrase, OutOfItems};
-ghost use Rattle.line_editor.specs.Step.{grouped};
+ghost use Rattle.line_editor.specs.Editor.{grouped};
 ghost use Rattle.line_keys.specs.Command.{command_of};
-ghost use Rattle.line_keys.specs.Draft.{Draft, KeepsLine};
+ghost use Rattle.line_keys.specs.Draft.{Draft, KeepsLine, start_text};
 ghost use Rattle.line_keys.specs.EditorState.{DrewNothing, KeepsDrawn, Undrawn};
 
 use crate::edit::State;
@@ -62,6 +62,8 @@ impl<'out, 'prompt, W: Renderer, H: Helper, P: Prompt, S: History> State<
     fn begin_group(&mut self, command: &Cmd) -> Result<()>
         ensures draft { let d = ⟦<Self as EditorState>⟧.draft in OnOk result
             (d self.new ≡ grouped (command_of command.now) (d self.old)) }
+        ensures start { let d = ⟦<Self as EditorState>⟧.draft in
+            OnOk result (start_text (d self.new) ≡ start_text (d self.old)) }
         ensures line { let d = ⟦<Self as EditorState>⟧.draft in
             KeepsLine (d self.old) (d self.new) }
         ensures hint { let d = ⟦<Self as EditorState>⟧.draft in

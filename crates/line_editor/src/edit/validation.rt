@@ -2,13 +2,13 @@
 ghost use Rattle.std.specs.Prelude.{◌≡◌, ◌||◌, not, is_some, None, IfOk, OnOk};
 ghost use Rattle.line_buffer.specs.Changes.{adds_end};
 ghost use Rattle.line_buffer.specs.Line.{ends_in_white_space};
-ghost use Rattle.line_keys.specs.Draft.{in_group, out_of_group, unhinted};
+ghost use Rattle.line_keys.specs.Draft.{in_group, out_of_group, start_text, unhinted};
 ghost use Rattle.line_keys.specs.EditorState.{DrewIf, DrewNothing, FailsOnlyIf, Frame, KeepsLayoutRight, PartyFailed, Redraws, ShowsLine, ShowsNoHint};
 ghost use Rattle.line_parts.specs.Environment.{verdict_on};
 ghost use Rattle.line_parts.specs.Verdict.{message_of, verdict_of};
 ghost use Rattle.line_parts.specs.declared.highlight.CmdKind.TheVariants.{ForcedRefresh};
 ghost use Rattle.line_editor.specs.Runs.{LosesHint};
-ghost use Rattle.line_editor.specs.Step.{unhinted_by, validated};
+ghost use Rattle.line_editor.specs.Accept.{unhinted_by, validated};
 ghost use Rattle.line_editor.specs.Verdict.{draws_verdict, draws_verdict_on, kind_of_verdict};
 
 use crate::edit::State;
@@ -37,6 +37,8 @@ impl<'out, 'prompt, W: Renderer, H: Helper, P: Prompt, S: History> State<
             verdict_of r ≡ verdict_on (e.environment self.old) (e.draft self.old).line.text) }
         ensures draft { let e = ⟦<Self as EditorState>⟧ in OnOk result
             (e.draft self.new ≡ validated (e.environment self.old) (e.draft self.old)) }
+        ensures start { let d = ⟦<Self as EditorState>⟧.draft in
+            OnOk result (start_text (d self.new) ≡ start_text (d self.old)) }
         ensures drew { let e = ⟦<Self as EditorState>⟧ in
             let verdict = verdict_on (e.environment self.old) (e.draft self.old).line.text in
             OnOk result (DrewIf e (draws_verdict (e.environment self.old) (e.draft self.old))
@@ -69,6 +71,8 @@ impl<'out, 'prompt, W: Renderer, H: Helper, P: Prompt, S: History> State<
             IfOk result (λ r. r.1 ≡ adds_end c.open_groups c.entries) }
         ensures draft { let d = ⟦<Self as EditorState>⟧.draft in OnOk result
             (d self.new ≡ out_of_group (in_group (d self.old))) }
+        ensures start { let d = ⟦<Self as EditorState>⟧.draft in
+            OnOk result (start_text (d self.new) ≡ start_text (d self.old)) }
         ensures drew { DrewNothing ⟦<Self as EditorState>⟧ self.old self.new }
         ensures line { let e = ⟦<Self as EditorState>⟧ in
             OnOk result (ShowsLine e self.old → ShowsLine e self.new) }
@@ -89,6 +93,8 @@ impl<'out, 'prompt, W: Renderer, H: Helper, P: Prompt, S: History> State<
     fn show_verdict(&mut self, verdict: &ValidationResult, corrected: bool) -> Result<()>
         ensures draft { let e = ⟦<Self as EditorState>⟧ in OnOk result
             (e.draft self.new ≡ unhinted_by (verdict_of verdict.now) (e.draft self.old)) }
+        ensures start { let d = ⟦<Self as EditorState>⟧.draft in
+            OnOk result (start_text (d self.new) ≡ start_text (d self.old)) }
         ensures drew { let e = ⟦<Self as EditorState>⟧ in let v = verdict_of verdict.now in
             OnOk result (DrewIf e
             (draws_verdict_on v (corrected || is_some (e.draft self.old).hint))
@@ -122,6 +128,8 @@ impl<'out, 'prompt, W: Renderer, H: Helper, P: Prompt, S: History> State<
     pub(crate) fn drop_hint(&mut self) -> Result<()>
         ensures draft { let e = ⟦<Self as EditorState>⟧ in OnOk result
             (e.draft self.new ≡ unhinted (e.draft self.old)) }
+        ensures start { let d = ⟦<Self as EditorState>⟧.draft in
+            OnOk result (start_text (d self.new) ≡ start_text (d self.old)) }
         ensures drew { let e = ⟦<Self as EditorState>⟧ in let d = e.display self.old in OnOk result
             (DrewIf e (is_some (e.draft self.old).hint || d.lit || not d.layout.default_prompt)
             self.old self.new None ForcedRefresh) }

@@ -38,7 +38,7 @@ editor_state g = record {
 }
 
 abbrev pub invariant-turns : goal.invariant-turns
-invariant-turns g l = Underway (editor_state g) g.W.Reader.RawReader l.fn.state l.fn.input_state l.fn.rdr l.fn.kill_ring l.state l.input_state l.rdr l.kill_ring
+invariant-turns g l = Underway (editor_state g) g.W.Reader.RawReader l.fn.state l.fn.input_state l.fn.config.indent_size l.fn.rdr l.fn.kill_ring l.state l.input_state l.rdr l.kill_ring
 
 abbrev pub decreases-turns : goal.decreases-turns
 decreases-turns g l = length (g.W.Reader.RawReader.rest l.rdr)

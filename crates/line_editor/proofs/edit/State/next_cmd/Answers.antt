@@ -1,3 +1,5 @@
+use Rattle.std.proofs.Common.{◌∙◌, ap}
+use Rattle.line_editor.specs.Editor.{ruler_of}
 use Rattle.line_editor.proofs.CountLemmas.{rises_stays}
 use Rattle.line_editor.proofs.DrawnLemmas.{frame_then, keeps_then, stays_in_place}
 use Rattle.line_editor.proofs.edit.State.next_cmd.Goals as goal
@@ -19,6 +21,8 @@ returns-clause-reading g c =
       remembers = tt;
       reads = read.reads;
       drawn = keeps_then _ _ _ _ read.drawn group.drawn;
+      ruler = λ indent. ap (λ d. ruler_of d indent) group.undrawn.drew.display ∙ read.ruler indent;
+      start = group.start ∙ read.start;
       in_place = λ at. stays_in_place _ _ _ group.undrawn.drew (read.in_place at);
       redraws = rises_stays _ _ _ _ _ read.redraws group.undrawn.drew.redraws;
       redraws_at_eof = λ no. absurd (cc);

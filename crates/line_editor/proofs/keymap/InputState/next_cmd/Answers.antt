@@ -1,11 +1,11 @@
-use Rattle.std.proofs.Common.{◌≡◌, [], ◌∷◌, inl, refl, sym, ◌∙◌, ap, subst}
+use Rattle.std.proofs.Common.{◌≡◌, [], ◌∷◌, inl, refl, sym, ◌∙◌, subst}
 use Rattle.std.proofs.lemmas.Result.{err_from_is_err_and}
 use Rattle.line_config.specs.declared.error.ReadlineError.{ReadlineError}
 use Rattle.line_config.specs.declared.error.ReadlineError.TheVariants.{Eof}
 use Rattle.line_editor.specs.InputState.{input_of, keymap_of}
 use Rattle.line_editor.specs.Phrase.{seen_of}
 use Rattle.line_editor.proofs.PhraseLemmas.{bound-phrase, row-phrase, nothing-begins}
-use Rattle.line_keys.specs.Command.{command_of, plain}
+use Rattle.line_keys.specs.Command.{command_of}
 use Rattle.line_keys.specs.Item.{key, ReadFault}
 use Rattle.line_keys.specs.Table.{row_of, command_at, one}
 use Rattle.line_editor.proofs.keymap.InputState.next_cmd.Goals as goal
@@ -40,8 +40,7 @@ returns-in-None-clause-phrase g c = record {
       let found =
       row-phrase keymap (g.W.EditorState.environment c.args.wrt.now) draft input c.in_ok-key.key
       (rw c.in_ok-key.ensures.binding at (sym c.in-None.ensures)) in
-      let same : command_of c.table_command.result ≡ plain (command_at (row_of input.style input.mode c.in_ok-key.key (seen_of draft)) one) =
-      c.table_command.ensures.plain
-      ∙ ap plain (rw (c.one-count.ensures, c.is_empty.ensures, c.line.ensures) at c.table_command.ensures.value) in
+      let same : command_of c.table_command.result ≡ command_at (row_of input.style input.mode c.in_ok-key.key (seen_of draft)) one =
+      rw (c.one-count.ensures, c.is_empty.ensures, c.line.ensures) at c.table_command.ensures in
       rw same found;
 }

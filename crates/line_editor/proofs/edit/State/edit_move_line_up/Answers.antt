@@ -1,0 +1,11 @@
+use Rattle.std.proofs.Common.{refl}
+use Rattle.line_editor.proofs.DoneLemmas.{nothing_drawn}
+use Rattle.line_editor.proofs.MoveLemmas.{move_drawn}
+use Rattle.line_editor.proofs.edit.State.edit_move_line_up.Goals as goal
+
+pub returns-clause-moves : goal.returns-clause-moves
+returns-clause-moves g c =
+    let drawn = c.in_ok-move_cursor.ensures in
+    let line = rw (c.layout.ensures) at c.move_to_line_up.ensures.line in
+    move_drawn _ _ c.args.self.now _ _ _ _ drawn.frame (nothing_drawn _ _ _ refl refl refl refl refl refl) refl line
+    drawn.draft drawn.right drawn.drew drawn.still

@@ -1,0 +1,10 @@
+use Rattle.std.proofs.Common.{refl, ap}
+use Rattle.line_buffer.specs.Line.{Line}
+use Rattle.line_editor.proofs.DoneLemmas.{line_done, nothing_drawn}
+use Rattle.line_editor.proofs.edit.State.edit_overwrite_char.Goals as goal
+
+pub returns : goal.returns
+returns g c =
+    let edit = c.in_ok-replaced.ensures in
+    line_done _ _ c.args.self.now _ _ _ _ _ _ (nothing_drawn _ _ _ refl refl refl refl refl refl) refl edit.edit.edited edit.edit.first
+    edit.answer (λ no. ap (λ (l : Line). l.text) (edit.unreported no)) c.show_edit.ensures

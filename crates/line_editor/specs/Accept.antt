@@ -1,0 +1,41 @@
+-- How a line is validated and accepted.
+use Rattle.std.specs.Prelude.{ℕ, Bool, true, false, ◌||◌, if◌then◌else◌, List, [], ◌∷◌, Some, None, is_some}
+use Rattle.line_buffer.specs.Line.{ends_in_white_space}
+use Rattle.line_config.specs.declared.config.EditMode.{EditMode}
+use Rattle.line_config.specs.declared.config.EditMode.TheVariants.{Emacs, Vi}
+use Rattle.line_keys.specs.Draft.{Draft, unhinted, in_group, out_of_group}
+use Rattle.line_parts.specs.Environment.{Environment, verdict_on}
+use Rattle.line_parts.specs.Verdict.{Verdict, incomplete, invalid, valid}
+use Rattle.line_editor.specs.Editor.{Answer, ended, proceeds, submitted}
+use Rattle.line_editor.specs.Edits.{typed_in}
+
+-- a verdict other than that the line goes on takes the hint away
+abbrev pub unhinted_by : Verdict → Draft → Draft
+unhinted_by incomplete draft = draft
+unhinted_by _ draft = unhinted draft
+
+-- a helper is asked for its verdict inside a group of changes
+abbrev pub validated : Environment → Draft → Draft
+validated environment draft =
+    if is_some environment.verdict_at
+    then unhinted_by (verdict_on environment draft.line.text) (out_of_group (in_group draft))
+    else draft
+
+-- a valid line is submitted where it may be; a refusal with a message leaves it; else a newline comes
+abbrev pub accepted_as : Verdict → Bool → Draft → Draft → Draft × Answer
+accepted_as (valid message) may left longer = if may then (left, submitted) else (longer, proceeds)
+accepted_as (invalid (Some message)) may left longer = (left, proceeds)
+accepted_as (invalid None) may left longer = (longer, proceeds)
+accepted_as incomplete may left longer = (longer, proceeds)
+
+-- a line is accepted by its verdict: with the cursor at the end of input, or anywhere where that is allowed
+abbrev pub accepted : Environment → Bool → Draft → Draft × Answer
+accepted environment in_the_middle draft =
+    accepted_as (verdict_on environment draft.line.text) (in_the_middle || ends_in_white_space draft.line)
+    (validated environment draft) (typed_in environment 1 10 (validated environment draft))
+
+-- the end of the input ends the run on an empty line; another one is submitted by Vi alone
+abbrev pub answer_at_end : EditMode → List ℕ → Answer
+answer_at_end _ [] = ended
+answer_at_end Emacs (_ ∷ _) = proceeds
+answer_at_end Vi (_ ∷ _) = submitted

@@ -1,0 +1,92 @@
+-- Moves in the history.
+use Rattle.std.specs.Prelude.{ℕ, ◌+◌, ◌-◌, ◌==◌, Bool, true, if◌then◌else◌, List, length, Option, Some, None}
+use Rattle.line_buffer.specs.Line.{before}
+use Rattle.line_keys.specs.Draft.{Draft, hinted}
+use Rattle.line_parts.specs.Environment.{Environment}
+use Rattle.line_parts.specs.History.{Found, line_at, starting_with}
+use Rattle.line_parts.specs.declared.history.SearchDirection.{SearchDirection}
+use Rattle.line_parts.specs.declared.history.SearchDirection.TheVariants.{Forward, Reverse}
+use Rattle.line_state.specs.Edited.{in_one_group, with_update_to}
+use Rattle.line_editor.specs.Editor.{edited_of, with_edited}
+use Rattle.line_editor.specs.Edits.{after_edit}
+
+-- a draft at another history index
+abbrev pub at_index : ℕ → Draft → Draft
+at_index index draft = record draft { index = index }
+
+-- whether it is the line that is being written, which comes after the history's last
+abbrev pub is_at_end : Environment → Draft → Bool
+is_at_end environment draft = draft.index == length environment.lines
+
+-- the line is saved where it is the one that is being written
+abbrev pub saved_at_end : Environment → Draft → Draft
+saved_at_end environment draft = if is_at_end environment draft then record draft { saved = draft.line } else draft
+
+-- a text of the history takes the line's place as one group of changes, with the cursor at a place in it
+abbrev pub showing : Environment → List ℕ → ℕ → Draft → Draft
+showing environment text cursor draft =
+    after_edit environment true (in_one_group (with_update_to text cursor) (edited_of draft)) draft
+
+-- the line of the history at an index is shown, with the cursor at its end
+abbrev pub line_shown : Environment → ℕ → Draft → Draft
+line_shown environment index draft = let text = line_at environment.lines index in
+    showing environment text (length text) (at_index index draft)
+
+-- the saved line takes the line's place, with its cursor
+abbrev pub restored : Draft → Draft
+restored draft = with_edited draft (with_update_to draft.saved.text draft.saved.cursor (edited_of draft))
+
+-- the saved line comes back as the one that is being written
+abbrev pub come_back : Environment → Draft → Draft
+come_back environment draft = hinted environment (at_index (length environment.lines) (restored draft))
+
+-- whether there is no line further back in the history, or further on
+abbrev pub way_ends : Environment → SearchDirection → Draft → Bool
+way_ends environment Reverse draft = draft.index == 0
+way_ends environment Forward draft = is_at_end environment draft
+
+-- to the history's line before this one, or to the first
+abbrev pub previous_shown : Environment → Draft → Draft
+previous_shown environment draft =
+    if draft.index == 0 then draft else line_shown environment (draft.index - 1) (saved_at_end environment draft)
+
+abbrev pub first_shown : Environment → Draft → Draft
+first_shown environment draft =
+    if draft.index == 0 then draft else line_shown environment 0 (saved_at_end environment draft)
+
+-- to the line behind this one, or to the one that is being written
+abbrev pub next_shown : Environment → Draft → Draft
+next_shown environment draft =
+    if is_at_end environment draft then draft
+    else if draft.index + 1 == length environment.lines then come_back environment draft
+    else line_shown environment (draft.index + 1) draft
+
+abbrev pub end_shown : Environment → Draft → Draft
+end_shown environment draft = if is_at_end environment draft then draft else come_back environment draft
+
+-- what a search found is shown, with the cursor behind the matched text; where it found nothing all stays
+abbrev pub found_shown : Environment → Option Found → Draft → Draft
+found_shown environment None draft = draft
+found_shown environment (Some found) draft = showing environment found.entry found.pos (at_index found.index draft)
+
+-- the index one line back, or one line on
+abbrev pub index_beside : SearchDirection → ℕ → ℕ
+index_beside Reverse index = index - 1
+index_beside Forward index = index + 1
+
+-- from the line beside this one, the nearest line of the history that begins with the text before the cursor
+abbrev pub search_beside : Environment → SearchDirection → Draft → Option Found
+search_beside environment direction draft =
+    starting_with environment.lines (before draft.line) (index_beside direction draft.index) direction
+
+-- what a search finds: nothing at the history's ends
+abbrev pub search_of : Environment → SearchDirection → Draft → Option Found
+search_of environment direction draft =
+    if way_ends environment direction draft then None else search_beside environment direction draft
+
+-- the index goes one line on, and what is found from there is shown; at the history's ends nothing happens
+abbrev pub searched : Environment → SearchDirection → Draft → Draft
+searched environment direction draft =
+    if way_ends environment direction draft then draft
+    else found_shown environment (search_beside environment direction draft)
+    (at_index (index_beside direction draft.index) draft)

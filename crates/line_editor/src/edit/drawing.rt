@@ -1,0 +1,147 @@
+//! Drawing again, and what is asked of the screen.
+ghost use Rattle.std.specs.Prelude.{◌≡◌, ◌&&◌, is_some, OnOk};
+ghost use Rattle.line_keys.specs.Display.{corner};
+ghost use Rattle.line_keys.specs.Draft.{hint_shown, hinted};
+ghost use Rattle.line_keys.specs.EditorState.{Does, FailsOnlyIf, Frame, Redraws, RendererFailed, Shows, ShowsByLayout, info_kept};
+
+use crate::edit::{Info, State, info_text};
+use line_config::{Prompt, Result};
+use line_keys::editor_state::EditorState;
+use line_keys::keymap::Refresher;
+use line_parts::{Helper, History};
+use line_state::{RefreshKind, Renderer};
+use std::fmt::{self, Debug, Formatter};
+
+impl<'out, 'prompt, W: Renderer, H: Helper, P: Prompt, S: History> State<
+    'out,
+    'prompt,
+    W,
+    H,
+    P,
+    S,
+> {
+    /// Returns the helper as a highlighter, if there is one and colours are shown.
+    pub fn highlighter(&self) -> Option<&H>
+        ensures { let e = ⟦<Self as EditorState>⟧ in is_some result
+            ≡ ((e.display self.now).surface.colors && is_some (e.environment self.now).verdict_at) }
+    {
+        self.parties.highlighter(self.view.colors_enabled())
+    }
+
+    /// Draws the line again behind its own prompt. `All` draws it in full, with the hint that is there. `Min` keeps the layout
+    /// of what is drawn and draws by it, with nothing cleared before and with the hint where the layout has one: it is for a
+    /// screen that lost what it showed.
+    ///
+    /// # Errors
+    /// Those of the renderer.
+    #[tactic(auto, using(crate::proofs::EditLemmas::shown_hint))]
+    pub fn repaint(&mut self, kind: RefreshKind) -> Result<()>
+        ensures draft { let d = ⟦<Self as EditorState>⟧.draft in d self.new ≡ d self.old }
+        ensures shown { let e = ⟦<Self as EditorState>⟧ in kind ≡ RefreshKind.All
+            → OnOk result (Shows e self.new (hint_shown (e.draft self.old))) }
+        ensures by_layout { let e = ⟦<Self as EditorState>⟧ in
+            kind ≡ RefreshKind.Min → ShowsByLayout e self.old → OnOk result
+            (Shows e self.new (info_kept (e.display self.old).layout (e.draft self.old))) }
+        ensures kept { let e = ⟦<Self as EditorState>⟧ in kind ≡ RefreshKind.Min
+            → OnOk result ((e.display self.new).layout ≡ (e.display self.old).layout) }
+        ensures lit { let d = ⟦<Self as EditorState>⟧.display in
+            (d self.new).lit ≡ (d self.old).lit }
+        ensures redraws { OnOk result (Redraws ⟦<Self as EditorState>⟧ 1 1 self.old self.new) }
+        ensures frame { Frame ⟦<Self as EditorState>⟧ self.old self.new }
+        ensures fails { let e = ⟦<Self as EditorState>⟧ in
+            FailsOnlyIf result (RendererFailed e self.old self.new) }
+    {
+        match kind {
+            RefreshKind::All => self.draw(Info::Hint),
+            RefreshKind::Min => self.draw_kept(),
+        }
+    }
+
+    // Draws the kept layout again, with the hint where the layout has an info.
+    #[tactic(auto, using(crate::proofs::EditLemmas::shown_hint))]
+    fn draw_kept(&mut self) -> Result<()>
+        ensures draft { let d = ⟦<Self as EditorState>⟧.draft in d self.new ≡ d self.old }
+        ensures shown { let e = ⟦<Self as EditorState>⟧ in ShowsByLayout e self.old → OnOk result
+            (Shows e self.new (info_kept (e.display self.old).layout (e.draft self.old))) }
+        ensures layout { let d = ⟦<Self as EditorState>⟧.display in
+            (d self.new).layout ≡ (d self.old).layout }
+        ensures lit { let d = ⟦<Self as EditorState>⟧.display in
+            (d self.new).lit ≡ (d self.old).lit }
+        ensures redraws { OnOk result (Redraws ⟦<Self as EditorState>⟧ 1 1 self.old self.new) }
+        ensures frame { Frame ⟦<Self as EditorState>⟧ self.old self.new }
+        ensures fails { let e = ⟦<Self as EditorState>⟧ in
+            FailsOnlyIf result (RendererFailed e self.old self.new) }
+    {
+        let colors = self.view.colors_enabled();
+        let info = if self.view.layout().has_info {
+            Info::Hint
+        } else {
+            Info::Nothing
+        };
+        self.view.repaint_kept(
+            self.edited.line(),
+            info_text(info, &self.hint),
+            self.parties.highlighter(colors),
+        )
+    }
+
+    /// Clears the screen. The kept cursor and end are then in the first column of the first row, and what the screen shows is
+    /// not said: `refresh_line` is to follow.
+    ///
+    /// # Errors
+    /// Those of the renderer.
+    pub fn clear_screen(&mut self) -> Result<()>
+        ensures draft { let d = ⟦<Self as EditorState>⟧.draft in d self.new ≡ d self.old }
+        ensures layout { let d = ⟦<Self as EditorState>⟧.display in OnOk result
+            ((d self.new).layout ≡ record (d self.old).layout { cursor = corner; end = corner }) }
+        ensures lit { let d = ⟦<Self as EditorState>⟧.display in
+            (d self.new).lit ≡ (d self.old).lit }
+        ensures redraws { let e = ⟦<Self as EditorState>⟧ in
+            e.redraws self.new ≡ e.redraws self.old }
+        ensures frame { Frame ⟦<Self as EditorState>⟧ self.old self.new }
+        ensures fails { let e = ⟦<Self as EditorState>⟧ in
+            FailsOnlyIf result (RendererFailed e self.old self.new) }
+    {
+        self.view.clear_screen()
+    }
+
+    /// Takes the terminal's cursor to the first column, below what is there. The kept layout stays, and what the screen shows
+    /// is not said.
+    ///
+    /// # Errors
+    /// Those of the renderer.
+    pub fn move_cursor_at_leftmost(&mut self, rdr: &mut W::Reader) -> Result<()>
+        ensures draft { let d = ⟦<Self as EditorState>⟧.draft in d self.new ≡ d self.old }
+        ensures layout { let d = ⟦<Self as EditorState>⟧.display in
+            (d self.new).layout ≡ (d self.old).layout }
+        ensures lit { let d = ⟦<Self as EditorState>⟧.display in
+            (d self.new).lit ≡ (d self.old).lit }
+        ensures redraws { let e = ⟦<Self as EditorState>⟧ in
+            e.redraws self.new ≡ e.redraws self.old }
+        ensures frame { Frame ⟦<Self as EditorState>⟧ self.old self.new }
+        ensures fails { let e = ⟦<Self as EditorState>⟧ in
+            FailsOnlyIf result (RendererFailed e self.old self.new) }
+    {
+        self.view.move_cursor_at_leftmost(rdr)
+    }
+
+    // Clears the screen and draws the line again, with the hint asked for.
+    pub(crate) fn clear_and_redraw(&mut self) -> Result<()>
+        ensures { let e = ⟦<Self as EditorState>⟧ in Does e result self.old self.new
+            (hinted (e.environment self.old) (e.draft self.old)) 1 }
+    {
+        self.clear_screen()?;
+        self.refresh_line()
+    }
+}
+
+impl<W: Renderer, H: Helper, P: Prompt, S: History> Debug for State<'_, '_, W, H, P, S> {
+    fn fmt<F: fmt::Write>(&self, f: &mut Formatter<F>) -> fmt::Result {
+        f.debug_struct("State")
+            .field("line", &self.line())
+            .field("pos", &self.pos())
+            .field("history_index", &self.place())
+            .field("layout", self.layout())
+            .finish()
+    }
+}

@@ -1,0 +1,71 @@
+//! The hint, put into the line.
+ghost use Rattle.std.specs.Prelude.{◌≡◌, is_some, option_and_then, option_map, OnOk};
+ghost use Rattle.line_buffer.specs.Line.{with_cursor, end_of_line};
+ghost use Rattle.line_editor.specs.Editor.{edited_of, with_edited};
+ghost use Rattle.line_editor.specs.Edits.{completed, with_completion};
+ghost use Rattle.line_keys.specs.Draft.{start_text};
+ghost use Rattle.line_keys.specs.EditorState.{DrawsEditIf, DrewNothing, FailsOnlyIf, Frame, RendererFailed};
+ghost use Rattle.line_parts.specs.Hint.{suggestion_of};
+
+use crate::edit::State;
+use line_config::{Prompt, Result};
+use line_keys::editor_state::EditorState;
+use line_parts::{Helper, Hint, History};
+use line_state::Renderer;
+
+// Returns what the hint completes the line with, if there is a hint and it can be taken.
+fn completion_of<T: Hint>(hint: &Option<T>) -> Option<&str>
+    ensures { option_map (λ s. s.now) result ≡ option_and_then (λ hint. hint.completion)
+        (option_map (suggestion_of T.Hint) hint.now) }
+{
+    match hint {
+        Some(h) => h.completion(),
+        None => None,
+    }
+}
+
+impl<'out, 'prompt, W: Renderer, H: Helper, P: Prompt, S: History> State<
+    'out,
+    'prompt,
+    W,
+    H,
+    P,
+    S,
+> {
+    // Puts what the hint completes the line with at the end of the cursor's line, asks for the next hint and draws the line.
+    // There is a beep where the hint completes nothing. Without a hint nothing happens.
+    pub(crate) fn complete_hint(&mut self) -> Result<()>
+        ensures { let e = ⟦<Self as EditorState>⟧ in
+            DrawsEditIf e (is_some (e.draft self.old).hint) result self.old self.new
+            (completed (e.environment self.old) (e.draft self.old).hint (e.draft self.old)) }
+    {
+        if self.hint.is_none() {
+            return Ok(());
+        }
+        self.yank_hint()?;
+        self.show_edit(true)
+    }
+
+    // Puts what the hint completes the line with at the end of the cursor's line. There is a beep where it completes nothing.
+    fn yank_hint(&mut self) -> Result<()>
+        ensures draft { let e = ⟦<Self as EditorState>⟧ in let d = e.draft self.old in
+            OnOk result (e.draft self.new ≡ with_edited d
+            (with_completion (option_and_then (λ hint. hint.completion) d.hint)
+            (record (edited_of d) { line = with_cursor d.line (end_of_line d.line) }))) }
+        ensures start { let d = ⟦<Self as EditorState>⟧.draft in OnOk result
+            (start_text (d self.new) ≡ start_text (d self.old)) }
+        ensures drew { DrewNothing ⟦<Self as EditorState>⟧ self.old self.new }
+        ensures frame { Frame ⟦<Self as EditorState>⟧ self.old self.new }
+        ensures fails { let e = ⟦<Self as EditorState>⟧ in
+            FailsOnlyIf result (RendererFailed e self.old self.new) }
+    {
+        self.edited.move_end();
+        let Some(text) = completion_of(&self.hint) else {
+            return self.beep();
+        };
+        if !self.edited.yank(text, 1)? {
+            return self.beep();
+        }
+        Ok(())
+    }
+}

@@ -1,0 +1,276 @@
+//! Moves in the history.
+ghost use Rattle.std.specs.Prelude.{◌≡◌, ◌+◌, ◌≤◌, IsCharBoundary, if◌then◌else◌, not, is_some, length, OnOk, OnErr};
+ghost use Rattle.line_buffer.specs.Line.{before};
+ghost use Rattle.line_config.specs.Error.{MemoryOnly};
+ghost use Rattle.line_editor.specs.HistoryMoves.{at_index, come_back, end_shown, first_shown, found_shown, line_shown, next_shown, previous_shown, restored, saved_at_end, search_of, searched, showing, way_ends};
+ghost use Rattle.line_keys.specs.Draft.{start_text};
+ghost use Rattle.line_keys.specs.EditorState.{DrawsEdit, DrawsEditIf, DrewNothing, FailsOnlyIf, Frame, RendererFailed, Undrawn};
+ghost use Rattle.line_parts.specs.History.{starting_with};
+ghost use Rattle.line_parts.specs.declared.history.SearchDirection.TheVariants.{Forward, Reverse};
+
+use crate::edit::State;
+use line_buffer::LineBuffer;
+use line_config::{Prompt, Result};
+use line_keys::editor_state::EditorState;
+use line_parts::history::SearchDirection;
+use line_parts::{Helper, History};
+use line_state::Renderer;
+
+impl<'out, 'prompt, W: Renderer, H: Helper, P: Prompt, S: History> State<
+    'out,
+    'prompt,
+    W,
+    H,
+    P,
+    S,
+> {
+    /// Saves the line and its cursor, for the way back from the history.
+    ///
+    /// # Errors
+    /// That memory ran out. The saved line is then text with its cursor on a boundary, and all else stays.
+    pub fn backup(&mut self) -> Result<()>
+        ensures draft { let d = ⟦<Self as EditorState>⟧.draft in OnOk result
+            (d self.new ≡ record (d self.old) { saved = (d self.old).line }) }
+        ensures err { let d = ⟦<Self as EditorState>⟧.draft in
+            OnErr result (d self.new ≡ d self.old) }
+        ensures undrawn { Undrawn ⟦<Self as EditorState>⟧ self.old self.new }
+        ensures memory { MemoryOnly result }
+    {
+        let line = self.edited.line();
+        self.saved_line_for_history = LineBuffer::init(self.alloc, line.as_str(), line.pos())?;
+        Ok(())
+    }
+
+    /// Puts the saved line in place of the line, with its cursor. Nothing is drawn.
+    ///
+    /// # Errors
+    /// That memory ran out.
+    pub fn restore(&mut self) -> Result<()>
+        ensures draft { let d = ⟦<Self as EditorState>⟧.draft in OnOk result
+            (d self.new ≡ restored (d self.old)) }
+        ensures start { let d = ⟦<Self as EditorState>⟧.draft in OnOk result
+            (start_text (d self.new) ≡ start_text (d self.old)) }
+        ensures undrawn { Undrawn ⟦<Self as EditorState>⟧ self.old self.new }
+        ensures memory { MemoryOnly result }
+    {
+        let saved = &self.saved_line_for_history;
+        Ok(self.edited.update(saved.as_str(), saved.pos())?)
+    }
+
+    /// Shows the line of the history before this one where `prev` is true, and else the one behind it: behind the last one
+    /// stands the line that is being written. At the history's ends, and in an empty history, nothing happens.
+    ///
+    /// # Errors
+    /// Those of the parties and of the renderer, and that memory ran out.
+    pub fn edit_history_next(&mut self, prev: bool) -> Result<()>
+        ensures { let e = ⟦<Self as EditorState>⟧ in DrawsEditIf e
+            (not (way_ends (e.environment self.old) (if prev then Reverse else Forward)
+            (e.draft self.old)))
+            result self.old self.new
+            (if prev then previous_shown (e.environment self.old) (e.draft self.old)
+            else next_shown (e.environment self.old) (e.draft self.old)) }
+    {
+        if prev {
+            return self.show_previous();
+        }
+        self.show_next()
+    }
+
+    /// Shows the first line of the history, or comes back to the line that is being written. Nothing happens where that
+    /// line is shown already, and in an empty history.
+    ///
+    /// # Errors
+    /// Those of the parties and of the renderer, and that memory ran out.
+    pub fn edit_history(&mut self, first: bool) -> Result<()>
+        ensures { let e = ⟦<Self as EditorState>⟧ in DrawsEditIf e
+            (not (way_ends (e.environment self.old) (if first then Reverse else Forward)
+            (e.draft self.old)))
+            result self.old self.new
+            (if first then first_shown (e.environment self.old) (e.draft self.old)
+            else end_shown (e.environment self.old) (e.draft self.old)) }
+    {
+        if first {
+            return self.show_first();
+        }
+        self.show_end()
+    }
+
+    /// Goes one line back in the history, or on, and from there to the nearest one that begins with the text before the
+    /// cursor. It is shown with the cursor where it was. Without one, and at the history's ends, there is a beep.
+    ///
+    /// # Errors
+    /// Those of the parties and of the renderer, and that memory ran out.
+    pub fn edit_history_search(&mut self, dir: SearchDirection) -> Result<()>
+        ensures { let e = ⟦<Self as EditorState>⟧ in DrawsEditIf e
+            (is_some (search_of (e.environment self.old) dir (e.draft self.old)))
+            result self.old self.new
+            (searched (e.environment self.old) dir (e.draft self.old)) }
+    {
+        let index = self.place();
+        match dir {
+            SearchDirection::Reverse => {
+                if index == 0 {
+                    return self.beep();
+                }
+                self.search_from(index - 1, dir)
+            }
+            SearchDirection::Forward => {
+                if index == self.parties.history().len() {
+                    return self.beep();
+                }
+                self.search_from(index + 1, dir)
+            }
+        }
+    }
+
+    // Shows the line of the history before this one, if there is one.
+    #[tactic(auto, using(crate::proofs::HistoryMoveLemmas::way_stays, crate::proofs::HistoryMoveLemmas::way_goes))]
+    fn show_previous(&mut self) -> Result<()>
+        ensures { let e = ⟦<Self as EditorState>⟧ in DrawsEditIf e
+            (not (way_ends (e.environment self.old) Reverse (e.draft self.old)))
+            result self.old self.new
+            (previous_shown (e.environment self.old) (e.draft self.old)) }
+    {
+        let index = self.place();
+        if index == 0 {
+            return Ok(());
+        }
+        self.leave_for(index - 1)
+    }
+
+    // Shows the line behind this one, if there is one: behind the history's last stands the one that is being written.
+    #[tactic(auto, using(crate::proofs::HistoryMoveLemmas::way_stays, crate::proofs::HistoryMoveLemmas::way_goes))]
+    fn show_next(&mut self) -> Result<()>
+        ensures { let e = ⟦<Self as EditorState>⟧ in DrawsEditIf e
+            (not (way_ends (e.environment self.old) Forward (e.draft self.old)))
+            result self.old self.new
+            (next_shown (e.environment self.old) (e.draft self.old)) }
+    {
+        let index = self.place();
+        let end = self.parties.history().len();
+        if index == end {
+            return Ok(());
+        }
+        if index + 1 == end {
+            return self.come_back();
+        }
+        self.show_line(index + 1)
+    }
+
+    // Shows the first line of the history, if it is not shown already.
+    #[tactic(auto, using(crate::proofs::HistoryMoveLemmas::way_stays, crate::proofs::HistoryMoveLemmas::way_goes))]
+    fn show_first(&mut self) -> Result<()>
+        ensures { let e = ⟦<Self as EditorState>⟧ in DrawsEditIf e
+            (not (way_ends (e.environment self.old) Reverse (e.draft self.old)))
+            result self.old self.new
+            (first_shown (e.environment self.old) (e.draft self.old)) }
+    {
+        if self.place() == 0 {
+            return Ok(());
+        }
+        self.leave_for(0)
+    }
+
+    // Comes back to the line that is being written, if it is not shown already.
+    #[tactic(auto, using(crate::proofs::HistoryMoveLemmas::way_stays, crate::proofs::HistoryMoveLemmas::way_goes))]
+    fn show_end(&mut self) -> Result<()>
+        ensures { let e = ⟦<Self as EditorState>⟧ in DrawsEditIf e
+            (not (way_ends (e.environment self.old) Forward (e.draft self.old)))
+            result self.old self.new
+            (end_shown (e.environment self.old) (e.draft self.old)) }
+    {
+        if self.place() == self.parties.history().len() {
+            return Ok(());
+        }
+        self.come_back()
+    }
+
+    // Beeps. Nothing is drawn.
+    pub(crate) fn beep(&mut self) -> Result<()>
+        ensures draft { let d = ⟦<Self as EditorState>⟧.draft in d self.new ≡ d self.old }
+        ensures drew { DrewNothing ⟦<Self as EditorState>⟧ self.old self.new }
+        ensures frame { Frame ⟦<Self as EditorState>⟧ self.old self.new }
+        ensures fails { let e = ⟦<Self as EditorState>⟧ in
+            FailsOnlyIf result (RendererFailed e self.old self.new) }
+    {
+        self.view.beep()
+    }
+
+    // Saves the line where it is the one that is being written.
+    fn save_at_end(&mut self) -> Result<()>
+        ensures draft { let e = ⟦<Self as EditorState>⟧ in OnOk result
+            (e.draft self.new ≡ saved_at_end (e.environment self.old) (e.draft self.old)) }
+        ensures undrawn { Undrawn ⟦<Self as EditorState>⟧ self.old self.new }
+        ensures memory { MemoryOnly result }
+    {
+        if self.place() == self.parties.history().len() {
+            self.backup()?;
+        }
+        Ok(())
+    }
+
+    // Saves the line where it is the one that is being written, and shows the one of the history at an index.
+    fn leave_for(&mut self, index: usize) -> Result<()>
+        requires { index + 1 ≤ length (⟦<Self as EditorState>⟧.environment self.old).lines }
+        ensures { let e = ⟦<Self as EditorState>⟧ in DrawsEdit e result self.old self.new
+            (line_shown (e.environment self.old) index
+            (saved_at_end (e.environment self.old) (e.draft self.old))) }
+    {
+        self.save_at_end()?;
+        self.show_line(index)
+    }
+
+    // Shows the line of the history at an index, with the cursor at its end.
+    fn show_line(&mut self, index: usize) -> Result<()>
+        requires { index + 1 ≤ length (⟦<Self as EditorState>⟧.environment self.old).lines }
+        ensures { let e = ⟦<Self as EditorState>⟧ in DrawsEdit e result self.old self.new
+            (line_shown (e.environment self.old) index (e.draft self.old)) }
+    {
+        let history = self.parties.history();
+        let Some(found) = history.get(index, SearchDirection::Reverse)? else {
+            return Ok(());
+        };
+        let text = found.entry.as_str();
+        self.show_text(text, text.len(), index)
+    }
+
+    // Puts a text of the history in the line's place, with the cursor at byte `pos` of it, as the line at an index.
+    fn show_text(&mut self, text: &str, pos: usize, index: usize) -> Result<()>
+        requires boundary { IsCharBoundary text.now pos }
+        requires index { index ≤ length (⟦<Self as EditorState>⟧.environment self.old).lines }
+        ensures { let e = ⟦<Self as EditorState>⟧ in DrawsEdit e result self.old self.new
+            (showing (e.environment self.old) text.now pos (at_index index (e.draft self.old))) }
+    {
+        self.edited.update_in_group(text, pos)?;
+        self.parties.set_history_index(index);
+        self.show_edit(true)
+    }
+
+    // Comes back to the line that is being written.
+    fn come_back(&mut self) -> Result<()>
+        ensures { let e = ⟦<Self as EditorState>⟧ in DrawsEdit e result self.old self.new
+            (come_back (e.environment self.old) (e.draft self.old)) }
+    {
+        self.restore()?;
+        let end = self.parties.history().len();
+        self.parties.set_history_index(end);
+        self.show_edit(true)
+    }
+
+    // Goes to an index, and from there to the nearest line that begins with the text before the cursor, and shows it.
+    fn search_from(&mut self, index: usize, dir: SearchDirection) -> Result<()>
+        requires { index ≤ length (⟦<Self as EditorState>⟧.environment self.old).lines }
+        ensures { let e = ⟦<Self as EditorState>⟧ in let d = e.draft self.old in
+            let found = starting_with (e.environment self.old).lines (before d.line) index dir in
+            DrawsEditIf e (is_some found) result self.old self.new
+            (found_shown (e.environment self.old) found (at_index index d)) }
+    {
+        let line = self.edited.line();
+        let before = &line.as_str()[..line.pos()];
+        let Some(found) = self.parties.history().starts_with(before, index, dir)? else {
+            self.parties.set_history_index(index);
+            return self.beep();
+        };
+        self.show_text(found.entry.as_str(), found.pos, found.idx)
+    }
+}

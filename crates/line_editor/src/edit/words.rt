@@ -1,0 +1,89 @@
+//! Edits of words, of neighbours and of whole lines, and undo.
+ghost use Rattle.std.specs.Prelude.{◌≡◌, Bool, is_some};
+ghost use Rattle.std.specs.List.{list_any};
+ghost use Rattle.line_buffer.specs.Transpose.{are_apart, has_two_chars, next_alphanumeric, words_beside};
+ghost use Rattle.line_buffer.specs.Undo.{is_change, newest_steps};
+ghost use Rattle.line_editor.specs.Edits.{chars_transposed, lines_shifted, steps_undone, word_changed, words_transposed};
+ghost use Rattle.line_keys.specs.EditorState.{DrawsEdit, DrawsEditIf};
+
+use crate::edit::State;
+use line_buffer::{Movement, RepeatCount, WordAction};
+use line_config::{Prompt, Result};
+use line_keys::editor_state::EditorState;
+use line_parts::{Helper, History};
+use line_state::Renderer;
+
+impl<'out, 'prompt, W: Renderer, H: Helper, P: Prompt, S: History> State<
+    'out,
+    'prompt,
+    W,
+    H,
+    P,
+    S,
+> {
+    /// Exchanges the cluster before the cursor and the one at it, or the last two at the text's end. The cursor goes behind
+    /// both. At the text's start, and with fewer than two clusters, nothing happens.
+    ///
+    /// # Errors
+    /// Those of the parties and of the renderer, and that memory ran out.
+    pub fn edit_transpose_chars(&mut self) -> Result<()>
+        ensures { let e = ⟦<Self as EditorState>⟧ in
+            DrawsEditIf e (has_two_chars (e.draft self.old).line) result self.old self.new
+            (chars_transposed (e.environment self.old) (e.draft self.old)) }
+    {
+        let exchanged = self.edited.transpose_chars()?;
+        self.show_edit(exchanged)
+    }
+
+    /// Exchanges the word before the place where `n` words end with the word that many before it. The cursor goes behind
+    /// both. Where these are not two words, the cursor alone moves: behind the first.
+    ///
+    /// # Errors
+    /// Those of the parties and of the renderer, and that memory ran out.
+    pub fn edit_transpose_words(&mut self, n: RepeatCount) -> Result<()>
+        ensures { let e = ⟦<Self as EditorState>⟧ in
+            DrawsEditIf e (are_apart (words_beside (e.draft self.old).line n))
+            result self.old self.new
+            (words_transposed (e.environment self.old) n (e.draft self.old)) }
+    {
+        let exchanged = self.edited.transpose_words(n)?;
+        self.show_edit(exchanged)
+    }
+
+    /// Changes the case of the next word, and puts the cursor behind it. Without a word nothing happens.
+    ///
+    /// # Errors
+    /// Those of the parties and of the renderer, and that memory ran out.
+    pub fn edit_word(&mut self, action: WordAction) -> Result<()>
+        ensures { let e = ⟦<Self as EditorState>⟧ in
+            DrawsEditIf e (is_some (next_alphanumeric (e.draft self.old).line))
+            result self.old self.new
+            (word_changed (e.environment self.old) action (e.draft self.old)) }
+    {
+        let changed = self.edited.edit_word(action)?;
+        self.show_edit(changed)
+    }
+
+    /// Puts `amount` spaces before each line of the movement, or takes as many white-space characters from its front.
+    ///
+    /// # Errors
+    /// Those of the parties and of the renderer, and that memory ran out.
+    pub fn edit_indent(&mut self, mvt: &Movement, amount: u8, dedent: bool) -> Result<()>
+        ensures { let e = ⟦<Self as EditorState>⟧ in DrawsEdit e result self.old self.new
+            (lines_shifted (e.environment self.old) dedent amount mvt.now (e.draft self.old)) }
+    {
+        self.edited.indent(mvt, usize::from(amount), dedent)?;
+        self.show_edit(true)
+    }
+
+    // Takes `n` steps back, one for `n` = 0.
+    pub(crate) fn undo(&mut self, n: RepeatCount) -> Result<()>
+        ensures { let e = ⟦<Self as EditorState>⟧ in
+            DrawsEditIf e (list_any is_change (newest_steps n (e.draft self.old).changes.entries))
+            result self.old self.new
+            (steps_undone (e.environment self.old) n (e.draft self.old)) }
+    {
+        let undone = self.edited.undo(n)?;
+        self.show_edit(undone)
+    }
+}
