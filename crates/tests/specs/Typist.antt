@@ -1,8 +1,7 @@
 -- The bindings of the tests' reader.
 use Rattle.std.specs.Prelude.{ℕ, ◌==◌, ◌&&◌, Option, Some, None, if◌then◌else◌}
-use Rattle.line_keys.specs.Command.{Command, plain}
+use Rattle.line_keys.specs.Command.{Command, end_of_file, interrupt}
 use Rattle.line_keys.specs.Key.{bits_of}
-use Rattle.line_keys.specs.declared.command.Cmd.TheVariants.{Interrupt, EndOfFile}
 use Rattle.line_keys.specs.declared.keys.KeyCode.{KeyCode}
 use Rattle.line_keys.specs.declared.keys.KeyCode.TheVariants.{Char}
 use Rattle.line_keys.specs.declared.keys.KeyEvent.{KeyEvent}
@@ -11,8 +10,8 @@ use Rattle.line_keys.specs.declared.keys.TheConstants.Modifiers.{CTRL}
 -- C-C interrupts and C-D ends the input
 abbrev pub code_binding : KeyCode → ℕ → Option Command
 code_binding (Char c) modifiers =
-    if (c == 67) && (modifiers == bits_of CTRL) then Some (plain Interrupt)
-    else if (c == 68) && (modifiers == bits_of CTRL) then Some (plain EndOfFile)
+    if (c == 67) && (modifiers == bits_of CTRL) then Some interrupt
+    else if (c == 68) && (modifiers == bits_of CTRL) then Some end_of_file
     else None
 code_binding _ modifiers = None
 

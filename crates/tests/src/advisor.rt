@@ -6,7 +6,7 @@ ghost use Rattle.tests.specs.Advisor.{is_lit_for};
 use line_buffer::{Changeset, LineBuffer};
 use line_config::Result;
 use line_parts::{
-    CmdKind, Completer, Context, Helper, Highlighter, Hinter, History, ValidationContext,
+    CmdKind, Completer, Context, Helper, Highlighter, Hint, Hinter, History, ValidationContext,
     ValidationResult, Validator,
 };
 use std::alloc::Global;
@@ -19,10 +19,28 @@ pub(crate) type Kinds = (
     Option<CmdKind>,
 );
 
+/// A hint: what it displays, and what it completes the line with, if it can be taken.
+#[derive(Clone, Copy)]
+pub(crate) struct Tip(pub(crate) &'static str, pub(crate) Option<&'static str>);
+
+impl Hint for Tip {
+    ghost display_text = { λ tip. tip.0.now };
+
+    ghost completion_text = { λ tip. option_map (λ text. text.now) tip.1 };
+
+    fn display(&self) -> &str {
+        self.0
+    }
+
+    fn completion(&self) -> Option<&str> {
+        self.1
+    }
+}
+
 /// Its answers, which are the same for each line, and what it was asked. It asks for a full drawing of one kind alone.
 #[derive(Drop)]
 pub(crate) struct Advisor {
-    hint: Option<&'static str>,
+    hint: Option<Tip>,
     verdict: Verdict,
     lit: Option<CmdKind>,
     kinds: Kinds,
@@ -32,12 +50,21 @@ pub(crate) struct Advisor {
 pub(crate) type Verdict = (bool, bool, Option<&'static str>);
 
 impl Advisor {
-    /// A helper with these answers, which was asked nothing yet.
+    /// A helper with these answers, which was asked nothing yet. Its hint completes the line with what it displays.
     pub(crate) fn new(
         hint: Option<&'static str>,
         verdict: Verdict,
         lit: Option<CmdKind>,
     ) -> Advisor {
+        let hint = match hint {
+            Some(text) => Some(Tip(text, Some(text))),
+            None => None,
+        };
+        Advisor::hinting(hint, verdict, lit)
+    }
+
+    /// A helper with these answers, which was asked nothing yet.
+    pub(crate) fn hinting(hint: Option<Tip>, verdict: Verdict, lit: Option<CmdKind>) -> Advisor {
         Advisor {
             hint,
             verdict,
@@ -71,12 +98,15 @@ impl Completer for Advisor {
 }
 
 impl Hinter for Advisor {
-    type Hint = &'static str;
+    type Hint = Tip;
 
     ghost sure = { λ _. true };
 
     ghost hint_at = { λ advisor _.
-        option_map (λ text. record { display = text.now; completion = Some text.now }) advisor.hint };
+        option_map (λ tip. record {
+          display = tip.0.now;
+          completion = option_map (λ text. text.now) tip.1;
+        }) advisor.hint };
 
     fn hint<S: History>(
         &self,
@@ -84,7 +114,7 @@ impl Hinter for Advisor {
         _line: &str,
         _pos: usize,
         _ctx: &Context<'_, S>,
-    ) -> Result<Option<&'static str>> {
+    ) -> Result<Option<Tip>> {
         Ok(self.hint)
     }
 }

@@ -7,10 +7,14 @@ mod advisor;
 mod buffer;
 pub mod caller;
 #[cfg(test)]
+mod commands;
+#[cfg(test)]
 mod editor;
 pub mod example;
 #[cfg(test)]
 mod examples;
+#[cfg(test)]
+mod history;
 #[cfg(test)]
 mod keys;
 #[cfg(test)]

@@ -1,0 +1,284 @@
+//! Commands, handed to the editor one after another.
+
+use crate::advisor::{Advisor, Tip, Verdict};
+use crate::recorder::Recorder;
+use crate::typist::Typist;
+use line_buffer::{GraphemeClusterMode, KillRing};
+use line_config::{Config, EditMode, ReadlineError, Result};
+use line_editor::binding::Bindings;
+use line_editor::command::{Status, execute};
+use line_editor::edit::State;
+use line_editor::keymap::InputState;
+use line_keys::command::Anchor;
+use line_keys::keymap::Refresher;
+use line_parts::{CmdKind, Context, History, MemHistory};
+use line_state::RefreshKind;
+use std::alloc::Global;
+use std::process::Abort;
+use std::test::Fail;
+use steps::{Step, command};
+
+mod accepts;
+mod calls;
+mod faults;
+mod hints;
+mod history;
+mod inserts;
+mod kills;
+mod moves;
+mod nothing;
+mod refusals;
+mod rows;
+mod shifts;
+mod shown;
+mod steps;
+mod undos;
+mod words;
+mod yanks;
+
+/// What the editor stands on: the style, whether the screen has colours, the history's lines, whether there is a helper,
+/// its hint and verdict, and for which kind `highlight_char` answers yes.
+#[derive(Clone, Copy)]
+struct Setup {
+    style: EditMode,
+    colors: bool,
+    entries: &'static [&'static str],
+    helped: bool,
+    hint: Option<Tip>,
+    verdict: Verdict,
+    lit: Option<CmdKind>,
+}
+
+/// A screen without colours, an empty history, and a helper that hints nothing and takes each line.
+const PLAIN: Setup = Setup {
+    style: EditMode::Emacs,
+    colors: false,
+    entries: &[],
+    helped: true,
+    hint: None,
+    verdict: (true, true, None),
+    lit: None,
+};
+
+type Editor<'out, 'prompt> = State<'out, 'prompt, Recorder, Advisor, &'static str, MemHistory>;
+
+/// Makes the call of a step, where it is one.
+fn called(
+    alloc: Global,
+    state: &mut Editor<'_, '_>,
+    input: &InputState<'_>,
+    kills: &mut KillRing,
+    step: &Step,
+) -> Result<()> {
+    match step {
+        Step::Reset => kills.reset(),
+        Step::Put(n, text, anchor) => state.edit_yank(input, text, *anchor, *n)?,
+        Step::PopText(size, text) => state.edit_yank_pop(*size, text)?,
+        Step::Begin => state.doing_insert()?,
+        Step::End => state.done_inserting()?,
+        Step::Backup => state.backup()?,
+        Step::Restore => state.restore()?,
+        Step::PaintAll => state.repaint(RefreshKind::All)?,
+        Step::PaintKept => state.repaint(RefreshKind::Min)?,
+        Step::ClearAlone => state.clear_screen()?,
+        Step::GoLeftmost => state.move_cursor_at_leftmost(&mut Typist::new(alloc))?,
+        _ => {}
+    }
+    Ok(())
+}
+
+/// Does a step.
+fn done(
+    alloc: Global,
+    state: &mut Editor<'_, '_>,
+    input: &InputState<'_>,
+    kills: &mut KillRing,
+    config: &Config,
+    step: &Step,
+) -> Result<Status> {
+    match command(alloc, step)? {
+        Some(command) => execute(command, state, input, kills, config),
+        None => {
+            called(alloc, state, input, kills, step)?;
+            Ok(Status::Proceed)
+        }
+    }
+}
+
+/// How a step ended, in a word.
+fn ended(outcome: &Result<Status>) -> &'static str {
+    match outcome {
+        Ok(Status::Proceed) => "proceeds",
+        Ok(Status::Submit) => "submits",
+        Err(ReadlineError::Eof) => "eof",
+        Err(ReadlineError::Interrupted) => "interrupted",
+        Err(ReadlineError::Io(_)) => "fails",
+        Err(ReadlineError::Memory) => "out of memory",
+    }
+}
+
+/// What the steps leave: how the last one ended, the line with a bar at its cursor, and the place in the history; how
+/// often they drew all, how often they beeped, and how many other calls they made of the renderer.
+#[derive(Clone, Copy)]
+struct Outcome<'l> {
+    end: &'static str,
+    line: &'l str,
+    place: usize,
+    draws: u64,
+    beeps: u64,
+    others: u64,
+}
+
+/// A line that is left in an editor over an empty history, after so many draws, with no end of the run.
+fn leaving(line: &str, draws: u64) -> Outcome<'_> {
+    Outcome {
+        end: "proceeds",
+        line,
+        place: 0,
+        draws,
+        beeps: 0,
+        others: 0,
+    }
+}
+
+/// The line with a bar at its cursor, steps, the line that they leave, and how often they draw.
+type Case = (&'static str, &'static [Step], &'static str, u64);
+
+/// What the steps leave of an editor over an empty history without hints.
+fn leaves(rt: &impl Abort, alloc: Global, case: &Case) -> std::result::Result<(), Fail> {
+    let (start, steps, line, draws) = case;
+    does(rt, alloc, &PLAIN, start, steps, &leaving(line, *draws))
+}
+
+/// The text before the bar, and the text behind it.
+fn halves<'l>(rt: &impl Abort, marked: &'l str) -> (&'l str, &'l str) {
+    match marked.split_once('|') {
+        Some(found) => found,
+        None => panic!(rt; "no cursor in {marked:?}"),
+    }
+}
+
+/// How often a line with a bar at its cursor is drawn before the first step: empty, and with each half that isn't.
+fn made(rt: &impl Abort, start: &str) -> u64 {
+    match halves(rt, start) {
+        ("", "") => 1,
+        ("", _) | (_, "") => 2,
+        _ => 3,
+    }
+}
+
+/// Does the steps on a line with a bar at its cursor, and looks at what they leave.
+fn does(
+    rt: &impl Abort,
+    alloc: Global,
+    setup: &Setup,
+    start: &str,
+    steps: &[Step],
+    wanted: &Outcome<'_>,
+) -> std::result::Result<(), Fail> {
+    let mut screen = Recorder::new(alloc, 80, setup.colors, 0);
+    edits(rt, alloc, setup, &mut screen, start, steps, wanted)?;
+    let (draws, beeps) = (count(&screen, "draw "), count(&screen, "beep"));
+    let others = count(&screen, "")
+        .saturating_sub(draws)
+        .saturating_sub(beeps);
+    let found = (draws, beeps, others);
+    let draws = wanted.draws.saturating_add(made(rt, start));
+    let counts = (draws, wanted.beeps, wanted.others);
+    assert_eq!(rt; found, counts, "calls from {start:?} to {:?}", wanted.line);
+    Ok(())
+}
+
+/// How many of the renderer's calls begin so.
+fn count(screen: &Recorder, call: &str) -> u64 {
+    let mut found: u64 = 0;
+    for line in screen.log().lines() {
+        found = found.saturating_add(u64::from(line.starts_with(call)));
+    }
+    found
+}
+
+/// Does the steps with the helper or without one, and looks at the state.
+fn edits(
+    rt: &impl Abort,
+    alloc: Global,
+    setup: &Setup,
+    screen: &mut Recorder,
+    start: &str,
+    steps: &[Step],
+    wanted: &Outcome<'_>,
+) -> std::result::Result<(), Fail> {
+    let mut helper = Advisor::hinting(setup.hint, setup.verdict, setup.lit);
+    let session = (start, steps, wanted);
+    if setup.helped {
+        goes_on(rt, alloc, setup, screen, Some(&mut helper), session)
+    } else {
+        goes_on(rt, alloc, setup, screen, None, session)
+    }
+}
+
+/// Draws the empty line, puts the text before and behind the cursor into it, does the steps, and looks at the state.
+fn goes_on(
+    rt: &impl Abort,
+    alloc: Global,
+    setup: &Setup,
+    screen: &mut Recorder,
+    helper: Option<&mut Advisor>,
+    session: (&str, &[Step], &Outcome<'_>),
+) -> std::result::Result<(), Fail> {
+    let (start, steps, wanted) = session;
+    let config = Config::builder(GraphemeClusterMode::Unicode)
+        .edit_mode(setup.style)
+        .build();
+    let bindings = Bindings::new(alloc);
+    let mut history = MemHistory::new(alloc);
+    for entry in setup.entries {
+        let _ = history.add(entry)?;
+    }
+    let input = InputState::new(&config, &bindings);
+    let mut kills = KillRing::new(alloc, 60);
+    let mut state = State::new(alloc, screen, &"> ", helper, Context::new(&history))?;
+    let (before, after) = halves(rt, start);
+    state.refresh_line()?;
+    state.edit_yank(&input, before, Anchor::Before, 1)?;
+    state.edit_insert_text(after)?;
+    let mut last = Ok(Status::Proceed);
+    for step in steps {
+        last = done(alloc, &mut state, &input, &mut kills, &config, step);
+    }
+    assert_eq!(rt; ended(&last), wanted.end, "{start:?} to {:?}", wanted.line);
+    looks(rt, &state, wanted)
+}
+
+/// Looks at the line, its cursor, the place, and where the cursor is drawn; after a fault, at the cursor alone.
+fn looks(
+    rt: &impl Abort,
+    state: &Editor<'_, '_>,
+    wanted: &Outcome<'_>,
+) -> std::result::Result<(), Fail> {
+    let (line, pos) = (state.line(), state.pos());
+    assert!(rt; line.is_char_boundary(pos), "{pos} in {line:?}");
+    if wanted.end == "fails" {
+        return Ok(());
+    }
+    let (before, after) = halves(rt, wanted.line);
+    let found = (&line[..pos], &line[pos..], state.place());
+    assert_eq!(rt; found, (before, after, wanted.place));
+    let layout = state.layout();
+    if wanted.end == "interrupted" {
+        assert_eq!(rt; layout.cursor, layout.end, "{line:?}");
+    } else {
+        let (row, col) = (layout.cursor.row, layout.cursor.col);
+        let drawn = (usize::from(row), usize::from(col));
+        assert_eq!(rt; drawn, drawn_at(&line[..pos]), "{line:?}");
+    }
+    Ok(())
+}
+
+/// The row and the column, in bytes, where a text ends behind the prompt, in rows that aren't full.
+fn drawn_at(text: &str) -> (usize, usize) {
+    match text.rsplit_once('\n') {
+        Some((above, row)) => (above.split('\n').count(), row.len()),
+        None => (0, text.len().saturating_add(2)),
+    }
+}

@@ -1,0 +1,208 @@
+//! What each call leaves where an allocation is refused. Run with any one allocation refused, each test passes: it
+//! looks at what is left, or the call was not reached.
+
+use super::gives;
+use line_config::{ReadlineError, Result};
+use line_parts::{FileHistory, History, MemHistory, SearchResult};
+use std::alloc::Global;
+use std::borrow::CowStr;
+use std::process::Abort;
+use std::result;
+use std::test::Fail;
+
+/// The answer, and None where an allocation was refused. There is no other error.
+fn answer_of<T>(outcome: Result<T>) -> result::Result<Option<T>, Fail> {
+    match outcome {
+        Ok(answer) => Ok(Some(answer)),
+        Err(ReadlineError::Memory) => Ok(None),
+        Err(_) => Err(Fail::from("no other error")),
+    }
+}
+
+/// Lines that are all taken, and for which a list grows more than once.
+const LINES: &[&str] = &[
+    "a",
+    "b\n\\",
+    "0123456789\n0123456789\n0123456789\n0123456789",
+    "c",
+    "d",
+    "e",
+];
+
+/// What is left of the lines where they are added one after another, of which one may be refused.
+#[derive(Clone, Copy)]
+struct Kept {
+    lines: [&'static str; 6],
+    count: usize,
+}
+
+impl Kept {
+    fn add(&mut self, line: &'static str) {
+        let count = self.count;
+        if let Some(slot) = self.lines.get_mut(count) {
+            *slot = line;
+            self.count = count.saturating_add(1);
+        }
+    }
+
+    fn are_in<H: History>(&self, rt: &impl Abort, history: &H) -> result::Result<(), Fail> {
+        let Some(lines) = self.lines.get(..self.count) else {
+            return Err(Fail::from("no more lines than there are"));
+        };
+        gives(rt, history, lines)
+    }
+}
+
+fn added<H: History>(alloc: Global, history: &mut H, line: &str, owned: bool) -> Result<bool> {
+    if owned {
+        history.add_owned(String::from_str(alloc, line)?)
+    } else {
+        history.add(line)
+    }
+}
+
+/// A refused line leaves the list as it was.
+fn adds<H: History>(
+    rt: &impl Abort,
+    alloc: Global,
+    history: &mut H,
+    owned: bool,
+) -> result::Result<(), Fail> {
+    let mut kept = Kept {
+        lines: [""; 6],
+        count: 0,
+    };
+    for line in LINES {
+        if let Some(taken) = answer_of(added(alloc, history, line, owned))? {
+            assert!(rt; taken);
+            kept.add(line);
+        }
+        kept.are_in(rt, history)?;
+    }
+    Ok(())
+}
+
+#[test]
+fn of_lines_in_memory(rt: HostRuntime) -> result::Result<(), Fail> {
+    adds(&rt, rt.alloc(), &mut MemHistory::new(rt.alloc()), false)
+}
+
+#[test]
+fn of_lines_that_can_be_saved(rt: HostRuntime) -> result::Result<(), Fail> {
+    adds(&rt, rt.alloc(), &mut FileHistory::new(rt.alloc()), false)
+}
+
+#[test]
+fn of_owned_lines(rt: HostRuntime) -> result::Result<(), Fail> {
+    adds(&rt, rt.alloc(), &mut MemHistory::new(rt.alloc()), true)?;
+    adds(&rt, rt.alloc(), &mut FileHistory::new(rt.alloc()), true)
+}
+
+/// A refused line does not drop the oldest of a full history.
+#[test]
+fn of_a_line_for_a_full_history(rt: HostRuntime) -> result::Result<(), Fail> {
+    let mut history = FileHistory::new(rt.alloc());
+    history.set_max_len(1)?;
+    let mut newest = None;
+    for line in LINES {
+        if answer_of(history.add(line))?.is_some() {
+            newest = Some(*line);
+        }
+        match newest {
+            Some(line) => gives(&rt, &history, &[line])?,
+            None => gives(&rt, &history, &[])?,
+        }
+    }
+    Ok(())
+}
+
+/// The text of four lines.
+const SAVED: &[u8] = b"#V2\na\nb\\n\\\\\n0123456789\\n0123456789\\n0123456789\\n0123456789\nc\n";
+
+/// What is appended of as many of them as were read.
+const APPENDED: [&[u8]; 5] = [
+    b"",
+    b"a\n",
+    b"a\nb\\n\\\\\n",
+    b"a\nb\\n\\\\\n0123456789\\n0123456789\\n0123456789\\n0123456789\n",
+    b"a\nb\\n\\\\\n0123456789\\n0123456789\\n0123456789\\n0123456789\nc\n",
+];
+
+/// The lines before the refusal are there, and are new.
+#[test]
+fn of_a_text_that_is_read(rt: HostRuntime) -> result::Result<(), Fail> {
+    let mut history = FileHistory::new(rt.alloc());
+    let answer = answer_of(history.load_from(SAVED))?;
+    let count = history.len();
+    assert_eq!(rt; answer, if count == 4 { Some(true) } else { None });
+    let Some(lines) = LINES.get(..count) else {
+        return Err(Fail::from("no more lines than there are"));
+    };
+    gives(&rt, &history, lines)?;
+    let mut out = Vec::new(rt.alloc());
+    if answer_of(history.save_to(&mut out, true))?.is_some() {
+        let wanted = if answer.is_some() {
+            Some(&APPENDED[0])
+        } else {
+            APPENDED.get(count)
+        };
+        assert_eq!(rt; Some(&out.as_slice()), wanted);
+    }
+    Ok(())
+}
+
+/// A history of the first four lines; none where there is no memory for it.
+fn four_lines(alloc: Global) -> result::Result<Option<FileHistory>, Fail> {
+    let mut history = FileHistory::new(alloc);
+    for line in &LINES[..4] {
+        if answer_of(history.add(line))?.is_none() {
+            return Ok(None);
+        }
+    }
+    Ok(Some(history))
+}
+
+/// The lines are there, and are new.
+fn saves(rt: &impl Abort, alloc: Global, append: bool) -> result::Result<(), Fail> {
+    let Some(mut history) = four_lines(alloc)? else {
+        return Ok(());
+    };
+    let whole = if append { APPENDED[4] } else { SAVED };
+    let mut out = Vec::new(alloc);
+    let answer = answer_of(history.save_to(&mut out, append))?;
+    gives(rt, &history, &LINES[..4])?;
+    if answer.is_some() {
+        assert_eq!(rt; out.as_slice(), whole);
+        return Ok(());
+    }
+    let mut out = Vec::new(alloc);
+    history.save_to(&mut out, true)?;
+    assert_eq!(rt; out.as_slice(), APPENDED[4]);
+    Ok(())
+}
+
+#[test]
+fn of_a_text_that_is_written(rt: HostRuntime) -> result::Result<(), Fail> {
+    for append in [false, true] {
+        saves(&rt, rt.alloc(), append)?;
+    }
+    Ok(())
+}
+
+/// A line that the result owns is copied.
+#[test]
+fn of_a_copied_result(rt: HostRuntime) -> result::Result<(), Fail> {
+    let Ok(line) = String::from_str(rt.alloc(), "日") else {
+        return Ok(());
+    };
+    let found = SearchResult {
+        entry: CowStr::Owned(line),
+        idx: 7,
+        pos: 3,
+    };
+    if let Some(copy) = answer_of(found.clone())? {
+        assert!(rt; copy == found);
+    }
+    assert_eq!(rt; (found.entry.as_str(), found.idx, found.pos), ("日", 7, 3));
+    Ok(())
+}

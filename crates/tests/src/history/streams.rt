@@ -1,0 +1,269 @@
+//! Readers and writers that give and take little at once, that are interrupted, and that fail.
+
+use line_config::{ReadlineError, Result};
+use line_parts::{FileHistory, History};
+use std::alloc::Global;
+use std::io::{ErrorKind, Read, Write};
+use std::process::Abort;
+use std::test::Fail;
+use std::{io, result};
+
+/// A reader that gives one byte a call. It may be interrupted before each, and fails from one of them on.
+#[derive(Drop)]
+struct Trickle {
+    text: &'static [u8],
+    at: usize,
+    failing: usize,
+    interrupts: bool,
+    interrupted: bool,
+}
+
+impl Trickle {
+    fn new(text: &'static [u8], failing: usize, interrupts: bool) -> Trickle {
+        Trickle {
+            text,
+            at: 0,
+            failing,
+            interrupts,
+            interrupted: false,
+        }
+    }
+}
+
+impl Read for Trickle {
+    fn read(&mut self, buf: &mut [u8]) -> io::Result<usize> {
+        if self.interrupts && !self.interrupted {
+            self.interrupted = true;
+            return Err(io::Error::from(ErrorKind::Interrupted));
+        }
+        self.interrupted = false;
+        if self.failing <= self.at {
+            return Err(io::Error::from(ErrorKind::BrokenPipe));
+        }
+        let Some(byte) = self.text.get(self.at) else {
+            return Ok(0);
+        };
+        let Some(first) = buf.first_mut() else {
+            return Ok(0);
+        };
+        *first = *byte;
+        self.at = self.at.saturating_add(1);
+        Ok(1)
+    }
+}
+
+/// A writer that takes one byte a call. It may be interrupted before each, and fails from one of them on, or at a flush.
+#[derive(Drop)]
+struct Narrow {
+    taken: Vec<u8>,
+    failing: usize,
+    flushes: bool,
+    interrupts: bool,
+    interrupted: bool,
+}
+
+impl Narrow {
+    fn new(alloc: Global, failing: usize, flushes: bool, interrupts: bool) -> Narrow {
+        Narrow {
+            taken: Vec::new(alloc),
+            failing,
+            flushes,
+            interrupts,
+            interrupted: false,
+        }
+    }
+}
+
+impl Write for Narrow {
+    fn write(&mut self, buf: &[u8]) -> io::Result<usize> {
+        if self.interrupts && !self.interrupted {
+            self.interrupted = true;
+            return Err(io::Error::from(ErrorKind::Interrupted));
+        }
+        self.interrupted = false;
+        if self.failing <= self.taken.len() {
+            return Err(io::Error::from(ErrorKind::BrokenPipe));
+        }
+        let Some(byte) = buf.first() else {
+            return Ok(0);
+        };
+        self.taken.push(*byte)?;
+        Ok(1)
+    }
+
+    fn flush(&mut self) -> io::Result<()> {
+        if self.flushes {
+            Ok(())
+        } else {
+            Err(io::Error::from(ErrorKind::BrokenPipe))
+        }
+    }
+}
+
+/// The answer, and None where the stream failed.
+fn answer_of<T>(outcome: Result<T>) -> result::Result<Option<T>, Fail> {
+    match outcome {
+        Ok(answer) => Ok(Some(answer)),
+        Err(ReadlineError::Io(cause)) if cause.kind() == ErrorKind::BrokenPipe => Ok(None),
+        Err(_) => Err(Fail::from("no other error")),
+    }
+}
+
+/// The lines are those that an appended save writes, one after another, with nothing to escape.
+fn appends(
+    rt: &impl Abort,
+    alloc: Global,
+    history: &mut FileHistory,
+    text: &[u8],
+) -> result::Result<(), Fail> {
+    let mut out = Vec::new(alloc);
+    history.save_to(&mut out, true)?;
+    assert_eq!(rt; out.as_slice(), text);
+    Ok(())
+}
+
+/// A text, how many bytes of it come before its reader fails, the answer, None where it fails, and what is appended of
+/// the lines that are there.
+type Case = (&'static [u8], usize, Option<bool>, &'static [u8]);
+
+/// Reads a text byte by byte, with interruptions or none.
+fn reads(rt: &impl Abort, alloc: Global, case: &Case) -> result::Result<(), Fail> {
+    let (text, failing, wanted, appended) = case;
+    for interrupts in [false, true] {
+        let mut history = FileHistory::new(alloc);
+        let reader = Trickle::new(*text, *failing, interrupts);
+        assert_eq!(rt; answer_of(history.load_from(reader))?, *wanted, "{failing}");
+        appends(rt, alloc, &mut history, *appended)?;
+    }
+    Ok(())
+}
+
+const WHOLE: usize = usize::MAX;
+
+/// A text with a header: two lines, an empty one, and a last one without a line feed.
+const HEADED: &[u8] = b"#V2\nab\n\ncd\ne";
+
+/// A text without one.
+const PLAIN: &[u8] = b"a\r\nb";
+
+const READS: &[Case] = &[
+    (b"", 0, None, b""),
+    (b"", WHOLE, Some(false), b""),
+    (HEADED, 0, None, b""),
+    (HEADED, 1, None, b""),
+    (HEADED, 2, None, b""),
+    (HEADED, 3, None, b""),
+    (HEADED, 4, None, b""),
+    (HEADED, 5, None, b""),
+    (HEADED, 6, None, b""),
+    (HEADED, 7, None, b"ab\n"),
+    (HEADED, 8, None, b"ab\n"),
+    (HEADED, 9, None, b"ab\n"),
+    (HEADED, 10, None, b"ab\n"),
+    (HEADED, 11, None, b"ab\ncd\n"),
+    (HEADED, 12, None, b"ab\ncd\n"),
+    (HEADED, WHOLE, Some(true), b""),
+    (b"#V2\na\nb", 7, None, b"a\n"),
+    (PLAIN, 0, None, b""),
+    (PLAIN, 1, None, b""),
+    (PLAIN, 2, None, b""),
+    (PLAIN, 3, None, b"a\n"),
+    (PLAIN, 4, None, b"a\n"),
+    (PLAIN, WHOLE, Some(false), b""),
+];
+
+#[test]
+fn that_are_read_byte_by_byte(rt: HostRuntime) -> result::Result<(), Fail> {
+    for case in READS {
+        reads(&rt, rt.alloc(), case)?;
+    }
+    Ok(())
+}
+
+/// What two new lines are written as.
+const SAVED: &[u8] = b"#V2\na\\nb\nc\n";
+
+/// The same, appended.
+const APPENDED: &[u8] = b"a\\nb\nc\n";
+
+fn two_lines(rt: &impl Abort, alloc: Global) -> result::Result<FileHistory, Fail> {
+    let mut history = FileHistory::new(alloc);
+    assert!(rt; history.add("a\nb")? && history.add("c")?);
+    Ok(history)
+}
+
+/// A save of two new lines to a writer that fails behind so many bytes writes those, and leaves both lines new.
+fn fails(rt: &impl Abort, alloc: Global, append: bool, failing: usize) -> result::Result<(), Fail> {
+    let whole = if append { APPENDED } else { SAVED };
+    for interrupts in [false, true] {
+        let mut history = two_lines(rt, alloc)?;
+        let mut out = Narrow::new(alloc, failing, true, interrupts);
+        let answer = answer_of(history.save_to(&mut out, append))?;
+        assert_eq!(rt; answer.is_some(), failing >= whole.len(), "{failing}");
+        assert_eq!(rt;
+            Some(out.taken.as_slice()),
+            whole.get(..failing),
+            "{failing}"
+        );
+        let left = if answer.is_some() { b"" } else { APPENDED };
+        appends(rt, alloc, &mut history, left)?;
+    }
+    Ok(())
+}
+
+#[test]
+fn that_are_written_byte_by_byte(rt: HostRuntime) -> result::Result<(), Fail> {
+    for failing in 0..=SAVED.len() {
+        fails(&rt, rt.alloc(), false, failing)?;
+    }
+    for failing in 0..=APPENDED.len() {
+        fails(&rt, rt.alloc(), true, failing)?;
+    }
+    Ok(())
+}
+
+/// Where the flush fails, or nothing is taken, the lines stay new.
+#[test]
+fn that_fail_at_the_end_or_take_nothing(rt: HostRuntime) -> result::Result<(), Fail> {
+    let mut history = two_lines(&rt, rt.alloc())?;
+    let mut out = Narrow::new(rt.alloc(), WHOLE, false, false);
+    assert_eq!(rt; answer_of(history.save_to(&mut out, false))?, None);
+    let mut full: [u8; 2] = [0; 2];
+    let outcome = history.save_to(&mut full.as_mut_slice(), true);
+    assert!(rt;
+        matches!(outcome, Err(ReadlineError::Io(cause)) if cause.kind() == ErrorKind::WriteZero)
+    );
+    appends(&rt, rt.alloc(), &mut history, APPENDED)
+}
+
+/// A line of so many bytes: a digit over and over, and behind each a newline.
+fn long_line(alloc: Global, digit: char, count: usize) -> Result<String> {
+    let mut line = String::new(alloc);
+    for _ in 0..count {
+        line.push(digit)?;
+        line.push('\n')?;
+    }
+    Ok(line)
+}
+
+/// Texts longer than what is read or written at once: ten lines of 1,000 bytes each, and one of 20,000.
+#[test]
+fn that_hold_several_buffers(rt: HostRuntime) -> result::Result<(), Fail> {
+    let mut history = FileHistory::new(rt.alloc());
+    for digit in '0'..='9' {
+        let line = long_line(rt.alloc(), digit, 500)?;
+        assert!(rt; history.add_owned(line)?);
+    }
+    let line = long_line(rt.alloc(), 'x', 10_000)?;
+    assert!(rt; history.add(line.as_str())?);
+    let mut text = Vec::new(rt.alloc());
+    history.save_to(&mut text, false)?;
+    assert_eq!(rt; text.len(), 4 + 10 * 1501 + 30_001);
+    let mut copy = FileHistory::new(rt.alloc());
+    assert!(rt; copy.load_from(text.as_slice())?);
+    assert_eq!(rt; copy.len(), history.len());
+    for (found, wanted) in copy.iter().zip(history.iter()) {
+        assert!(rt; found == wanted);
+    }
+    Ok(())
+}
