@@ -1,9 +1,8 @@
 -- What a script gives the editor to read.
 use Rattle.std.specs.Prelude.{ℕ, ◌==◌, ◌&&◌, Option, Some, None, if◌then◌else◌, string_bytes}
-use Rattle.line_keys.specs.Command.{Command, plain}
+use Rattle.line_keys.specs.Command.{Command, end_of_file, interrupt}
 use Rattle.line_keys.specs.Item as read
 use Rattle.line_keys.specs.Key.{bits_of}
-use Rattle.line_keys.specs.declared.command.Cmd.TheVariants.{Interrupt, EndOfFile}
 use Rattle.line_keys.specs.declared.keys.KeyCode.{KeyCode}
 use Rattle.line_keys.specs.declared.keys.KeyCode.TheVariants.{Char}
 use Rattle.line_keys.specs.declared.keys.KeyEvent.{KeyEvent}
@@ -19,8 +18,8 @@ item_of (Paste text) = read.paste (string_bytes text)
 -- C-C interrupts and C-D ends the input
 abbrev pub code_binding : KeyCode → ℕ → Option Command
 code_binding (Char c) modifiers =
-    if (c == 67) && (modifiers == bits_of CTRL) then Some (plain Interrupt)
-    else if (c == 68) && (modifiers == bits_of CTRL) then Some (plain EndOfFile)
+    if (c == 67) && (modifiers == bits_of CTRL) then Some interrupt
+    else if (c == 68) && (modifiers == bits_of CTRL) then Some end_of_file
     else None
 code_binding _ modifiers = None
 

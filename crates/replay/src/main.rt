@@ -15,7 +15,7 @@ use line_editor::edit::State;
 use line_editor::keymap::InputState;
 use line_editor::run::run;
 use line_keys::keymap::Refresher;
-use line_parts::{Context, MemHistory};
+use line_parts::{Context, FileHistory};
 use plain::Plain;
 use report::{Outcome, Report};
 use script::{Script, ScriptError, read_script};
@@ -64,8 +64,8 @@ fn play_script<R: Read + Drop, O: Write>(
 ) -> Result<u8, ReadlineError>
     ensures { IfOk result (λ status. status ≤ 4) }
 {
-    let items = match read_script(alloc, input) {
-        Ok(items) => items,
+    let parsed = match read_script(alloc, input) {
+        Ok(parsed) => parsed,
         Err(ScriptError::BadLine(line)) => {
             writeln!(out, "bad script line {line}")?;
             out.flush()?;
@@ -74,7 +74,8 @@ fn play_script<R: Read + Drop, O: Write>(
         Err(ScriptError::Fault(error)) => return Err(error),
     };
     let mut screen = Plain::new(alloc, COLUMNS);
-    let outcome = edit(alloc, Script::new(items), &mut screen, out)?;
+    let script = Script::new(parsed.items);
+    let outcome = edit(alloc, &parsed.history, script, &mut screen, out)?;
     writeln!(out, "redraws {}", screen.redraws())?;
     out.flush()?;
     Ok(outcome.status())
@@ -83,17 +84,17 @@ fn play_script<R: Read + Drop, O: Write>(
 /// Edits a line by the script's items, and prints all but the redraws.
 fn edit<O: Write>(
     alloc: Global,
+    history: &FileHistory,
     mut script: Script,
     screen: &mut Plain,
     out: &mut O,
 ) -> Result<Outcome, ReadlineError> {
     let config = Config::new(GraphemeClusterMode::Unicode);
     let bindings = Bindings::new(alloc);
-    let history = MemHistory::new(alloc);
     let mut input = InputState::new(&config, &bindings);
     let mut kill_ring = KillRing::new(alloc, KILL_RING_SIZE);
     let mut helper = ();
-    let context = Context::new(&history);
+    let context = Context::new(history);
     let mut state = State::new(alloc, screen, &PROMPT, Some(&mut helper), context)?;
     let answer = run(&mut state, &mut input, &mut script, &mut kill_ring, &config);
     let report = Report {

@@ -1,4 +1,4 @@
-//! The script: lines of text that stand for what a person types, and the reader of what they give.
+//! The script: lines of text that stand for settings and for what a person types, and the reader of the latter.
 ghost use Rattle.std.specs.Prelude.{◌≡◌, ◌≤◌};
 ghost use Rattle.line_config.specs.Error.{Rose};
 
@@ -8,6 +8,7 @@ use line_config::ReadlineError;
 use line_keys::command::Cmd;
 use line_keys::keys::{KeyCode, KeyEvent, Modifiers};
 use line_keys::tty::RawReader;
+use line_parts::{FileHistory, History};
 use names::key_named;
 use std::alloc::{AllocError, Global};
 use std::collections::VecDeque;
@@ -21,6 +22,17 @@ pub(crate) enum Item {
     Key(KeyEvent),
     /// A pasted text.
     Paste(String),
+}
+
+/// What the lines of a script give.
+#[derive(Drop)]
+pub(crate) struct Parsed {
+    /// The history that the settings fill.
+    pub(crate) history: FileHistory,
+    /// What the editor reads.
+    pub(crate) items: VecDeque<Item>,
+    /// Whether a line of items came, behind which no setting may stand.
+    has_item_lines: bool,
 }
 
 /// Why there is no script.
@@ -43,14 +55,13 @@ impl From<io::Error> for ScriptError {
     }
 }
 
-impl From<AllocError> for ScriptError {
-    ghost use Rattle.line_config.specs.declared.error.ReadlineError.TheVariants.{Memory};
+impl From<ReadlineError> for ScriptError {
     ghost use Rattle.replay.specs.declared.script.ScriptError.TheVariants.{Fault};
 
-    ghost from_gives = { λ _ e. e ≡ Fault Memory };
+    ghost from_gives = { λ error e. e ≡ Fault error };
 
-    fn from(error: AllocError) -> Self {
-        ScriptError::Fault(ReadlineError::from(error))
+    fn from(error: ReadlineError) -> Self {
+        ScriptError::Fault(error)
     }
 }
 
@@ -140,35 +151,61 @@ impl RawReader for Script {
 pub(crate) fn read_script<R: Read + Drop>(
     alloc: Global,
     mut input: R,
-) -> Result<VecDeque<Item>, ScriptError> {
+) -> Result<Parsed, ScriptError> {
     let mut bytes = Vec::new(alloc);
     input.read_to_end(&mut bytes)?;
     parse_script(alloc, &bytes)
 }
 
-/// The items of a script, whose lines end in line feeds, the last one possibly in none. Empty lines give none.
-fn parse_script(alloc: Global, script: &[u8]) -> Result<VecDeque<Item>, ScriptError> {
-    let mut items = VecDeque::new(alloc);
+/// What a script gives, whose lines end in line feeds, the last one possibly in none. Empty lines give nothing.
+fn parse_script(alloc: Global, script: &[u8]) -> Result<Parsed, ScriptError> {
+    let mut parsed = Parsed {
+        history: FileHistory::new(alloc),
+        items: VecDeque::new(alloc),
+        has_item_lines: false,
+    };
     for (index, bytes) in script.split(|byte| *byte == b'\n').enumerate() {
         let is_known = match str::from_utf8(bytes) {
             Ok("") => true,
-            Ok(line) => push_line(alloc, line, &mut items)?,
+            Ok(line) => push_line(alloc, line, &mut parsed)?,
             Err(_) => false,
         };
         if !is_known {
             return Err(ScriptError::BadLine(index + 1));
         }
     }
-    Ok(items)
+    Ok(parsed)
 }
 
-/// Adds the items of one line. False where the line is of no known form.
-fn push_line(alloc: Global, line: &str, items: &mut VecDeque<Item>) -> Result<bool, AllocError> {
+/// Adds what one line gives. False where the line is of no known form, or a setting behind items.
+fn push_line(alloc: Global, line: &str, parsed: &mut Parsed) -> Result<bool, ReadlineError> {
     match line.split_once(' ') {
-        Some(("type", text)) => push_typed(alloc, text, items),
-        Some(("key", name)) => push_key(name, items),
+        Some(("history", text)) if !parsed.has_item_lines => {
+            push_history(alloc, text, &mut parsed.history)
+        }
+        Some(("type", text)) => {
+            parsed.has_item_lines = true;
+            Ok(push_typed(alloc, text, &mut parsed.items)?)
+        }
+        Some(("key", name)) => {
+            parsed.has_item_lines = true;
+            Ok(push_key(name, &mut parsed.items)?)
+        }
         _ => Ok(false),
     }
+}
+
+/// Adds the text to the history, which may leave it out. False where an escape is bad.
+fn push_history(
+    alloc: Global,
+    text: &str,
+    history: &mut FileHistory,
+) -> Result<bool, ReadlineError> {
+    let Some(line) = unescape(alloc, text)? else {
+        return Ok(false);
+    };
+    let _ = history.add_owned(line)?;
+    Ok(true)
 }
 
 /// Adds a key for each character of the text, as it is. False where an escape is bad.

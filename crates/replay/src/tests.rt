@@ -49,6 +49,17 @@ const SCRIPTS: &[Case] = &[
         "outcome eof\nline \ncursor 0\nplace 0\nat 0 2\nredraws 1\n",
         1,
     ),
+    (
+        "history a\n",
+        "outcome eof\nline \ncursor 0\nplace 1\nat 0 2\nredraws 1\n",
+        1,
+    ),
+    (
+        "history a\nhistory b\nhistory b\nhistory \ntype x\nkey Enter\n",
+        "outcome submitted\nline x\ncursor 1\nplace 2\nat 0 3\nredraws 2\n",
+        0,
+    ),
+    ("type a\nhistory a\n", "bad script line 2\n", 4),
     // 77 and 78 characters behind a prompt of two columns, on 80 columns
     (
         "type 12345678901234567890123456789012345678901234567890123456789012345678901234567\n",

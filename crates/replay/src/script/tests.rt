@@ -8,7 +8,7 @@ const NEWLINE: char = '\n';
 
 fn keeps(rt: &impl Abort, alloc: Global, case: (&str, &[KeyEvent])) -> Result<(), Fail> {
     let (script, keys) = case;
-    let Ok(items) = read_script(alloc, script.as_bytes()) else {
+    let Ok(Parsed { items, .. }) = read_script(alloc, script.as_bytes()) else {
         return Err(Fail::from("a good script"));
     };
     assert_eq!(rt; items.len(), keys.len(), "{script}");
@@ -50,6 +50,42 @@ fn keeps_the_items_of_good_lines(rt: HostRuntime) -> Result<(), Fail> {
     Ok(())
 }
 
+/// A script, and the lines of its history.
+type Filled = (&'static str, &'static [&'static str]);
+
+fn fills(rt: &impl Abort, alloc: Global, case: Filled) -> Result<(), Fail> {
+    let (script, lines) = case;
+    let Ok(parsed) = read_script(alloc, script.as_bytes()) else {
+        return Err(Fail::from("a good script"));
+    };
+    assert_eq!(rt; parsed.history.len(), lines.len(), "{script}");
+    for (entry, line) in parsed.history.iter().zip(lines) {
+        assert_eq!(rt; entry.as_str(), *line, "{script}");
+    }
+    Ok(())
+}
+
+const FILLED: &[Filled] = &[
+    ("type a", &[]),
+    ("history a", &["a"]),
+    (
+        "history a\n\nhistory b\nhistory a\ntype x",
+        &["a", "b", "a"],
+    ),
+    // a line that is left out is no bad line
+    ("history \nhistory a\nhistory a\n", &["a"]),
+    ("history  a \nhistory é\r\n", &[" a ", "é\r"]),
+    (r"history a\nb\\n", &["a\nb\\n"]),
+];
+
+#[test]
+fn fills_the_history(rt: HostRuntime) -> Result<(), Fail> {
+    for case in FILLED {
+        fills(&rt, rt.alloc(), *case)?;
+    }
+    Ok(())
+}
+
 fn refuses(rt: &impl Abort, alloc: Global, case: (&[u8], usize)) {
     let (script, line) = case;
     let bad = match read_script(alloc, script) {
@@ -80,7 +116,14 @@ const BAD: &[(&[u8], usize)] = &[
     (b"mode vi", 1),
     (b"columns 80", 1),
     (b"prompt $", 1),
-    (b"history ls", 1),
+    (b"history", 1),
+    (b"history\ta", 1),
+    (b"history a\nhistory \\q", 2),
+    (b"history a\\", 1),
+    (b"history a\n history a", 2),
+    (b"type a\nhistory a", 2),
+    (b"history a\ntype \n\nhistory b", 4),
+    (b"key Enter\nhistory a\nkey Foo", 2),
     (b"hints", 1),
     (b"brackets", 1),
     (b"paste a", 1),
