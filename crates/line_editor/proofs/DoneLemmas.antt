@@ -1,11 +1,10 @@
 -- Facts on edits that are shown.
-use Rattle.std.proofs.Common.{◌≡◌, ◌⊎◌, inl, inr, ℕ, ◌+◌, ◌≤◌, Bool, true, false, List, Option, Some, None, is_some, Result, Ok, Err, refl, sym, ◌∙◌, ap, subst, arith}
+use Rattle.std.proofs.Common.{◌≡◌, inl, inr, ℕ, Bool, true, false, List, Option, Some, None, is_some, Result, Ok, Err, refl, sym, ◌∙◌, ap, subst, arith}
 use Rattle.std.specs.Prelude.{if◌then◌else◌}
 use Rattle.line_config.specs.declared.error.ReadlineError.{ReadlineError}
-use Rattle.line_config.specs.Error.{Rose}
-use Rattle.line_keys.specs.Display.{Display, IsRight, ShowsText, lit_after}
+use Rattle.line_keys.specs.Display.{Display, IsRight, lit_after}
 use Rattle.line_keys.specs.Draft.{Draft, hinted, hint_shown, start_text}
-use Rattle.line_keys.specs.EditorState.{Does, DrawsEdit, DrawsEditIf, Drew, DrewNothing, FailsOnlyIf, Frame, HasCursorDrawn, KeepsDrawn, PartyFailed, Redraws, Shows, ShowsEdit, Undrawn}
+use Rattle.line_keys.specs.EditorState.{Does, DrawsEdit, DrawsEditIf, Drew, FailsOnlyIf, PartyFailed, ShowsEdit, Undrawn}
 use Rattle.line_keys.specs.declared.editor_state.EditorState.{Ghosts}
 use Rattle.line_parts.specs.Environment.{Environment}
 use Rattle.line_parts.specs.declared.highlight.CmdKind.{CmdKind}

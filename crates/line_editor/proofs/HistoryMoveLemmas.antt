@@ -1,5 +1,5 @@
 -- Facts on moves in the history, and on what is drawn where a step that draws nothing comes first.
-use Rattle.std.proofs.Common.{◌≡◌, ℕ, ◌+◌, ◌-◌, ◌≤◌, ◌<◌, ◌==◌, ◌++◌, Bool, true, false, cond, List, [], length, take, drop, inr, Option, Some, None, Result, Ok, Err, eqb, not, is_some, option_map, refl, sym, ◌∙◌, ap, subst, arith}
+use Rattle.std.proofs.Common.{◌≡◌, ℕ, ◌+◌, ◌-◌, ◌≤◌, ◌==◌, ◌++◌, Bool, true, false, cond, List, [], length, take, drop, inr, Option, Some, None, Result, Ok, Err, eqb, not, is_some, option_map, refl, sym, ◌∙◌, ap, subst, arith}
 use Rattle.std.specs.Prelude.{if◌then◌else◌, IsCharBoundary, IsUtf8, OnOk, option_and_then}
 use Rattle.std.specs.List.{slice_range, starts_with}
 use Rattle.std.proofs.Math.Seq.{take-append_seam}

@@ -1,10 +1,10 @@
 -- What single edits and moves do to a draft.
-use Rattle.std.specs.Prelude.{ℕ, ◌==◌, ◌&&◌, ◌||◌, Bool, true, false, not, if◌then◌else◌}
-use Rattle.std.specs.Prelude.{List, [], ◌∷◌, length, Option, Some, None, is_some}
+use Rattle.std.specs.Prelude.{ℕ, ◌==◌, Bool, true, not, if◌then◌else◌}
+use Rattle.std.specs.Prelude.{List, length, Option, Some, None, is_some}
 use Rattle.std.specs.List.{list_any}
-use Rattle.line_buffer.specs.Cluster.{place_on, place_back}
+use Rattle.line_buffer.specs.Cluster.{place_on}
 use Rattle.line_buffer.specs.Kill.{killed_range, ring_with_killed}
-use Rattle.line_buffer.specs.KillRing.{Ring, after_kill, after_yank, after_yank_pop, yank_popped, yanked_text}
+use Rattle.line_buffer.specs.KillRing.{Ring, after_kill, after_yank, after_yank_pop}
 use Rattle.line_buffer.specs.Line.{Line, with_cursor, end_of_line}
 use Rattle.line_buffer.specs.Range.{range_of, text_in, unless_empty}
 use Rattle.line_buffer.specs.Transpose.{are_apart, has_two_chars, next_alphanumeric, words_beside}

@@ -14,7 +14,7 @@ use Rattle.line_editor.specs.InputState.{input_of, keymap_of}
 use Rattle.line_editor.specs.Reading.{RedrawsItems, OutOfItems}
 use Rattle.line_editor.specs.Run.{End, Run, Turn, dry, stopped}
 use Rattle.line_editor.specs.Status.{answer_of}
-use Rattle.line_editor.specs.Editor.{Answer, Editor, Leaves, Ruler, ended, interrupted, own_ruler, proceeds, ruler_of, submitted}
+use Rattle.line_editor.specs.Editor.{Answer, Editor, Leaves, ended, interrupted, own_ruler, proceeds, ruler_of, submitted}
 use Rattle.line_editor.specs.Step.{step}
 use Rattle.line_editor.specs.declared.command.Status.{Status}
 use Rattle.line_editor.specs.declared.keymap.InputState.{InputState}

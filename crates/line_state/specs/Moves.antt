@@ -1,5 +1,5 @@
 -- The cursor, moved.
-use Rattle.std.specs.Prelude.{ℕ, if◌then◌else◌, length}
+use Rattle.std.specs.Prelude.{if◌then◌else◌, length}
 use Rattle.line_buffer.specs.Cluster.{place_on, place_back}
 use Rattle.line_buffer.specs.Line.{Line, after, moved_to, with_cursor, start_of_line, end_of_line}
 use Rattle.line_buffer.specs.Lines.{down_by, up_by}

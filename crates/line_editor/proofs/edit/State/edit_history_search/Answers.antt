@@ -1,4 +1,4 @@
-use Rattle.std.proofs.Common.{refl, ap, ◌∙◌, length}
+use Rattle.std.proofs.Common.{ap, ◌∙◌, length}
 use Rattle.std.proofs.lemmas.Bool.{ne_eqb}
 use Rattle.line_editor.proofs.HistoryMoveLemmas.{search_back, search_on}
 use Rattle.line_editor.proofs.edit.State.edit_history_search.Goals as goal

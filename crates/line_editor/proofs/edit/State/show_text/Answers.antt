@@ -1,5 +1,5 @@
-use Rattle.std.proofs.Common.{refl, ap, ◌∙◌}
-use Rattle.line_editor.proofs.DoneLemmas.{edit_reported, nothing_drawn}
+use Rattle.std.proofs.Common.{refl}
+use Rattle.line_editor.proofs.DoneLemmas.{nothing_drawn}
 use Rattle.line_editor.proofs.HistoryMoveLemmas.{shown_in_group}
 use Rattle.line_editor.proofs.edit.State.show_text.Goals as goal
 
