@@ -1,8 +1,15 @@
+pub mod BracketLemmas
 pub mod EscapeLemmas
+pub mod HintLemmas
 pub mod HistoryLawLemmas
 pub mod HistoryLemmas
 pub mod LinesLemmas
 pub mod LoadLemmas
+pub mod MatchLemmas
+pub mod PieceLemmas
 pub mod PlaceLemmas
+pub mod PrefixLemmas
 pub mod SaveLemmas
 pub mod TextLawLemmas
+pub mod WordLemmas
+pub mod WordStartLemmas

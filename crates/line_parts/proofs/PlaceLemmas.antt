@@ -10,7 +10,7 @@ use Rattle.line_parts.proofs.HistoryLemmas.{least_below_is, none_below}
 use Rattle.line_parts.specs.History.{behind_start, first_in}
 
 -- where a term doesn't occur, the rest of the line does not start with it
-lacking : (term line : List ℕ) (i : ℕ) → LacksTextAt term line i → starts_with eqb (drop i line) term ≡ false
+pub lacking : (term line : List ℕ) (i : ℕ) → LacksTextAt term line i → starts_with eqb (drop i line) term ≡ false
 lacking term line i none =
     ⊎_elim (λ e. absurd (none _ ((starts_is Decides-eqb (drop i line) term _ refl).0 e))) (λ e. e) (cases_Bool (starts_with eqb (drop i line) term))
 

@@ -1,8 +1,9 @@
 -- Completions, as text.
-use Rattle.std.specs.Prelude.{ℕ, List, [], slice_range}
+use Rattle.std.specs.Prelude.{ℕ, List, [], slice_range, String, string_bytes}
 use Rattle.line_buffer.specs.Changes.{Changes, with_entries, with_replace}
 use Rattle.line_buffer.specs.Line.{Line, replaced_in}
 use Rattle.line_parts.specs.declared.completion.Candidate.{Ghosts}
+use Rattle.line_parts.specs.declared.completion.pair.Pair.{Pair}
 
 -- what a candidate displays, and the text that it puts into the line
 pub record Offer : Type 0 where
@@ -14,6 +15,13 @@ abbrev pub offer_of : {T : Type 0} → Ghosts T → T → Offer
 offer_of candidate c = record {
   display = candidate.display_text c;
   replacement = candidate.replacement_text c;
+}
+
+-- a pair as text
+abbrev pub pair_offer : Pair → Offer
+pair_offer pair = record {
+  display = string_bytes pair.display;
+  replacement = string_bytes pair.replacement;
 }
 
 -- where the completed part of the line begins, and what is offered for it

@@ -15,3 +15,7 @@ suggestion_of hint h = record { display = hint.display_text h; completion = hint
 abbrev pub visible : Option Suggestion → Option Suggestion
 visible None = None
 visible (Some s) = if length s.display == 0 then None else Some s
+
+-- a text as a hint that completes the line
+abbrev pub suggested : List ℕ → Suggestion
+suggested text = record { display = text; completion = Some text }

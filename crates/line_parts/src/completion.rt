@@ -4,11 +4,21 @@ ghost use Rattle.std.specs.Prelude.{map, IfOk, IsOk, OnOk, IsCharBoundary, strin
 ghost use Rattle.line_config.specs.Error.{IoOnlyIf, FaultsOnly};
 ghost use Rattle.line_config.specs.Usual.{IsUsualOrOwn};
 
+mod ends;
+mod filename;
+mod pair;
+mod prefix;
+mod words;
+
 use crate::context::Context;
 use crate::history::History;
+pub use filename::{Entry, Lister};
 use line_buffer::{Changeset, LineBuffer};
 use line_config::Result;
+pub use pair::Pair;
+pub use prefix::longest_common_prefix;
 use std::alloc::Global;
+pub use words::{Quote, escape, extract_word, unescape};
 
 /// A text that may complete a part of the line.
 pub trait Candidate {
@@ -150,5 +160,35 @@ impl Completer for () {
         ensures ok { IsOk result }
     {
         Ok(())
+    }
+}
+
+impl<C: Completer> Completer for Box<C> {
+    type Candidate = C::Candidate;
+
+    ghost sure = { λ completer. C.sure completer.value };
+
+    ghost own_completion = { λ completer. C.own_completion completer.value };
+
+    ghost own_update = { λ completer. C.own_update completer.value };
+
+    fn complete<S: History>(
+        &self,
+        alloc: Global,
+        line: &str,
+        pos: usize,
+        ctx: &Context<'_, S>,
+    ) -> Result<(usize, Vec<Self::Candidate>)> {
+        C::complete(&**self, alloc, line, pos, ctx)
+    }
+
+    fn update(
+        &self,
+        line: &mut LineBuffer,
+        start: usize,
+        elected: &str,
+        changes: &mut Changeset,
+    ) -> Result<()> {
+        C::update(&**self, line, start, elected, changes)
     }
 }

@@ -1,14 +1,19 @@
 //! How a line, its prompt and its hint are shown.
 ghost use Rattle.std.specs.Prelude.{◌≡◌, ℕ, Bool, List, Option, None, IfOk, true, false};
+ghost use Rattle.std.specs.Prelude.{◌<◌, is_some, length, slice_index, string_bytes, unwrap_or};
+ghost use Rattle.std.specs.Prelude.{IfSome};
 ghost use Rattle.std.specs.Cow.{cow_str_bytes};
-ghost use Rattle.line_config.specs.Error.{IoOnlyIf, FaultsOnly};
+ghost use Rattle.line_config.specs.Error.{IoOnlyIf, FaultsOnly, MemoryOnly};
 ghost use Rattle.line_config.specs.declared.config.CompletionType.{CompletionType};
 ghost use Rattle.line_config.specs.Usual.{IsUsualOrOwn};
+ghost use Rattle.line_parts.specs.Match.{lit_at, lit_place, remembered, with_match_lit};
 ghost use Rattle.line_parts.specs.declared.highlight.CmdKind.{CmdKind};
 
+use crate::brackets::{Seen, find_match, look_at};
 use line_config::{CompletionType, Result};
 use std::alloc::Global;
 use std::borrow::CowStr;
+use std::marker::Model;
 
 /// Why the line is highlighted again.
 #[derive(Clone, Copy, Debug, PartialEq, Eq)]
@@ -132,4 +137,113 @@ impl Highlighter for () {
     fn highlight_char(&mut self, _line: &str, _pos: usize, _kind: CmdKind) -> bool {
         false
     }
+}
+
+/// Shows the match of the bracket at the cursor in bold blue.
+#[derive(Drop)]
+pub struct MatchingBracketHighlighter {
+    // The bracket whose match is shown, as it was seen last.
+    seen: Option<Seen>,
+}
+
+impl Model for MatchingBracketHighlighter {
+    ghost use Rattle.std.specs.Prelude.{◌≡◌, true, Option, IfSome};
+    ghost use Rattle.line_parts.specs.Brackets.{is_bracket};
+    ghost use Rattle.line_parts.specs.declared.brackets.Seen.{Seen};
+
+    ghost Value = { Option Seen };
+
+    ghost view = { λ h. h.seen };
+
+    ghost invariant = { λ h. IfSome h.seen (λ s. is_bracket s.bracket ≡ true) };
+}
+
+impl MatchingBracketHighlighter {
+    /// Returns a highlighter that remembers no bracket.
+    pub fn new() -> Self
+        ensures { result ≡ None }
+    {
+        MatchingBracketHighlighter { seen: None }
+    }
+
+    // Returns the place in a line that is shown in color, if there is one.
+    fn lit_place(&self, line: &str) -> Option<usize>
+        ensures place { result ≡ lit_place self.now line.now }
+        ensures within { IfSome result (λ at. at < length line.now) }
+        ensures bracket { IfSome result (λ at. slice_index line.now at < 128) }
+    {
+        match self.seen {
+            Some(seen) if line.len() > 1 && seen.place < line.len() => {
+                find_match(line.as_bytes(), seen)
+            }
+            _ => None,
+        }
+    }
+}
+
+impl Default for MatchingBracketHighlighter {
+    /// Returns a highlighter that remembers no bracket, as `new` does.
+    fn default() -> Self
+        ensures { result ≡ None }
+    {
+        MatchingBracketHighlighter::new()
+    }
+}
+
+impl Highlighter for MatchingBracketHighlighter {
+    ghost sure = { λ _. true };
+
+    ghost own_line = { λ h text _. with_match_lit h text };
+
+    ghost lights = { λ _ text cursor kind. is_some (remembered text cursor kind) };
+
+    ghost steady = { λ _. None };
+
+    /// Returns the line with the match of the remembered bracket in bold blue. The line stays as it
+    /// stands where there is no match, where the place of the bracket is past its end, and where
+    /// it has at most one byte.
+    ///
+    /// # Errors
+    /// `Memory`, where an allocation fails.
+    fn highlight<'l>(&self, alloc: Global, line: &'l str, _pos: usize) -> Result<CowStr<'l>>
+        ensures shown { IfOk result (λ t.
+            cow_str_bytes t ≡ unwrap_or (with_match_lit self.now line.now) line.now) }
+        ensures text { IfOk result (λ t.
+            IsUsualOrOwn line.now (with_match_lit self.now line.now) (cow_str_bytes t)) }
+        ensures memory { MemoryOnly result }
+    {
+        match self.lit_place(line) {
+            Some(at) => Ok(CowStr::Owned(lit(alloc, line, at)?)),
+            None => Ok(CowStr::Borrowed(line)),
+        }
+    }
+
+    /// Remembers the bracket at the cursor and returns whether there is one: the bracket under the
+    /// cursor, else the one before it, unless nothing stands on the side of its match; at the end
+    /// of the line a closing bracket before the cursor. `ForcedRefresh` forgets the bracket.
+    fn highlight_char(&mut self, line: &str, pos: usize, kind: CmdKind) -> bool
+        ensures remembers { self.new ≡ remembered line.now pos kind }
+        ensures lit { result ≡ is_some (remembered line.now pos kind) }
+    {
+        self.seen = match kind {
+            CmdKind::ForcedRefresh => None,
+            CmdKind::MoveCursor | CmdKind::Other => look_at(line.as_bytes(), pos),
+        };
+        self.seen.is_some()
+    }
+}
+
+// Returns a text with the byte at a place in bold blue.
+fn lit(alloc: Global, line: &str, at: usize) -> Result<String>
+    requires within { at < length line.now }
+    requires single { slice_index line.now at < 128 }
+    ensures text { IfOk result (λ t. string_bytes t ≡ lit_at line.now at) }
+    ensures memory { MemoryOnly result }
+{
+    let mut shown = String::from_str(alloc, &line[..at])?;
+    shown.push_str("\x1b[1;34m")?;
+    shown.push_str(&line[at..at + 1])?;
+    shown.push_str("\x1b[0m")?;
+    shown.push_str(&line[at + 1..])?;
+    Ok(shown)
 }

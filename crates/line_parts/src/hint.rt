@@ -1,10 +1,13 @@
 //! Hints: texts that are shown behind the line as its likely end.
 ghost use Rattle.std.specs.Prelude.{◌≡◌, ℕ, Bool, true, List, Option, Some, None};
-ghost use Rattle.std.specs.Prelude.{option_map, IfOk, string_bytes};
-ghost use Rattle.line_config.specs.Error.{IoOnlyIf, FaultsOnly};
+ghost use Rattle.std.specs.Prelude.{option_map, IfOk, string_bytes, IsTrue, if◌then◌else◌, length};
+ghost use Rattle.std.specs.Prelude.{◌==◌, ◌-◌};
+ghost use Rattle.std.specs.List.{starts_with};
+ghost use Rattle.line_config.specs.Error.{IoOnlyIf, FaultsOnly, MemoryOnly};
+ghost use Rattle.line_parts.specs.HistoryHint.{rest_behind};
 
 use crate::context::Context;
-use crate::history::History;
+use crate::history::{History, SearchDirection};
 use line_config::Result;
 use std::alloc::Global;
 
@@ -101,5 +104,82 @@ impl Hinter for () {
         _ctx: &Context<'_, S>,
     ) -> Result<Option<String>> {
         Ok(None)
+    }
+}
+
+/// Hints at the rest of the nearest line of the history that begins with the line.
+#[derive(Drop)]
+pub struct HistoryHinter {}
+
+impl HistoryHinter {
+    /// Returns a hinter from the history.
+    pub fn new() -> Self {
+        HistoryHinter {}
+    }
+}
+
+impl Default for HistoryHinter {
+    /// Returns a hinter from the history, as `new` does.
+    fn default() -> Self {
+        HistoryHinter::new()
+    }
+}
+
+impl Hinter for HistoryHinter {
+    ghost use Rattle.line_parts.specs.Hint.{suggested};
+    ghost use Rattle.line_parts.specs.HistoryHint.{history_hint};
+
+    type Hint = String;
+
+    ghost sure = { λ _. true };
+
+    ghost hint_at = { λ _ shown. option_map suggested (history_hint shown) };
+
+    /// Returns what the nearest line of the history that begins with `line` has behind it, going
+    /// back from the history index, or from the newest line where that is the index of the line
+    /// that is being written. None for an empty line, for a cursor before the end, where no line
+    /// begins so, and where the nearest one equals `line`.
+    ///
+    /// # Errors
+    /// `Io`, only where the history is not sure, and `Memory`.
+    fn hint<S: History>(
+        &self,
+        alloc: Global,
+        line: &str,
+        pos: usize,
+        ctx: &Context<'_, S>,
+    ) -> Result<Option<String>> {
+        if line.is_empty() || pos < line.len() {
+            return Ok(None);
+        }
+        let found = ctx
+            .history()
+            .starts_with(line, start(ctx), SearchDirection::Reverse)?;
+        match found {
+            Some(found) => rest_behind(alloc, line, found.entry.as_str()),
+            None => Ok(None),
+        }
+    }
+}
+
+// Returns the index from which a hint is looked for.
+fn start<S: History>(ctx: &Context<'_, S>) -> usize
+    ensures { result ≡ (if ctx.now.index == length (S.lines ctx.now.history)
+        then length (S.lines ctx.now.history) - 1 else ctx.now.index) }
+{
+    let newest = ctx.history().len().saturating_sub(1);
+    ctx.history_index().min(newest)
+}
+
+// Returns what a line of the history has behind a text that it begins with, where it is more.
+fn rest_behind(alloc: Global, text: &str, line: &str) -> Result<Option<String>>
+    requires { IsTrue (starts_with (λ a b. a == b) line.now text.now) }
+    ensures answer { IfOk result (λ rest.
+        option_map string_bytes rest ≡ rest_behind text.now line.now) }
+    ensures memory { MemoryOnly result }
+{
+    match line.strip_prefix(text) {
+        Some(rest) if !rest.is_empty() => Ok(Some(String::from_str(alloc, rest)?)),
+        _ => Ok(None),
     }
 }

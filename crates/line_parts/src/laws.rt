@@ -1,4 +1,6 @@
 //! Laws over the definitions that the contracts cite.
+ghost use Rattle.line_parts.specs.BracketLaws.{StrikingOutGivesAVerdict, VerdictIsOne};
+ghost use Rattle.line_parts.specs.CompletionLaws.{CommonStartIsOne, EscapedIsUnescaped, EscapedIsWord};
 ghost use Rattle.line_parts.specs.HistoryLaws.{AddingKeepsTheLast, FoundIsNearest, NoneIsNowhere};
 ghost use Rattle.line_parts.specs.HistoryTextLaws.{SavedIsLoaded, SavedIsRead, TextSaysOne};
 
@@ -37,4 +39,31 @@ pub fn saved_is_loaded()
 /// A text of a history says one list of lines.
 pub fn text_says_one()
     ensures { TextSaysOne }
+{}
+
+/// There is one verdict on the brackets of a text: that on the brackets that are left when pairs
+/// that stand next to each other are struck out.
+pub fn brackets_have_one_verdict()
+    ensures some { StrikingOutGivesAVerdict }
+    ensures one { VerdictIsOne }
+{}
+
+/// Escaping a text and then unescaping it gives the text, where the escape character is one of the
+/// characters that are escaped, and the text stands in no single quotes.
+#[tactic(auto, using(crate::proofs::WordLemmas::text_given_back))]
+pub fn escaped_is_unescaped()
+    ensures { EscapedIsUnescaped }
+{}
+
+/// An escaped text behind a break character is the last word, where the escape character does not
+/// stand before that character.
+#[tactic(auto, using(crate::proofs::WordStartLemmas::escaped_word))]
+pub fn escaped_is_word()
+    ensures { EscapedIsWord }
+{}
+
+/// Texts have one common start: the longest text of whole characters with which all of them begin.
+#[tactic(auto, using(crate::proofs::PrefixLemmas::one_common))]
+pub fn common_start_is_one()
+    ensures { CommonStartIsOne }
 {}

@@ -1,6 +1,7 @@
 //! What a line editor asks about a line: history, hints, validation, highlighting, completion.
 #![tactic(auto)]
 
+mod brackets;
 pub mod completion;
 pub mod consulted;
 pub mod context;
@@ -12,14 +13,17 @@ pub mod laws;
 pub mod parties;
 pub mod validate;
 
-pub use completion::{Candidate, Completer};
+pub use completion::{
+    Candidate, Completer, Entry, Lister, Pair, Quote, escape, extract_word, longest_common_prefix,
+    unescape,
+};
 pub use consulted::Consulted;
 pub use context::Context;
 pub use helper::Helper;
-pub use highlight::{CmdKind, Highlighter};
-pub use hint::{Hint, Hinter};
+pub use highlight::{CmdKind, Highlighter, MatchingBracketHighlighter};
+pub use hint::{Hint, Hinter, HistoryHinter};
 pub use history::{
     DefaultHistory, FileHistory, History, MemHistory, SearchDirection, SearchResult,
 };
 pub use parties::Parties;
-pub use validate::{ValidationContext, ValidationResult, Validator};
+pub use validate::{MatchingBracketValidator, ValidationContext, ValidationResult, Validator};

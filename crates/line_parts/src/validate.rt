@@ -1,9 +1,11 @@
 //! Whether a line may be submitted.
 ghost use Rattle.std.specs.Prelude.{◌≡◌, ℕ, Bool, true, false, List, Option, None};
-ghost use Rattle.std.specs.Prelude.{IfOk, IsTrue};
-ghost use Rattle.line_config.specs.Error.{IoOnlyIf, FaultsOnly};
+ghost use Rattle.std.specs.Prelude.{◌<◌, IfOk, IsTrue, string_bytes};
+ghost use Rattle.line_config.specs.Error.{IoOnlyIf, FaultsOnly, MemoryOnly};
+ghost use Rattle.line_parts.specs.Brackets.{IsVerdict, unclosed_message, unpaired_message};
 ghost use Rattle.line_parts.specs.Verdict.{Verdict, verdict_of, valid};
 
+use crate::brackets::{is_close, is_open, partner};
 use line_config::Result;
 use std::alloc::Global;
 use std::marker::Model;
@@ -91,4 +93,93 @@ impl Validator for () {
     fn validate(&self, _alloc: Global, _ctx: &ValidationContext<'_>) -> Result<ValidationResult> {
         Ok(ValidationResult::Valid(None))
     }
+}
+
+/// Refuses a text whose brackets, round, square and curly, are not balanced.
+#[derive(Drop)]
+pub struct MatchingBracketValidator {}
+
+impl MatchingBracketValidator {
+    /// Returns a validator of brackets.
+    pub fn new() -> Self {
+        MatchingBracketValidator {}
+    }
+}
+
+impl Default for MatchingBracketValidator {
+    /// Returns a validator of brackets, as `new` does.
+    fn default() -> Self {
+        MatchingBracketValidator::new()
+    }
+}
+
+impl Validator for MatchingBracketValidator {
+    ghost use Rattle.line_parts.specs.BracketVerdict.{bracket_verdict};
+
+    ghost sure = { λ _. true };
+
+    ghost verdict_at = { λ _ text. bracket_verdict text };
+
+    /// Returns the verdict on the brackets of the text: valid where they are balanced, incomplete
+    /// where closing brackets behind it balance them, else invalid with a message. The message
+    /// names the bracket at fault, or the last bracket before it that is open.
+    ///
+    /// # Errors
+    /// `Memory`, where an allocation fails.
+    #[tactic(auto, using(crate::proofs::BracketLemmas::judged_so))]
+    fn validate(&self, alloc: Global, ctx: &ValidationContext<'_>) -> Result<ValidationResult>
+        ensures answer { IfOk result (λ r. verdict_of r ≡ bracket_verdict ctx.now) }
+        ensures verdict { IfOk result (λ r. IsVerdict ctx.now (verdict_of r)) }
+        ensures memory { MemoryOnly result }
+    {
+        check_brackets(alloc, ctx.input())
+    }
+}
+
+// Returns the verdict on the brackets of a text.
+fn check_brackets(alloc: Global, text: &str) -> Result<ValidationResult>
+    ensures verdict { IfOk result (λ r. IsVerdict text.now (verdict_of r)) }
+    ensures memory { MemoryOnly result }
+{
+    let mut open = Vec::new(alloc);
+    for byte in text.as_bytes() {
+        if is_open(*byte) {
+            open.push(*byte)?;
+        } else if is_close(*byte) {
+            match open.pop() {
+                Some(last) if partner(last) == *byte => {}
+                Some(last) => return Ok(ValidationResult::Invalid(Some(unclosed(alloc, last)?))),
+                None => return Ok(ValidationResult::Invalid(Some(unpaired(alloc, *byte)?))),
+            }
+        }
+    }
+    if open.is_empty() {
+        Ok(ValidationResult::Valid(None))
+    } else {
+        Ok(ValidationResult::Incomplete)
+    }
+}
+
+// Returns the message on a bracket at fault where no other is open.
+fn unpaired(alloc: Global, bracket: u8) -> Result<String>
+    requires { bracket < 128 }
+    ensures text { IfOk result (λ t. string_bytes t ≡ unpaired_message bracket) }
+    ensures memory { MemoryOnly result }
+{
+    let mut text = String::from_str(alloc, "Mismatched brackets: '")?;
+    text.push(char::from(bracket))?;
+    text.push_str("' is unpaired")?;
+    Ok(text)
+}
+
+// Returns the message on the open bracket that the one at fault doesn't close.
+fn unclosed(alloc: Global, bracket: u8) -> Result<String>
+    requires { bracket < 128 }
+    ensures text { IfOk result (λ t. string_bytes t ≡ unclosed_message bracket) }
+    ensures memory { MemoryOnly result }
+{
+    let mut text = String::from_str(alloc, "Mismatched brackets: '")?;
+    text.push(char::from(bracket))?;
+    text.push_str("' is not properly closed")?;
+    Ok(text)
 }

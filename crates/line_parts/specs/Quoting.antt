@@ -1,0 +1,72 @@
+-- Quotes in a text, as a list of characters, and which of them stands open.
+use Rattle.std.specs.Prelude.{ℕ, ◌-◌, ◌==◌, ◌&&◌, ◌||◌, Bool, false, not}
+use Rattle.std.specs.Prelude.{List, [], ◌∷◌, length, take, drop, Option, bytes_eq}
+use Rattle.std.specs.List.{list_all}
+use Rattle.line_parts.specs.History.{last_of, least_below}
+use Rattle.line_parts.specs.Pieces.{is_made_of}
+use Rattle.line_parts.specs.declared.completion.words.Quote.{Quote}
+use Rattle.line_parts.specs.declared.completion.words.Quote.TheVariants as quote
+
+-- the quotes and the backslash
+abbrev pub double : ℕ
+double = 34
+
+abbrev pub single : ℕ
+single = 39
+
+abbrev pub backslash : ℕ
+backslash = 92
+
+-- a text without its last character
+abbrev pub without_last : List ℕ → List ℕ
+without_last cs = take (length cs - 1) cs
+
+-- whether a text ends in a character
+abbrev pub ends_in : ℕ → List ℕ → Bool
+ends_in c cs = bytes_eq (last_of 1 cs) (c ∷ [])
+
+-- whether characters are a piece of what stands in double quotes: one that is neither a double
+-- quote nor a backslash, or a backslash and a character
+abbrev pub is_double_piece : List ℕ → Bool
+is_double_piece [] = false
+is_double_piece (c ∷ []) = not (c == double) && not (c == backslash)
+is_double_piece (c ∷ d ∷ []) = c == backslash
+is_double_piece (c ∷ d ∷ e ∷ cs) = false
+
+-- whether a text can stand in quotes of a kind
+abbrev pub is_inside : Quote → List ℕ → Bool
+is_inside quote.Double cs = is_made_of is_double_piece cs
+is_inside quote.Single cs = list_all (λ c. not (c == single)) cs
+is_inside quote.None cs = false
+
+-- whether characters are a quote, a text that can stand in quotes of that kind, and the quote again
+abbrev pub is_quoted : Quote → ℕ → List ℕ → Bool
+is_quoted kind mark [] = false
+is_quoted kind mark (c ∷ cs) = c == mark && ends_in mark cs && is_inside kind (without_last cs)
+
+-- whether characters are one that is no quote and no backslash, or a backslash and a character
+abbrev pub is_bare : List ℕ → Bool
+is_bare [] = false
+is_bare (c ∷ []) = not (c == double) && not (c == single) && not (c == backslash)
+is_bare (c ∷ d ∷ []) = c == backslash
+is_bare (c ∷ d ∷ e ∷ cs) = false
+
+-- whether each quote of a text is closed: it is made of bare and of quoted pieces
+abbrev pub is_closed : List ℕ → Bool
+is_closed =
+    is_made_of (λ cs. is_bare cs || is_quoted quote.Double double cs || is_quoted quote.Single single cs)
+
+-- whether a text is a quote of a kind that never closes: in double quotes a last backslash may
+-- stand alone
+abbrev pub is_unclosed : Quote → List ℕ → Bool
+is_unclosed kind [] = false
+is_unclosed quote.Double (c ∷ cs) = c == double
+    && (is_inside quote.Double cs || (ends_in backslash cs && is_inside quote.Double (without_last cs)))
+is_unclosed quote.Single (c ∷ cs) = c == single && is_inside quote.Single cs
+is_unclosed quote.None (c ∷ cs) = false
+
+-- the place of the quote of a kind that stands open: what stands before it is closed, and it never
+-- closes
+abbrev pub open_quote : Quote → List ℕ → Option ℕ
+open_quote kind cs =
+    least_below (length cs) (λ place. is_closed (take place cs) && is_unclosed kind (drop place cs))
