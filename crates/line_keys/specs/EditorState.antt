@@ -136,6 +136,7 @@ pub record ShowsEdit {X T : Type 0} (e : Ghosts X) (edited : Bool) (result : Res
   pub draft : OnOk result (e.draft new ≡ (if edited then hinted (e.environment old) (e.draft old) else e.draft old))
   pub reported : edited ≡ true → OnOk result (Drew e old new (hint_shown (e.draft new)) Other)
   pub moved : edited ≡ false → OnOk result (Drew e old new None MoveCursor ⊎ (DrewNothing e old new × HasCursorDrawn e old))
+  pub still : edited ≡ false → HasCursorDrawn e old → OnOk result (DrewNothing e old new)
   pub right : OnOk result (ShowsText (e.display old) (e.draft old).line.text → IsRight (e.display new) (e.draft old).line)
   pub frame : Frame e old new
   pub fails : FailsOnlyIf result (PartyFailed e old new)
@@ -145,10 +146,12 @@ pub record DrawsEdit {X T : Type 0} (e : Ghosts X) (result : Result T ReadlineEr
   pub does : Does e result old new left 1
   pub drew : OnOk result (Drew e old new (hint_shown (e.draft new)) Other)
 
--- what an edit leaves that may be reported or not: the draft, drawn with its hint or with its cursor
+-- what an edit leaves that may be reported or not: the draft, drawn with its hint or with its cursor; where it was not reported and the
+-- cursor is drawn already, nothing is drawn
 pub record DrawsEditIf {X T : Type 0} (e : Ghosts X) (reported : Bool) (result : Result T ReadlineError) (old new : X) (left : Draft) : Type 0 where
   pub does : Does e result old new left 1
   pub drew : OnOk result (DrewEdit e reported old new)
+  pub still : reported ≡ false → HasCursorAt (e.display old) left.line → OnOk result (DrewNothing e old new)
 
 -- what a move of the cursor leaves: the line, and where the cursor has to be drawn elsewhere the line with nothing behind it
 pub record MovesTo {X T : Type 0} (e : Ghosts X) (result : Result T ReadlineError) (old new : X) (kind : CmdKind) (line : Line) : Type 0 where

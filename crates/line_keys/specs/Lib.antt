@@ -1,7 +1,10 @@
 pub mod Key
 pub mod Command
 pub mod Item
+pub mod Count
+pub mod Redo
 pub mod Table
+pub mod Row
 pub mod Draft
 pub mod Display
 pub mod EditorState

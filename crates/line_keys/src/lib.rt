@@ -3,7 +3,9 @@
 #![tactic(auto)]
 
 pub mod command;
+pub mod count;
 pub mod editor_state;
+pub mod examples;
 pub mod keymap;
 pub mod keys;
 pub mod laws;
@@ -11,7 +13,8 @@ pub mod tables;
 pub mod tty;
 
 pub use command::{Anchor, Cmd};
+pub use count::Count;
 pub use keymap::{InputMode, Invoke, Refresher};
 pub use keys::{KeyCode, KeyEvent, Modifiers};
-pub use tables::{Count, Seen, table_command};
+pub use tables::{Meaning, SearchKind, meaning_of_key, second_key};
 pub use tty::RawReader;

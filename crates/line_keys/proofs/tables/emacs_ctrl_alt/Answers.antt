@@ -1,0 +1,5 @@
+use Rattle.std.proofs.Common.{◌≡◌, option_map}
+use Rattle.line_keys.proofs.tables.emacs_ctrl_alt.Goals as goal
+
+pub returns-in-93 : goal.returns-in-93
+returns-in-93 g c = rw c.in-93.is c.search.ensures

@@ -1,0 +1,72 @@
+-- Commands that are done again.
+use Rattle.std.specs.Prelude.{ℕ, ◌==◌, Bool, true, false, if◌then◌else◌, min, List, length, Option, Some, None, unwrap_or, option_map}
+use Rattle.line_buffer.specs.declared.keymap.Movement.{Movement}
+use Rattle.line_buffer.specs.declared.keymap.Movement.TheVariants.{BackwardChar, BackwardWord, ForwardChar, ForwardWord, LineDown, LineUp, ViCharSearch}
+use Rattle.line_keys.specs.Command.{Command, dedent, indent, insert, kill, move, replace, replace_char, self_insert, vi_yank_to, yank}
+
+-- the commands that change the line or copy from it, and can be done again
+abbrev pub is_repeatable_change : Command → Bool
+is_repeatable_change (dedent _) = true
+is_repeatable_change (indent _) = true
+is_repeatable_change (insert _ _) = true
+is_repeatable_change (kill _) = true
+is_repeatable_change (replace_char _ _) = true
+is_repeatable_change (replace _ _) = true
+is_repeatable_change (self_insert _ _) = true
+is_repeatable_change (vi_yank_to _) = true
+is_repeatable_change (yank _ _) = true
+is_repeatable_change _ = false
+
+-- these, and moves
+abbrev pub is_repeatable : Command → Bool
+is_repeatable (move _) = true
+is_repeatable command = is_repeatable_change command
+
+-- a movement with another count, where it has one
+abbrev pub counted_anew : Movement → ℕ → Movement
+counted_anew (BackwardWord _ word) n = BackwardWord n word
+counted_anew (ForwardWord _ at word) n = ForwardWord n at word
+counted_anew (ViCharSearch _ search) n = ViCharSearch n search
+counted_anew (BackwardChar _) n = BackwardChar n
+counted_anew (ForwardChar _) n = ForwardChar n
+counted_anew (LineUp _) n = LineUp n
+counted_anew (LineDown _) n = LineDown n
+counted_anew movement n = movement
+
+-- a movement with a new count, if there is one
+abbrev pub with_count : Option ℕ → Movement → Movement
+with_count None movement = movement
+with_count (Some n) movement = counted_anew movement n
+
+-- as many clusters on as a text has bytes, none where there is no text
+abbrev pub over_text : Option (List ℕ) → Movement
+over_text text = ForwardChar (min 65535 (unwrap_or (option_map (λ t. length t) text) 0))
+
+-- what is replaced again by the text that came in last: as many clusters as it has bytes, where it was typed over the line
+abbrev pub replaced_again : Option ℕ → Option (List ℕ) → Movement → Movement
+replaced_again new last (ForwardChar n) = if n == 0 then over_text last else with_count new (ForwardChar n)
+replaced_again new last movement = with_count new movement
+
+-- a typed character again: by the dot it is the text that came in last, and for a binding it stays that character
+abbrev pub typed_again : Bool → ℕ → Option (List ℕ) → ℕ → Command
+typed_again true n (Some text) c = insert n text
+typed_again by_dot n last c = self_insert n c
+
+-- a command again, by the dot or for a binding, with a new count if there is one, after the text that came in last
+abbrev pub redone : Bool → Option ℕ → Option (List ℕ) → Command → Command
+redone by_dot new last (dedent movement) = dedent (with_count new movement)
+redone by_dot new last (indent movement) = indent (with_count new movement)
+redone by_dot new last (insert n text) = insert (unwrap_or new n) text
+redone by_dot new last (kill movement) = kill (with_count new movement)
+redone by_dot new last (move movement) = move (with_count new movement)
+redone by_dot new last (replace_char n c) = replace_char (unwrap_or new n) c
+redone by_dot new last (replace movement None) = replace (replaced_again new last movement) last
+redone by_dot new last (replace movement (Some text)) = replace (with_count new movement) (Some text)
+redone by_dot new last (self_insert n c) = typed_again by_dot (unwrap_or new n) last c
+redone by_dot new last (vi_yank_to movement) = vi_yank_to (with_count new movement)
+redone by_dot new last (yank n anchor) = yank (unwrap_or new n) anchor
+redone by_dot new last command = command
+
+-- what is done for a command that a program gave a key: it is done again, where it can be
+abbrev pub bound_anew : Option ℕ → Option (List ℕ) → Command → Command
+bound_anew new last command = if is_repeatable command then redone false new last command else command
