@@ -2,7 +2,8 @@
 use Rattle.std.proofs.Common.{◌≡◌, inl, inr, ℕ, Bool, true, false, List, Option, Some, None, is_some, Result, Ok, Err, refl, sym, ◌∙◌, ap, subst, arith}
 use Rattle.std.specs.Prelude.{if◌then◌else◌}
 use Rattle.line_config.specs.declared.error.ReadlineError.{ReadlineError}
-use Rattle.line_keys.specs.Display.{Display, IsRight, lit_after}
+use Rattle.line_buffer.specs.Line.{Line}
+use Rattle.line_keys.specs.Display.{Display, HasCursorAt, IsRight, lit_after}
 use Rattle.line_keys.specs.Draft.{Draft, hinted, hint_shown, start_text}
 use Rattle.line_keys.specs.EditorState.{Does, DrawsEdit, DrawsEditIf, Drew, FailsOnlyIf, PartyFailed, ShowsEdit, Undrawn}
 use Rattle.line_keys.specs.declared.editor_state.EditorState.{Ghosts}
@@ -67,6 +68,7 @@ module _ {X : Type 0} (e : Ghosts X) (old mid new : X) (undrawn : Undrawn e old 
     done_reported (Err er) shows = record {
       does = record { draft = tt; start = tt; keeps = tt; redraws = tt; frame = frame_then e old mid new undrawn.frame shows.frame; fails = fails_after (Err er) shows.fails };
       drew = tt;
+      still = λ no at. tt;
     }
     done_reported (Ok x) shows =
         let asked : e.draft new ≡ hinted (e.environment old) made =
@@ -82,6 +84,7 @@ module _ {X : Type 0} (e : Ghosts X) (old mid new : X) (undrawn : Undrawn e old 
             fails = fails_after (Ok x) shows.fails;
           };
           drew = drew;
+          still = λ no at. absurd (cc);
         }
 
     -- an edit that was not reported: at most the cursor moved
@@ -90,6 +93,7 @@ module _ {X : Type 0} (e : Ghosts X) (old mid new : X) (undrawn : Undrawn e old 
     done_unreported (Err er) text shows = record {
       does = record { draft = tt; start = tt; keeps = tt; redraws = tt; frame = frame_then e old mid new undrawn.frame shows.frame; fails = fails_after (Err er) shows.fails };
       drew = tt;
+      still = λ no at. tt;
     }
     done_unreported (Ok x) text shows =
         let same : (e.draft mid).line.text ≡ (e.draft old).line.text = ap (λ (d : Draft). d.line.text) draft ∙ text in
@@ -111,6 +115,12 @@ module _ {X : Type 0} (e : Ghosts X) (old mid new : X) (undrawn : Undrawn e old 
             | inl d ↦ inl (drew_after None MoveCursor d)
             | inr d ↦ inr (record { display = d.0.display ∙ undrawn.drew.display; redraws = d.0.redraws ∙ n })
           ];
+          still = λ no at.
+              let P : Display → Type 0 = λ d. HasCursorAt d made.line in
+              let Q : Line → Type 0 = λ l. HasCursorAt (e.display mid) l in
+              let there = subst Q (sym (ap (λ (d : Draft). d.line) draft)) (subst P (sym undrawn.drew.display) at) in
+              let d = shows.still refl there in
+              record { display = d.display ∙ undrawn.drew.display; redraws = d.redraws ∙ n };
         }
 
     done_either : {T : Type 0} (r : Result T ReadlineError) (reported : Bool)

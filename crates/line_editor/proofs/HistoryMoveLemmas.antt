@@ -45,6 +45,7 @@ pub still_done : {X T : Type 0} (e : Ghosts X) (r : Result T ReadlineError) (old
 still_done e (Err er) old new left draft line hint first nothing frame fails = record {
   does = record { draft = tt; start = tt; keeps = tt; redraws = tt; frame = frame; fails = fails };
   drew = tt;
+  still = λ no at. tt;
 }
 still_done e (Ok x) old new left draft line hint first nothing frame fails = record {
   does = record {
@@ -61,6 +62,7 @@ still_done e (Ok x) old new left draft line hint first nothing frame fails = rec
     fails = fails;
   };
   drew = inr nothing;
+  still = λ no at. nothing;
 }
 
 -- nothing happens
@@ -195,7 +197,7 @@ way_stays e x old b left at =
 pub way_goes : {X T : Type 0} (e : Ghosts X) (r : Result T ReadlineError) (old new : X) (b : Bool) (left left' : Draft)
     → b ≡ false → left ≡ left' → DrawsEdit e r old new left → DrawsEditIf e (not b) r old new (if b then e.draft old else left')
 way_goes e r old new b left left' at same edit =
-    let goes : DrawsEditIf e true r old new left = record { does = edit.does; drew = edit.drew } in
+    let goes : DrawsEditIf e true r old new left = record { does = edit.does; drew = edit.drew; still = λ no at. absurd (cc) } in
     subst (λ c. DrawsEditIf e (not c) r old new (if c then e.draft old else left')) (sym at)
     (subst (λ d. DrawsEditIf e true r old new d) same goes)
 
@@ -233,7 +235,7 @@ pub search_shows : {X T : Type 0} (e : Ghosts X) (r : Result T ReadlineError) (o
     → Some f ≡ found → DrawsEdit e r old new (showing (e.environment old) f.entry f.pos (at_index f.index (e.draft old)))
     → DrawsEditIf e (is_some found) r old new (found_shown (e.environment old) found (at_index index (e.draft old)))
 search_shows e r old new found f index some edit =
-    let shows : DrawsEditIf e true r old new (showing (e.environment old) f.entry f.pos (at_index f.index (e.draft old))) = record { does = edit.does; drew = edit.drew } in
+    let shows : DrawsEditIf e true r old new (showing (e.environment old) f.entry f.pos (at_index f.index (e.draft old))) = record { does = edit.does; drew = edit.drew; still = λ no at. absurd (cc) } in
     subst (λ o. DrawsEditIf e (is_some o) r old new (found_shown (e.environment old) o (at_index index (e.draft old)))) some shows
 
 -- there is nothing to search at the way's end
@@ -298,7 +300,7 @@ hint_taken e r old mid new as_text (Some hint) some is kept draft first nothing 
     let edit = drawn_behind e r old mid new _ _ nothing frame first
     (ap (λ w. hinted w (e.draft mid)) frame.environment ∙ ap (λ d. hinted (e.environment old) d) draft)
     (edit_reported e r mid mid new (e.draft mid) (e.draft mid) (nothing_drawn e mid mid refl refl refl refl refl refl) refl refl refl refl shows) in
-    record { does = edit.does; drew = edit.drew }
+    record { does = edit.does; drew = edit.drew; still = λ no at. absurd (cc) }
 
 -- what holds in any case holds where there is no error
 pub always : {T E P : Type 0} (r : Result T E) → P → OnOk r P
@@ -344,7 +346,7 @@ asked_before line line' text term pos cut whole at same =
     cut ∙ ap (λ t. slice_range t 0 pos) whole ∙ ap (λ n. slice_range line'.text 0 n) at ∙ front_range line'.cursor line'.text ∙ ap (λ l. before l) same
 
 -- the same search finds the same
-pub same_search : (lines lines' : List (List ℕ)) (term term' : List ℕ) (index : ℕ) (dir : SearchDirection) (found : Option Found)
-    → None ≡ found → found ≡ starting_with lines term index dir → lines ≡ lines' → term ≡ term' → None ≡ starting_with lines' term' index dir
-same_search lines lines' term term' index dir found none answer same asked =
-    none ∙ answer ∙ ap (λ l. starting_with l term index dir) same ∙ ap (λ t. starting_with lines' t index dir) asked
+pub same_search : {what : Option Found} (lines lines' : List (List ℕ)) (term term' : List ℕ) (index : ℕ) (dir : SearchDirection) (found : Option Found)
+    → what ≡ found → found ≡ starting_with lines term index dir → lines ≡ lines' → term ≡ term' → what ≡ starting_with lines' term' index dir
+same_search lines lines' term term' index dir found is answer same asked =
+    is ∙ answer ∙ ap (λ l. starting_with l term index dir) same ∙ ap (λ t. starting_with lines' t index dir) asked

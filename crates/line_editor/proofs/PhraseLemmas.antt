@@ -4,15 +4,15 @@ use Rattle.line_parts.specs.Environment.{Environment}
 use Rattle.line_keys.specs.Command.{Command}
 use Rattle.line_keys.specs.Draft.{Draft}
 use Rattle.line_keys.specs.Item.{Item, key}
-use Rattle.line_keys.specs.Table.{Row, Tail, no_tail, row_of, command_at, one, IsCount}
+use Rattle.line_keys.specs.Table.{Meaning, one, row_of}
 use Rattle.line_keys.specs.Key.{event}
 use Rattle.line_keys.specs.declared.keys.KeyCode.TheVariants.{Enter}
 use Rattle.line_keys.specs.declared.keys.TheConstants.Modifiers.{NONE}
 use Rattle.line_keys.specs.declared.keys.KeyEvent.{KeyEvent}
-use Rattle.line_keys.specs.declared.tables.Count.{Count}
+use Rattle.line_keys.specs.declared.count.Count.{Count}
 use Rattle.line_editor.specs.Input.{Input}
 use Rattle.line_editor.specs.Keymap.{Keymap, bound_command}
-use Rattle.line_editor.specs.Phrase.{Phrase, IsBeginning, Answers, Tailed, Keyed, seen_of, after_count}
+use Rattle.line_editor.specs.Phrase.{Phrase, IsBeginning, IsCount, Answers, Keyed, after_count, command_by}
 use Rattle.line_editor.specs.Laws.{IsPrefixFree}
 
 -- nothing comes behind an empty list that stays empty
@@ -20,15 +20,11 @@ nothing-behind : {A : Type 0} (tail more : List A) → tail ≡ [] → tail ++ m
 nothing-behind [] more e f = f
 nothing-behind (x ∷ xs) more e f = absurd (cc)
 
--- a tail that goes on is no tail of the same kind
-Tailed-fits : (t : Tail) (tail more : List Item) → Tailed t tail → Tailed t (tail ++ more) → more ≡ []
-Tailed-fits no_tail tail more e f = nothing-behind tail more e f
-
 -- what is read behind a key is fixed by the key, and gives one command
-Answers-fit : (bound : Option Command) (row : Row) (count : Count) (tail more : List Item) (c c' : Command)
-    → Answers bound row count tail c → Answers bound row count (tail ++ more) c' → (more ≡ []) × (c ≡ c')
-Answers-fit (Some b) row count tail more c c' h k = (nothing-behind tail more h.0 k.0, h.1 ∙ sym k.1)
-Answers-fit None row count tail more c c' h k = (Tailed-fits row.tail tail more h.0 k.0, h.1 ∙ sym k.1)
+Answers-fit : (bound : Option Command) (meaning : Meaning) (tail more : List Item) (c c' : Command)
+    → Answers bound meaning tail c → Answers bound meaning (tail ++ more) c' → (more ≡ []) × (c ≡ c')
+Answers-fit (Some b) meaning tail more c c' h k = (nothing-behind tail more h.0 k.0, h.1 ∙ sym k.1)
+Answers-fit None meaning tail more c c' h k = (nothing-behind tail more h.0 k.0, h.1 ∙ sym k.1)
 
 -- two phrases of which one begins the other, part by part
 parts-fit : (keymap : Keymap) (environment : Environment) (draft : Draft) (input : Input) (typed typed' : List KeyEvent)
@@ -49,7 +45,7 @@ parts-fit keymap environment draft input [] [] count count' last last' tail tail
     let Q : List Item → Type 0 = λ t. Keyed keymap draft input count' last t c' in
     let R : Count → Type 0 = λ n. Keyed keymap draft input n last (tail ++ more) c' in
     let there = subst R same_count (subst Q same_tail (subst P same_last keyed')) in
-    let fit = Answers-fit (bound_command keymap draft input count last) (row_of input.style input.mode last (seen_of draft)) count tail more c c' keyed there in
+    let fit = Answers-fit (bound_command keymap draft input count last) ((row_of input.style input.mode last draft).means count) tail more c c' keyed there in
     (fit.0, fit.1, refl)
 parts-fit keymap environment draft input (k ∷ ks) typed' count count' last last' tail tail' items more c c' cut counted keyed cut' counted' keyed' = absurd counted
 parts-fit keymap environment draft input [] (k ∷ ks) count count' last last' tail tail' items more c c' cut counted keyed cut' counted' keyed' = absurd counted'
@@ -59,10 +55,6 @@ pub phrases-fit : IsPrefixFree
 phrases-fit keymap environment draft input items more c c' d d' i i' p q =
     let fit = parts-fit keymap environment draft input p.typed q.typed p.count q.count p.last q.last p.tail q.tail items more c c' p.cut p.counted p.keyed q.cut q.counted q.keyed in
     (fit.0, fit.1, p.draft_left ∙ ap (λ t. after_count environment t draft) fit.2 ∙ sym q.draft_left, p.input_left ∙ sym q.input_left)
-
--- each kind of tail may end at once
-Tailed-ends : (t : Tail) → Tailed t []
-Tailed-ends no_tail = refl
 
 -- a key with a binding is a phrase
 pub bound-phrase : (keymap : Keymap) (environment : Environment) (draft : Draft) (input : Input) (k : KeyEvent) (command : Command)
@@ -76,7 +68,7 @@ bound-phrase keymap environment draft input k command e = record {
   cut = refl;
   counted = refl;
   keyed =
-      let P : Option Command → Type 0 = λ o. Answers o (row_of input.style input.mode k (seen_of draft)) one [] command in
+      let P : Option Command → Type 0 = λ o. Answers o ((row_of input.style input.mode k draft).means one) [] command in
       subst P (sym e) (refl, refl);
   draft_left = refl;
   input_left = refl;
@@ -85,7 +77,7 @@ bound-phrase keymap environment draft input k command e = record {
 -- a key without a binding is a phrase
 pub row-phrase : (keymap : Keymap) (environment : Environment) (draft : Draft) (input : Input) (k : KeyEvent)
     → bound_command keymap draft input one k ≡ None
-    → Phrase keymap environment draft input (key k ∷ []) (command_at (row_of input.style input.mode k (seen_of draft)) one) draft input
+    → Phrase keymap environment draft input (key k ∷ []) (command_by ((row_of input.style input.mode k draft).means one)) draft input
 row-phrase keymap environment draft input k e = record {
   typed = [];
   count = one;
@@ -94,9 +86,9 @@ row-phrase keymap environment draft input k e = record {
   cut = refl;
   counted = refl;
   keyed =
-      let row : Row = row_of input.style input.mode k (seen_of draft) in
-      let P : Option Command → Type 0 = λ o. Answers o row one [] (command_at row one) in
-      subst P (sym e) (Tailed-ends row.tail, refl);
+      let meaning : Meaning = (row_of input.style input.mode k draft).means one in
+      let P : Option Command → Type 0 = λ o. Answers o meaning [] (command_by meaning) in
+      subst P (sym e) (refl, refl);
   draft_left = refl;
   input_left = refl;
 }
@@ -115,7 +107,7 @@ begins-with keymap environment draft input k (Some command) e = record {
 }
 begins-with keymap environment draft input k None e = record {
   rest = key k ∷ [];
-  command = command_at (row_of input.style input.mode k (seen_of draft)) one;
+  command = command_by ((row_of input.style input.mode k draft).means one);
   draft' = draft;
   input' = input;
   proper = λ empty. cc;

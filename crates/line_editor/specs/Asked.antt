@@ -1,5 +1,5 @@
 -- What a binding is asked.
-use Rattle.line_keys.specs.declared.tables.Count.{Count}
+use Rattle.line_keys.specs.declared.count.Count.{Count}
 use Rattle.line_editor.specs.Event.{Chord}
 use Rattle.line_editor.specs.Moment.{Moment}
 

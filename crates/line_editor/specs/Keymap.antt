@@ -3,7 +3,7 @@ use Rattle.std.specs.Prelude.{ℕ, List, [], ◌∷◌, Option, Some, None}
 use Rattle.line_keys.specs.Command.{Command, end_of_file}
 use Rattle.line_keys.specs.Draft.{Draft}
 use Rattle.line_keys.specs.declared.keys.KeyEvent.{KeyEvent}
-use Rattle.line_keys.specs.declared.tables.Count.{Count}
+use Rattle.line_keys.specs.declared.count.Count.{Count}
 use Rattle.line_editor.specs.Asked.{Asked}
 use Rattle.line_editor.specs.Event.{keys}
 use Rattle.line_editor.specs.Input.{Input}

@@ -1,13 +1,14 @@
 -- Phrases: the items that one command is read from.
-use Rattle.std.specs.Prelude.{◌≡◌, ◌≢◌, List, [], ◌∷◌, ◌++◌, map, length, ◌==◌, Option, Some, None}
+use Rattle.std.specs.Prelude.{◌≡◌, ◌≢◌, List, [], ◌∷◌, ◌++◌, map, Option, Some, None}
 use Rattle.line_parts.specs.Environment.{Environment}
-use Rattle.line_keys.specs.Command.{Command}
+use Rattle.line_config.specs.declared.config.EditMode.{EditMode}
+use Rattle.line_keys.specs.Command.{Command, unknown}
 use Rattle.line_keys.specs.Draft.{Draft, hinted}
 use Rattle.line_keys.specs.Item.{Item, key}
-use Rattle.line_keys.specs.Table.{Row, Tail, no_tail, row_of, command_at, IsCount}
+use Rattle.line_keys.specs.Table.{Meaning, gives, one, row_of}
+use Rattle.line_keys.specs.declared.keymap.InputMode.{InputMode}
 use Rattle.line_keys.specs.declared.keys.KeyEvent.{KeyEvent}
-use Rattle.line_keys.specs.declared.tables.Count.{Count}
-use Rattle.line_keys.specs.declared.tables.Seen.{Seen}
+use Rattle.line_keys.specs.declared.count.Count.{Count}
 use Rattle.line_editor.specs.Input.{Input}
 use Rattle.line_editor.specs.Keymap.{Keymap, bound_command}
 
@@ -16,23 +17,25 @@ abbrev pub after_count : Environment → List KeyEvent → Draft → Draft
 after_count environment [] draft = draft
 after_count environment (_ ∷ _) draft = hinted environment draft
 
--- what the tables look at of a draft
-abbrev pub seen_of : Draft → Seen
-seen_of draft = record { line_is_empty = length draft.line.text == 0 }
+-- the command of a meaning; those that depend on what is read next are not read yet, and stand for nothing
+abbrev pub command_by : Meaning → Command
+command_by (gives command) = command
+command_by _ = unknown
 
--- the items that a row reads after its key
-abbrev pub Tailed : Tail → List Item → Type 0
-Tailed no_tail tail = tail ≡ []
+-- a key with a binding is its command alone, and another one that of its row
+abbrev pub Answers : Option Command → Meaning → List Item → Command → Type 0
+Answers (Some bound) meaning tail command = (tail ≡ []) × (command ≡ bound)
+Answers None meaning tail command = (tail ≡ []) × (command ≡ command_by meaning)
 
--- a key with a binding is its command alone; for another one its row says what is read after it
-abbrev pub Answers : Option Command → Row → Count → List Item → Command → Type 0
-Answers (Some bound) row count tail command = (tail ≡ []) × (command ≡ bound)
-Answers None row count tail command = Tailed row.tail tail × (command ≡ command_at row count)
+-- the count that a list of keys writes, of which there are none yet: without one it is 1
+abbrev pub IsCount : EditMode → InputMode → List KeyEvent → Count → Type 0
+IsCount style mode [] count = count ≡ one
+IsCount style mode (first ∷ more) count = ⊥
 
 -- the items after a key, and the command that they give together
 abbrev pub Keyed : Keymap → Draft → Input → Count → KeyEvent → List Item → Command → Type 0
 Keyed keymap draft input count last tail command =
-    Answers (bound_command keymap draft input count last) (row_of input.style input.mode last (seen_of draft)) count tail command
+    Answers (bound_command keymap draft input count last) ((row_of input.style input.mode last draft).means count) tail command
 
 -- The items are one phrase: an optional count, a key and its tail. They give the command, and leave the draft and the input.
 pub record Phrase (keymap : Keymap) (environment : Environment) (draft : Draft) (input : Input) (items : List Item) (command : Command) (draft' : Draft) (input' : Input) : Type 0 where

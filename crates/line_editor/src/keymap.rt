@@ -4,11 +4,12 @@ ghost use Rattle.line_editor.specs.Binding.{bound_answer};
 ghost use Rattle.line_editor.specs.Keymap.{on_line};
 ghost use Rattle.line_editor.specs.Input.{first_input, is_vi_command};
 ghost use Rattle.line_editor.specs.InputState.{input_of, keymap_of};
-ghost use Rattle.line_editor.specs.Phrase.{seen_of};
+ghost use Rattle.line_editor.specs.Phrase.{command_by};
 ghost use Rattle.line_editor.specs.Reading.{ReadsOn, ReadsPhrase, OutOfItems};
 ghost use Rattle.line_keys.specs.Command.{Command, command_of};
 ghost use Rattle.line_keys.specs.Draft.{KeepsText};
 ghost use Rattle.line_keys.specs.EditorState.{DrewNothing};
+ghost use Rattle.line_keys.specs.Row.{meaning_of};
 ghost use Rattle.line_keys.specs.declared.keys.KeyEvent.{KeyEvent};
 
 use crate::binding::Bindings;
@@ -18,7 +19,8 @@ use line_keys::command::Cmd;
 use line_keys::editor_state::EditorState;
 use line_keys::keymap::{InputMode, Refresher};
 use line_keys::keys::KeyEvent;
-use line_keys::tables::{Count, Seen, table_command};
+use line_keys::count::Count;
+use line_keys::tables::{Meaning, meaning_of_key};
 use line_keys::tty::RawReader;
 
 /// Reads keys as commands, by the program's bindings, the reader's own and the tables, and remembers what the next
@@ -95,12 +97,20 @@ impl<'b> InputState<'b> {
         match own_command(rdr, wrt, &key) {
             Some(command) => Ok(command),
             None => {
-                let seen = Seen {
-                    line_is_empty: wrt.line().is_empty(),
-                };
-                Ok(table_command(self.mode, self.input_mode, key, count, seen))
+                let meaning = meaning_of_key(self.mode, self.input_mode, key, count, wrt);
+                Ok(command_by(meaning))
             }
         }
+    }
+}
+
+// Returns the command of a meaning: those that depend on what is read next stand for nothing yet.
+fn command_by(meaning: Meaning) -> Cmd
+    ensures { command_of result ≡ command_by (meaning_of meaning) }
+{
+    match meaning {
+        Meaning::Command(command) => command,
+        _ => Cmd::Unknown,
     }
 }
 

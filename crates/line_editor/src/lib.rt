@@ -12,8 +12,9 @@ pub use binding::{Bindings, ConditionalEventHandler, Event, EventContext, EventH
 pub use command::{Status, execute};
 pub use edit::State;
 pub use keymap::InputState;
+pub use line_buffer as buffer;
 pub use line_config as config;
 pub use line_keys as keys;
 pub use line_parts as parts;
-pub use line_state::{Drawn, EditedLine, Renderer, ScreenState, View, tty};
+pub use line_state::{Drawn, EditedLine, RefreshKind, Renderer, ScreenState, View, tty};
 pub use run::{Turned, advance};

@@ -2,7 +2,7 @@
 ghost use Rattle.std.specs.Prelude.{◌≡◌, ◌&&◌, is_some, OnOk};
 ghost use Rattle.line_keys.specs.Display.{corner};
 ghost use Rattle.line_keys.specs.Draft.{hint_shown, hinted};
-ghost use Rattle.line_keys.specs.EditorState.{Does, FailsOnlyIf, Frame, Redraws, RendererFailed, Shows, ShowsByLayout, info_kept};
+ghost use Rattle.line_keys.specs.EditorState.{DrawsEdit, FailsOnlyIf, Frame, Redraws, RendererFailed, Shows, ShowsByLayout, info_kept};
 
 use crate::edit::{Info, State, info_text};
 use line_config::{Prompt, Result};
@@ -127,8 +127,8 @@ impl<'out, 'prompt, W: Renderer, H: Helper, P: Prompt, S: History> State<
 
     // Clears the screen and draws the line again, with the hint asked for.
     pub(crate) fn clear_and_redraw(&mut self) -> Result<()>
-        ensures { let e = ⟦<Self as EditorState>⟧ in Does e result self.old self.new
-            (hinted (e.environment self.old) (e.draft self.old)) 1 }
+        ensures { let e = ⟦<Self as EditorState>⟧ in DrawsEdit e result self.old self.new
+            (hinted (e.environment self.old) (e.draft self.old)) }
     {
         self.clear_screen()?;
         self.refresh_line()

@@ -27,7 +27,7 @@ impl<'out, 'prompt, W: Renderer, H: Helper, P: Prompt, S: History> State<
     /// Saves the line and its cursor, for the way back from the history.
     ///
     /// # Errors
-    /// That memory ran out. The saved line is then text with its cursor on a boundary, and all else stays.
+    /// That memory ran out. All then stays, the saved line too.
     pub fn backup(&mut self) -> Result<()>
         ensures draft { let d = ⟦<Self as EditorState>⟧.draft in OnOk result
             (d self.new ≡ record (d self.old) { saved = (d self.old).line }) }

@@ -1,13 +1,14 @@
-use Rattle.std.proofs.Common.{◌≡◌, [], ◌∷◌, inl, refl, sym, ◌∙◌, subst}
+use Rattle.std.proofs.Common.{◌≡◌, [], ◌∷◌, inl, ap, refl, sym, ◌∙◌, subst}
 use Rattle.std.proofs.lemmas.Result.{err_from_is_err_and}
 use Rattle.line_config.specs.declared.error.ReadlineError.{ReadlineError}
 use Rattle.line_config.specs.declared.error.ReadlineError.TheVariants.{Eof}
 use Rattle.line_editor.specs.InputState.{input_of, keymap_of}
-use Rattle.line_editor.specs.Phrase.{seen_of}
+use Rattle.line_editor.specs.Phrase.{command_by}
 use Rattle.line_editor.proofs.PhraseLemmas.{bound-phrase, row-phrase, nothing-begins}
 use Rattle.line_keys.specs.Command.{command_of}
 use Rattle.line_keys.specs.Item.{key, ReadFault}
-use Rattle.line_keys.specs.Table.{row_of, command_at, one}
+use Rattle.line_keys.specs.Row.{meaning_of}
+use Rattle.line_keys.specs.Table.{row_of, one}
 use Rattle.line_editor.proofs.keymap.InputState.next_cmd.Goals as goal
 
 pub returns-in_err-key-clause-eof : goal.returns-in_err-key-clause-eof
@@ -40,7 +41,9 @@ returns-in-None-clause-phrase g c = record {
       let found =
       row-phrase keymap (g.W.EditorState.environment c.args.wrt.now) draft input c.in_ok-key.key
       (rw c.in_ok-key.ensures.binding at (sym c.in-None.ensures)) in
-      let same : command_of c.table_command.result ≡ command_at (row_of input.style input.mode c.in_ok-key.key (seen_of draft)) one =
-      rw (c.one-count.ensures, c.is_empty.ensures, c.line.ensures) at c.table_command.ensures in
+      let meant : meaning_of c.meaning_of_key-meaning.result ≡ (row_of input.style input.mode c.in_ok-key.key draft).means one =
+      rw c.one-count.ensures at c.meaning_of_key-meaning.ensures in
+      let same : command_of c.command_by.result ≡ command_by ((row_of input.style input.mode c.in_ok-key.key draft).means one) =
+      c.command_by.ensures ∙ ap (λ m. command_by m) meant in
       rw same found;
 }
