@@ -1,8 +1,9 @@
 //! A helper whose answers are set beforehand, which notes what it is asked.
-ghost use Rattle.std.specs.Prelude.{true, Some, None, option_map, if◌then◌else◌};
+ghost use Rattle.std.specs.Prelude.{true, false, Some, None, option_map, if◌then◌else◌};
 ghost use Rattle.line_parts.specs.Verdict.{incomplete, invalid, valid};
 ghost use Rattle.tests.specs.Advisor.{is_lit_for};
 
+use crate::countdown::Countdown;
 use line_buffer::{Changeset, LineBuffer};
 use line_config::Result;
 use line_parts::{
@@ -37,13 +38,15 @@ impl Hint for Tip {
     }
 }
 
-/// Its answers, which are the same for each line, and what it was asked. It asks for a full drawing of one kind alone.
+/// Its answers, which are the same for each line, and what it was asked. It asks for a full drawing of one kind alone, and
+/// one of its hints and verdicts can fail.
 #[derive(Drop)]
 pub(crate) struct Advisor {
     hint: Option<Tip>,
     verdict: Verdict,
     lit: Option<CmdKind>,
     kinds: Kinds,
+    countdown: Countdown,
 }
 
 /// Whether a line is whole, whether it is valid then, and the message.
@@ -70,7 +73,13 @@ impl Advisor {
             verdict,
             lit,
             kinds: (None, None, None, None),
+            countdown: Countdown::new(0),
         }
+    }
+
+    /// Its hint or verdict of the number `failing`, from 1 on, fails; none does where that is 0.
+    pub(crate) fn fail_at(&mut self, failing: u64) {
+        self.countdown = Countdown::new(failing);
     }
 
     /// The last four kinds that it was asked, the newest first.
@@ -100,7 +109,7 @@ impl Completer for Advisor {
 impl Hinter for Advisor {
     type Hint = Tip;
 
-    ghost sure = { λ _. true };
+    ghost sure = { λ _. false };
 
     ghost hint_at = { λ advisor _.
         option_map (λ tip. record {
@@ -115,6 +124,7 @@ impl Hinter for Advisor {
         _pos: usize,
         _ctx: &Context<'_, S>,
     ) -> Result<Option<Tip>> {
+        self.countdown.call()?;
         Ok(self.hint)
     }
 }
@@ -139,7 +149,7 @@ impl Highlighter for Advisor {
 }
 
 impl Validator for Advisor {
-    ghost sure = { λ _. true };
+    ghost sure = { λ _. false };
 
     ghost verdict_at = { λ advisor _. if advisor.verdict.0
         then (if advisor.verdict.1 then valid (option_map (λ text. text.now) advisor.verdict.2)
@@ -147,6 +157,7 @@ impl Validator for Advisor {
         else incomplete };
 
     fn validate(&self, alloc: Global, _ctx: &ValidationContext<'_>) -> Result<ValidationResult> {
+        self.countdown.call()?;
         let (whole, is_valid, message) = self.verdict;
         let message = match message {
             Some(text) => Some(String::from_str(alloc, text)?),

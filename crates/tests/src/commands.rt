@@ -2,24 +2,28 @@
 
 use crate::advisor::{Advisor, Tip, Verdict};
 use crate::recorder::Recorder;
+use crate::shelf::Shelf;
 use crate::typist::Typist;
-use line_buffer::{GraphemeClusterMode, KillRing};
+use line_buffer::{GraphemeClusterMode, KillRing, Unit};
 use line_config::{Config, EditMode, ReadlineError, Result};
 use line_editor::binding::Bindings;
 use line_editor::command::{Status, execute};
 use line_editor::edit::State;
 use line_editor::keymap::InputState;
-use line_keys::command::Anchor;
+use line_keys::command::{Anchor, Cmd};
 use line_keys::keymap::Refresher;
-use line_parts::{CmdKind, Context, History, MemHistory};
+use line_parts::history::SearchDirection;
+use line_parts::{CmdKind, Context, History};
 use line_state::RefreshKind;
 use std::alloc::Global;
+use std::io::ErrorKind;
 use std::process::Abort;
 use std::test::Fail;
 use steps::{Step, command};
 
 mod accepts;
 mod calls;
+mod ends;
 mod faults;
 mod hints;
 mod history;
@@ -29,15 +33,18 @@ mod moves;
 mod nothing;
 mod refusals;
 mod rows;
+mod screens;
 mod shifts;
 mod shown;
+mod states;
 mod steps;
 mod undos;
 mod words;
 mod yanks;
 
 /// What the editor stands on: the style, whether the screen has colours, the history's lines, whether there is a helper,
-/// its hint and verdict, and for which kind `highlight_char` answers yes.
+/// its hint and verdict, for which kind `highlight_char` answers yes, and which of its hints and verdicts and which of the
+/// history's look-ups fails, from 1 on, or 0 for none.
 #[derive(Clone, Copy)]
 struct Setup {
     style: EditMode,
@@ -47,6 +54,8 @@ struct Setup {
     hint: Option<Tip>,
     verdict: Verdict,
     lit: Option<CmdKind>,
+    failing_answer: u64,
+    failing_look_up: u64,
 }
 
 /// A screen without colours, an empty history, and a helper that hints nothing and takes each line.
@@ -58,9 +67,11 @@ const PLAIN: Setup = Setup {
     hint: None,
     verdict: (true, true, None),
     lit: None,
+    failing_answer: 0,
+    failing_look_up: 0,
 };
 
-type Editor<'out, 'prompt> = State<'out, 'prompt, Recorder, Advisor, &'static str, MemHistory>;
+type Editor<'out, 'prompt> = State<'out, 'prompt, Recorder, Advisor, &'static str, Shelf>;
 
 /// Makes the call of a step, where it is one.
 fn called(
@@ -82,6 +93,25 @@ fn called(
         Step::PaintKept => state.repaint(RefreshKind::Min)?,
         Step::ClearAlone => state.clear_screen()?,
         Step::GoLeftmost => state.move_cursor_at_leftmost(&mut Typist::new(alloc))?,
+        other => asked(state, other)?,
+    }
+    Ok(())
+}
+
+/// Makes the call of a step that asks for something, or draws what is handed to it.
+fn asked(state: &mut Editor<'_, '_>, step: &Step) -> Result<()> {
+    match step {
+        Step::AskHint => state.hint()?,
+        Step::AskVerdict => {
+            let _ = state.validate()?;
+        }
+        Step::AskLastInsert => {
+            let _ = state.last_insert()?;
+        }
+        Step::PaintMessage(text) => state.refresh_line_with_msg(Some(text), CmdKind::Other)?,
+        Step::PaintBehind(prompt) => state.refresh_prompt_and_line(prompt)?,
+        Step::GoToCursor => state.move_cursor(CmdKind::MoveCursor)?,
+        Step::GoToEnd => state.move_cursor_to_end()?,
         _ => {}
     }
     Ok(())
@@ -112,18 +142,24 @@ fn ended(outcome: &Result<Status>) -> &'static str {
         Ok(Status::Submit) => "submits",
         Err(ReadlineError::Eof) => "eof",
         Err(ReadlineError::Interrupted) => "interrupted",
-        Err(ReadlineError::Io(_)) => "fails",
+        Err(ReadlineError::Io(cause)) if cause.kind() == ErrorKind::Other => "fails",
+        Err(ReadlineError::Io(_)) => "fails otherwise",
         Err(ReadlineError::Memory) => "out of memory",
     }
 }
 
-/// What the steps leave: how the last one ended, the line with a bar at its cursor, and the place in the history; how
-/// often they drew all, how often they beeped, and how many other calls they made of the renderer.
+/// Rows and columns.
+type Place = (Unit, Unit);
+
+/// What the steps leave: how the last one ended, the line with a bar at its cursor, and the place in the history; where
+/// the cursor and the end are drawn, if rows may be full; how often they drew all, how often they beeped, and how many
+/// other calls they made of the renderer.
 #[derive(Clone, Copy)]
 struct Outcome<'l> {
     end: &'static str,
     line: &'l str,
     place: usize,
+    drawn: Option<(Place, Place)>,
     draws: u64,
     beeps: u64,
     others: u64,
@@ -135,6 +171,7 @@ fn leaving(line: &str, draws: u64) -> Outcome<'_> {
         end: "proceeds",
         line,
         place: 0,
+        drawn: None,
         draws,
         beeps: 0,
         others: 0,
@@ -209,6 +246,7 @@ fn edits(
     wanted: &Outcome<'_>,
 ) -> std::result::Result<(), Fail> {
     let mut helper = Advisor::hinting(setup.hint, setup.verdict, setup.lit);
+    helper.fail_at(setup.failing_answer);
     let session = (start, steps, wanted);
     if setup.helped {
         goes_on(rt, alloc, setup, screen, Some(&mut helper), session)
@@ -231,10 +269,7 @@ fn goes_on(
         .edit_mode(setup.style)
         .build();
     let bindings = Bindings::new(alloc);
-    let mut history = MemHistory::new(alloc);
-    for entry in setup.entries {
-        let _ = history.add(entry)?;
-    }
+    let history = shelved(alloc, setup)?;
     let input = InputState::new(&config, &bindings);
     let mut kills = KillRing::new(alloc, 60);
     let mut state = State::new(alloc, screen, &"> ", helper, Context::new(&history))?;
@@ -247,7 +282,50 @@ fn goes_on(
         last = done(alloc, &mut state, &input, &mut kills, &config, step);
     }
     assert_eq!(rt; ended(&last), wanted.end, "{start:?} to {:?}", wanted.line);
-    looks(rt, &state, wanted)
+    looks(rt, &state, wanted)?;
+    if wanted.end == "fails" {
+        recovers(rt, &mut state, &input, &mut kills, &config)?;
+        keeps(rt, &history, setup.entries)?;
+    }
+    Ok(())
+}
+
+/// The history of the editor.
+fn shelved(alloc: Global, setup: &Setup) -> Result<Shelf> {
+    let mut history = Shelf::new(alloc, setup.failing_look_up);
+    for entry in setup.entries {
+        let _ = history.add(entry)?;
+    }
+    Ok(history)
+}
+
+/// After a fault all changes can be taken back, which leaves the empty line, and it can be drawn again.
+fn recovers(
+    rt: &impl Abort,
+    state: &mut Editor<'_, '_>,
+    input: &InputState<'_>,
+    kills: &mut KillRing,
+    config: &Config,
+) -> std::result::Result<(), Fail> {
+    let undone = execute(Cmd::Undo(65535), state, input, kills, config)?;
+    let drawn = execute(Cmd::Repaint, state, input, kills, config)?;
+    assert_eq!(rt; (undone, drawn), (Status::Proceed, Status::Proceed));
+    let cursor = state.layout().cursor;
+    let found = (state.line(), state.pos(), cursor.row, cursor.col);
+    assert_eq!(rt; found, ("", 0, 0, 2));
+    Ok(())
+}
+
+/// The history still holds these lines.
+fn keeps(rt: &impl Abort, history: &Shelf, entries: &[&str]) -> std::result::Result<(), Fail> {
+    assert_eq!(rt; history.len(), entries.len());
+    for (index, entry) in entries.iter().enumerate() {
+        match history.get(index, SearchDirection::Reverse)? {
+            Some(found) => assert_eq!(rt; found.entry.as_str(), *entry),
+            None => panic!(rt; "no line {index}"),
+        }
+    }
+    Ok(())
 }
 
 /// Looks at the line, its cursor, the place, and where the cursor is drawn; after a fault, at the cursor alone.
@@ -265,7 +343,11 @@ fn looks(
     let found = (&line[..pos], &line[pos..], state.place());
     assert_eq!(rt; found, (before, after, wanted.place));
     let layout = state.layout();
-    if wanted.end == "interrupted" {
+    if let Some(drawn) = wanted.drawn {
+        let (cursor, end) = (layout.cursor, layout.end);
+        let found = ((cursor.row, cursor.col), (end.row, end.col));
+        assert_eq!(rt; found, drawn, "{line:?}");
+    } else if wanted.end == "interrupted" {
         assert_eq!(rt; layout.cursor, layout.end, "{line:?}");
     } else {
         let (row, col) = (layout.cursor.row, layout.cursor.col);

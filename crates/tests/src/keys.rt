@@ -1,13 +1,10 @@
-//! Keys, their modifiers and the commands of the tables.
+//! Keys and their modifiers.
 
 use bitflags::Flags;
-use line_buffer::Movement;
-use line_config::EditMode;
 use line_editor::binding::{Event, EventHandler};
 use line_keys::command::Cmd;
-use line_keys::keymap::{InputMode, Invoke};
+use line_keys::keymap::Invoke;
 use line_keys::keys::{KeyCode as K, KeyEvent, Modifiers as M};
-use line_keys::tables::{Count, Seen, table_command};
 use std::alloc::Global;
 use std::collections::HashMap;
 use std::process::Abort;
@@ -295,72 +292,6 @@ fn of_a_map(rt: HostRuntime) -> Result<(), Fail> {
     let text = format!(in rt.alloc(); "{:?}", KeyEvent::ctrl('A'))?;
     assert_eq!(rt; text.as_str(), "KeyEvent(Char('A'), Modifiers(8))");
     Ok(())
-}
-
-/// A key, its command, and that for a count with a minus sign, where the line has text.
-type Row = (K, M, Cmd, Cmd);
-
-fn rows(rt: &impl Abort, case: &Row) {
-    let (code, mods, command, negative) = case;
-    let key = KeyEvent(*code, *mods);
-    let seen = Seen {
-        line_is_empty: false,
-    };
-    let one = Count::one();
-    let minus = Count {
-        n: 1,
-        positive: false,
-    };
-    let found = table_command(EditMode::Emacs, InputMode::Insert, key, one, seen);
-    assert_eq!(rt; found, *command, "{key:?}");
-    let found = table_command(EditMode::Emacs, InputMode::Insert, key, minus, seen);
-    assert_eq!(rt; found, *negative, "{key:?}");
-    let found = table_command(EditMode::Vi, InputMode::Insert, key, one, seen);
-    assert_eq!(rt; found, Cmd::Unknown, "{key:?}");
-}
-
-const BACK: Cmd = Cmd::Move(Movement::BackwardChar(1));
-
-const ON: Cmd = Cmd::Move(Movement::ForwardChar(1));
-
-const HOME: Cmd = Cmd::Move(Movement::BeginningOfLine);
-
-const END: Cmd = Cmd::Move(Movement::EndOfLine);
-
-const KILL_BACK: Cmd = Cmd::Kill(Movement::BackwardChar(1));
-
-const KILL_ON: Cmd = Cmd::Kill(Movement::ForwardChar(1));
-
-const ACCEPT: Cmd = Cmd::AcceptOrInsertLine {
-    accept_in_the_middle: true,
-};
-
-#[test]
-fn of_the_table(rt: HostRuntime) {
-    let table = [
-        (K::Char('x'), M::NONE, Cmd::SelfInsert(1, 'x'), Cmd::Unknown),
-        (K::Left, M::NONE, BACK, ON),
-        (K::Right, M::NONE, ON, BACK),
-        (K::Home, M::NONE, HOME, HOME),
-        (K::End, M::NONE, END, END),
-        (K::Char('A'), M::CTRL, HOME, HOME),
-        (K::Char('E'), M::CTRL, END, END),
-        (K::Char('B'), M::CTRL, BACK, ON),
-        (K::Char('F'), M::CTRL, ON, BACK),
-        (K::Char('D'), M::CTRL, KILL_ON, KILL_BACK),
-        (K::Enter, M::NONE, ACCEPT, ACCEPT),
-        (K::Enter, M::ALT, Cmd::Unknown, Cmd::Unknown),
-        (K::Char('x'), M::ALT, Cmd::Unknown, Cmd::Unknown),
-    ];
-    for row in &table {
-        rows(&rt, row);
-    }
-    let empty = Seen {
-        line_is_empty: true,
-    };
-    let key = KeyEvent(K::Char('D'), M::CTRL);
-    let found = table_command(EditMode::Emacs, InputMode::Insert, key, Count::one(), empty);
-    assert_eq!(rt; found, Cmd::Unknown);
 }
 
 #[test]

@@ -4,10 +4,16 @@
 #[cfg(test)]
 mod advisor;
 #[cfg(test)]
+mod brackets;
+#[cfg(test)]
 mod buffer;
 pub mod caller;
 #[cfg(test)]
 mod commands;
+#[cfg(test)]
+mod completion;
+#[cfg(test)]
+mod countdown;
 #[cfg(test)]
 mod editor;
 pub mod example;
@@ -16,6 +22,8 @@ mod examples;
 #[cfg(test)]
 mod history;
 #[cfg(test)]
+mod history_hinter;
+#[cfg(test)]
 mod keys;
 #[cfg(test)]
 mod parties;
@@ -23,5 +31,9 @@ mod parties;
 mod recorder;
 #[cfg(test)]
 mod settings;
+#[cfg(test)]
+mod shelf;
+#[cfg(test)]
+mod tables;
 #[cfg(test)]
 mod typist;

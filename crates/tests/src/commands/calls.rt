@@ -1,8 +1,9 @@
 //! Calls of the state that draw or save, among commands.
 
 use super::Step::{self, *};
-use super::{Case, Outcome, PLAIN, Setup, does, leaves, leaving, shown};
+use super::{Case, Outcome, PLAIN, Place, Setup, does, edits, leaves, leaving, shown};
 use crate::advisor::Tip;
+use crate::recorder::Recorder;
 use line_buffer::Movement::*;
 use std::alloc::Global;
 use std::process::Abort;
@@ -130,6 +131,67 @@ const SHOWN: &[shown::Case] = &[
 fn show_the_hint(rt: HostRuntime) -> Result<(), Fail> {
     for case in SHOWN {
         shown::shows(&rt, rt.alloc(), case)?;
+    }
+    Ok(())
+}
+
+/// The editor, the line with a bar at its cursor, steps, and where the cursor and the end are kept.
+type Kept = (Setup, &'static str, &'static [Step], Place, Place);
+
+fn keeps(rt: &impl Abort, alloc: Global, case: &Kept) -> Result<(), Fail> {
+    let (setup, start, steps, cursor, end) = case;
+    let wanted = Outcome {
+        drawn: Some((*cursor, *end)),
+        ..leaving(start, 0)
+    };
+    let mut screen = Recorder::new(alloc, 80, setup.colors, 0);
+    edits(rt, alloc, setup, &mut screen, start, steps, &wanted)
+}
+
+const BACK_AGAIN: &[Step] = &[Backup, Kill(WholeLine), Restore];
+
+const LAYOUTS: &[Kept] = &[
+    (PLAIN, "a|b", &[ClearAlone], (0, 0), (0, 0)),
+    (HINTED, "a|b", &[ClearAlone], (0, 0), (0, 0)),
+    (HINTED, "a|b", &[ClearAlone, PaintAll], (0, 3), (0, 6)),
+    (HINTED, "a|b", &[ClearAlone, PaintKept], (0, 0), (0, 0)),
+    (PLAIN, "a|b", &[GoLeftmost], (0, 3), (0, 4)),
+    (HINTED, "a|b", &[GoLeftmost], (0, 3), (0, 6)),
+    (PLAIN, "a|b", &[GoToEnd], (0, 4), (0, 4)),
+    (HINTED, "a|b", &[GoToEnd], (0, 6), (0, 6)),
+    (PLAIN, "a|b", &[GoToEnd, GoToCursor], (0, 3), (0, 4)),
+    (PLAIN, "a|b", BACK_AGAIN, (0, 2), (0, 2)),
+    (HINTED, "a|b", BACK_AGAIN, (0, 2), (0, 4)),
+    (HINTED, "a|b", &[AskHint, AskVerdict], (0, 3), (0, 4)),
+    (HINTED, "a|b", &[PaintMessage("why")], (0, 3), (0, 7)),
+    (
+        HINTED,
+        "a|b",
+        &[PaintMessage("why"), PaintKept],
+        (0, 3),
+        (0, 7),
+    ),
+    (HINTED, "a|b", &[PaintBehind("(arg: 2) ")], (0, 10), (0, 13)),
+    (
+        HINTED,
+        "a|b",
+        &[PaintBehind("(arg: 2) "), PaintKept],
+        (0, 10),
+        (0, 13),
+    ),
+    (
+        HINTED,
+        "a|b",
+        &[PaintBehind("(arg: 2) "), PaintAll],
+        (0, 3),
+        (0, 6),
+    ),
+];
+
+#[test]
+fn keep_the_layout(rt: HostRuntime) -> Result<(), Fail> {
+    for case in LAYOUTS {
+        keeps(&rt, rt.alloc(), case)?;
     }
     Ok(())
 }

@@ -73,6 +73,17 @@ const GREATEST: &[Case] = &[
         "|b",
         2,
     ),
+    (
+        "|",
+        &[
+            Insert(7000, "xxxxxxxxxx"),
+            Move(BeginningOfLine),
+            Replace(ForwardChar(65535), Some("y")),
+            Kill(ForwardChar(4465)),
+        ],
+        "|x",
+        5,
+    ),
 ];
 
 #[test]

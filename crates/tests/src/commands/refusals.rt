@@ -2,11 +2,13 @@
 //! what is left, or the command was not reached.
 
 use super::Step::*;
-use super::{Editor, PLAIN, Setup, Step, done, halves};
+use super::{Editor, PLAIN, Setup, Step, done, halves, shelved};
 use crate::advisor::{Advisor, Tip};
 use crate::recorder::Recorder;
+use line_buffer::At::*;
 use line_buffer::Movement::*;
-use line_buffer::{GraphemeClusterMode, KillRing};
+use line_buffer::Word::*;
+use line_buffer::{CharSearch, GraphemeClusterMode, KillRing};
 use line_config::{Config, ReadlineError, Result};
 use line_editor::binding::Bindings;
 use line_editor::command::{Status, execute};
@@ -14,7 +16,7 @@ use line_editor::edit::State;
 use line_editor::keymap::InputState;
 use line_keys::command::{Anchor, Cmd};
 use line_keys::keymap::Refresher;
-use line_parts::{Context, History, MemHistory};
+use line_parts::{Context, History};
 use std::alloc::Global;
 use std::process::Abort;
 use std::test::Fail;
@@ -27,10 +29,7 @@ fn tries(rt: &impl Abort, alloc: Global, case: &Case) -> Result<()> {
     let (setup, start, steps, after) = case;
     let config = Config::new(GraphemeClusterMode::Unicode);
     let bindings = Bindings::new(alloc);
-    let mut history = MemHistory::new(alloc);
-    for entry in setup.entries {
-        let _ = history.add(entry)?;
-    }
+    let history = shelved(alloc, setup)?;
     let input = InputState::new(&config, &bindings);
     let mut kills = KillRing::new(alloc, 60);
     let mut screen = Recorder::new(alloc, 80, false, 0);
@@ -42,9 +41,12 @@ fn tries(rt: &impl Abort, alloc: Global, case: &Case) -> Result<()> {
     state.edit_yank(&input, before, Anchor::Before, 1)?;
     state.edit_insert_text(behind)?;
     for step in *steps {
-        if let Err(error) = done(alloc, &mut state, &input, &mut kills, &config, step) {
-            assert_eq!(rt; history.len(), setup.entries.len());
-            return settled(rt, &mut state, &input, &mut kills, &config, error);
+        match done(alloc, &mut state, &input, &mut kills, &config, step) {
+            Ok(_) | Err(ReadlineError::Interrupted) | Err(ReadlineError::Eof) => {}
+            Err(error) => {
+                assert_eq!(rt; history.len(), setup.entries.len());
+                return settled(rt, &mut state, &input, &mut kills, &config, error);
+            }
         }
     }
     assert_eq!(rt; at(rt, &state), halves(rt, after));
@@ -58,7 +60,8 @@ fn at<'l>(rt: &impl Abort, state: &'l Editor<'_, '_>) -> (&'l str, &'l str) {
     (&line[..pos], &line[pos..])
 }
 
-/// The line is text with its cursor on a boundary, and so it is when all changes are taken back.
+/// The line is text with its cursor on a boundary, and so it is when all changes are taken back, be it all that were
+/// made, or none where they were dropped.
 fn settled(
     rt: &impl Abort,
     state: &mut Editor<'_, '_>,
@@ -69,9 +72,11 @@ fn settled(
 ) -> Result<()> {
     assert!(rt; matches!(error, ReadlineError::Memory));
     let _ = at(rt, state);
+    let len = state.line().len();
     let status = execute(Cmd::Undo(65535), state, input, kills, config)?;
     assert_eq!(rt; status, Status::Proceed);
     let _ = at(rt, state);
+    assert!(rt; state.line().is_empty() || state.line().len() == len);
     Ok(())
 }
 
@@ -107,6 +112,32 @@ const EDITS: &[Case] = &[
     (PLAIN, "日本|", &[TransposeChars], "本日|"),
     (PLAIN, "日 本|", &[TransposeWords(1)], "本 日|"),
     (PLAIN, "|日a", &[UpcaseWord], "日A|"),
+    (PLAIN, "|日A", &[DowncaseWord], "日a|"),
+    (PLAIN, "|aBé", &[CapitalizeWord], "Abé|"),
+    (PLAIN, "日|本", &[Kill(BackwardChar(1))], "|本"),
+    (PLAIN, "日|本", &[Put(2, "é", Anchor::After)], "日本éé|"),
+    (
+        PLAIN,
+        "a é|",
+        &[
+            Kill(BackwardChar(1)),
+            Kill(BackwardWord(1, Emacs)),
+            Yank(1, Anchor::Before),
+        ],
+        "a |",
+    ),
+    (
+        PLAIN,
+        "日 本|",
+        &[
+            Kill(BackwardWord(1, Emacs)),
+            Reset,
+            Kill(BackwardWord(1, Emacs)),
+            Yank(1, Anchor::Before),
+            YankPop,
+        ],
+        "本|",
+    ),
     (PLAIN, "日|\n本", &[Indent(WholeBuffer)], "  日|\n  本"),
     (PLAIN, "  日|\n 本", &[Dedent(WholeBuffer)], "日|\n本"),
     (PLAIN, "日|本", &[Kill(EndOfLine), Undo(1)], "日本|"),
@@ -142,7 +173,6 @@ const REFUSED: Setup = Setup {
 };
 
 const OTHERS: &[Case] = &[
-    (PLAIN, "日|本", &[Move(BeginningOfLine)], "|日本"),
     (OVER_ONE, "日|本", &[PreviousHistory], "one|"),
     (OVER_ONE, "日|本", &[PreviousHistory, NextHistory], "日|本"),
     (OVER_ONE, "日|本", &[BeginningOfHistory, EndOfHistory], "日|本"),
@@ -155,13 +185,107 @@ const OTHERS: &[Case] = &[
     (REFUSED, "日|本", &[AcceptOrInsertLine(true)], "日|本"),
     (HINTED, "日|本", &[AcceptOrInsertLine(false)], "日\n|本"),
     (HINTED, "日|本", &[ClearScreen], "日|本"),
-    (PLAIN, "日|本", &[Backup, Restore], "日|本"),
+    (HINTED, "日|本", &[Repaint], "日|本"),
+    (HINTED, "日|本", &[EndOfFile], "日|本"),
+    (HINTED, "|", &[EndOfFile], "|"),
+    (HINTED, "日|本", &[Interrupt], "日|本"),
+    (
+        OVER_ONE,
+        "日|",
+        &[PreviousHistory, LineDownOrNextHistory(1)],
+        "日|",
+    ),
 ];
 
 #[test]
 fn of_others(rt: HostRuntime) -> std::result::Result<(), Fail> {
     for case in OTHERS {
         refuses(&rt, rt.alloc(), case)?;
+    }
+    Ok(())
+}
+
+const MOVES: &[Case] = &[
+    (PLAIN, "日|本", &[Move(BackwardChar(1))], "|日本"),
+    (PLAIN, "日|本", &[Move(ForwardChar(1))], "日本|"),
+    (PLAIN, "日|本", &[Move(BeginningOfLine)], "|日本"),
+    (PLAIN, "日|本", &[Move(EndOfLine)], "日本|"),
+    (PLAIN, "a\n日|", &[Move(BeginningOfBuffer)], "|a\n日"),
+    (PLAIN, "日|\na", &[Move(EndOfBuffer)], "日\na|"),
+    (PLAIN, "a 日|", &[Move(BackwardWord(1, Emacs))], "a |日"),
+    (PLAIN, "|日 a", &[Move(ForwardWord(1, AfterEnd, Vi))], "日| a"),
+    (
+        PLAIN,
+        "|日本",
+        &[Move(ViCharSearch(1, CharSearch::Forward('本')))],
+        "日|本",
+    ),
+    (PLAIN, " 日|", &[Move(ViFirstPrint)], " |日"),
+    (PLAIN, "a\n日|", &[Move(LineUp(1))], "|a\n日"),
+    (PLAIN, "|日\na", &[Move(LineDown(1))], "日\na|"),
+    (PLAIN, "a\n日|", &[LineUpOrPreviousHistory(1)], "|a\n日"),
+    (PLAIN, "|日\na", &[LineDownOrNextHistory(1)], "日\na|"),
+];
+
+#[test]
+fn of_moves(rt: HostRuntime) -> std::result::Result<(), Fail> {
+    for case in MOVES {
+        refuses(&rt, rt.alloc(), case)?;
+    }
+    Ok(())
+}
+
+/// The calls of the state that no command makes as they stand.
+const CALLS: &[Case] = &[
+    (PLAIN, "日|本", &[Backup, Restore], "日|本"),
+    (HINTED, "日|本", &[AskHint], "日|本"),
+    (REFUSED, "日|本", &[AskVerdict], "日|本"),
+    (PLAIN, "日|本", &[AskLastInsert], "日|本"),
+    (HINTED, "日|本", &[PaintAll], "日|本"),
+    (HINTED, "日|本", &[PaintKept], "日|本"),
+    (HINTED, "日|本", &[PaintMessage("é")], "日|本"),
+    (HINTED, "日|本", &[PaintBehind("? ")], "日|本"),
+    (PLAIN, "日|本", &[ClearAlone, PaintAll], "日|本"),
+    (PLAIN, "日|本", &[GoLeftmost, PaintAll], "日|本"),
+    (PLAIN, "日|本", &[GoToEnd, GoToCursor], "日|本"),
+];
+
+#[test]
+fn of_calls(rt: HostRuntime) -> std::result::Result<(), Fail> {
+    for case in CALLS {
+        refuses(&rt, rt.alloc(), case)?;
+    }
+    Ok(())
+}
+
+/// A state of a line to begin with, its cursor behind so many bytes.
+fn begins(rt: &impl Abort, alloc: Global, setup: &Setup, line: (&str, usize)) -> Result<()> {
+    let (text, cursor) = line;
+    let history = shelved(alloc, setup)?;
+    let mut screen = Recorder::new(alloc, 80, false, 0);
+    let mut helper = Advisor::hinting(setup.hint, setup.verdict, setup.lit);
+    let context = Context::new(&history);
+    assert!(rt; text.is_char_boundary(cursor));
+    let state = State::with_line(
+        alloc,
+        &mut screen,
+        &"> ",
+        Some(&mut helper),
+        context,
+        text,
+        cursor,
+    )?;
+    assert_eq!(rt; at(rt, &state), (&text[..cursor], &text[cursor..]));
+    Ok(())
+}
+
+#[test]
+fn of_a_line_to_begin_with(rt: HostRuntime) -> std::result::Result<(), Fail> {
+    for line in [("", 0), ("日本", 3), ("a\ne\u{301}", 5)] {
+        match begins(&rt, rt.alloc(), &PLAIN, line) {
+            Ok(()) | Err(ReadlineError::Memory) => {}
+            Err(error) => panic!(rt; "{error}"),
+        }
     }
     Ok(())
 }

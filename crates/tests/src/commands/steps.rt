@@ -69,6 +69,16 @@ pub(super) enum Step {
     /// The screen is cleared, with nothing drawn; the terminal's cursor goes to the first column.
     ClearAlone,
     GoLeftmost,
+    /// The helper is asked for a hint, or for a verdict; the changes for the text that came in last.
+    AskHint,
+    AskVerdict,
+    AskLastInsert,
+    /// The line is drawn with a message behind it, or behind another prompt.
+    PaintMessage(&'static str),
+    PaintBehind(&'static str),
+    /// The drawn cursor goes to where the line's is, or to the end of what is shown.
+    GoToCursor,
+    GoToEnd,
 }
 
 /// The command, where it is one that moves or edits by a movement, or by a count.

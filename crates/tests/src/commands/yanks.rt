@@ -196,6 +196,29 @@ const POPPED: &[Case] = &[
         "é|xx",
         2,
     ),
+    (
+        "|ab",
+        &[
+            Kill(EndOfLine),
+            Yank(1, Before),
+            Move(BackwardChar(1)),
+            YankPop,
+        ],
+        "a|b",
+        3,
+    ),
+    (
+        "é|b",
+        &[
+            Kill(EndOfLine),
+            Move(BackwardChar(1)),
+            Yank(1, After),
+            Move(BackwardChar(1)),
+            YankPop,
+        ],
+        "é|b",
+        4,
+    ),
 ];
 
 #[test]
