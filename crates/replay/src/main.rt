@@ -3,11 +3,13 @@
 
 ghost use Rattle.std.specs.Prelude.{◌≤◌, IfOk};
 
+mod helper;
 mod measure;
 mod plain;
 mod report;
 mod script;
 
+use helper::ScriptHelper;
 use line_buffer::{GraphemeClusterMode, KillRing, Unit};
 use line_config::{Config, ReadlineError};
 use line_editor::binding::Bindings;
@@ -75,7 +77,14 @@ fn play_script<R: Read + Drop, O: Write>(
     };
     let mut screen = Plain::new(alloc, COLUMNS);
     let script = Script::new(parsed.items);
-    let outcome = edit(alloc, &parsed.history, script, &mut screen, out)?;
+    let outcome = edit(
+        alloc,
+        &parsed.history,
+        parsed.helper,
+        script,
+        &mut screen,
+        out,
+    )?;
     writeln!(out, "redraws {}", screen.redraws())?;
     out.flush()?;
     Ok(outcome.status())
@@ -85,6 +94,7 @@ fn play_script<R: Read + Drop, O: Write>(
 fn edit<O: Write>(
     alloc: Global,
     history: &FileHistory,
+    mut helper: ScriptHelper,
     mut script: Script,
     screen: &mut Plain,
     out: &mut O,
@@ -93,7 +103,6 @@ fn edit<O: Write>(
     let bindings = Bindings::new(alloc);
     let mut input = InputState::new(&config, &bindings);
     let mut kill_ring = KillRing::new(alloc, KILL_RING_SIZE);
-    let mut helper = ();
     let context = Context::new(history);
     let mut state = State::new(alloc, screen, &PROMPT, Some(&mut helper), context)?;
     let answer = run(&mut state, &mut input, &mut script, &mut kill_ring, &config);

@@ -4,6 +4,7 @@ ghost use Rattle.line_config.specs.Error.{Rose};
 
 mod names;
 
+use crate::helper::ScriptHelper;
 use line_config::ReadlineError;
 use line_keys::command::Cmd;
 use line_keys::keys::{KeyCode, KeyEvent, Modifiers};
@@ -29,6 +30,8 @@ pub(crate) enum Item {
 pub(crate) struct Parsed {
     /// The history that the settings fill.
     pub(crate) history: FileHistory,
+    /// The helper that the settings switch on.
+    pub(crate) helper: ScriptHelper,
     /// What the editor reads.
     pub(crate) items: VecDeque<Item>,
     /// Whether a line of items came, behind which no setting may stand.
@@ -161,6 +164,7 @@ pub(crate) fn read_script<R: Read + Drop>(
 fn parse_script(alloc: Global, script: &[u8]) -> Result<Parsed, ScriptError> {
     let mut parsed = Parsed {
         history: FileHistory::new(alloc),
+        helper: ScriptHelper::new(),
         items: VecDeque::new(alloc),
         has_item_lines: false,
     };
@@ -180,6 +184,7 @@ fn parse_script(alloc: Global, script: &[u8]) -> Result<Parsed, ScriptError> {
 /// Adds what one line gives. False where the line is of no known form, or a setting behind items.
 fn push_line(alloc: Global, line: &str, parsed: &mut Parsed) -> Result<bool, ReadlineError> {
     match line.split_once(' ') {
+        None if !parsed.has_item_lines => Ok(switch_on(line, &mut parsed.helper)),
         Some(("history", text)) if !parsed.has_item_lines => {
             push_history(alloc, text, &mut parsed.history)
         }
@@ -193,6 +198,16 @@ fn push_line(alloc: Global, line: &str, parsed: &mut Parsed) -> Result<bool, Rea
         }
         _ => Ok(false),
     }
+}
+
+/// Switches on what the setting of this name asks for. False where there is no such setting.
+fn switch_on(name: &str, helper: &mut ScriptHelper) -> bool {
+    match name {
+        "hints" => helper.hints = true,
+        "brackets" => helper.brackets = true,
+        _ => return false,
+    }
+    true
 }
 
 /// Adds the text to the history, which may leave it out. False where an escape is bad.

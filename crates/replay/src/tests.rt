@@ -60,6 +60,28 @@ const SCRIPTS: &[Case] = &[
         0,
     ),
     ("type a\nhistory a\n", "bad script line 2\n", 4),
+    // an open bracket asks for another line, and one at fault stays with its message
+    (
+        "brackets\ntype (\nkey Enter\ntype )\nkey Enter\n",
+        "outcome submitted\nline (\\n)\ncursor 3\nplace 0\nat 1 1\nredraws 4\n",
+        0,
+    ),
+    (
+        "brackets\ntype ]\nkey Enter\n",
+        "outcome eof\nline ]\ncursor 1\nplace 0\nat 0 3\nredraws 3\n",
+        1,
+    ),
+    (
+        "type ]\nkey Enter\n",
+        "outcome submitted\nline ]\ncursor 1\nplace 0\nat 0 3\nredraws 2\n",
+        0,
+    ),
+    // a hint is shown behind the line, and is no part of it
+    (
+        "hints\nhistory git status\ntype gi\nkey C-a\nkey C-e\n",
+        "outcome eof\nline gi\ncursor 2\nplace 1\nat 0 4\nredraws 5\n",
+        1,
+    ),
     // 77 and 78 characters behind a prompt of two columns, on 80 columns
     (
         "type 12345678901234567890123456789012345678901234567890123456789012345678901234567\n",

@@ -86,6 +86,38 @@ fn fills_the_history(rt: HostRuntime) -> Result<(), Fail> {
     Ok(())
 }
 
+/// A script, and whether there are hints and whether brackets are checked.
+type Switched = (&'static str, bool, bool);
+
+fn switches(rt: &impl Abort, alloc: Global, case: Switched) -> Result<(), Fail> {
+    let (script, hints, brackets) = case;
+    let Ok(parsed) = read_script(alloc, script.as_bytes()) else {
+        return Err(Fail::from("a good script"));
+    };
+    assert_eq!(rt;
+        (parsed.helper.hints, parsed.helper.brackets),
+        (hints, brackets),
+        "{script}"
+    );
+    Ok(())
+}
+
+const SWITCHED: &[Switched] = &[
+    ("", false, false),
+    ("history hints\ntype brackets", false, false),
+    ("hints", true, false),
+    ("brackets\n", false, true),
+    ("\nhints\n\nhistory a\nbrackets\nhints\ntype (", true, true),
+];
+
+#[test]
+fn switches_the_helper(rt: HostRuntime) -> Result<(), Fail> {
+    for case in SWITCHED {
+        switches(&rt, rt.alloc(), *case)?;
+    }
+    Ok(())
+}
+
 fn refuses(rt: &impl Abort, alloc: Global, case: (&[u8], usize)) {
     let (script, line) = case;
     let bad = match read_script(alloc, script) {
@@ -124,8 +156,17 @@ const BAD: &[(&[u8], usize)] = &[
     (b"type a\nhistory a", 2),
     (b"history a\ntype \n\nhistory b", 4),
     (b"key Enter\nhistory a\nkey Foo", 2),
-    (b"hints", 1),
-    (b"brackets", 1),
+    (b"hints ", 1),
+    (b"hints x", 1),
+    (b"Hints", 1),
+    (b"hint", 1),
+    (b"hints\r\n", 1),
+    (b"brackets ", 1),
+    (b"brackets ()", 1),
+    (b"hints brackets", 1),
+    (b"bracket", 1),
+    (b"hints\n\ntype a\nhints", 4),
+    (b"key Enter\nbrackets\nkey Foo", 2),
     (b"paste a", 1),
 ];
 
