@@ -1,5 +1,5 @@
 -- Steps, turns and runs of a program's state, input state, reader and kill ring.
-use Rattle.std.specs.Prelude.{◌≡◌, ℕ, ◌+◌, ◌-◌, ◌*◌, List, [], length, Result, IfOk, OnOk, IsErrOf}
+use Rattle.std.specs.Prelude.{◌≡◌, true, ℕ, ◌+◌, ◌-◌, ◌*◌, List, [], length, Result, IfOk, OnOk, IsErrOf}
 use Rattle.line_buffer.specs.KillRing.{Ring}
 use Rattle.line_config.specs.declared.error.ReadlineError.{ReadlineError}
 use Rattle.line_config.specs.declared.error.ReadlineError.TheVariants.{Eof, Interrupted}
@@ -15,7 +15,7 @@ use Rattle.line_editor.specs.Reading.{RedrawsItems, OutOfItems}
 use Rattle.line_editor.specs.Run.{End, Run, Turn, dry, stopped}
 use Rattle.line_editor.specs.Status.{answer_of}
 use Rattle.line_editor.specs.Editor.{Answer, Editor, Leaves, ended, interrupted, own_ruler, proceeds, ruler_of, submitted}
-use Rattle.line_editor.specs.Step.{step}
+use Rattle.line_editor.specs.Step.{is_left_above, step}
 use Rattle.line_editor.specs.declared.command.Status.{Status}
 use Rattle.line_editor.specs.declared.keymap.InputState.{InputState}
 use Rattle.line_editor.specs.declared.run.Turned.{Turned}
@@ -54,7 +54,8 @@ module _ {X : Type 0} (e : editors.Ghosts X) where
   DrawnAfter ended state state' = LosesHint state state'
   DrawnAfter interrupted state state' = GoesToEnd state state'
 
-  -- a command that is executed: the step, what is drawn after it, with three full redraws at most, and the frame
+  -- a command that is executed: the step, what is drawn after it, with three full redraws at most and none where nothing happens, and
+  -- the frame
   pub record Executes (result : Result Status ReadlineError) (state : X) (input : InputState) (indent : ℕ) (kills : Ring) (command : Command) (state' : X) (kills' : Ring) : Type 0 where
     pub steps : IfOk result (λ status. StepsTo state input indent kills command state' kills' (answer_of status))
     pub steps_at_eof : IsErrOf result Eof → StepsTo state input indent kills command state' kills' ended
@@ -62,6 +63,7 @@ module _ {X : Type 0} (e : editors.Ghosts X) where
     pub drawn : IfOk result (λ status. DrawnAfter (answer_of status) state state')
     pub drawn_at_eof : IsErrOf result Eof → DrawnAfter ended state state'
     pub drawn_at_interrupt : IsErrOf result Interrupted → DrawnAfter interrupted state state'
+    pub quiet : is_left_above command ≡ true → OnOk result (DrewNothing e state state')
     pub redraws : OnOk result (Redraws e 0 3 state state')
     pub redraws_at_eof : IsErrOf result Eof → Redraws e 0 3 state state'
     pub redraws_at_interrupt : IsErrOf result Interrupted → Redraws e 0 3 state state'

@@ -1,5 +1,5 @@
 //! Commands, executed.
-ghost use Rattle.std.specs.Prelude.{◌≡◌, IfOk, OnOk, IsErrOf, is_some};
+ghost use Rattle.std.specs.Prelude.{◌≡◌, true, IfOk, OnOk, IsErrOf, is_some};
 ghost use Rattle.line_config.specs.Error.{IoOnlyIf, UnlessFault};
 ghost use Rattle.line_editor.specs.InputState.{input_of};
 ghost use Rattle.line_editor.specs.Runs.{DrawnAfter, Executes, LosesHint};
@@ -7,10 +7,10 @@ ghost use Rattle.line_editor.specs.Status.{answer_of};
 ghost use Rattle.line_editor.specs.Accept.{accepted, answer_at_end, validated};
 ghost use Rattle.line_editor.specs.Editor.{ended, ruler_of};
 ghost use Rattle.line_editor.specs.Edits.{typed_in};
-ghost use Rattle.line_editor.specs.Step.{edited_by};
+ghost use Rattle.line_editor.specs.Step.{edited_by, is_left_above};
 ghost use Rattle.line_keys.specs.Command.{command_of};
 ghost use Rattle.line_keys.specs.Draft.{start_text, unhinted};
-ghost use Rattle.line_keys.specs.EditorState.{Does, FailsOnlyIf, Frame, PartyFailed, Redraws};
+ghost use Rattle.line_keys.specs.EditorState.{Does, DrewNothing, FailsOnlyIf, Frame, PartyFailed, Redraws};
 
 use crate::edit::State;
 use crate::keymap::InputState;
@@ -101,9 +101,11 @@ impl<'out, 'prompt, W: Renderer, H: Helper, P: Prompt, S: History> State<
     #[tactic(auto, using(crate::proofs::CommandLemmas::draws_twice, crate::proofs::CommandLemmas::draws_if_twice, crate::proofs::CommandLemmas::does_twice))]
     // Does what a command says that neither ends the run nor looks at the kill ring.
     fn edit_by(&mut self, cmd: Cmd, input_state: &InputState<'_>, indent_size: u8) -> Result<()>
-        ensures { let e = ⟦<Self as EditorState>⟧ in Does e result self.old self.new
+        ensures does { let e = ⟦<Self as EditorState>⟧ in Does e result self.old self.new
             (edited_by (ruler_of (e.display self.old) indent_size) (e.environment self.old)
             (input_of input_state.now) (e.draft self.old) (command_of cmd)) 2 }
+        ensures quiet { is_left_above (command_of cmd) ≡ true
+            → OnOk result (DrewNothing ⟦<Self as EditorState>⟧ self.old self.new) }
     {
         match cmd {
             Cmd::SelfInsert(n, c) => self.edit_insert(c, n),

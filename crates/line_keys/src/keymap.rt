@@ -2,7 +2,7 @@
 ghost use Rattle.std.specs.Prelude.{◌≡◌, ℕ, ◌↔◌, false, List, IfOk, OnOk, OnErr, IsTrue, is_some, option_map, option_and_then, length, string_bytes, IsCharBoundary};
 ghost use Rattle.line_buffer.specs.Changes.{last_insert_of};
 ghost use Rattle.line_config.specs.Error.{MemoryOnly};
-ghost use Rattle.line_keys.specs.Display.{ShowsInFull, corner};
+ghost use Rattle.line_keys.specs.Display.{ShowsInFull, corner, lit_after};
 ghost use Rattle.line_keys.specs.Draft.{hint_shown, hinted, unhinted, in_group, out_of_group, without_changes};
 ghost use Rattle.line_keys.specs.EditorState.{Drew, Redraws, Refreshes, Undrawn};
 ghost use Rattle.line_parts.specs.declared.highlight.CmdKind.TheVariants.{Other};
@@ -70,7 +70,9 @@ pub trait Refresher: EditorState {
         ensures shown { let e = Self.EditorState in let d = e.display self.new in
             OnOk result (ShowsInFull d (d.surface.measure prompt.now corner) (e.draft self.new).line
             (hint_shown (e.draft self.new))) }
-        ensures prompt { OnOk result ((Self.display self.new).layout.default_prompt ≡ false) };
+        ensures prompt { OnOk result ((Self.display self.new).layout.default_prompt ≡ false) }
+        ensures lit { let e = Self.EditorState in OnOk result ((e.display self.new).lit
+            ≡ lit_after (e.environment self.old) (e.display self.old) (e.draft self.new).line Other) };
 
     /// Opens a group of changes.
     ///
