@@ -16,10 +16,10 @@ use crate::binding::Bindings;
 use line_buffer::CharSearch;
 use line_config::{Config, EditMode, ReadlineError, Result};
 use line_keys::command::Cmd;
+use line_keys::count::Count;
 use line_keys::editor_state::EditorState;
 use line_keys::keymap::{InputMode, Refresher};
 use line_keys::keys::KeyEvent;
-use line_keys::count::Count;
 use line_keys::tables::{Meaning, meaning_of_key};
 use line_keys::tty::RawReader;
 
