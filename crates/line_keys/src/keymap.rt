@@ -71,8 +71,9 @@ pub trait Refresher: EditorState {
             OnOk result (ShowsInFull d (d.surface.measure prompt.now corner) (e.draft self.new).line
             (hint_shown (e.draft self.new))) }
         ensures prompt { OnOk result ((Self.display self.new).layout.default_prompt ≡ false) }
-        ensures lit { let e = Self.EditorState in OnOk result ((e.display self.new).lit
-            ≡ lit_after (e.environment self.old) (e.display self.old) (e.draft self.new).line Other) };
+        ensures lit { let e = Self.EditorState in let line = (e.draft self.new).line in
+            OnOk result ((e.display self.new).lit
+            ≡ lit_after (e.environment self.old) (e.display self.old) line Other) };
 
     /// Opens a group of changes.
     ///

@@ -177,8 +177,8 @@ fn emacs_ctrl_alt<W: Refresher>(c: char, count: Count, _wrt: &W) -> Option<Meani
 
 // Returns what a key stands for in the table of both styles.
 fn common<W: Refresher>(mode: EditMode, key: KeyEvent, count: Count, wrt: &W) -> Option<Meaning>
-    ensures { option_map meaning_of result
-        ≡ option_map (λ r. r.means count) (common_row mode key.0 (bits_of key.1) (W.draft wrt.now)) }
+    ensures { let row = common_row mode key.0 (bits_of key.1) (W.draft wrt.now) in
+        option_map meaning_of result ≡ option_map (λ r. r.means count) row }
 {
     match key {
         E(K::Char(c), M::CTRL) => common_ctrl(mode, c, count, wrt),

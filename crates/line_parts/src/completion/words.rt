@@ -75,7 +75,8 @@ pub fn escape<F: Fn(char) -> bool>(
 ) -> Result<String>
     requires { F.IsAlwaysCallable is_break_char }
     ensures text { IfOk result (λ text. (is_break : ℕ → Bool)
-        → AnswersBy F.Fn is_break_char is_break → string_bytes text ≡ on_chars (escaped esc_char is_break quote) (string_bytes input)) }
+        → AnswersBy F.Fn is_break_char is_break → string_bytes text
+        ≡ on_chars (escaped esc_char is_break quote) (string_bytes input)) }
     ensures faults { MemoryOnly result }
 {
     match (esc_char, quote) {
