@@ -3,8 +3,6 @@ use Rattle.std.specs.Prelude.{ℕ, ◌+◌, ◌==◌, ◌||◌, ◌&&◌, Bool, 
 use Rattle.std.specs.Prelude.{List, [], ◌∷◌, ◌++◌, length, map, filter, take, drop, chars}
 use Rattle.std.specs.Prelude.{Option, None, Some, encode_utf8_all, String, string_bytes}
 use Rattle.std.specs.List.{list_all, list_any, position_or_len, range_with_len, starts_with}
-use Rattle.std.specs.Cmp.Lexicographic.{slice_cmp}
-use Rattle.std.specs.Ordering.{is_lt, nat_cmp}
 use Rattle.line_parts.specs.Candidate.{Completion, Offer}
 use Rattle.line_parts.specs.Escape.{escaped, offset_at, on_chars, unescaped, word_start}
 use Rattle.line_parts.specs.Quoting.{backslash, open_quote}
@@ -80,21 +78,6 @@ abbrev pub offered_for : Quote → List ℕ → List ℕ → Option (List Listed
 offered_for kind folder name None = []
 offered_for kind folder name (Some entries) = map (offered kind folder)
     (filter (λ entry. starts_with (λ a b. a == b) entry.name name) entries)
-
--- whether the shown text of one comes before that of another, byte by byte
-abbrev pub shows_before : Offer → Offer → Bool
-shows_before one other = is_lt (slice_cmp nat_cmp one.display other.display)
-
--- an offer before the first of these that is not shown before it
-abbrev pub put_in_order : Offer → List Offer → List Offer
-put_in_order one [] = one ∷ []
-put_in_order one (other ∷ more) =
-    if shows_before other one then other ∷ put_in_order one more else one ∷ other ∷ more
-
--- offers by their shown texts; those that show the same stay in their order
-abbrev pub in_order : List Offer → List Offer
-in_order [] = []
-in_order (one ∷ more) = put_in_order one (in_order more)
 
 -- how the path before the cursor is completed, in the order of the folder, where this is what
 -- stands in each folder
