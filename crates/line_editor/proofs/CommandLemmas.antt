@@ -1,29 +1,22 @@
 -- Facts on what commands leave.
-use Rattle.std.proofs.Common.{◌≡◌, ℕ, ◌+◌, ◌≤◌, Bool, inl, inr, Result, Ok, Err, refl, sym, ◌∙◌, ap, subst, arith}
+use Rattle.std.proofs.Common.{◌≡◌, ℕ, ◌+◌, ◌≤◌, Bool, inl, inr, Result, Ok, Err, refl, ◌∙◌, ap, subst, arith}
 use Rattle.std.proofs.lemmas.Bool.{cases_lt}
 use Rattle.std.specs.Prelude.{OnOk}
-use Rattle.line_buffer.specs.KillRing.{Ring}
 use Rattle.line_buffer.specs.Line.{Line}
 use Rattle.line_buffer.specs.declared.keymap.Movement.{Movement}
 use Rattle.line_buffer.specs.declared.keymap.Movement.TheVariants as By
 use Rattle.line_config.specs.declared.error.ReadlineError.{ReadlineError}
-use Rattle.line_config.specs.declared.error.ReadlineError.TheVariants.{Interrupted}
 use Rattle.line_config.specs.Error.{Rose, max_count}
-use Rattle.line_keys.specs.Command.{Command, interrupt}
 use Rattle.line_keys.specs.Display.{Display}
 use Rattle.line_keys.specs.Draft.{Draft, hint_shown, start_text}
-use Rattle.line_keys.specs.EditorState.{Does, DrawsEdit, DrawsEditIf, Drew, FailsOnlyIf, Frame, KeepsDrawn, PartyFailed, Redraws, Refreshes}
+use Rattle.line_keys.specs.EditorState.{Does, DrawsEdit, DrawsEditIf, Drew, FailsOnlyIf, Frame, KeepsDrawn, PartyFailed, Redraws, Refreshes, ShowsChange}
 use Rattle.line_keys.specs.declared.editor_state.EditorState.{Ghosts}
 use Rattle.line_parts.specs.Environment.{Environment}
 use Rattle.line_parts.specs.declared.highlight.CmdKind.{CmdKind}
 use Rattle.line_state.specs.Moves.{moved}
-use Rattle.line_editor.specs.Editor.{Editor, Leaves, Step, interrupted, measuring, proceeding, ruler_of, with_draft}
-use Rattle.line_editor.specs.InputState.{input_of}
-use Rattle.line_editor.specs.Runs.{DoesWithKills, Executes, GoesToEnd, LosesHint, editor_of}
-use Rattle.line_editor.specs.Step.{step}
-use Rattle.line_editor.specs.declared.command.Status.{Status}
-use Rattle.line_editor.specs.declared.keymap.InputState.{InputState}
-use Rattle.line_editor.proofs.CountLemmas.{rises_more, rises_twice}
+use Rattle.line_editor.specs.Editor.{measuring, ruler_of}
+use Rattle.line_editor.specs.Runs.{LosesHint}
+use Rattle.line_editor.proofs.CountLemmas.{rises_more, rises_twice, rises_up_to}
 use Rattle.line_editor.proofs.DrawnLemmas.{frame_then, hint_trails, keeps_then, no_hint_line}
 
 -- a move measures by nothing but the ruler
@@ -56,6 +49,24 @@ rose_later old mid new first second rose =
 pub hint_lost : {X : Type 0} (e : Ghosts X) (old new : X) → LosesHint e old new → KeepsDrawn e old new
 hint_lost e old new loses = record { right = loses.right; line = λ shown. no_hint_line e new (loses.no_hint shown) }
 
+module _ {X : Type 0} (e : Ghosts X) where
+  -- a change that was drawn with fewer redraws was drawn with more
+  pub change_more : (old new : X) (less more : ℕ) → less ≤ more → ShowsChange e less old new → ShowsChange e more old new
+  change_more old new less more within change =
+      elim change [
+        | inl same ↦ inl same
+        | inr drew ↦ inr (drew.0, rises_up_to 1 less more (e.redraws old) (e.redraws new) within drew.1)
+      ]
+
+  -- a change behind a step that keeps the text is one from before it
+  change_then : (old mid new : X) (before behind : ℕ) → (e.draft mid).line.text ≡ (e.draft old).line.text → Redraws e 0 before old mid
+      → ShowsChange e behind mid new → ShowsChange e (before + behind) old new
+  change_then old mid new before behind text redraws change =
+      elim change [
+        | inl same ↦ inl (same ∙ text)
+        | inr drew ↦ inr (drew.0, rises_twice 0 before 1 behind (e.redraws old) (e.redraws mid) (e.redraws new) redraws drew.1)
+      ]
+
 module _ {X T : Type 0} (e : Ghosts X) where
   -- what fails behind a step that keeps the frame fails from before it
   pub fails_then : (r : Result T ReadlineError) (old mid new : X) → Frame e old mid → Frame e mid new
@@ -73,12 +84,13 @@ module _ {X T : Type 0} (e : Ghosts X) where
     draft = does.draft;
     start = does.start;
     keeps = does.keeps;
+    change = change_more e old new less more within does.change;
     redraws = rises_more 0 less more (e.redraws old) (e.redraws new) within does.redraws;
     frame = does.frame;
     fails = does.fails;
   }
   does_more (Err er) old new left less more within does =
-      record { draft = tt; start = tt; keeps = tt; redraws = tt; frame = does.frame; fails = does.fails }
+      record { draft = tt; start = tt; keeps = tt; change = tt; redraws = tt; frame = does.frame; fails = does.fails }
 
   pub does_twice : (r : Result T ReadlineError) (old new : X) (left : Draft) → Does e r old new left 1 → Does e r old new left 2
   does_twice r old new left does = does_more r old new left 1 2 (omega arith) does
@@ -91,20 +103,23 @@ module _ {X T : Type 0} (e : Ghosts X) where
 
   -- what is done behind another step is done with both's redraws
   pub does_then : (r : Result T ReadlineError) (old mid new : X) (left : Draft) (before behind : ℕ)
+      → (e.draft mid).line.text ≡ (e.draft old).line.text
       → start_text (e.draft mid) ≡ start_text (e.draft old) → KeepsDrawn e old mid → Redraws e 0 before old mid → Frame e old mid
       → Does e r mid new left behind → Does e r old new left (before + behind)
-  does_then (Ok x) old mid new left before behind start keeps redraws frame does = record {
+  does_then (Ok x) old mid new left before behind text start keeps redraws frame does = record {
     draft = does.draft;
     start = does.start ∙ start;
     keeps = keeps_then e old mid new keeps does.keeps;
+    change = change_then e old mid new before behind text redraws does.change;
     redraws = rises_twice 0 before 0 behind (e.redraws old) (e.redraws mid) (e.redraws new) redraws does.redraws;
     frame = frame_then e old mid new frame does.frame;
     fails = fails_then (Ok x) old mid new frame does.frame does.fails;
   }
-  does_then (Err er) old mid new left before behind start keeps redraws frame does = record {
+  does_then (Err er) old mid new left before behind text start keeps redraws frame does = record {
     draft = tt;
     start = tt;
     keeps = tt;
+    change = tt;
     redraws = tt;
     frame = frame_then e old mid new frame does.frame;
     fails = fails_then (Err er) old mid new frame does.frame does.fails;
@@ -112,13 +127,14 @@ module _ {X T : Type 0} (e : Ghosts X) where
 
   -- the same of what is made of the environment and the draft
   pub does_behind : (r : Result T ReadlineError) (old mid new : X) (made : Environment → Draft → Draft) (given : Draft) (before behind : ℕ)
-      → e.draft mid ≡ given
+      → e.draft mid ≡ given → given.line.text ≡ (e.draft old).line.text
       → start_text (e.draft mid) ≡ start_text (e.draft old) → KeepsDrawn e old mid → Redraws e 0 before old mid → Frame e old mid
       → Does e r mid new (made (e.environment mid) (e.draft mid)) behind → Does e r old new (made (e.environment old) given) (before + behind)
-  does_behind r old mid new made given before behind draft start keeps redraws frame does =
+  does_behind r old mid new made given before behind draft text start keeps redraws frame does =
       let P : Draft → Type 0 = λ d. Does e r old new (made (e.environment old) d) (before + behind) in
       let Q : Environment → Type 0 = λ w. Does e r old new (made w (e.draft mid)) (before + behind) in
-      subst P draft (subst Q frame.environment (does_then r old mid new (made (e.environment mid) (e.draft mid)) before behind start keeps redraws frame does))
+      subst P draft (subst Q frame.environment (does_then r old mid new (made (e.environment mid) (e.draft mid)) before behind
+      (ap (λ (d : Draft). d.line.text) draft ∙ text) start keeps redraws frame does))
 
   -- a refresh that keeps the text is an edit
   pub does_refresh : (r : Result T ReadlineError) (old new : X) (left : Draft) (kind : CmdKind)
@@ -129,9 +145,10 @@ module _ {X T : Type 0} (e : Ghosts X) where
     draft = refreshed.draft;
     start = ap start_text refreshed.draft ∙ start;
     keeps = record { right = λ was. drew.right; line = λ was. hint_trails e new drew.shows };
+    change = inr (drew.shows, rises_up_to 1 1 2 (e.redraws old) (e.redraws new) (omega arith) drew.redraws);
     redraws = rises_more 1 1 2 (e.redraws old) (e.redraws new) (omega arith) drew.redraws;
     frame = refreshed.frame;
     fails = refreshed.fails;
   }
   does_refresh (Err er) old new left kind start refreshed drew =
-      record { draft = tt; start = tt; keeps = tt; redraws = tt; frame = refreshed.frame; fails = refreshed.fails }
+      record { draft = tt; start = tt; keeps = tt; change = tt; redraws = tt; frame = refreshed.frame; fails = refreshed.fails }

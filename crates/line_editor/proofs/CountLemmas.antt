@@ -10,6 +10,9 @@ stays_rises most old new same = λ below. (omega (arith, same), omega (arith, sa
 pub rises_more : (least most more old new : ℕ) → most ≤ more → Rises least most old new → Rises 0 more old new
 rises_more least most more old new within rise = λ below. let r = rise (omega (arith, within, below)) in (omega (arith, r.0), omega (arith, r.1, within))
 
+pub rises_up_to : (least most more old new : ℕ) → most ≤ more → Rises least most old new → Rises least more old new
+rises_up_to least most more old new within rise = λ below. let r = rise (omega (arith, within, below)) in (omega (arith, r.0), omega (arith, r.1, within))
+
 -- two rises are one by both
 pub rises_twice : (least most least' most' old middle new : ℕ) → Rises least most old middle → Rises least' most' middle new
     → Rises (least + least') (most + most') old new

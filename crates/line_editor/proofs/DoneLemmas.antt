@@ -66,7 +66,7 @@ module _ {X : Type 0} (e : Ghosts X) (old mid new : X) (undrawn : Undrawn e old 
     done_reported : {T : Type 0} (r : Result T ReadlineError) → ShowsEdit e true r mid new
         → DrawsEditIf e true r old new (hinted (e.environment old) made)
     done_reported (Err er) shows = record {
-      does = record { draft = tt; start = tt; keeps = tt; redraws = tt; frame = frame_then e old mid new undrawn.frame shows.frame; fails = fails_after (Err er) shows.fails };
+      does = record { draft = tt; start = tt; keeps = tt; change = tt; redraws = tt; frame = frame_then e old mid new undrawn.frame shows.frame; fails = fails_after (Err er) shows.fails };
       drew = tt;
       still = λ no at. tt;
     }
@@ -79,6 +79,7 @@ module _ {X : Type 0} (e : Ghosts X) (old mid new : X) (undrawn : Undrawn e old 
             draft = asked;
             start = ap start_text asked ∙ first;
             keeps = record { right = λ was. drew.right; line = λ was. hint_trails e new drew.shows };
+            change = inr (drew.shows, drew.redraws);
             redraws = λ below. let s = drew.redraws below in (omega (arith, s.0), s.1);
             frame = frame_then e old mid new undrawn.frame shows.frame;
             fails = fails_after (Ok x) shows.fails;
@@ -91,7 +92,7 @@ module _ {X : Type 0} (e : Ghosts X) (old mid new : X) (undrawn : Undrawn e old 
     done_unreported : {T : Type 0} (r : Result T ReadlineError) → made.line.text ≡ (e.draft old).line.text → ShowsEdit e false r mid new
         → DrawsEditIf e false r old new made
     done_unreported (Err er) text shows = record {
-      does = record { draft = tt; start = tt; keeps = tt; redraws = tt; frame = frame_then e old mid new undrawn.frame shows.frame; fails = fails_after (Err er) shows.fails };
+      does = record { draft = tt; start = tt; keeps = tt; change = tt; redraws = tt; frame = frame_then e old mid new undrawn.frame shows.frame; fails = fails_after (Err er) shows.fails };
       drew = tt;
       still = λ no at. tt;
     }
@@ -104,6 +105,7 @@ module _ {X : Type 0} (e : Ghosts X) (old mid new : X) (undrawn : Undrawn e old 
             start = ap start_text (shows.draft ∙ draft) ∙ first;
             keeps = keeps_move e old mid new same (ap (λ (d : Draft). d.hint) draft ∙ hint) undrawn.drew.display n undrawn.frame.environment
                 shows.draft shows.frame.environment shows.right (shows.moved refl);
+            change = inl (ap (λ (d : Draft). d.line.text) (shows.draft ∙ draft) ∙ text);
             redraws = elim (shows.moved refl) [
               | inl d ↦ λ below. let s = d.redraws (omega (arith, below, n)) in (omega (arith, s.0, n), omega (arith, s.1, n))
               | inr d ↦ λ below. (omega (arith, d.0.redraws, n), omega (arith, d.0.redraws, n))
@@ -188,6 +190,7 @@ does_nothing e x old new most undrawn same =
         line = line_stays e old new undrawn.frame.environment (ap (λ (d : Draft). d.line.text) same) (ap (λ (d : Draft). d.hint) same)
             undrawn.drew (ap (λ (d : Draft). d.line) same);
       };
+      change = inl (ap (λ (d : Draft). d.line.text) same);
       redraws = λ below. (omega (arith, undrawn.drew.redraws), omega (arith, undrawn.drew.redraws));
       frame = undrawn.frame;
       fails = record { io = tt; faults = tt };

@@ -1,5 +1,5 @@
 -- Facts on moves in the history, and on what is drawn where a step that draws nothing comes first.
-use Rattle.std.proofs.Common.{◌≡◌, ℕ, ◌+◌, ◌-◌, ◌≤◌, ◌==◌, ◌++◌, Bool, true, false, cond, List, [], length, take, drop, inr, Option, Some, None, Result, Ok, Err, eqb, not, is_some, option_map, refl, sym, ◌∙◌, ap, subst, arith}
+use Rattle.std.proofs.Common.{◌≡◌, ℕ, ◌+◌, ◌-◌, ◌≤◌, ◌==◌, ◌++◌, Bool, true, false, cond, List, [], length, take, drop, inl, inr, Option, Some, None, Result, Ok, Err, eqb, not, is_some, option_map, refl, sym, ◌∙◌, ap, subst, arith}
 use Rattle.std.specs.Prelude.{if◌then◌else◌, IsCharBoundary, IsUtf8, OnOk, option_and_then}
 use Rattle.std.specs.List.{slice_range, starts_with}
 use Rattle.std.proofs.Math.Seq.{take-append_seam}
@@ -43,7 +43,7 @@ pub still_done : {X T : Type 0} (e : Ghosts X) (r : Result T ReadlineError) (old
     → DrewNothing e old new → Frame e old new → FailsOnlyIf r (PartyFailed e old new)
     → DrawsEditIf e false r old new left
 still_done e (Err er) old new left draft line hint first nothing frame fails = record {
-  does = record { draft = tt; start = tt; keeps = tt; redraws = tt; frame = frame; fails = fails };
+  does = record { draft = tt; start = tt; keeps = tt; change = tt; redraws = tt; frame = frame; fails = fails };
   drew = tt;
   still = λ no at. tt;
 }
@@ -57,6 +57,7 @@ still_done e (Ok x) old new left draft line hint first nothing frame fails = rec
           (subst (λ d. IsRight d (e.draft old).line) (sym nothing.display) was);
       line = line_stays e old new frame.environment (ap (λ (d : Draft). d.line.text) draft ∙ ap (λ l. l.text) line) (ap (λ (d : Draft). d.hint) draft ∙ hint) nothing (ap (λ (d : Draft). d.line) draft ∙ line);
     };
+    change = inl (ap (λ (d : Draft). d.line.text) draft ∙ ap (λ l. l.text) line);
     redraws = λ below. let n = nothing.redraws in (omega (arith, n), omega (arith, n));
     frame = frame;
     fails = fails;
@@ -134,6 +135,7 @@ drawn_behind e (Err er) old mid new left left' nothing frame first same edit = r
     draft = tt;
     start = tt;
     keeps = tt;
+    change = tt;
     redraws = tt;
     frame = frame_then e old mid new frame edit.does.frame;
     fails = fails_behind e (Err er) old mid new frame edit.does.frame edit.does.fails;
@@ -155,6 +157,7 @@ drawn_behind e (Ok x) old mid new left left' nothing frame first same edit =
         draft = edit.does.draft ∙ same;
         start = edit.does.start ∙ first;
         keeps = record { right = λ was. drew.right; line = λ was. hint_trails e new drew.shows };
+        change = inr (drew.shows, drew.redraws);
         redraws = λ below. let s = drew.redraws below in (omega (arith, s.0), s.1);
         frame = frame_then e old mid new frame edit.does.frame;
         fails = fails_behind e (Ok x) old mid new frame edit.does.frame edit.does.fails;

@@ -1,3 +1,4 @@
+pub mod AcceptLemmas
 pub mod CommandLemmas
 pub mod CountLemmas
 pub mod DoneLemmas

@@ -46,11 +46,12 @@ move_drawn e x old middle new edited place frame undrawn draft is draft' right d
     let made : e.draft middle ≡ record (e.draft old) { line = moved_to (e.draft old).line place } =
     draft ∙ ap (λ x. with_edited (e.draft old) x) is in
     let moved : (e.draft middle).line ≡ moved_to (e.draft old).line place = ap (λ (d : Draft). d.line) made in
-    let text = ap (λ (l : Line). l.text) moved ∙ moved_text (e.draft old).line place in
+    let text' = ap (λ (l : Line). l.text) moved ∙ moved_text (e.draft old).line place in
     record {
       draft = draft' ∙ made;
+      text = ap (λ (d : Draft). d.line.text) draft' ∙ text';
       start = ap start_text (draft' ∙ draft) ∙ first_placed (edited_of (e.draft old)) edited place is;
-      keeps = keeps_move e old middle new text (ap (λ (d : Draft). d.hint) made) undrawn.drew.display
+      keeps = keeps_move e old middle new text' (ap (λ (d : Draft). d.hint) made) undrawn.drew.display
           undrawn.drew.redraws undrawn.frame.environment draft' frame.environment right drew;
       drew = elim drew [
         | inl d ↦ inl (drew_after e old middle new undrawn None MoveCursor d)
@@ -83,6 +84,7 @@ does_after e (Err er) old mid new left most undrawn draft does = record {
   draft = tt;
   start = tt;
   keeps = tt;
+  change = tt;
   redraws = tt;
   frame = frame_then e old mid new undrawn.frame does.frame;
   fails = fails_after e old mid new undrawn (Err er) does.fails;
@@ -93,6 +95,11 @@ does_after e (Ok x) old mid new left most undrawn draft does =
       draft = does.draft ∙ ap (λ w. left w (e.draft mid)) undrawn.frame.environment ∙ ap (λ d. left (e.environment old) d) draft;
       start = does.start ∙ ap start_text draft;
       keeps = keeps_then e old mid new (drawn_stays e old mid undrawn draft) does.keeps;
+      change = elim does.change [
+        | inl same ↦ inl (same ∙ ap (λ (d : Draft). d.line.text) draft)
+        | inr drew ↦
+            inr (drew.0, λ below. let s = drew.1 (omega (arith, below, n)) in (omega (arith, s.0, n), omega (arith, s.1, n)))
+      ];
       redraws = λ below. let s = does.redraws (omega (arith, below, n)) in (omega (arith, s.0, n), omega (arith, s.1, n));
       frame = frame_then e old mid new undrawn.frame does.frame;
       fails = fails_after e old mid new undrawn (Ok x) does.fails;

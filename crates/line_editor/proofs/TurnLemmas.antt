@@ -19,8 +19,8 @@ module _ {X : Type 0} (e : editors.Ghosts X) (old middle new : X) (keeps : Keeps
   -- what is drawn after an answer, where it was good before the command
   drawn_then : (answer : Answer) → DrawnAfter e answer middle new → DrawnAfter e answer old new
   drawn_then proceeds drawn = keeps_then e old middle new keeps drawn
-  drawn_then submitted drawn = record { right = λ r. drawn.right (keeps.right r); no_hint = λ s. drawn.no_hint (keeps.line s) }
-  drawn_then ended drawn = record { right = λ r. drawn.right (keeps.right r); no_hint = λ s. drawn.no_hint (keeps.line s) }
+  drawn_then submitted drawn = record { own_prompt = drawn.own_prompt; right = λ r. drawn.right (keeps.right r); no_hint = λ s. drawn.no_hint (keeps.line s) }
+  drawn_then ended drawn = record { own_prompt = drawn.own_prompt; right = λ r. drawn.right (keeps.right r); no_hint = λ s. drawn.no_hint (keeps.line s) }
   drawn_then interrupted drawn =
       record { at_end = drawn.at_end; in_place = λ at. drawn.in_place (in_place at); ends = λ s. drawn.ends (keeps.line s) }
 

@@ -1,21 +1,23 @@
 -- Steps, turns and runs of a program's state, input state, reader and kill ring.
-use Rattle.std.specs.Prelude.{◌≡◌, true, ℕ, ◌+◌, ◌-◌, ◌*◌, List, [], length, Result, IfOk, OnOk, IsErrOf}
+use Rattle.std.specs.Prelude.{◌≡◌, true, is_some, ℕ, ◌+◌, ◌-◌, ◌*◌, List, [], length, Result, IfOk, OnOk, IsErrOf}
 use Rattle.line_buffer.specs.KillRing.{Ring}
 use Rattle.line_config.specs.declared.error.ReadlineError.{ReadlineError}
 use Rattle.line_config.specs.declared.error.ReadlineError.TheVariants.{Eof, Interrupted}
 use Rattle.line_keys.specs.Command.{Command}
 use Rattle.line_keys.specs.Draft.{hinted, start_text}
-use Rattle.line_keys.specs.EditorState.{Does, DrewNothing, HasShownEnd, Frame, HasRightLayout, IsAtEnd, IsInPlace, KeepsDrawn, KeepsLayoutRight, PartyFailed, Redraws, ShowsLine, ShowsNoHint}
+use Rattle.line_keys.specs.EditorState.{Does, DrewNothing, HasShownEnd, Frame, HasRightLayout, IsAtEnd, IsInPlace, KeepsDrawn, KeepsLayoutRight, PartyFailed, Redraws, Shows, ShowsChange, ShowsLine, ShowsNoHint}
 use Rattle.line_keys.specs.Item.{Item}
 use Rattle.line_keys.specs.declared.editor_state.EditorState as editors
 use Rattle.line_keys.specs.declared.tty.RawReader as readers
 use Rattle.line_config.specs.Error.{IoOnlyIf, UnlessFault}
+use Rattle.line_parts.specs.Environment.{verdict_on}
+use Rattle.line_parts.specs.Verdict.{message_of}
 use Rattle.line_editor.specs.InputState.{input_of, keymap_of}
 use Rattle.line_editor.specs.Reading.{RedrawsItems, OutOfItems}
 use Rattle.line_editor.specs.Run.{End, Run, Turn, dry, stopped}
 use Rattle.line_editor.specs.Status.{answer_of}
 use Rattle.line_editor.specs.Editor.{Answer, Editor, Leaves, ended, interrupted, own_ruler, proceeds, ruler_of, submitted}
-use Rattle.line_editor.specs.Step.{is_left_above, step}
+use Rattle.line_editor.specs.Step.{asks_verdict, is_left_above, step}
 use Rattle.line_editor.specs.declared.command.Status.{Status}
 use Rattle.line_editor.specs.declared.keymap.InputState.{InputState}
 use Rattle.line_editor.specs.declared.run.Turned.{Turned}
@@ -36,8 +38,9 @@ module _ {X : Type 0} (e : editors.Ghosts X) where
       Leaves (step (ruler_of (e.display state) indent) (e.environment state) (input_of input) (editor_of state kills) command)
       (editor_of state' kills') answer
 
-  -- what is drawn stays good, and no hint stands behind the line any more
+  -- what is drawn stays good behind the own prompt, and no hint stands behind the line any more
   pub record LosesHint (state state' : X) : Type 0 where
+    pub own_prompt : (e.display state').layout.default_prompt ≡ true
     pub right : KeepsLayoutRight e state state'
     pub no_hint : ShowsLine e state → ShowsNoHint e state'
 
@@ -54,8 +57,13 @@ module _ {X : Type 0} (e : editors.Ghosts X) where
   DrawnAfter ended state state' = LosesHint state state'
   DrawnAfter interrupted state state' = GoesToEnd state state'
 
-  -- a command that is executed: the step, what is drawn after it, with three full redraws at most and none where nothing happens, and
-  -- the frame
+  -- where the text stayed, its verdict's message is shown, if there is one
+  abbrev pub ShowsMessage : X → X → Type 0
+  ShowsMessage state state' = let message = message_of (verdict_on (e.environment state) (e.draft state).line.text) in
+      is_some message ≡ true → (e.draft state').line.text ≡ (e.draft state).line.text → Shows e state' message
+
+  -- a command that is executed: the step, what is drawn after it, with three full redraws at most, one for a changed text, and none
+  -- where nothing happens, and the frame
   pub record Executes (result : Result Status ReadlineError) (state : X) (input : InputState) (indent : ℕ) (kills : Ring) (command : Command) (state' : X) (kills' : Ring) : Type 0 where
     pub steps : IfOk result (λ status. StepsTo state input indent kills command state' kills' (answer_of status))
     pub steps_at_eof : IsErrOf result Eof → StepsTo state input indent kills command state' kills' ended
@@ -63,10 +71,12 @@ module _ {X : Type 0} (e : editors.Ghosts X) where
     pub drawn : IfOk result (λ status. DrawnAfter (answer_of status) state state')
     pub drawn_at_eof : IsErrOf result Eof → DrawnAfter ended state state'
     pub drawn_at_interrupt : IsErrOf result Interrupted → DrawnAfter interrupted state state'
+    pub change : OnOk result (ShowsChange e 3 state state')
+    pub message : asks_verdict command ≡ true → OnOk result (ShowsMessage state state')
     pub quiet : is_left_above command ≡ true → OnOk result (DrewNothing e state state')
     pub redraws : OnOk result (Redraws e 0 3 state state')
     pub redraws_at_eof : IsErrOf result Eof → Redraws e 0 3 state state'
-    pub redraws_at_interrupt : IsErrOf result Interrupted → Redraws e 0 3 state state'
+    pub redraws_at_interrupt : IsErrOf result Interrupted → e.redraws state' ≡ e.redraws state
     pub start : UnlessFault result (start_text (e.draft state') ≡ start_text (e.draft state))
     pub frame : Frame e state state'
     pub io : IoOnlyIf result (PartyFailed e state state')

@@ -69,6 +69,12 @@ is_left_above suspend = true
 is_left_above unknown = true
 is_left_above _ = false
 
+-- the commands that ask for the line's verdict
+abbrev pub asks_verdict : Command → Bool
+asks_verdict accept_line = true
+asks_verdict (accept_or_insert_line in_the_middle) = true
+asks_verdict _ = false
+
 -- what a command does: it kills or yanks, ends the run or may end it, or only edits
 abbrev pub step : Ruler → Environment → Input → Editor → Command → Step
 step ruler environment input editor (kill movement) =

@@ -2,7 +2,7 @@
 ghost use Rattle.std.specs.Prelude.{◌≡◌, true, IfOk, OnOk, IsErrOf, is_some};
 ghost use Rattle.line_config.specs.Error.{IoOnlyIf, UnlessFault};
 ghost use Rattle.line_editor.specs.InputState.{input_of};
-ghost use Rattle.line_editor.specs.Runs.{DrawnAfter, Executes, LosesHint};
+ghost use Rattle.line_editor.specs.Runs.{DrawnAfter, Executes, LosesHint, ShowsMessage};
 ghost use Rattle.line_editor.specs.Status.{answer_of};
 ghost use Rattle.line_editor.specs.Accept.{accepted, answer_at_end, validated};
 ghost use Rattle.line_editor.specs.Editor.{ended, ruler_of};
@@ -10,7 +10,7 @@ ghost use Rattle.line_editor.specs.Edits.{typed_in};
 ghost use Rattle.line_editor.specs.Step.{edited_by, is_left_above};
 ghost use Rattle.line_keys.specs.Command.{command_of};
 ghost use Rattle.line_keys.specs.Draft.{start_text, unhinted};
-ghost use Rattle.line_keys.specs.EditorState.{Does, DrewNothing, FailsOnlyIf, Frame, PartyFailed, Redraws};
+ghost use Rattle.line_keys.specs.EditorState.{Does, DrewNothing, FailsOnlyIf, Frame, PartyFailed, Redraws, ShowsChange};
 
 use crate::edit::State;
 use crate::keymap::InputState;
@@ -188,6 +188,8 @@ impl<'out, 'prompt, W: Renderer, H: Helper, P: Prompt, S: History> State<
         ensures start { let d = ⟦<Self as EditorState>⟧.draft in
             OnOk result (start_text (d self.new) ≡ start_text (d self.old)) }
         ensures drawn { OnOk result (LosesHint ⟦<Self as EditorState>⟧ self.old self.new) }
+        ensures change { OnOk result (ShowsChange ⟦<Self as EditorState>⟧ 3 self.old self.new) }
+        ensures message { OnOk result (ShowsMessage ⟦<Self as EditorState>⟧ self.old self.new) }
         ensures redraws { OnOk result (Redraws ⟦<Self as EditorState>⟧ 0 3 self.old self.new) }
         ensures frame { Frame ⟦<Self as EditorState>⟧ self.old self.new }
         ensures fails { let e = ⟦<Self as EditorState>⟧ in
@@ -208,6 +210,8 @@ impl<'out, 'prompt, W: Renderer, H: Helper, P: Prompt, S: History> State<
             OnOk result (start_text (d self.new) ≡ start_text (d self.old)) }
         ensures drawn { let e = ⟦<Self as EditorState>⟧ in IfOk result (λ status.
             DrawnAfter e (answer_of status) self.old self.new) }
+        ensures change { OnOk result (ShowsChange ⟦<Self as EditorState>⟧ 3 self.old self.new) }
+        ensures message { OnOk result (ShowsMessage ⟦<Self as EditorState>⟧ self.old self.new) }
         ensures redraws { OnOk result (Redraws ⟦<Self as EditorState>⟧ 0 3 self.old self.new) }
         ensures frame { Frame ⟦<Self as EditorState>⟧ self.old self.new }
         ensures fails { let e = ⟦<Self as EditorState>⟧ in

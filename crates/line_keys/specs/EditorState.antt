@@ -112,12 +112,18 @@ pub record Refreshes {X T : Type 0} (e : Ghosts X) (result : Result T ReadlineEr
 abbrev pub HasCursorDrawn : {X : Type 0} → Ghosts X → X → Type 0
 HasCursorDrawn e editor = HasCursorAt (e.display editor) (e.draft editor).line
 
+-- a text that changed was drawn in full with its hint, with so many full redraws at most
+abbrev pub ShowsChange : {X : Type 0} → Ghosts X → ℕ → X → X → Type 0
+ShowsChange e most old new =
+    ((e.draft new).line.text ≡ (e.draft old).line.text) ⊎ (Shows e new (hint_shown (e.draft new)) × Redraws e 1 most old new)
+
 -- what a call leaves that edits the line or moves its cursor: the draft, and the text that all changes taken back give; what is
--- drawn stays good, with so many full redraws at most
+-- drawn stays good, a changed text is drawn, with so many full redraws at most
 pub record Does {X T : Type 0} (e : Ghosts X) (result : Result T ReadlineError) (old new : X) (left : Draft) (most : ℕ) : Type 0 where
   pub draft : OnOk result (e.draft new ≡ left)
   pub start : OnOk result (start_text (e.draft new) ≡ start_text (e.draft old))
   pub keeps : OnOk result (KeepsDrawn e old new)
+  pub change : OnOk result (ShowsChange e most old new)
   pub redraws : OnOk result (Redraws e 0 most old new)
   pub frame : Frame e old new
   pub fails : FailsOnlyIf result (PartyFailed e old new)
@@ -153,9 +159,10 @@ pub record DrawsEditIf {X T : Type 0} (e : Ghosts X) (reported : Bool) (result :
   pub drew : OnOk result (DrewEdit e reported old new)
   pub still : reported ≡ false → HasCursorAt (e.display old) left.line → OnOk result (DrewNothing e old new)
 
--- what a move of the cursor leaves: the line, and where the cursor has to be drawn elsewhere the line with nothing behind it
+-- what a move of the cursor leaves: the line with its text, and where the cursor has to be drawn elsewhere the line with nothing behind it
 pub record MovesTo {X T : Type 0} (e : Ghosts X) (result : Result T ReadlineError) (old new : X) (kind : CmdKind) (line : Line) : Type 0 where
   pub draft : e.draft new ≡ record (e.draft old) { line = line }
+  pub text : (e.draft new).line.text ≡ (e.draft old).line.text
   pub start : start_text (e.draft new) ≡ start_text (e.draft old)
   pub keeps : OnOk result (KeepsDrawn e old new)
   pub drew : OnOk result (DrewMove e kind old new)

@@ -1,7 +1,7 @@
 //! A helper whose answers are set beforehand, which notes what it is asked.
-ghost use Rattle.std.specs.Prelude.{true, false, Some, None, option_map, if◌then◌else◌};
+ghost use Rattle.std.specs.Prelude.{◌≡◌, true, false, Some, None, option_map, if◌then◌else◌};
 ghost use Rattle.line_parts.specs.Verdict.{incomplete, invalid, valid};
-ghost use Rattle.tests.specs.Advisor.{is_lit_for};
+ghost use Rattle.tests.specs.Advisor.{is_lit_for, shown_after};
 
 use crate::countdown::Countdown;
 use line_buffer::{Changeset, LineBuffer};
@@ -11,6 +11,7 @@ use line_parts::{
     ValidationResult, Validator,
 };
 use std::alloc::Global;
+use std::borrow::CowStr;
 
 /// The last four kinds that it was asked, the newest first.
 pub(crate) type Kinds = (
@@ -38,8 +39,8 @@ impl Hint for Tip {
     }
 }
 
-/// Its answers, which are the same for each line, and what it was asked. It asks for a full drawing of one kind alone, and
-/// one of its hints and verdicts can fail.
+/// Its answers, which are the same for each line, and what it was asked. It asks for a full drawing of one kind alone, shows
+/// for each line what it was asked last, and one of its hints and verdicts can fail.
 #[derive(Drop)]
 pub(crate) struct Advisor {
     hint: Option<Tip>,
@@ -85,6 +86,18 @@ impl Advisor {
     /// The last four kinds that it was asked, the newest first.
     pub(crate) fn kinds(&self) -> Kinds {
         self.kinds
+    }
+}
+
+// How a line is shown after a kind that was asked.
+fn shown_after(kind: Option<CmdKind>) -> &'static str
+    ensures { result.now ≡ shown_after kind }
+{
+    match kind {
+        None => "unasked",
+        Some(CmdKind::MoveCursor) => "after a move",
+        Some(CmdKind::Other) => "after an edit",
+        Some(CmdKind::ForcedRefresh) => "for the last time",
     }
 }
 
@@ -135,6 +148,12 @@ impl Highlighter for Advisor {
     ghost lights = { λ advisor _ _ kind. is_lit_for advisor.lit kind };
 
     ghost steady = { λ advisor. record advisor { kinds = (None, None, None, None) } };
+
+    ghost own_line = { λ advisor _ _. Some (shown_after advisor.kinds.0) };
+
+    fn highlight<'l>(&self, _alloc: Global, _line: &'l str, _pos: usize) -> Result<CowStr<'l>> {
+        Ok(CowStr::Borrowed(shown_after(self.kinds.0)))
+    }
 
     fn highlight_char(&mut self, _line: &str, _pos: usize, kind: CmdKind) -> bool {
         let (first, second, third, _) = self.kinds;

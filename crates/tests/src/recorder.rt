@@ -9,6 +9,7 @@ use line_config::{Prompt, ReadlineError, Result};
 use line_editor::{Renderer, ScreenState};
 use line_parts::Highlighter;
 use std::alloc::Global;
+use std::borrow::CowStr;
 use std::fmt::{Display, Formatter};
 use std::{fmt, io};
 
@@ -111,6 +112,21 @@ impl Display for Places<'_> {
     }
 }
 
+/// How a highlighter shows a line.
+fn shown<'l, H: Highlighter>(
+    alloc: Global,
+    line: &'l LineBuffer,
+    highlighter: Option<&H>,
+) -> CowStr<'l> {
+    let Some(highlighter) = highlighter else {
+        return CowStr::Borrowed("plain");
+    };
+    match highlighter.highlight(alloc, line.as_str(), line.pos()) {
+        Ok(text) => text,
+        Err(_) => CowStr::Borrowed("not shown"),
+    }
+}
+
 /// Where the text ends that begins at `origin`.
 #[tactic(auto, unfolding(crate::specs::Screen::measured))]
 fn measured(columns: Unit, text: &str, origin: Position) -> Position
@@ -190,11 +206,7 @@ impl Renderer for Recorder {
             line.pos(),
             Places(old_layout),
             Places(Some(new_layout)),
-            if highlighter.is_some() {
-                "highlighted"
-            } else {
-                "plain"
-            },
+            shown(self.alloc, line, highlighter).as_str(),
         )?;
         self.note(&call)?;
         self.text.clear();

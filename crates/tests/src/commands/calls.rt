@@ -123,7 +123,7 @@ const SHOWN: &[shown::Case] = &[
         "a|b",
         &[PaintKept],
         "a|b",
-        "draw \"> \" \"ab\" 1 None old none new 0:2 0:3 0:4 highlighted\n",
+        "draw \"> \" \"ab\" 1 None old none new 0:2 0:3 0:4 after an edit\n",
     ),
 ];
 

@@ -102,7 +102,7 @@ draw \"> \" \"ax\" 1 None old 0:2 0:3 0:3 new 0:2 0:3 0:4 plain\n",
         "a|b",
         &[TransposeChars],
         "ba|",
-        "draw \"> \" \"ba\" 2 None old 0:2 0:3 0:4 new 0:2 0:4 0:4 highlighted\n",
+        "draw \"> \" \"ba\" 2 None old 0:2 0:3 0:4 new 0:2 0:4 0:4 after an edit\n",
     ),
 ];
 

@@ -195,7 +195,7 @@ fn start_anew_after_a_fault(rt: HostRuntime) -> Result<(), Fail> {
     Ok(())
 }
 
-/// A highlighter is handed over where colours are on and a helper is there. Where its last answer was yes, a submit draws
+/// A highlighter is handed over where colours are on and a helper is there, and is asked of the change before. Where its last answer was yes, a submit draws
 /// once more.
 const COLOURS: &[Case] = &[
     (
@@ -203,8 +203,8 @@ const COLOURS: &[Case] = &[
         &[Run(&[A, ENTER])],
         "submits",
         Wanted::Log(
-            "draw \"> \" \"\" 0 None old none new 0:2 0:2 0:2 highlighted
-draw \"> \" \"a\" 1 None old 0:2 0:2 0:2 new 0:2 0:3 0:3 highlighted
+            "draw \"> \" \"\" 0 None old none new 0:2 0:2 0:2 after an edit
+draw \"> \" \"a\" 1 None old 0:2 0:2 0:2 new 0:2 0:3 0:3 after an edit
 ",
         ),
     ),
@@ -223,8 +223,8 @@ draw \"> \" \"a\" 1 None old 0:2 0:2 0:2 new 0:2 0:3 0:3 plain
         &[Prompt("? "), Message(Some("ok"), Other)],
         "proceeds",
         Wanted::Log(
-            "draw \"? \" \"\" 0 None old none new 0:2 0:2 0:2 highlighted
-draw \"> \" \"\" 0 Some(\"ok\") old 0:2 0:2 0:2 new 0:2 0:2 0:4+ highlighted
+            "draw \"? \" \"\" 0 None old none new 0:2 0:2 0:2 after an edit
+draw \"> \" \"\" 0 Some(\"ok\") old 0:2 0:2 0:2 new 0:2 0:2 0:4+ after an edit
 ",
         ),
     ),
@@ -233,9 +233,9 @@ draw \"> \" \"\" 0 Some(\"ok\") old 0:2 0:2 0:2 new 0:2 0:2 0:4+ highlighted
         &[Run(&[A, ENTER])],
         "submits",
         Wanted::Log(
-            "draw \"> \" \"\" 0 None old none new 0:2 0:2 0:2 highlighted
-draw \"> \" \"a\" 1 None old 0:2 0:2 0:2 new 0:2 0:3 0:3 highlighted
-draw \"> \" \"a\" 1 None old 0:2 0:3 0:3 new 0:2 0:3 0:3 highlighted
+            "draw \"> \" \"\" 0 None old none new 0:2 0:2 0:2 after an edit
+draw \"> \" \"a\" 1 None old 0:2 0:2 0:2 new 0:2 0:3 0:3 after an edit
+draw \"> \" \"a\" 1 None old 0:2 0:3 0:3 new 0:2 0:3 0:3 for the last time
 ",
         ),
     ),
@@ -244,9 +244,9 @@ draw \"> \" \"a\" 1 None old 0:2 0:3 0:3 new 0:2 0:3 0:3 highlighted
         &[Run(&[A, LEFT, ENTER])],
         "submits",
         Wanted::Log(
-            "draw \"> \" \"\" 0 None old none new 0:2 0:2 0:2 highlighted
-draw \"> \" \"a\" 1 None old 0:2 0:2 0:2 new 0:2 0:3 0:3 highlighted
-draw \"> \" \"a\" 0 None old 0:2 0:3 0:3 new 0:2 0:2 0:3 highlighted
+            "draw \"> \" \"\" 0 None old none new 0:2 0:2 0:2 after an edit
+draw \"> \" \"a\" 1 None old 0:2 0:2 0:2 new 0:2 0:3 0:3 after an edit
+draw \"> \" \"a\" 0 None old 0:2 0:3 0:3 new 0:2 0:2 0:3 after a move
 ",
         ),
     ),
@@ -255,10 +255,10 @@ draw \"> \" \"a\" 0 None old 0:2 0:3 0:3 new 0:2 0:2 0:3 highlighted
         &[Run(&[A, LEFT, ENTER])],
         "submits",
         Wanted::Log(
-            "draw \"> \" \"\" 0 None old none new 0:2 0:2 0:2 highlighted
-draw \"> \" \"a\" 1 None old 0:2 0:2 0:2 new 0:2 0:3 0:3 highlighted
-draw \"> \" \"a\" 0 None old 0:2 0:3 0:3 new 0:2 0:2 0:3 highlighted
-draw \"> \" \"a\" 0 None old 0:2 0:2 0:3 new 0:2 0:2 0:3 highlighted
+            "draw \"> \" \"\" 0 None old none new 0:2 0:2 0:2 after an edit
+draw \"> \" \"a\" 1 None old 0:2 0:2 0:2 new 0:2 0:3 0:3 after an edit
+draw \"> \" \"a\" 0 None old 0:2 0:3 0:3 new 0:2 0:2 0:3 after a move
+draw \"> \" \"a\" 0 None old 0:2 0:2 0:3 new 0:2 0:2 0:3 for the last time
 ",
         ),
     ),
@@ -267,9 +267,9 @@ draw \"> \" \"a\" 0 None old 0:2 0:2 0:3 new 0:2 0:2 0:3 highlighted
         &[Run(&[A, ENTER])],
         "submits",
         Wanted::Log(
-            "draw \"> \" \"\" 0 Some(\"!!\") old none new 0:2 0:2 0:4+ highlighted
-draw \"> \" \"a\" 1 Some(\"!!\") old 0:2 0:2 0:4+ new 0:2 0:3 0:5+ highlighted
-draw \"> \" \"a\" 1 None old 0:2 0:3 0:5+ new 0:2 0:3 0:3 highlighted
+            "draw \"> \" \"\" 0 Some(\"!!\") old none new 0:2 0:2 0:4+ after an edit
+draw \"> \" \"a\" 1 Some(\"!!\") old 0:2 0:2 0:4+ new 0:2 0:3 0:5+ after an edit
+draw \"> \" \"a\" 1 None old 0:2 0:3 0:5+ new 0:2 0:3 0:3 for the last time
 ",
         ),
     ),

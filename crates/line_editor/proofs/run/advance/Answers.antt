@@ -1,5 +1,6 @@
 use Rattle.std.proofs.Common.{Err, refl, ap}
 use Rattle.line_config.specs.Error.{is_fault}
+use Rattle.line_editor.proofs.CountLemmas.{stays_rises}
 use Rattle.line_editor.proofs.TurnLemmas.{takes_turn}
 use Rattle.line_editor.proofs.run.advance.Goals as goal
 
@@ -44,4 +45,5 @@ returns-in-Err-Interrupted-clause-turned g c =
     let done = c.in-Err-Interrupted.ensures in
     let is = ap Err c.in-Err-Interrupted.field-0-is in
     takes_turn _ _ _ _ _ _ _ _ _ _ _ _ _ _ _ _ read.phrase.1 read.phrase.2 c.reset_kills.ensures (read.reading.ruler _) read.reading.start read.reading.keeps.frame read.reading.drawn
-    read.reading.in_place read.reading.redraws (done.steps_at_interrupt is) (done.start (ap is_fault c.in-Err-Interrupted.field-0-is)) (done.drawn_at_interrupt is) (done.redraws_at_interrupt is)
+    read.reading.in_place read.reading.redraws (done.steps_at_interrupt is) (done.start (ap is_fault c.in-Err-Interrupted.field-0-is)) (done.drawn_at_interrupt is)
+    (stays_rises 3 _ _ (done.redraws_at_interrupt is))

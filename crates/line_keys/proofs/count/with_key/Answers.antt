@@ -1,4 +1,4 @@
-use Rattle.std.proofs.Common.{◌≡◌, sym, ap, ◌∙◌}
+use Rattle.std.proofs.Common.{sym, ap, ◌∙◌}
 use Rattle.line_keys.specs.Count.{number_of}
 use Rattle.line_keys.proofs.CountLemmas.{no-digit, one-digit}
 use Rattle.line_keys.proofs.count.with_key.Goals as goal

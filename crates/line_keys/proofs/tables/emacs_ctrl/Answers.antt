@@ -1,4 +1,3 @@
-use Rattle.std.proofs.Common.{◌≡◌, option_map}
 use Rattle.line_keys.proofs.tables.emacs_ctrl.Goals as goal
 
 pub returns-in-93 : goal.returns-in-93
