@@ -8,6 +8,7 @@ pub mod HistoryMoveLemmas
 pub mod HistoryWayLaws
 pub mod MoveLemmas
 pub mod PhraseLemmas
+pub mod ReadingLemmas
 pub mod RunLaws
 pub mod RunLemmas
 pub mod TurnLemmas

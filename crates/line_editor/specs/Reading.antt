@@ -1,6 +1,6 @@
 -- Reading a command from the items that a reader has left.
 use Rattle.std.specs.Prelude.{◌≡◌, ◌⊎◌, ℕ, ◌+◌, ◌-◌, ◌<◌, ◌≤◌, ◌++◌, [], true, List, length, Result, OnOk, OnErr, IsErrOf}
-use Rattle.line_config.specs.Error.{IoOnlyIf, max_count}
+use Rattle.line_config.specs.Error.{IoOnlyIf, Rose, max_count}
 use Rattle.line_config.specs.declared.error.ReadlineError.{ReadlineError}
 use Rattle.line_config.specs.declared.error.ReadlineError.TheVariants.{Eof, Interrupted}
 use Rattle.line_parts.specs.Environment.{Environment}
@@ -13,12 +13,43 @@ use Rattle.line_keys.specs.declared.tty.RawReader as readers
 use Rattle.line_config.specs.Error.{UnlessFault}
 use Rattle.line_editor.specs.Editor.{ruler_of}
 use Rattle.line_editor.specs.InputState.{input_of, keymap_of}
-use Rattle.line_editor.specs.Phrase.{Phrase, IsBeginning}
+use Rattle.line_keys.specs.Table.{Meaning}
+use Rattle.line_keys.specs.declared.count.Count.{Count}
+use Rattle.line_keys.specs.declared.keys.KeyEvent.{KeyEvent}
+use Rattle.line_editor.specs.Input.{Input}
+use Rattle.line_editor.specs.Keymap.{Keymap}
+use Rattle.line_editor.specs.Phrase.{IsBeginning, Keyed, Phrase, Tailed}
 use Rattle.line_editor.specs.declared.keymap.InputState.{InputState}
 
 -- the failures of the one or of the other party rose, where both counts can
 abbrev pub EitherRose : ℕ → ℕ → ℕ → ℕ → Type 0
 EitherRose one other one' other' = one < max_count → other < max_count → one + other < one' + other'
+
+module _ {Y : Type 0} (r : readers.Ghosts Y) where
+  -- what a call leaves that takes items from a reader, and asks no one else
+  pub record TakesItems {T : Type 0} (result : Result T ReadlineError) (reader reader' : Y) : Type 0 where
+    pub own : r.own_binding reader' ≡ r.own_binding reader
+    pub counts : r.failures reader ≤ r.failures reader'
+    pub fewer : OnOk result (length (r.rest reader') ≤ length (r.rest reader))
+    pub not_interrupted : IsErrOf result Interrupted → ⊥
+    pub io : IoOnlyIf result (Rose (r.failures reader) (r.failures reader'))
+
+  -- what was read behind a key of this meaning are the items of a command
+  pub record ReadsTail (reader reader' : Y) (meaning : Meaning) (command : Command) : Type 0 where
+    pub tail : List Item
+    pub cut : r.rest reader ≡ tail ++ r.rest reader'
+    pub tailed : Tailed meaning tail command
+
+  -- the same of a key, whatever it is bound to
+  pub record ReadsBehind (reader reader' : Y) (keymap : Keymap) (draft : Draft) (input : Input) (count : Count) (last : KeyEvent) (command : Command) : Type 0 where
+    pub tail : List Item
+    pub cut : r.rest reader ≡ tail ++ r.rest reader'
+    pub keyed : Keyed keymap draft input count last tail command
+
+  -- no item is left, before the call and behind it
+  pub record IsDry (reader reader' : Y) : Type 0 where
+    pub before : r.rest reader ≡ []
+    pub behind : r.rest reader' ≡ []
 
 -- a phrase that was cut short leaves the draft, with its hint as it was or asked again
 abbrev pub LeftByCut : Environment → Draft → Draft → Type 0

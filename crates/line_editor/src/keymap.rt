@@ -4,23 +4,23 @@ ghost use Rattle.line_editor.specs.Binding.{bound_answer};
 ghost use Rattle.line_editor.specs.Keymap.{on_line};
 ghost use Rattle.line_editor.specs.Input.{first_input, is_vi_command};
 ghost use Rattle.line_editor.specs.InputState.{input_of, keymap_of};
-ghost use Rattle.line_editor.specs.Phrase.{command_by};
-ghost use Rattle.line_editor.specs.Reading.{ReadsOn, ReadsPhrase, OutOfItems};
+ghost use Rattle.line_editor.specs.Phrase.{LacksItems, LacksTail, moves_by, search_to};
+ghost use Rattle.line_editor.specs.Reading.{IsDry, OutOfItems, ReadsBehind, ReadsOn, ReadsPhrase, ReadsTail, TakesItems};
 ghost use Rattle.line_keys.specs.Command.{Command, command_of};
 ghost use Rattle.line_keys.specs.Draft.{KeepsText};
 ghost use Rattle.line_keys.specs.EditorState.{DrewNothing};
-ghost use Rattle.line_keys.specs.Row.{meaning_of};
+ghost use Rattle.line_keys.specs.Row.{meaning_of, search_for};
 ghost use Rattle.line_keys.specs.declared.keys.KeyEvent.{KeyEvent};
 
 use crate::binding::Bindings;
-use line_buffer::CharSearch;
+use line_buffer::{CharSearch, Movement, RepeatCount};
 use line_config::{Config, EditMode, ReadlineError, Result};
 use line_keys::command::Cmd;
 use line_keys::count::Count;
 use line_keys::editor_state::EditorState;
 use line_keys::keymap::{InputMode, Refresher};
-use line_keys::keys::KeyEvent;
-use line_keys::tables::{Meaning, meaning_of_key};
+use line_keys::keys::{KeyCode, KeyEvent, Modifiers};
+use line_keys::tables::{Meaning, SearchKind, meaning_of_key, second_key};
 use line_keys::tty::RawReader;
 
 /// Reads keys as commands, by the program's bindings, the reader's own and the tables, and remembers what the next
@@ -93,23 +93,57 @@ impl<'b> InputState<'b> {
             wrt.old self.old rdr.old wrt.new self.new rdr.new }
     {
         let key = rdr.next_key(single_esc_abort && self.is_emacs_mode())?;
-        let count = Count::one();
-        match own_command(rdr, wrt, &key) {
-            Some(command) => Ok(command),
-            None => {
-                let meaning = meaning_of_key(self.mode, self.input_mode, key, count, wrt);
-                Ok(command_by(meaning))
-            }
+        self.read_behind(rdr, wrt, key, Count::one())
+    }
+
+    // Reads what belongs to a key, under a count, and gives the command.
+    fn read_behind<R: RawReader, W: Refresher>(
+        &self,
+        rdr: &mut R,
+        wrt: &W,
+        key: KeyEvent,
+        count: Count,
+    ) -> Result<Cmd>
+        ensures reads { let keymap = keymap_of self.now (R.own_binding rdr.old) in IfOk result (λ c.
+            ReadsBehind R.RawReader rdr.old rdr.new keymap (W.draft wrt.now) (input_of self.now)
+            count key (command_of c)) }
+        ensures eof { let keymap = keymap_of self.now (R.own_binding rdr.old) in
+            IsErrOf result ReadlineError.Eof → IsDry R.RawReader rdr.old rdr.new
+            × LacksTail keymap (W.draft wrt.now) (input_of self.now) count key }
+        ensures items { TakesItems R.RawReader result rdr.old rdr.new }
+    {
+        if let Some(command) = own_command(rdr, wrt, &key) {
+            return Ok(command);
         }
+        let meaning = meaning_of_key(self.mode, self.input_mode, key, count, wrt);
+        read_tail(rdr, meaning)
     }
 }
 
-// Returns the command of a meaning: those that depend on what is read next stand for nothing yet.
-fn command_by(meaning: Meaning) -> Cmd
-    ensures { command_of result ≡ command_by (meaning_of meaning) }
+// Reads what belongs to a key of this meaning, and gives the command.
+fn read_tail<R: RawReader>(rdr: &mut R, meaning: Meaning) -> Result<Cmd>
+    ensures reads { IfOk result (λ c.
+        ReadsTail R.RawReader rdr.old rdr.new (meaning_of meaning) (command_of c)) }
+    ensures eof { IsErrOf result ReadlineError.Eof → IsDry R.RawReader rdr.old rdr.new
+        × LacksItems (meaning_of meaning) }
+    ensures items { TakesItems R.RawReader result rdr.old rdr.new }
 {
     match meaning {
-        Meaning::Command(command) => command,
+        Meaning::Command(command) => Ok(command),
+        Meaning::Search(n, kind) => Ok(move_to(rdr.next_key(false)?, n, kind)),
+        Meaning::Paste => Ok(Cmd::Insert(1, rdr.read_pasted_text()?)),
+        Meaning::SecondKey(count) => Ok(second_key(rdr.next_key(false)?, count)),
+    }
+}
+
+// Returns the move by a search for the character of a key, so many times; another key stands for nothing.
+fn move_to(key: KeyEvent, n: RepeatCount, kind: SearchKind) -> Cmd
+    ensures { command_of result ≡ moves_by n (search_to (λ c. search_for kind c) key) }
+{
+    match key {
+        KeyEvent(KeyCode::Char(c), Modifiers::NONE) => {
+            Cmd::Move(Movement::ViCharSearch(n, kind.search(c)))
+        }
         _ => Cmd::Unknown,
     }
 }
