@@ -1,6 +1,7 @@
 pub mod AcceptLemmas
 pub mod CommandLemmas
 pub mod CountLemmas
+pub mod CountedLemmas
 pub mod DoneLemmas
 pub mod DrawnLemmas
 pub mod EditLemmas

@@ -1,22 +1,26 @@
 -- Facts on phrases.
-use Rattle.std.proofs.Common.{◌≡◌, ℕ, List, [], ◌∷◌, ◌++◌, map, Option, Some, None, refl, sym, ◌∙◌, ap, subst}
+use Rattle.std.proofs.Common.{◌≡◌, ℕ, Bool, true, false, not, append_assoc, List, [], ◌∷◌, ◌++◌, map, Option, Some, None, refl, sym, ◌∙◌, ap, subst}
 use Rattle.line_parts.specs.Environment.{Environment}
 use Rattle.line_buffer.specs.declared.keymap.CharSearch.{CharSearch}
 use Rattle.line_config.specs.declared.config.EditMode.{EditMode}
 use Rattle.line_config.specs.declared.config.EditMode.TheVariants.{Emacs, Vi}
 use Rattle.line_keys.specs.Command.{Command, insert}
 use Rattle.line_keys.specs.Draft.{Draft}
+use Rattle.std.specs.Prelude.{◌&&◌}
+use Rattle.std.specs.List.{list_all}
+use Rattle.line_keys.specs.Count.{begins_count, continues_count, count_of, is_count_before}
 use Rattle.line_keys.specs.Item.{Item, key, paste}
-use Rattle.line_keys.specs.Table.{Meaning, gives, has_second, one, pastes, row_of, searches}
+use Rattle.line_keys.specs.Table.{Meaning, gives, has_second, pastes, row_of, searches}
 use Rattle.line_keys.specs.Key.{event}
 use Rattle.line_keys.specs.declared.keys.KeyCode.TheVariants.{Enter}
 use Rattle.line_keys.specs.declared.keys.TheConstants.Modifiers.{NONE}
 use Rattle.line_keys.specs.declared.keymap.InputMode.{InputMode}
+use Rattle.line_keys.specs.declared.keymap.InputMode.TheVariants as InputMode
 use Rattle.line_keys.specs.declared.keys.KeyEvent.{KeyEvent}
 use Rattle.line_keys.specs.declared.count.Count.{Count}
 use Rattle.line_editor.specs.Input.{Input}
 use Rattle.line_editor.specs.Keymap.{Keymap, bound_command}
-use Rattle.line_editor.specs.Phrase.{Answers, IsBeginning, IsCount, Keyed, LacksItems, LacksTail, Phrase, Tailed, after_count, moves_by, search_to}
+use Rattle.line_editor.specs.Phrase.{Answers, IsBeginning, Keyed, LacksItems, LacksTail, Phrase, Tailed, after_count, moves_by, search_to}
 use Rattle.line_editor.specs.Laws.{IsPrefixFree}
 
 -- nothing comes behind an empty list that stays empty
@@ -56,98 +60,195 @@ Answers-fit : (bound : Option Command) (meaning : Meaning) (tail more : List Ite
 Answers-fit (Some b) meaning tail more c c' h k = (nothing-behind tail more h.0 k.0, h.1 ∙ sym k.1)
 Answers-fit None meaning tail more c c' h k = Tailed-fit meaning tail more c c' h k
 
--- two phrases of which one begins the other, part by part
-parts-fit : (keymap : Keymap) (environment : Environment) (draft : Draft) (input : Input) (typed typed' : List KeyEvent)
-    → (count count' : Count) (last last' : KeyEvent) (tail tail' items more : List Item) (c c' : Command)
-    → items ≡ map key typed ++ (key last ∷ tail)
-    → IsCount input.style input.mode typed count
-    → Keyed keymap (after_count environment typed draft) input count last tail c
-    → items ++ more ≡ map key typed' ++ (key last' ∷ tail')
-    → IsCount input.style input.mode typed' count'
-    → Keyed keymap (after_count environment typed' draft) input count' last' tail' c'
-    → (more ≡ []) × (c ≡ c') × (typed ≡ typed')
-parts-fit keymap environment draft input [] [] count count' last last' tail tail' items more c c' cut counted keyed cut' counted' keyed' =
-    let whole : key last' ∷ tail' ≡ key last ∷ (tail ++ more) = sym cut' ∙ ap (λ x. x ++ more) cut in
-    let same_last : last' ≡ last = cc in
-    let same_tail : tail' ≡ tail ++ more = cc in
-    let same_count : count' ≡ count = counted' ∙ sym counted in
-    let P : KeyEvent → Type 0 = λ k. Keyed keymap draft input count' k tail' c' in
-    let Q : List Item → Type 0 = λ t. Keyed keymap draft input count' last t c' in
-    let R : Count → Type 0 = λ n. Keyed keymap draft input n last (tail ++ more) c' in
-    let there = subst R same_count (subst Q same_tail (subst P same_last keyed')) in
-    let fit = Answers-fit (bound_command keymap draft input count last) ((row_of input.style input.mode last draft).means count) tail more c c' keyed there in
-    (fit.0, fit.1, refl)
-parts-fit keymap environment draft input (k ∷ ks) typed' count count' last last' tail tail' items more c c' cut counted keyed cut' counted' keyed' = absurd counted
-parts-fit keymap environment draft input [] (k ∷ ks) count count' last last' tail tail' items more c c' cut counted keyed cut' counted' keyed' = absurd counted'
+-- both of two tests that hold together
+both : (a b : Bool) → (a && b) ≡ true → (a ≡ true) × (b ≡ true)
+both true b holds = (refl, holds)
+both false b holds = absurd (cc)
+
+fails : (b : Bool) → not b ≡ true → b ≡ false
+fails true off = absurd (cc)
+fails false off = refl
+
+false_not_true : (b : Bool) → b ≡ false → b ≡ true → ⊥
+false_not_true true off on = absurd (cc)
+false_not_true false off on = absurd (cc)
+
+-- a key that fails a test is none that passes it
+ends_not : (test : KeyEvent → Bool) (one other : KeyEvent) → one ≡ other → test one ≡ false → test other ≡ true → ⊥
+ends_not test one other same off on = false_not_true (test other) (sym (ap test same) ∙ off) on
+
+-- what is there in two lists of keys that pass a test up to a key that fails it
+record Fits (typed typed' : List KeyEvent) (last last' : KeyEvent) (tail tail' more : List Item) : Type 0 where
+  same_typed : typed ≡ typed'
+  same_last : last ≡ last'
+  same_tail : tail ++ more ≡ tail'
+
+later-fits : (test : KeyEvent → Bool) (typed typed' : List KeyEvent) (last last' : KeyEvent) (tail tail' more : List Item)
+    → map key typed ++ (key last ∷ (tail ++ more)) ≡ map key typed' ++ (key last' ∷ tail')
+    → list_all test typed ≡ true → test last ≡ false → list_all test typed' ≡ true → test last' ≡ false
+    → Fits typed typed' last last' tail tail' more
+later-fits test [] [] last last' tail tail' more cut all ends all' ends' =
+    let same : last ≡ last' = cc in
+    let rest : tail ++ more ≡ tail' = cc in
+    record { same_typed = refl; same_last = same; same_tail = rest }
+later-fits test [] (k ∷ ks) last last' tail tail' more cut all ends all' ends' =
+    let same : last ≡ k = cc in
+    let passes : test k ≡ true = (both (test k) (list_all test ks) all').0 in
+    absurd (ends_not test last k same ends passes)
+later-fits test (k ∷ ks) [] last last' tail tail' more cut all ends all' ends' =
+    let same : last' ≡ k = cc in
+    let passes : test k ≡ true = (both (test k) (list_all test ks) all).0 in
+    absurd (ends_not test last' k same ends' passes)
+later-fits test (k ∷ ks) (k' ∷ ks') last last' tail tail' more cut all ends all' ends' =
+    let same : k ≡ k' = cc in
+    let rest : map key ks ++ (key last ∷ (tail ++ more)) ≡ map key ks' ++ (key last' ∷ tail') = cc in
+    let fits = later-fits test ks ks' last last' tail tail' more rest (both (test k) (list_all test ks) all).1 ends (both (test k') (list_all test ks') all').1 ends' in
+    record { same_typed = cc; same_last = fits.same_last; same_tail = fits.same_tail }
+
+-- so do the keys of a count and the key that ends it
+keys-fit : (style : EditMode) (mode : InputMode) (typed typed' : List KeyEvent) (last last' : KeyEvent) (tail tail' more : List Item)
+    → map key typed ++ (key last ∷ (tail ++ more)) ≡ map key typed' ++ (key last' ∷ tail')
+    → is_count_before style mode typed last ≡ true → is_count_before style mode typed' last' ≡ true
+    → Fits typed typed' last last' tail tail' more
+keys-fit style mode [] [] last last' tail tail' more cut counted counted' =
+    let same : last ≡ last' = cc in
+    let rest : tail ++ more ≡ tail' = cc in
+    record { same_typed = refl; same_last = same; same_tail = rest }
+keys-fit style mode [] (k ∷ ks) last last' tail tail' more cut counted counted' =
+    let same : last ≡ k = cc in
+    let parts = both (begins_count style mode k && list_all (continues_count style) ks) (not (continues_count style last')) counted' in
+    let begins = (both (begins_count style mode k) (list_all (continues_count style) ks) parts.0).0 in
+    absurd (ends_not (begins_count style mode) last k same (fails (begins_count style mode last) counted) begins)
+keys-fit style mode (k ∷ ks) [] last last' tail tail' more cut counted counted' =
+    let same : last' ≡ k = cc in
+    let parts = both (begins_count style mode k && list_all (continues_count style) ks) (not (continues_count style last)) counted in
+    let begins = (both (begins_count style mode k) (list_all (continues_count style) ks) parts.0).0 in
+    absurd (ends_not (begins_count style mode) last' k same (fails (begins_count style mode last') counted') begins)
+keys-fit style mode (k ∷ ks) (k' ∷ ks') last last' tail tail' more cut counted counted' =
+    let same : k ≡ k' = cc in
+    let rest : map key ks ++ (key last ∷ (tail ++ more)) ≡ map key ks' ++ (key last' ∷ tail') = cc in
+    let parts = both (begins_count style mode k && list_all (continues_count style) ks) (not (continues_count style last)) counted in
+    let parts' = both (begins_count style mode k' && list_all (continues_count style) ks') (not (continues_count style last')) counted' in
+    let all = (both (begins_count style mode k) (list_all (continues_count style) ks) parts.0).1 in
+    let all' = (both (begins_count style mode k') (list_all (continues_count style) ks') parts'.0).1 in
+    let fits = later-fits (continues_count style) ks ks' last last' tail tail' more rest all (fails (continues_count style last) parts.1) all' (fails (continues_count style last') parts'.1) in
+    record { same_typed = cc; same_last = fits.same_last; same_tail = fits.same_tail }
 
 -- no phrase is a proper beginning of another, and one list of items has one command
 pub phrases-fit : IsPrefixFree
 phrases-fit keymap environment draft input items more c c' d d' i i' p q =
-    let fit = parts-fit keymap environment draft input p.typed q.typed p.count q.count p.last q.last p.tail q.tail items more c c' p.cut p.counted p.keyed q.cut q.counted q.keyed in
-    (fit.0, fit.1, p.draft_left ∙ ap (λ t. after_count environment t draft) fit.2 ∙ sym q.draft_left, p.input_left ∙ sym q.input_left)
+    let whole : map key p.typed ++ (key p.last ∷ (p.tail ++ more)) ≡ map key q.typed ++ (key q.last ∷ q.tail) =
+    sym (append_assoc (map key p.typed) (key p.last ∷ p.tail) more) ∙ sym (ap (λ x. x ++ more) p.cut) ∙ q.cut in
+    let fits = keys-fit input.style input.mode p.typed q.typed p.last q.last p.tail q.tail more whole p.counted q.counted in
+    let P : List KeyEvent → Type 0 = λ t. Keyed keymap (after_count environment t draft) input (count_of t) q.last q.tail c' in
+    let Q : KeyEvent → Type 0 = λ k. Keyed keymap (after_count environment p.typed draft) input (count_of p.typed) k q.tail c' in
+    let R : List Item → Type 0 = λ t. Keyed keymap (after_count environment p.typed draft) input (count_of p.typed) p.last t c' in
+    let there = subst R (sym fits.same_tail) (subst Q (sym fits.same_last) (subst P (sym fits.same_typed) q.keyed)) in
+    let left : Draft = after_count environment p.typed draft in
+    let fit = Answers-fit (bound_command keymap left input (count_of p.typed) p.last) ((row_of input.style input.mode p.last left).means (count_of p.typed)) p.tail more c c' p.keyed there in
+    (fit.0, fit.1, p.draft_left ∙ ap (λ t. after_count environment t draft) fits.same_typed ∙ sym q.draft_left, p.input_left ∙ sym q.input_left)
 
--- a key and what is read behind it are a phrase
-pub key-phrase : (keymap : Keymap) (environment : Environment) (draft : Draft) (input : Input) (k : KeyEvent) (tail : List Item) (command : Command)
-    → Keyed keymap draft input one k tail command
-    → Phrase keymap environment draft input (key k ∷ tail) command draft input
-key-phrase keymap environment draft input k tail command keyed = record {
-  typed = [];
-  count = one;
-  last = k;
+-- keys of a count, the key that ends it, and what is read behind that are a phrase
+keys-phrase : (keymap : Keymap) (environment : Environment) (draft : Draft) (input : Input) (typed : List KeyEvent) (last : KeyEvent) (tail : List Item) (command : Command)
+    → is_count_before input.style input.mode typed last ≡ true
+    → Keyed keymap (after_count environment typed draft) input (count_of typed) last tail command
+    → Phrase keymap environment draft input (map key typed ++ (key last ∷ tail)) command (after_count environment typed draft) input
+keys-phrase keymap environment draft input typed last tail command counted keyed = record {
+  typed = typed;
+  last = last;
   tail = tail;
   cut = refl;
-  counted = refl;
+  counted = counted;
   keyed = keyed;
   draft_left = refl;
   input_left = refl;
 }
 
 -- a key behind which more items are to be read begins a phrase
-pub key-begins : (keymap : Keymap) (environment : Environment) (draft : Draft) (input : Input) (k : KeyEvent) (items : List Item) → items ≡ key k ∷ []
-    → LacksTail keymap draft input one k → IsBeginning keymap environment draft input items
-key-begins keymap environment draft input k items is lacks =
-    let P : List Item → Type 0 = λ i. IsBeginning keymap environment draft input i in
-    subst P (sym is) (record {
+pub keys-begin : (keymap : Keymap) (environment : Environment) (draft : Draft) (input : Input) (typed : List KeyEvent) (last : KeyEvent) (items : List Item)
+    → items ≡ map key typed ++ (key last ∷ []) → is_count_before input.style input.mode typed last ≡ true
+    → LacksTail keymap (after_count environment typed draft) input (count_of typed) last → IsBeginning keymap environment draft input items
+keys-begin keymap environment draft input typed last items is counted lacks =
+    let P : List Item → Type 0 = λ i. Phrase keymap environment draft input i lacks.1 (after_count environment typed draft) input in
+    record {
       rest = lacks.0;
       command = lacks.1;
-      draft' = draft;
+      draft' = after_count environment typed draft;
       input' = input;
       proper = lacks.2;
-      phrase = key-phrase keymap environment draft input k lacks.0 lacks.1 lacks.3;
-    })
+      phrase = subst P (sym (ap (λ x. x ++ lacks.0) is ∙ append_assoc (map key typed) (key last ∷ []) lacks.0))
+          (keys-phrase keymap environment draft input typed last lacks.0 lacks.1 counted lacks.3);
+    }
 
--- Enter is a key with nothing behind it
+-- Enter is a key with nothing behind it, which belongs to no count
 abbrev enter : KeyEvent
 enter = event Enter NONE
 
-enter-gives : (style : EditMode) (mode : InputMode) (draft : Draft) → (command : Command) × Tailed ((row_of style mode enter draft).means one) [] command
-enter-gives Emacs mode draft = (_, (refl, refl))
-enter-gives Vi mode draft = (_, (refl, refl))
+enter-begins-none : (style : EditMode) (mode : InputMode) → begins_count style mode enter ≡ false
+enter-begins-none Emacs mode = refl
+enter-begins-none Vi InputMode.Command = refl
+enter-begins-none Vi InputMode.Insert = refl
+enter-begins-none Vi InputMode.Replace = refl
 
-enter-answers : (keymap : Keymap) (draft : Draft) (input : Input) (bound : Option Command) → bound_command keymap draft input one enter ≡ bound
-    → (command : Command) × Keyed keymap draft input one enter [] command
-enter-answers keymap draft input (Some command) is =
-    let P : Option Command → Type 0 = λ o. Answers o ((row_of input.style input.mode enter draft).means one) [] command in
+enter-ends : (style : EditMode) → continues_count style enter ≡ false
+enter-ends Emacs = refl
+enter-ends Vi = refl
+
+enter-gives : (style : EditMode) (mode : InputMode) (draft : Draft) (count : Count)
+    → (command : Command) × Tailed ((row_of style mode enter draft).means count) [] command
+enter-gives Emacs mode draft count = (_, (refl, refl))
+enter-gives Vi mode draft count = (_, (refl, refl))
+
+enter-answers : (keymap : Keymap) (draft : Draft) (input : Input) (count : Count) (bound : Option Command) → bound_command keymap draft input count enter ≡ bound
+    → (command : Command) × Keyed keymap draft input count enter [] command
+enter-answers keymap draft input count (Some command) is =
+    let P : Option Command → Type 0 = λ o. Answers o ((row_of input.style input.mode enter draft).means count) [] command in
     (command, subst P (sym is) (refl, refl))
-enter-answers keymap draft input None is =
-    let given = enter-gives input.style input.mode draft in
-    let P : Option Command → Type 0 = λ o. Answers o ((row_of input.style input.mode enter draft).means one) [] given.0 in
+enter-answers keymap draft input count None is =
+    let given = enter-gives input.style input.mode draft count in
+    let P : Option Command → Type 0 = λ o. Answers o ((row_of input.style input.mode enter draft).means count) [] given.0 in
     (given.0, subst P (sym is) given.1)
+
+-- keys of a count that Enter could end begin a phrase
+count-begins : (keymap : Keymap) (environment : Environment) (draft : Draft) (input : Input) (typed : List KeyEvent) (items : List Item)
+    → items ≡ map key typed → is_count_before input.style input.mode typed enter ≡ true → IsBeginning keymap environment draft input items
+count-begins keymap environment draft input typed items is counted =
+    let left : Draft = after_count environment typed draft in
+    let answers = enter-answers keymap left input (count_of typed) (bound_command keymap left input (count_of typed) enter) refl in
+    let P : List Item → Type 0 = λ i. Phrase keymap environment draft input i answers.0 left input in
+    record {
+      rest = key enter ∷ [];
+      command = answers.0;
+      draft' = left;
+      input' = input;
+      proper = λ empty. cc;
+      phrase = subst P (sym (ap (λ x. x ++ (key enter ∷ [])) is))
+          (keys-phrase keymap environment draft input typed enter [] answers.0 counted answers.1);
+    }
+
+-- keys of a count are one before each key that does not go on with it
+pub is-count : (style : EditMode) (mode : InputMode) (first : KeyEvent) (more : List KeyEvent) (last : KeyEvent)
+    → begins_count style mode first ≡ true → list_all (continues_count style) more ≡ true → continues_count style last ≡ false
+    → is_count_before style mode (first ∷ more) last ≡ true
+is-count style mode first more last begins all ends =
+    ap (λ b. b && list_all (continues_count style) more && not (continues_count style last)) begins
+    ∙ ap (λ b. b && not (continues_count style last)) all ∙ ap not ends
+
+pub is-no-count : (style : EditMode) (mode : InputMode) (last : KeyEvent) → begins_count style mode last ≡ false → is_count_before style mode [] last ≡ true
+is-no-count style mode last none = ap not none
 
 -- where no item is left, a phrase may begin
 pub nothing-begins : (keymap : Keymap) (environment : Environment) (draft : Draft) (input : Input) (items : List Item)
     → items ≡ [] → IsBeginning keymap environment draft input items
 nothing-begins keymap environment draft input items is =
-    let P : List Item → Type 0 = λ i. IsBeginning keymap environment draft input i in
-    let answers = enter-answers keymap draft input (bound_command keymap draft input one enter) refl in
-    subst P (sym is) (record {
-      rest = key enter ∷ [];
-      command = answers.0;
-      draft' = draft;
-      input' = input;
-      proper = λ empty. cc;
-      phrase = key-phrase keymap environment draft input enter [] answers.0 answers.1;
-    })
+    count-begins keymap environment draft input [] items is (is-no-count input.style input.mode enter (enter-begins-none input.style input.mode))
+
+-- the items may end in a count
+pub inside-begins : (keymap : Keymap) (environment : Environment) (draft : Draft) (input : Input) (first : KeyEvent) (more : List KeyEvent) (items : List Item)
+    → items ≡ key first ∷ map key more → begins_count input.style input.mode first ≡ true → list_all (continues_count input.style) more ≡ true
+    → IsBeginning keymap environment draft input items
+inside-begins keymap environment draft input first more items is begins all =
+    count-begins keymap environment draft input (first ∷ more) items is (is-count input.style input.mode first more enter begins all (enter-ends input.style))
 
 -- more items are to be read behind a key without a binding where its meaning lacks them
 pub row-lacks : (keymap : Keymap) (draft : Draft) (input : Input) (count : Count) (k : KeyEvent) (meaning : Meaning)

@@ -8,34 +8,23 @@ use Rattle.line_keys.specs.Item.{Item}
 use Rattle.line_editor.specs.Input.{Input}
 use Rattle.line_editor.specs.Keymap.{Keymap}
 use Rattle.line_editor.specs.Phrase.{Phrase, IsBeginning}
-use Rattle.line_editor.specs.Run.{Run, End, Turn, CutShort, goes_on, ends, runs_dry, stopped, dry, kills_before}
+use Rattle.line_editor.specs.Run.{Run, End, Turn, CutShort, goes_on, ends, runs_dry, stopped, dry, kills_before, ready}
 use Rattle.line_editor.specs.Editor.{Editor, Answer, Leaves, Ruler, grouped, proceeds}
 use Rattle.line_editor.specs.Step.{step}
 
--- a phrase read and its command executed are a turn
-pub turn-of : (keymap : Keymap) (ruler ruler' : Ruler) (environment environment' : Environment) (editor left : Editor) (input input' : Input)
-    → (items more phrase : List Item) (command : Command) (read before : Draft) (kills : Ring) (answer : Answer)
-    → items ≡ phrase ++ more
-    → Phrase keymap environment editor.draft input phrase command read input'
+-- what a command leaves that is executed where its phrase was read
+pub leaves-by : (ruler : Ruler) (environment environment' : Environment) (left : Editor) (input' : Input)
+    → (command : Command) (read before : Draft) (kills before_kills : Ring) (answer : Answer)
     → before ≡ grouped command read
-    → kills ≡ kills_before command editor.kills
-    → ruler' ≡ ruler
+    → before_kills ≡ kills_before command kills
     → environment' ≡ environment
-    → Leaves (step ruler' environment' input' (record { draft = before; kills = kills }) command) left answer
-    → Turn keymap ruler environment editor input items left input' more answer
-turn-of keymap ruler ruler' environment environment' editor left input input' items more phrase command read before kills answer cut reads group reset measured same leaves =
-    let O : Ruler → Type 0 = λ r. Leaves (step r environment' input' (record { draft = before; kills = kills }) command) left answer in
-    let P : Environment → Type 0 = λ w. Leaves (step ruler w input' (record { draft = before; kills = kills }) command) left answer in
-    let Q : Draft → Type 0 = λ d. Leaves (step ruler environment input' (record { draft = d; kills = kills }) command) left answer in
+    → Leaves (step ruler environment' input' (record { draft = before; kills = before_kills }) command) left answer
+    → Leaves (step ruler environment input' (ready command read kills) command) left answer
+leaves-by ruler environment environment' left input' command read before kills before_kills answer group reset same leaves =
+    let P : Environment → Type 0 = λ w. Leaves (step ruler w input' (record { draft = before; kills = before_kills }) command) left answer in
+    let Q : Draft → Type 0 = λ d. Leaves (step ruler environment input' (record { draft = d; kills = before_kills }) command) left answer in
     let R : Ring → Type 0 = λ k. Leaves (step ruler environment input' (record { draft = grouped command read; kills = k }) command) left answer in
-    record {
-      phrase = phrase;
-      command = command;
-      draft = read;
-      cut = cut;
-      reads = reads;
-      leaves = subst R reset (subst Q group (subst P same (subst O measured leaves)));
-    }
+    subst R reset (subst Q group (subst P same leaves))
 
 -- the keymap, the ruler and the environment of two moments of a run are the same
 module _ (keymap keymap' : Keymap) (ruler ruler' : Ruler) (environment environment' : Environment) (same_keymap : keymap' ≡ keymap) (same_ruler : ruler' ≡ ruler) (same_environment : environment' ≡ environment) where

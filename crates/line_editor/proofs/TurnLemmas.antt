@@ -1,5 +1,5 @@
 -- Facts on turns of a program's state.
-use Rattle.std.proofs.Common.{◌≡◌, ◌∙◌, ℕ, ◌+◌, ◌-◌, length, arith}
+use Rattle.std.proofs.Common.{◌≡◌, refl, ◌∙◌, ℕ, ◌+◌, ◌-◌, length, arith}
 use Rattle.line_buffer.specs.KillRing.{Ring}
 use Rattle.line_keys.specs.Command.{Command}
 use Rattle.line_keys.specs.Draft.{Draft, start_text}
@@ -7,13 +7,14 @@ use Rattle.line_keys.specs.EditorState.{Frame, IsInPlace, KeepsDrawn, Redraws}
 use Rattle.line_keys.specs.declared.editor_state.EditorState as editors
 use Rattle.line_keys.specs.declared.tty.RawReader as readers
 use Rattle.line_editor.specs.Reading.{ReadsPhrase, RedrawsItems}
+use Rattle.line_editor.specs.InputState.{input_of}
 use Rattle.line_editor.specs.Run.{kills_before}
 use Rattle.line_editor.specs.Runs.{DrawnAfter, StepsTo, TakesTurn, editor_of}
 use Rattle.line_editor.specs.Editor.{Answer, grouped, proceeds, submitted, ended, interrupted, ruler_of}
 use Rattle.line_editor.specs.declared.keymap.InputState.{InputState}
 use Rattle.line_editor.proofs.CountLemmas.{rises_more, rises_twice}
 use Rattle.line_editor.proofs.DrawnLemmas.{keeps_then}
-use Rattle.line_editor.proofs.RunLemmas.{turn-of}
+use Rattle.line_editor.proofs.RunLemmas.{leaves-by}
 
 module _ {X : Type 0} (e : editors.Ghosts X) (old middle new : X) (keeps : KeepsDrawn e old middle) (in_place : IsInPlace e old → IsInPlace e middle) where
   -- what is drawn after an answer, where it was good before the command
@@ -27,10 +28,9 @@ module _ {X : Type 0} (e : editors.Ghosts X) (old middle new : X) (keeps : Keeps
 -- a phrase read and its command executed are a turn
 pub takes_turn : {X Y : Type 0} (e : editors.Ghosts X) (r : readers.Ghosts Y) (old middle new : X) (input input' : InputState) (indent : ℕ) (reader reader' : Y)
     → (kills ready kills' : Ring) (command : Command) (draft : Draft) (answer : Answer)
-    → ReadsPhrase e r old input reader reader' command draft input'
+    → ReadsPhrase e r old input reader middle reader' command draft input'
     → e.draft middle ≡ grouped command draft
     → ready ≡ kills_before command kills
-    → ruler_of (e.display middle) indent ≡ ruler_of (e.display old) indent
     → start_text (e.draft middle) ≡ start_text (e.draft old)
     → Frame e old middle → KeepsDrawn e old middle → (IsInPlace e old → IsInPlace e middle) → RedrawsItems e r old reader middle reader'
     → StepsTo e middle input' indent ready command new kills' answer
@@ -38,10 +38,21 @@ pub takes_turn : {X Y : Type 0} (e : editors.Ghosts X) (r : readers.Ghosts Y) (o
     → DrawnAfter e answer middle new
     → Redraws e 0 3 middle new
     → TakesTurn e r old input indent reader kills new input' reader' kills' answer
-takes_turn e r old middle new input input' indent reader reader' kills ready kills' command draft answer read group reset measured first frame keeps in_place drew steps then drawn redraws =
+takes_turn e r old middle new input input' indent reader reader' kills ready kills' command draft answer read group reset first frame keeps in_place drew steps then drawn redraws =
     let n : ℕ = length (r.rest reader) - length (r.rest reader') in
     record {
-      turn = turn-of _ _ _ _ _ (editor_of e old kills) _ _ _ _ _ read.items command draft _ _ _ read.cut read.phrase group reset measured frame.environment steps;
+      ruler = ruler_of (e.display middle) indent;
+      turn = record {
+        phrase = read.items;
+        command = command;
+        draft = draft;
+        cut = read.cut;
+        reads = read.phrase;
+        leaves =
+            leaves-by (ruler_of (e.display middle) indent) (e.environment old) (e.environment middle) (editor_of e new kills') (input_of input') command
+            draft (e.draft middle) kills ready answer group reset frame.environment steps;
+      };
+      measured = read.measured indent;
       start = then ∙ first;
       drawn = drawn_then e old middle new keeps in_place answer drawn;
       redraws =

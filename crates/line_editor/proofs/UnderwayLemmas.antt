@@ -1,5 +1,5 @@
 -- Facts on a run that is underway.
-use Rattle.std.proofs.Common.{◌≡◌, ◌≢◌, ℕ, ◌+◌, ◌-◌, ◌≤◌, ◌<◌, length, arith, refl, sym, ◌∙◌, ap, subst, inl, inr}
+use Rattle.std.proofs.Common.{◌≡◌, ◌≢◌, ℕ, ◌+◌, ◌-◌, ◌≤◌, ◌<◌, List, [], ◌∷◌, length, arith, refl, sym, ◌∙◌, ap, subst, inl, inr}
 use Rattle.line_buffer.specs.KillRing.{Ring}
 use Rattle.line_buffer.specs.declared.layout.GraphemeClusterMode.{GraphemeClusterMode}
 use Rattle.line_buffer.specs.declared.layout.Position.{Position}
@@ -7,11 +7,12 @@ use Rattle.line_parts.specs.Environment.{Environment}
 use Rattle.line_keys.specs.Display.{Display, IsRight, Surface}
 use Rattle.line_keys.specs.Draft.{Draft, hinted, hint_shown, start_text}
 use Rattle.line_keys.specs.EditorState.{Frame, HasRightLayout, Redraws, Shows, ShowsLine}
+use Rattle.line_keys.specs.declared.keys.KeyEvent.{KeyEvent}
 use Rattle.line_keys.specs.declared.editor_state.EditorState as editors
 use Rattle.line_keys.specs.declared.tty.RawReader as readers
 use Rattle.line_editor.specs.Input.{Input}
 use Rattle.line_editor.specs.InputState.{input_of, keymap_of}
-use Rattle.line_editor.specs.Reading.{KeepsReading, LeftByCut}
+use Rattle.line_editor.specs.Reading.{KeepsReading, LeftByCut, ruler_behind}
 use Rattle.line_editor.specs.Run.{CutShort, End, Run, stopped, dry}
 use Rattle.line_editor.specs.Runs.{NeedsMoreItems, RedrawsOfRun, RunsDry, RunsTo, RunsToEnd, RunsToInterrupt, RunsToSubmit, TakesTurn, editor_of}
 use Rattle.line_editor.specs.Editor.{Answer, Editor, Ruler, proceeds, submitted, ended, interrupted, own_ruler, ruler_of}
@@ -65,6 +66,14 @@ module _ {X Y : Type 0} (e : editors.Ghosts X) (r : readers.Ghosts Y) (start : X
         ap f (ap (λ (p : Position). p.col) (u.right.drawn.prompt ∙ u.keeps.frame.prompt_end))
         ∙ ap h (u.right.drawn.mode ∙ ap (λ (f : Surface). f.mode) u.keeps.frame.surface)
 
+    -- so is that of a turn, whether a count is typed or not
+    turn_ruler : (typed : List KeyEvent) (ruler : Ruler) → ruler ≡ ruler_behind typed (e.display now) indent → ruler ≡ own_ruler (e.display start) indent
+    turn_ruler [] ruler measured = measured ∙ same_ruler
+    turn_ruler (_ ∷ _) ruler measured =
+        let f : ℕ → Ruler = λ n. record { prompt_column = n; cluster_mode = (e.display now).surface.mode; indent_size = indent } in
+        let h : GraphemeClusterMode → Ruler = λ m. record { prompt_column = (e.display start).prompt_end.col; cluster_mode = m; indent_size = indent } in
+        measured ∙ ap f (ap (λ (p : Position). p.col) u.keeps.frame.prompt_end) ∙ ap h (ap (λ (s : Surface). s.mode) u.keeps.frame.surface)
+
     -- what stays to here and on from here stays
     pub keeps_on : (next : X) (input'' : InputState) (reader'' : Y) → KeepsReading e r now input' reader' next input'' reader''
         → KeepsReading e r start input reader next input'' reader''
@@ -95,7 +104,7 @@ module _ {X Y : Type 0} (e : editors.Ghosts X) (r : readers.Ghosts Y) (start : X
           → length (r.rest reader'') < length (r.rest reader')
           → Underway next input'' reader'' kills''
       proceeds_on turn k less = record {
-        goes_on = λ last i end run. u.goes_on last i end (run-goes _ _ _ _ _ _ same_keymap same_ruler u.keeps.frame.environment _ _ _ _ _ _ _ _ end proceeds refl turn.turn run);
+        goes_on = λ last i end run. u.goes_on last i end (run-goes _ _ _ _ _ _ same_keymap (turn_ruler turn.turn.reads.typed turn.ruler turn.measured) u.keeps.frame.environment _ _ _ _ _ _ _ _ end proceeds refl turn.turn run);
         keeps = keeps_on next input'' reader'' k;
         right = turn.drawn.right u.right;
         shown = turn.drawn.line u.shown;
@@ -108,7 +117,7 @@ module _ {X Y : Type 0} (e : editors.Ghosts X) (r : readers.Ghosts Y) (start : X
       stops : (answer : Answer) → answer ≢ proceeds
           → TakesTurn e r now input' indent reader' kills' next input'' reader'' kills'' answer
           → RunsTo e r start input indent reader kills next input'' kills'' (stopped answer (r.rest reader''))
-      stops answer other turn = u.goes_on _ _ _ (run-ends _ _ _ _ _ _ same_keymap same_ruler u.keeps.frame.environment _ _ _ _ _ _ answer _ refl other turn.turn)
+      stops answer other turn = u.goes_on _ _ _ (run-ends _ _ _ _ _ _ same_keymap (turn_ruler turn.turn.reads.typed turn.ruler turn.measured) u.keeps.frame.environment _ _ _ _ _ _ answer _ refl other turn.turn)
 
       pub submits : TakesTurn e r now input' indent reader' kills' next input'' reader'' kills'' submitted → length (r.rest reader'') < length (r.rest reader')
           → RunsToSubmit e r start input indent reader kills next input'' reader'' kills''

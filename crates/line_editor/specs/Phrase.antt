@@ -1,15 +1,13 @@
 -- Phrases: the items that one command is read from.
-use Rattle.std.specs.Prelude.{◌≡◌, ◌≢◌, ℕ, if◌then◌else◌, List, [], ◌∷◌, ◌++◌, map, Option, Some, None, option_map}
+use Rattle.std.specs.Prelude.{◌≡◌, ◌≢◌, ℕ, true, if◌then◌else◌, List, [], ◌∷◌, ◌++◌, map, Option, Some, None, option_map}
 use Rattle.line_buffer.specs.declared.keymap.CharSearch.{CharSearch}
 use Rattle.line_buffer.specs.declared.keymap.Movement.TheVariants.{ViCharSearch}
 use Rattle.line_parts.specs.Environment.{Environment}
-use Rattle.line_config.specs.declared.config.EditMode.{EditMode}
 use Rattle.line_keys.specs.Command.{Command, insert, move, unknown}
-use Rattle.line_keys.specs.Count.{char_of, is_with}
+use Rattle.line_keys.specs.Count.{char_of, count_of, is_count_before, is_with}
 use Rattle.line_keys.specs.Draft.{Draft, hinted}
 use Rattle.line_keys.specs.Item.{Item, key, paste}
-use Rattle.line_keys.specs.Table.{Meaning, gives, has_second, one, pastes, row_of, searches}
-use Rattle.line_keys.specs.declared.keymap.InputMode.{InputMode}
+use Rattle.line_keys.specs.Table.{Meaning, gives, has_second, pastes, row_of, searches}
 use Rattle.line_keys.specs.declared.keys.KeyEvent.{KeyEvent}
 use Rattle.line_keys.specs.declared.keys.TheConstants.Modifiers.{NONE}
 use Rattle.line_keys.specs.declared.count.Count.{Count}
@@ -48,11 +46,6 @@ abbrev pub Answers : Option Command → Meaning → List Item → Command → Ty
 Answers (Some bound) meaning tail command = (tail ≡ []) × (command ≡ bound)
 Answers None meaning tail command = Tailed meaning tail command
 
--- the count that a list of keys writes, of which there are none yet: without one it is 1
-abbrev pub IsCount : EditMode → InputMode → List KeyEvent → Count → Type 0
-IsCount style mode [] count = count ≡ one
-IsCount style mode (first ∷ more) count = ⊥
-
 -- the items after a key, and the command that they give together
 abbrev pub Keyed : Keymap → Draft → Input → Count → KeyEvent → List Item → Command → Type 0
 Keyed keymap draft input count last tail command =
@@ -66,12 +59,11 @@ LacksTail keymap draft input count last =
 -- The items are one phrase: an optional count, a key and its tail. They give the command, and leave the draft and the input.
 pub record Phrase (keymap : Keymap) (environment : Environment) (draft : Draft) (input : Input) (items : List Item) (command : Command) (draft' : Draft) (input' : Input) : Type 0 where
   pub typed : List KeyEvent
-  pub count : Count
   pub last : KeyEvent
   pub tail : List Item
   pub cut : items ≡ map key typed ++ (key last ∷ tail)
-  pub counted : IsCount input.style input.mode typed count
-  pub keyed : Keyed keymap (after_count environment typed draft) input count last tail command
+  pub counted : is_count_before input.style input.mode typed last ≡ true
+  pub keyed : Keyed keymap (after_count environment typed draft) input (count_of typed) last tail command
   pub draft_left : draft' ≡ after_count environment typed draft
   pub input_left : input' ≡ input
 

@@ -1,17 +1,21 @@
 -- Reading a command from the items that a reader has left.
-use Rattle.std.specs.Prelude.{◌≡◌, ◌⊎◌, ℕ, ◌+◌, ◌-◌, ◌<◌, ◌≤◌, ◌++◌, [], true, List, length, Result, OnOk, OnErr, IsErrOf}
+use Rattle.std.specs.Prelude.{◌≡◌, ◌≢◌, ◌⊎◌, ℕ, ◌+◌, ◌-◌, ◌<◌, ◌≤◌, ◌++◌, [], ◌∷◌, true, false, List, length, map, Result, IfOk, OnOk, OnErr, IsErrOf}
+use Rattle.std.specs.List.{list_all}
 use Rattle.line_config.specs.Error.{IoOnlyIf, Rose, max_count}
+use Rattle.line_config.specs.declared.config.EditMode.{EditMode}
 use Rattle.line_config.specs.declared.error.ReadlineError.{ReadlineError}
 use Rattle.line_config.specs.declared.error.ReadlineError.TheVariants.{Eof, Interrupted}
 use Rattle.line_parts.specs.Environment.{Environment}
 use Rattle.line_keys.specs.Command.{Command}
-use Rattle.line_keys.specs.Draft.{Draft, hinted, start_text}
-use Rattle.line_keys.specs.EditorState.{Frame, IsInPlace, KeepsDrawn, Redraws}
-use Rattle.line_keys.specs.Item.{Item}
+use Rattle.line_keys.specs.Count.{continues_count, count_of}
+use Rattle.line_keys.specs.Display.{Display}
+use Rattle.line_keys.specs.Draft.{Draft, KeepsText, hint_shown, hinted, start_text}
+use Rattle.line_keys.specs.EditorState.{DrewNothing, Frame, HasRightLayout, IsInPlace, KeepsDrawn, Redraws, Shows}
+use Rattle.line_keys.specs.Item.{Item, key}
 use Rattle.line_keys.specs.declared.editor_state.EditorState as editors
 use Rattle.line_keys.specs.declared.tty.RawReader as readers
 use Rattle.line_config.specs.Error.{UnlessFault}
-use Rattle.line_editor.specs.Editor.{ruler_of}
+use Rattle.line_editor.specs.Editor.{Ruler, own_ruler, ruler_of}
 use Rattle.line_editor.specs.InputState.{input_of, keymap_of}
 use Rattle.line_keys.specs.Table.{Meaning}
 use Rattle.line_keys.specs.declared.count.Count.{Count}
@@ -30,7 +34,7 @@ module _ {Y : Type 0} (r : readers.Ghosts Y) where
   pub record TakesItems {T : Type 0} (result : Result T ReadlineError) (reader reader' : Y) : Type 0 where
     pub own : r.own_binding reader' ≡ r.own_binding reader
     pub counts : r.failures reader ≤ r.failures reader'
-    pub fewer : OnOk result (length (r.rest reader') ≤ length (r.rest reader))
+    pub fewer : length (r.rest reader') ≤ length (r.rest reader)
     pub not_interrupted : IsErrOf result Interrupted → ⊥
     pub io : IoOnlyIf result (Rose (r.failures reader) (r.failures reader'))
 
@@ -46,21 +50,45 @@ module _ {Y : Type 0} (r : readers.Ghosts Y) where
     pub cut : r.rest reader ≡ tail ++ r.rest reader'
     pub keyed : Keyed keymap draft input count last tail command
 
+  -- the keys that were read go on with a count, up to one that ends it
+  pub record EndsCount (style : EditMode) (first : KeyEvent) (reader reader' : Y) (count : Count) (last : KeyEvent) : Type 0 where
+    pub more : List KeyEvent
+    pub cut : r.rest reader ≡ map key more ++ (key last ∷ r.rest reader')
+    pub continue : list_all (continues_count style) more ≡ true
+    pub ends : continues_count style last ≡ false
+    pub counted : count ≡ count_of (first ∷ more)
+
+  -- all items that were left are keys that go on with a count
+  pub record InsideCount (style : EditMode) (reader reader' : Y) : Type 0 where
+    pub more : List KeyEvent
+    pub cut : r.rest reader ≡ map key more
+    pub continue : list_all (continues_count style) more ≡ true
+    pub empty : r.rest reader' ≡ []
+
   -- no item is left, before the call and behind it
   pub record IsDry (reader reader' : Y) : Type 0 where
     pub before : r.rest reader ≡ []
     pub behind : r.rest reader' ≡ []
+
+-- the ruler behind keys of a count, after which the own prompt is drawn
+abbrev pub ruler_behind : List KeyEvent → Display → ℕ → Ruler
+ruler_behind [] display indent_size = ruler_of display indent_size
+ruler_behind (_ ∷ _) display indent_size = own_ruler display indent_size
 
 -- a phrase that was cut short leaves the draft, with its hint as it was or asked again
 abbrev pub LeftByCut : Environment → Draft → Draft → Type 0
 LeftByCut environment draft draft' = (draft' ≡ draft) ⊎ (draft' ≡ hinted environment draft)
 
 module _ {X Y : Type 0} (e : editors.Ghosts X) (r : readers.Ghosts Y) where
-  -- what was read is one phrase, and nothing past it
-  pub record ReadsPhrase (editor : X) (input : InputState) (reader reader' : Y) (command : Command) (draft : Draft) (input' : InputState) : Type 0 where
+  -- what was read is one phrase, and nothing past it: where a count was typed, the line is drawn again behind its own prompt, and
+  -- else nothing is drawn
+  pub record ReadsPhrase (editor : X) (input : InputState) (reader : Y) (editor' : X) (reader' : Y) (command : Command) (draft : Draft) (input' : InputState) : Type 0 where
     pub items : List Item
     pub cut : r.rest reader ≡ items ++ r.rest reader'
     pub phrase : Phrase (keymap_of input (r.own_binding reader)) (e.environment editor) (e.draft editor) (input_of input) items command draft (input_of input')
+    pub right : phrase.typed ≢ [] → HasRightLayout e editor'
+    pub undrawn : phrase.typed ≡ [] → DrewNothing e editor editor'
+    pub measured : (indent : ℕ) → ruler_of (e.display editor') indent ≡ ruler_behind phrase.typed (e.display editor) indent
 
   -- the items end before a phrase or inside of one: all are read, and of the draft at most the hint changes
   pub record OutOfItems (editor : X) (input : InputState) (reader : Y) (editor' : X) (reader' : Y) : Type 0 where
@@ -73,6 +101,38 @@ module _ {X Y : Type 0} (e : editors.Ghosts X) (r : readers.Ghosts Y) where
   FailsByReading result editor reader editor' reader' =
       IoOnlyIf result (e.sure editor ≡ true
       → EitherRose (r.failures reader) (e.failures editor) (r.failures reader') (e.failures editor'))
+
+  -- a step in reading a count: the count is shown and a key is read
+  pub record ReadsUnderCount (result : Result KeyEvent ReadlineError) (editor : X) (reader : Y) (editor' : X) (reader' : Y) : Type 0 where
+    pub took : IfOk result (λ k. r.rest reader ≡ key k ∷ r.rest reader')
+    pub eof : IsErrOf result Eof → IsDry r reader reader'
+    pub draft : OnOk result (e.draft editor' ≡ hinted (e.environment editor) (e.draft editor))
+    pub draft_at_eof : IsErrOf result Eof → e.draft editor' ≡ hinted (e.environment editor) (e.draft editor)
+    pub text : KeepsText (e.draft editor) (e.draft editor')
+    pub redraws : OnOk result (Redraws e 0 1 editor editor')
+    pub redraws_at_eof : IsErrOf result Eof → Redraws e 0 1 editor editor'
+    pub frame : Frame e editor editor'
+    pub own : r.own_binding reader' ≡ r.own_binding reader
+    pub counts : r.failures reader ≤ r.failures reader'
+    pub not_interrupted : IsErrOf result Interrupted → ⊥
+    pub io : FailsByReading result editor reader editor' reader'
+
+  -- the rest of a count that began with a key was read, and the key that ends it; the line is drawn again with its hint
+  pub record ReadsCount (style : EditMode) (first : KeyEvent) (result : Result (Count × KeyEvent) ReadlineError) (editor : X) (reader : Y) (editor' : X) (reader' : Y) : Type 0 where
+    pub read : IfOk result (λ ended. EndsCount r style first reader reader' ended.0 ended.1)
+    pub eof : IsErrOf result Eof → InsideCount r style reader reader'
+    pub draft : OnOk result (e.draft editor' ≡ hinted (e.environment editor) (e.draft editor))
+    pub draft_at_eof : IsErrOf result Eof → e.draft editor' ≡ hinted (e.environment editor) (e.draft editor)
+    pub text : KeepsText (e.draft editor) (e.draft editor')
+    pub shows : OnOk result (Shows e editor' (hint_shown (e.draft editor')))
+    pub right : OnOk result (HasRightLayout e editor')
+    pub redraws : OnOk result (Redraws e 0 (1 + (length (r.rest reader) - length (r.rest reader'))) editor editor')
+    pub redraws_at_eof : IsErrOf result Eof → Redraws e 0 (1 + (length (r.rest reader) - length (r.rest reader'))) editor editor'
+    pub frame : Frame e editor editor'
+    pub own : r.own_binding reader' ≡ r.own_binding reader
+    pub counts : r.failures reader ≤ r.failures reader'
+    pub not_interrupted : IsErrOf result Interrupted → ⊥
+    pub io : FailsByReading result editor reader editor' reader'
 
   -- what stays of the editor, the reader and the bindings while commands are read and executed
   pub record KeepsReading (editor : X) (input : InputState) (reader : Y) (editor' : X) (input' : InputState) (reader' : Y) : Type 0 where
@@ -92,7 +152,6 @@ module _ {X Y : Type 0} (e : editors.Ghosts X) (r : readers.Ghosts Y) where
     pub remembers : OnErr result (input_of input' ≡ input_of input)
     pub reads : OnOk result (length (r.rest reader') < length (r.rest reader))
     pub drawn : OnOk result (KeepsDrawn e editor editor')
-    pub ruler : (indent : ℕ) → OnOk result (ruler_of (e.display editor') indent ≡ ruler_of (e.display editor) indent)
     pub start : UnlessFault result (start_text (e.draft editor') ≡ start_text (e.draft editor))
     pub in_place : IsInPlace e editor → OnOk result (IsInPlace e editor')
     pub redraws : OnOk result (RedrawsItems editor reader editor' reader')

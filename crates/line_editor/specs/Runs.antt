@@ -13,10 +13,10 @@ use Rattle.line_config.specs.Error.{IoOnlyIf, UnlessFault}
 use Rattle.line_parts.specs.Environment.{verdict_on}
 use Rattle.line_parts.specs.Verdict.{message_of}
 use Rattle.line_editor.specs.InputState.{input_of, keymap_of}
-use Rattle.line_editor.specs.Reading.{RedrawsItems, OutOfItems}
+use Rattle.line_editor.specs.Reading.{RedrawsItems, OutOfItems, ruler_behind}
 use Rattle.line_editor.specs.Run.{End, Run, Turn, dry, stopped}
 use Rattle.line_editor.specs.Status.{answer_of}
-use Rattle.line_editor.specs.Editor.{Answer, Editor, Leaves, ended, interrupted, own_ruler, proceeds, ruler_of, submitted}
+use Rattle.line_editor.specs.Editor.{Answer, Editor, Leaves, Ruler, ended, interrupted, own_ruler, proceeds, ruler_of, submitted}
 use Rattle.line_editor.specs.Step.{asks_verdict, is_left_above, step}
 use Rattle.line_editor.specs.declared.command.Status.{Status}
 use Rattle.line_editor.specs.declared.keymap.InputState.{InputState}
@@ -82,16 +82,19 @@ module _ {X : Type 0} (e : editors.Ghosts X) where
     pub io : IoOnlyIf result (PartyFailed e state state')
 
 module _ {X Y : Type 0} (e : editors.Ghosts X) (r : readers.Ghosts Y) where
-  -- from the first four values to the last four there is a turn with this answer
-  abbrev pub LeadsTo : X → InputState → ℕ → Y → Ring → X → InputState → Y → Ring → Answer → Type 0
-  LeadsTo state input indent reader kills state' input' reader' kills' answer =
-      Turn (keymap_of input (r.own_binding reader)) (ruler_of (e.display state) indent) (e.environment state)
+  -- from the first three values to the last four there is a turn with this answer, by this ruler
+  abbrev pub LeadsTo : Ruler → X → InputState → Y → Ring → X → InputState → Y → Ring → Answer → Type 0
+  LeadsTo ruler state input reader kills state' input' reader' kills' answer =
+      Turn (keymap_of input (r.own_binding reader)) ruler (e.environment state)
       (editor_of e state kills) (input_of input) (r.rest reader)
       (editor_of e state' kills') (input_of input') (r.rest reader') answer
 
-  -- a turn that was made: it draws what its answer says, in at most three full redraws and one for each item read
+  -- a turn that was made, by the ruler of the display or behind a count by that of the own prompt: it draws what its answer says, in
+  -- at most three full redraws and one for each item read
   pub record TakesTurn (state : X) (input : InputState) (indent : ℕ) (reader : Y) (kills : Ring) (state' : X) (input' : InputState) (reader' : Y) (kills' : Ring) (answer : Answer) : Type 0 where
-    pub turn : LeadsTo state input indent reader kills state' input' reader' kills' answer
+    pub ruler : Ruler
+    pub turn : LeadsTo ruler state input reader kills state' input' reader' kills' answer
+    pub measured : ruler ≡ ruler_behind turn.reads.typed (e.display state) indent
     pub start : start_text (e.draft state') ≡ start_text (e.draft state)
     pub drawn : DrawnAfter e answer state state'
     pub redraws : Redraws e 0 (3 + (length (r.rest reader) - length (r.rest reader'))) state state'

@@ -161,4 +161,9 @@ impl Bindings {
     {
         Bindings { alloc }
     }
+
+    // Where the map grows from.
+    pub(crate) fn alloc(&self) -> Global {
+        self.alloc
+    }
 }

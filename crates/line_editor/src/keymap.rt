@@ -5,7 +5,7 @@ ghost use Rattle.line_editor.specs.Keymap.{on_line};
 ghost use Rattle.line_editor.specs.Input.{first_input, is_vi_command};
 ghost use Rattle.line_editor.specs.InputState.{input_of, keymap_of};
 ghost use Rattle.line_editor.specs.Phrase.{LacksItems, LacksTail, moves_by, search_to};
-ghost use Rattle.line_editor.specs.Reading.{IsDry, OutOfItems, ReadsBehind, ReadsOn, ReadsPhrase, ReadsTail, TakesItems};
+ghost use Rattle.line_editor.specs.Reading.{IsDry, OutOfItems, ReadsBehind, ReadsCount, ReadsOn, ReadsPhrase, ReadsTail, ReadsUnderCount, TakesItems};
 ghost use Rattle.line_keys.specs.Command.{Command, command_of};
 ghost use Rattle.line_keys.specs.Draft.{KeepsText};
 ghost use Rattle.line_keys.specs.EditorState.{DrewNothing};
@@ -16,7 +16,7 @@ use crate::binding::Bindings;
 use line_buffer::{CharSearch, Movement, RepeatCount};
 use line_config::{Config, EditMode, ReadlineError, Result};
 use line_keys::command::Cmd;
-use line_keys::count::Count;
+use line_keys::count::{Count, TypedCount, begins_count, continues_count};
 use line_keys::editor_state::EditorState;
 use line_keys::keymap::{InputMode, Refresher};
 use line_keys::keys::{KeyCode, KeyEvent, Modifiers};
@@ -82,7 +82,7 @@ impl<'b> InputState<'b> {
         single_esc_abort: bool,
     ) -> Result<Cmd>
         ensures phrase { IfOk result (λ c. ReadsPhrase W.EditorState R.RawReader
-            wrt.old self.old rdr.old rdr.new (command_of c) (W.draft wrt.new) self.new) }
+            wrt.old self.old rdr.old wrt.new rdr.new (command_of c) (W.draft wrt.new) self.new) }
         ensures eof { IsErrOf result ReadlineError.Eof
             → OutOfItems W.EditorState R.RawReader wrt.old self.old rdr.old wrt.new rdr.new }
         // Where nothing was left to read, nothing changes.
@@ -93,7 +93,48 @@ impl<'b> InputState<'b> {
             wrt.old self.old rdr.old wrt.new self.new rdr.new }
     {
         let key = rdr.next_key(single_esc_abort && self.is_emacs_mode())?;
-        self.read_behind(rdr, wrt, key, Count::one())
+        if !begins_count(self.mode, self.input_mode, key) {
+            return self.read_behind(rdr, wrt, key, Count::one());
+        }
+        let (count, key) = self.read_count(rdr, wrt, key)?;
+        self.read_behind(rdr, wrt, key, count)
+    }
+
+    // Reads the rest of a count that began with a key, and the key that ends it, and draws the line again. Returns the count
+    // and that key.
+    fn read_count<R: RawReader, W: Refresher>(
+        &self,
+        rdr: &mut R,
+        wrt: &mut W,
+        first: KeyEvent,
+    ) -> Result<(Count, KeyEvent)>
+        ensures { ReadsCount W.EditorState R.RawReader (input_of self.now).style first result
+            wrt.old rdr.old wrt.new rdr.new }
+    {
+        let mut typed = TypedCount::new(first);
+        'keys: loop {
+            let key = self.read_under(rdr, wrt, &typed)?;
+            if !continues_count(self.mode, key) {
+                wrt.refresh_line()?;
+                return Ok((typed.count(), key));
+            }
+            typed.push(key);
+        }
+    }
+
+    // Shows a count in place of the prompt, and reads a key.
+    fn read_under<R: RawReader, W: Refresher>(
+        &self,
+        rdr: &mut R,
+        wrt: &mut W,
+        typed: &TypedCount,
+    ) -> Result<KeyEvent>
+        ensures { ReadsUnderCount W.EditorState R.RawReader result
+            wrt.old rdr.old wrt.new rdr.new }
+    {
+        let prompt = typed.prompt(self.bindings.alloc())?;
+        wrt.refresh_prompt_and_line(prompt.as_str())?;
+        rdr.next_key(true)
     }
 
     // Reads what belongs to a key, under a count, and gives the command.

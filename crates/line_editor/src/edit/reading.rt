@@ -39,7 +39,7 @@ impl<'out, 'prompt, W: Renderer, H: Helper, P: Prompt, S: History> State<
         single_esc_abort: bool,
     ) -> Result<Cmd>
         ensures phrase { let e = ⟦<Self as EditorState>⟧ in IfOk result (λ c. (draft : Draft)
-            × ReadsPhrase e W.Reader.RawReader self.old input_state.old rdr.old rdr.new
+            × ReadsPhrase e W.Reader.RawReader self.old input_state.old rdr.old self.new rdr.new
             (command_of c) draft input_state.new
             × (e.draft self.new ≡ grouped (command_of c) draft)) }
         ensures eof { IsErrOf result ReadlineError.Eof → OutOfItems ⟦<Self as EditorState>⟧

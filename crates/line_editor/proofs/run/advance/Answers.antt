@@ -20,7 +20,7 @@ returns-in-Ok-Proceed-clause-turned g c =
     let read = c.in-Ok.ensures in
     let done = c.in-Ok-Proceed.ensures in
     let is = c.in-Ok-Proceed.field-0-is in
-    takes_turn _ _ _ _ _ _ _ _ _ _ _ _ _ _ _ _ read.phrase.1 read.phrase.2 c.reset_kills.ensures (read.reading.ruler _) read.reading.start read.reading.keeps.frame read.reading.drawn
+    takes_turn _ _ _ _ _ _ _ _ _ _ _ _ _ _ _ _ read.phrase.1 read.phrase.2 c.reset_kills.ensures read.reading.start read.reading.keeps.frame read.reading.drawn
     read.reading.in_place read.reading.redraws (rw is at done.steps) done.start (rw is at done.drawn) done.redraws
 
 pub returns-in-Ok-Submit-clause-turned : goal.returns-in-Ok-Submit-clause-turned
@@ -28,7 +28,7 @@ returns-in-Ok-Submit-clause-turned g c =
     let read = c.in-Ok.ensures in
     let done = c.in-Ok-Submit.ensures in
     let is = c.in-Ok-Submit.field-0-is in
-    takes_turn _ _ _ _ _ _ _ _ _ _ _ _ _ _ _ _ read.phrase.1 read.phrase.2 c.reset_kills.ensures (read.reading.ruler _) read.reading.start read.reading.keeps.frame read.reading.drawn
+    takes_turn _ _ _ _ _ _ _ _ _ _ _ _ _ _ _ _ read.phrase.1 read.phrase.2 c.reset_kills.ensures read.reading.start read.reading.keeps.frame read.reading.drawn
     read.reading.in_place read.reading.redraws (rw is at done.steps) done.start (rw is at done.drawn) done.redraws
 
 pub returns-in-Err-Eof-execute-clause-turned : goal.returns-in-Err-Eof-execute-clause-turned
@@ -36,7 +36,7 @@ returns-in-Err-Eof-execute-clause-turned g c =
     let read = c.in-Ok.ensures in
     let done = c.in-Err-Eof-execute.ensures in
     let is = ap Err c.in-Err-Eof-execute.field-0-is in
-    takes_turn _ _ _ _ _ _ _ _ _ _ _ _ _ _ _ _ read.phrase.1 read.phrase.2 c.reset_kills.ensures (read.reading.ruler _) read.reading.start read.reading.keeps.frame read.reading.drawn
+    takes_turn _ _ _ _ _ _ _ _ _ _ _ _ _ _ _ _ read.phrase.1 read.phrase.2 c.reset_kills.ensures read.reading.start read.reading.keeps.frame read.reading.drawn
     read.reading.in_place read.reading.redraws (done.steps_at_eof is) (done.start (ap is_fault c.in-Err-Eof-execute.field-0-is)) (done.drawn_at_eof is) (done.redraws_at_eof is)
 
 pub returns-in-Err-Interrupted-clause-turned : goal.returns-in-Err-Interrupted-clause-turned
@@ -44,6 +44,6 @@ returns-in-Err-Interrupted-clause-turned g c =
     let read = c.in-Ok.ensures in
     let done = c.in-Err-Interrupted.ensures in
     let is = ap Err c.in-Err-Interrupted.field-0-is in
-    takes_turn _ _ _ _ _ _ _ _ _ _ _ _ _ _ _ _ read.phrase.1 read.phrase.2 c.reset_kills.ensures (read.reading.ruler _) read.reading.start read.reading.keeps.frame read.reading.drawn
+    takes_turn _ _ _ _ _ _ _ _ _ _ _ _ _ _ _ _ read.phrase.1 read.phrase.2 c.reset_kills.ensures read.reading.start read.reading.keeps.frame read.reading.drawn
     read.reading.in_place read.reading.redraws (done.steps_at_interrupt is) (done.start (ap is_fault c.in-Err-Interrupted.field-0-is)) (done.drawn_at_interrupt is)
     (stays_rises 3 _ _ (done.redraws_at_interrupt is))

@@ -1,11 +1,13 @@
-use Rattle.std.proofs.Common.{◌∙◌, ap}
-use Rattle.line_editor.specs.Editor.{ruler_of}
+use Rattle.std.proofs.Common.{◌∙◌}
 use Rattle.line_editor.proofs.CountLemmas.{rises_stays}
 use Rattle.line_editor.proofs.DrawnLemmas.{frame_then, keeps_then, stays_in_place}
+use Rattle.line_editor.proofs.ReadingLemmas.{phrase_behind}
 use Rattle.line_editor.proofs.edit.State.next_cmd.Goals as goal
 
 pub returns-clause-phrase : goal.returns-clause-phrase
-returns-clause-phrase g c = (_, c.in_ok-command.ensures.phrase, c.in_ok-begin_group.ensures.draft)
+returns-clause-phrase g c =
+    let group = c.in_ok-begin_group.ensures in
+    (_, phrase_behind _ _ _ _ _ _ _ _ _ _ _ group.undrawn group.line.line c.in_ok-command.ensures.phrase, group.draft)
 
 pub returns-clause-reading : goal.returns-clause-reading
 returns-clause-reading g c =
@@ -21,7 +23,6 @@ returns-clause-reading g c =
       remembers = tt;
       reads = read.reads;
       drawn = keeps_then _ _ _ _ read.drawn group.drawn;
-      ruler = λ indent. ap (λ d. ruler_of d indent) group.undrawn.drew.display ∙ read.ruler indent;
       start = group.start ∙ read.start;
       in_place = λ at. stays_in_place _ _ _ group.undrawn.drew (read.in_place at);
       redraws = rises_stays _ _ _ _ _ read.redraws group.undrawn.drew.redraws;
