@@ -21,6 +21,7 @@ use std::io::ErrorKind;
 use std::process::Abort;
 use std::test::Fail;
 
+mod counts;
 mod draws;
 mod faults;
 mod lines;
@@ -52,10 +53,11 @@ const PLAIN: Setup = Setup {
     lit: None,
 };
 
-/// Something that is done with the editor: keys that it runs on; keys that are added before one turn; keys and one turn by
+/// Something that is done with the editor: keys that it runs on; keys that are added alone; keys that are added before one turn; keys and one turn by
 /// the first of them with the flag for a single Esc; a command that it executes; or a call of its state.
 enum Step {
     Run(&'static [KeyEvent]),
+    Press(&'static [KeyEvent]),
     Advance(&'static [KeyEvent]),
     Turn(&'static [KeyEvent], bool),
     Paste(&'static str),
@@ -162,6 +164,7 @@ fn done(
             let command = state.next_cmd(input, typist, *single_esc_abort)?;
             return Ok(turned(execute(command, state, input, kills, config)?));
         }
+        Step::Press(keys) => typist.press(keys)?,
         Step::Paste(text) => typist.paste(text)?,
         Step::TakePasted => {
             let _ = typist.read_pasted_text()?;
