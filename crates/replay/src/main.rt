@@ -10,7 +10,7 @@ mod report;
 mod script;
 
 use helper::ScriptHelper;
-use line_buffer::{GraphemeClusterMode, KillRing, Unit};
+use line_buffer::{GraphemeClusterMode, KillRing};
 use line_config::{Config, ReadlineError};
 use line_editor::binding::Bindings;
 use line_editor::edit::State;
@@ -31,12 +31,6 @@ const FAULT: u8 = 3;
 
 /// The status of a script with a bad line.
 const BAD_SCRIPT: u8 = 4;
-
-/// The columns of the screen.
-const COLUMNS: Unit = 80;
-
-/// The prompt.
-const PROMPT: &str = "> ";
 
 /// The slots of the kill ring.
 const KILL_RING_SIZE: usize = 60;
@@ -75,10 +69,11 @@ fn play_script<R: Read + Drop, O: Write>(
         }
         Err(ScriptError::Fault(error)) => return Err(error),
     };
-    let mut screen = Plain::new(alloc, COLUMNS);
+    let mut screen = Plain::new(alloc, parsed.columns);
     let script = Script::new(parsed.items);
     let outcome = edit(
         alloc,
+        parsed.prompt.as_str(),
         &parsed.history,
         parsed.helper,
         script,
@@ -93,6 +88,7 @@ fn play_script<R: Read + Drop, O: Write>(
 /// Edits a line by the script's items, and prints all but the redraws.
 fn edit<O: Write>(
     alloc: Global,
+    prompt: &str,
     history: &FileHistory,
     mut helper: ScriptHelper,
     mut script: Script,
@@ -104,7 +100,7 @@ fn edit<O: Write>(
     let mut input = InputState::new(&config, &bindings);
     let mut kill_ring = KillRing::new(alloc, KILL_RING_SIZE);
     let context = Context::new(history);
-    let mut state = State::new(alloc, screen, &PROMPT, Some(&mut helper), context)?;
+    let mut state = State::new(alloc, screen, &prompt, Some(&mut helper), context)?;
     let answer = run(&mut state, &mut input, &mut script, &mut kill_ring, &config);
     let report = Report {
         outcome: Outcome::of(answer),

@@ -1,10 +1,11 @@
 //! The script: lines of text that stand for settings and for what a person types, and the reader of the latter.
-ghost use Rattle.std.specs.Prelude.{◌≡◌, ◌≤◌};
+ghost use Rattle.std.specs.Prelude.{◌≡◌, ◌<◌, ◌≤◌, IfSome};
 ghost use Rattle.line_config.specs.Error.{Rose};
 
 mod names;
 
 use crate::helper::ScriptHelper;
+use line_buffer::Unit;
 use line_config::ReadlineError;
 use line_keys::command::Cmd;
 use line_keys::keys::{KeyCode, KeyEvent, Modifiers};
@@ -15,6 +16,12 @@ use std::alloc::{AllocError, Global};
 use std::collections::VecDeque;
 use std::io;
 use std::io::Read;
+
+/// The prompt where no line sets another.
+const PROMPT: &str = "> ";
+
+/// The columns of the screen where no line sets others.
+const COLUMNS: Unit = 80;
 
 /// Something that the editor reads.
 #[derive(Debug, Drop)]
@@ -32,10 +39,29 @@ pub(crate) struct Parsed {
     pub(crate) history: FileHistory,
     /// The helper that the settings switch on.
     pub(crate) helper: ScriptHelper,
+    /// The prompt.
+    pub(crate) prompt: String,
+    /// The columns of the screen, at least one.
+    pub(crate) columns: Unit,
     /// What the editor reads.
     pub(crate) items: VecDeque<Item>,
     /// Whether a line of items came, behind which no setting may stand.
     has_item_lines: bool,
+    ghost some_columns: { 0 < columns },
+}
+
+impl Parsed {
+    /// What no line gives: the defaults of the settings, and no items.
+    fn new(alloc: Global) -> Result<Parsed, ReadlineError> {
+        Ok(Parsed {
+            history: FileHistory::new(alloc),
+            helper: ScriptHelper::new(),
+            prompt: String::from_str(alloc, PROMPT)?,
+            columns: COLUMNS,
+            items: VecDeque::new(alloc),
+            has_item_lines: false,
+        })
+    }
 }
 
 /// Why there is no script.
@@ -162,12 +188,7 @@ pub(crate) fn read_script<R: Read + Drop>(
 
 /// What a script gives, whose lines end in line feeds, the last one possibly in none. Empty lines give nothing.
 fn parse_script(alloc: Global, script: &[u8]) -> Result<Parsed, ScriptError> {
-    let mut parsed = Parsed {
-        history: FileHistory::new(alloc),
-        helper: ScriptHelper::new(),
-        items: VecDeque::new(alloc),
-        has_item_lines: false,
-    };
+    let mut parsed = Parsed::new(alloc)?;
     for (index, bytes) in script.split(|byte| *byte == b'\n').enumerate() {
         let is_known = match str::from_utf8(bytes) {
             Ok("") => true,
@@ -188,6 +209,10 @@ fn push_line(alloc: Global, line: &str, parsed: &mut Parsed) -> Result<bool, Rea
         Some(("history", text)) if !parsed.has_item_lines => {
             push_history(alloc, text, &mut parsed.history)
         }
+        Some(("prompt", text)) if !parsed.has_item_lines => {
+            Ok(set_prompt(alloc, text, &mut parsed.prompt)?)
+        }
+        Some(("columns", digits)) if !parsed.has_item_lines => Ok(set_columns(digits, parsed)),
         Some(("type", text)) => {
             parsed.has_item_lines = true;
             Ok(push_typed(alloc, text, &mut parsed.items)?)
@@ -195,6 +220,10 @@ fn push_line(alloc: Global, line: &str, parsed: &mut Parsed) -> Result<bool, Rea
         Some(("key", name)) => {
             parsed.has_item_lines = true;
             Ok(push_key(name, &mut parsed.items)?)
+        }
+        Some(("paste", text)) => {
+            parsed.has_item_lines = true;
+            Ok(push_pasted(alloc, text, &mut parsed.items)?)
         }
         _ => Ok(false),
     }
@@ -220,6 +249,47 @@ fn push_history(
         return Ok(false);
     };
     let _ = history.add_owned(line)?;
+    Ok(true)
+}
+
+/// Takes the text as the prompt. False where an escape is bad.
+fn set_prompt(alloc: Global, text: &str, prompt: &mut String) -> Result<bool, AllocError> {
+    let Some(text) = unescape(alloc, text)? else {
+        return Ok(false);
+    };
+    *prompt = text;
+    Ok(true)
+}
+
+/// Takes the number as the columns of the screen. False where it is none that a screen can have.
+fn set_columns(digits: &str, parsed: &mut Parsed) -> bool {
+    let Some(columns) = columns_in(digits) else {
+        return false;
+    };
+    parsed.columns = columns;
+    true
+}
+
+/// The number of decimal digits alone, from 1 on.
+fn columns_in(digits: &str) -> Option<Unit>
+    ensures { IfSome result (λ columns. 0 < columns) }
+{
+    if !digits.bytes().all(|digit| digit.is_ascii_digit()) {
+        return None;
+    }
+    match digits.parse() {
+        Ok(0) | Err(_) => None,
+        Ok(columns) => Some(columns),
+    }
+}
+
+/// Adds the mark before a pasted text, and the text. False where an escape is bad.
+fn push_pasted(alloc: Global, text: &str, items: &mut VecDeque<Item>) -> Result<bool, AllocError> {
+    let Some(pasted) = unescape(alloc, text)? else {
+        return Ok(false);
+    };
+    items.push_back(Item::Key(KeyEvent(KeyCode::BracketedPasteStart, Modifiers::NONE)))?;
+    items.push_back(Item::Paste(pasted))?;
     Ok(true)
 }
 

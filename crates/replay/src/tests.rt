@@ -159,6 +159,123 @@ impl Write for Faulty {
     }
 }
 
+/// Rows of counts, columns, pasted texts and the table of Emacs.
+const ROWS: &[Case] = &[
+    (
+        "type xxxxxxxxxxxxxxxxxxxxxxxxxxxxxx\nkey C-a\nkey M--\ntype 23\nkey Left\nkey Enter\n",
+        "outcome submitted\nline xxxxxxxxxxxxxxxxxxxxxxxxxxxxxx\ncursor 23\nplace 0\nat 0 25\nredraws 37\n",
+        0,
+    ),
+    (
+        "columns 10\ntype abcdefg\n",
+        "outcome eof\nline abcdefg\ncursor 7\nplace 0\nat 0 9\nredraws 8\n",
+        1,
+    ),
+    (
+        "columns 10\ntype abcdefgh\n",
+        "outcome eof\nline abcdefgh\ncursor 8\nplace 0\nat 1 0\nredraws 9\n",
+        1,
+    ),
+    (
+        "columns 10\ntype abcdefgh\nkey Backspace\n",
+        "outcome eof\nline abcdefg\ncursor 7\nplace 0\nat 0 9\nredraws 10\n",
+        1,
+    ),
+    (
+        "type ab\\n\nkey Backspace\n",
+        "outcome eof\nline ab\ncursor 2\nplace 0\nat 0 4\nredraws 5\n",
+        1,
+    ),
+    (
+        "columns 10\ntype abcdefgh\\nx\n",
+        "outcome eof\nline abcdefgh\\nx\ncursor 10\nplace 0\nat 1 1\nredraws 11\n",
+        1,
+    ),
+    (
+        "type é\n",
+        "outcome eof\nline é\ncursor 3\nplace 0\nat 0 3\nredraws 3\n",
+        1,
+    ),
+    (
+        "key M-5\n",
+        "outcome eof\nline \ncursor 0\nplace 0\nat 0 9\nredraws 2\n",
+        1,
+    ),
+    (
+        "type abc\nkey M-9\nkey C-_\nkey M-9\nkey C-_\n",
+        "outcome eof\nline \ncursor 0\nplace 0\nat 0 2\nredraws 9\n",
+        1,
+    ),
+    (
+        "paste a\\nb\n",
+        "outcome eof\nline a\\nb\ncursor 3\nplace 0\nat 1 1\nredraws 2\n",
+        1,
+    ),
+    (
+        "type one two\nkey C-w\nkey C-a\nkey C-k\nkey C-y\nkey M-y\n",
+        "outcome eof\nline two\ncursor 3\nplace 0\nat 0 5\nredraws 13\n",
+        1,
+    ),
+    (
+        "type ab\nkey C-t\n",
+        "outcome eof\nline ba\ncursor 2\nplace 0\nat 0 4\nredraws 4\n",
+        1,
+    ),
+    (
+        "type ab cd\nkey C-a\nkey M-u\n",
+        "outcome eof\nline AB cd\ncursor 2\nplace 0\nat 0 4\nredraws 8\n",
+        1,
+    ),
+    (
+        "type abc\\nd\nkey Up\n",
+        "outcome eof\nline abc\\nd\ncursor 0\nplace 0\nat 0 2\nredraws 7\n",
+        1,
+    ),
+    (
+        "type abcabc\nkey C-a\nkey C-]\ntype c\n",
+        "outcome eof\nline abcabc\ncursor 1\nplace 0\nat 0 3\nredraws 9\n",
+        1,
+    ),
+    (
+        "type abc\nkey M-0\nkey Left\n",
+        "outcome eof\nline abc\ncursor 2\nplace 0\nat 0 4\nredraws 7\n",
+        1,
+    ),
+    (
+        "type abc\nkey M--\ntype 0\nkey Left\n",
+        "outcome eof\nline abc\ncursor 2\nplace 0\nat 0 4\nredraws 8\n",
+        1,
+    ),
+    (
+        "prompt 0123456789\ncolumns 10\ntype a\n",
+        "outcome eof\nline a\ncursor 1\nplace 0\nat 1 1\nredraws 2\n",
+        1,
+    ),
+    (
+        "hints\nhistory git status\ntype git\nkey Right\nkey Enter\n",
+        "outcome submitted\nline git status\ncursor 10\nplace 1\nat 0 12\nredraws 5\n",
+        0,
+    ),
+    (
+        "history rustc\nhistory cargo\ntype a\nkey M-<\nkey M->\nkey Enter\n",
+        "outcome submitted\nline a\ncursor 1\nplace 2\nat 0 3\nredraws 4\n",
+        0,
+    ),
+    (
+        "history line1\nhistory line2\nkey Up\nkey Up\nkey Down\nkey Enter\n",
+        "outcome submitted\nline line2\ncursor 5\nplace 1\nat 0 7\nredraws 4\n",
+        0,
+    ),
+];
+
+#[test]
+fn edits_by_the_table_of_emacs(rt: HostRuntime) -> Result<(), Fail> {
+    for case in ROWS {
+        prints(&rt, rt.alloc(), *case)?;
+    }
+    Ok(())
+}
+
 /// A script and what is printed where nothing fails, with the status.
 const WHOLE: &[Case] = &[
     (

@@ -118,6 +118,75 @@ fn switches_the_helper(rt: HostRuntime) -> Result<(), Fail> {
     Ok(())
 }
 
+/// A script, its prompt and the columns of its screen.
+type Set = (&'static str, &'static str, Unit);
+
+fn sets(rt: &impl Abort, alloc: Global, case: Set) -> Result<(), Fail> {
+    let (script, prompt, columns) = case;
+    let Ok(parsed) = read_script(alloc, script.as_bytes()) else {
+        return Err(Fail::from("a good script"));
+    };
+    assert_eq!(rt;
+        (parsed.prompt.as_str(), parsed.columns),
+        (prompt, columns),
+        "{script}"
+    );
+    Ok(())
+}
+
+const SET: &[Set] = &[
+    ("", "> ", 80),
+    ("prompt ", "", 80),
+    ("prompt  a \ntype prompt b", " a ", 80),
+    (r"prompt a\nb\\", "a\nb\\", 80),
+    ("prompt a\nprompt b\ncolumns 7\n\ncolumns 10", "b", 10),
+    ("columns 0080", "> ", 80),
+    ("columns 1", "> ", 1),
+    ("columns 65535", "> ", 65535),
+];
+
+#[test]
+fn sets_the_prompt_and_the_columns(rt: HostRuntime) -> Result<(), Fail> {
+    for case in SET {
+        sets(&rt, rt.alloc(), *case)?;
+    }
+    Ok(())
+}
+
+/// A script of one pasted text, and the text.
+const PASTED: &[(&str, &str)] = &[
+    ("paste ", ""),
+    ("paste a", "a"),
+    (r"paste a\nb\\", "a\nb\\"),
+    ("paste  é\n", " é"),
+];
+
+fn pastes(rt: &impl Abort, alloc: Global, case: (&str, &str)) -> Result<(), Fail> {
+    let (script, text) = case;
+    let Ok(Parsed { items, .. }) = read_script(alloc, script.as_bytes()) else {
+        return Err(Fail::from("a good script"));
+    };
+    assert_eq!(rt; items.len(), 2, "{script}");
+    let mark = KeyEvent(KeyCode::BracketedPasteStart, Modifiers::NONE);
+    assert!(rt;
+        matches!(items.front(), Some(Item::Key(key)) if *key == mark),
+        "{script}"
+    );
+    assert!(rt;
+        matches!(items.back(), Some(Item::Paste(pasted)) if pasted.as_str() == text),
+        "{script}"
+    );
+    Ok(())
+}
+
+#[test]
+fn marks_pasted_texts(rt: HostRuntime) -> Result<(), Fail> {
+    for case in PASTED {
+        pastes(&rt, rt.alloc(), *case)?;
+    }
+    Ok(())
+}
+
 fn refuses(rt: &impl Abort, alloc: Global, case: (&[u8], usize)) {
     let (script, line) = case;
     let bad = match read_script(alloc, script) {
@@ -146,8 +215,6 @@ const BAD: &[(&[u8], usize)] = &[
     (b"type a\n\xc3\n", 2),
     (b"key Foo\n\xff", 1),
     (b"mode vi", 1),
-    (b"columns 80", 1),
-    (b"prompt $", 1),
     (b"history", 1),
     (b"history\ta", 1),
     (b"history a\nhistory \\q", 2),
@@ -165,9 +232,27 @@ const BAD: &[(&[u8], usize)] = &[
     (b"brackets ()", 1),
     (b"hints brackets", 1),
     (b"bracket", 1),
+    (b"columns", 1),
+    (b"columns ", 1),
+    (b"columns 0", 1),
+    (b"columns 000", 1),
+    (b"columns 65536", 1),
+    (b"columns +80", 1),
+    (b"columns -1", 1),
+    (b"columns 8 0", 1),
+    (b"columns 80 ", 1),
+    (b"columns 80\r\n", 1),
+    (b"columns ten", 1),
+    (b"type a\ncolumns 80", 2),
+    (b"prompt", 1),
+    (b"prompt \\t", 1),
+    (b"prompt a\\", 1),
+    (b"paste a\nprompt $", 2),
+    (b"paste", 1),
+    (b"paste \\t", 1),
+    (b"key a\npaste a\\\nkey Foo", 2),
     (b"hints\n\ntype a\nhints", 4),
     (b"key Enter\nbrackets\nkey Foo", 2),
-    (b"paste a", 1),
 ];
 
 #[test]
