@@ -82,7 +82,7 @@ module _ {X Y : Type 0} (e : editors.Ghosts X) (r : readers.Ghosts Y) (start : X
     pub count_ends : (count : Count) (last : X) → continues_count style k ≡ false
         → ((keys : List KeyEvent) → IsCountOf typed keys → count ≡ count_of keys)
         → Refreshes {T = Unit {0}} e (Ok tt) next last (hinted (e.environment next) (e.draft next)) → Drew e next last (hint_shown (e.draft last)) Other
-        → ReadsCount e r style first (Ok (count , k)) start reader last reader''
+        → ReadsCount e r style first (Ok (count, k)) start reader last reader''
     count_ends count last ends counted refreshed drew =
         let once : e.draft next ≡ hinted (e.environment start) (e.draft start) =
         read.draft ∙ asked_again (e.environment start) (e.environment now) (e.draft start) (e.draft now) c.frame.environment c.left in

@@ -16,3 +16,4 @@ pub mod TurnLemmas
 pub mod UnderwayLemmas
 pub mod TurnLaws
 pub mod UndoLaws
+pub mod TwoRunsLaws

@@ -135,7 +135,7 @@ module _ {X Y : Type 0} (e : editors.Ghosts X) (r : readers.Ghosts Y) (editor : 
         draft = inr (count.draft_at_eof eof);
       }
 
-  module _ (count : Count) (last : KeyEvent) (editor' : X) (mid' : Y) (read : ReadsCount e r (input_of input).style k (Ok (count , last)) editor mid editor' mid') (begins : begins_count (input_of input).style (input_of input).mode k ≡ true) where
+  module _ (count : Count) (last : KeyEvent) (editor' : X) (mid' : Y) (read : ReadsCount e r (input_of input).style k (Ok (count, last)) editor mid editor' mid') (begins : begins_count (input_of input).style (input_of input).mode k ≡ true) where
     -- a count was read, the key that ends it, and what belongs to that
     pub phrase_counted : (reader' : Y) (command : Command)
         → ReadsBehind r mid' reader' (keymap_of input (r.own_binding mid')) (e.draft editor') (input_of input) count last command

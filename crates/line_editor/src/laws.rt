@@ -1,5 +1,11 @@
 //! Laws of the definitions that the contracts cite. No call of the editor is made here.
-ghost use Rattle.line_editor.specs.Laws.{ComingBack, EnoughUndo, HasOneEnd, IsPrefixFree, ReadFromTheCut, ReadingAgain, TurnsAndRun, TurnsBeforeMore, TurnsFollow};
+ghost use Rattle.line_editor.specs.Laws.{ComingBack, EnoughUndo, HasOneEnd, IsPrefixFree, ReadFromTheCut, ReadingAgain, TurnsAndRun, TwoRenderers, TurnsBeforeMore, TurnsFollow};
+
+use crate::edit::State;
+use line_config::Prompt;
+use line_keys::editor_state::EditorState;
+use line_parts::{Helper, History};
+use line_state::Renderer;
 
 /// No phrase is a proper beginning of another, and one list of items has one command.
 pub fn phrases_are_prefix_free()
@@ -48,4 +54,19 @@ pub fn enough_undo_gives_the_start()
 /// cursor, whatever was edited in between: where no command searches the history.
 pub fn coming_back_restores_the_line()
     ensures { ComingBack }
+{}
+
+/// Two runs over renderers of the same prompt end and cluster mode, which start alike, leave the same line, cursor, history
+/// index, kill ring and outcome, whatever the columns and colours are.
+pub fn two_renderers_leave_the_same<
+    'out,
+    'prompt,
+    W: Renderer + 'out,
+    V: Renderer + 'out,
+    H: Helper + 'out,
+    P: Prompt + 'prompt,
+    S: History + 'out,
+>()
+    ensures { TwoRenderers ⟦<State<'out, 'prompt, W, H, P, S> as EditorState>⟧ W.Reader.RawReader
+        ⟦<State<'out, 'prompt, V, H, P, S> as EditorState>⟧ V.Reader.RawReader }
 {}
