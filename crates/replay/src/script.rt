@@ -261,7 +261,7 @@ fn set_prompt(alloc: Global, text: &str, prompt: &mut String) -> Result<bool, Al
     Ok(true)
 }
 
-/// Takes the number as the columns of the screen. False where it is none that a screen can have.
+/// Takes the number as the columns of the screen. False where it is none from 10 to 1000.
 fn set_columns(digits: &str, parsed: &mut Parsed) -> bool {
     let Some(columns) = columns_in(digits) else {
         return false;
@@ -270,7 +270,7 @@ fn set_columns(digits: &str, parsed: &mut Parsed) -> bool {
     true
 }
 
-/// The number of decimal digits alone, from 1 on.
+/// The number of decimal digits alone, from 10 to 1000.
 fn columns_in(digits: &str) -> Option<Unit>
     ensures { IfSome result (λ columns. 0 < columns) }
 {
@@ -278,8 +278,8 @@ fn columns_in(digits: &str) -> Option<Unit>
         return None;
     }
     match digits.parse() {
-        Ok(0) | Err(_) => None,
-        Ok(columns) => Some(columns),
+        Ok(columns @ 10..=1000) => Some(columns),
+        _ => None,
     }
 }
 

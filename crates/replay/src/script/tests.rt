@@ -139,10 +139,10 @@ const SET: &[Set] = &[
     ("prompt ", "", 80),
     ("prompt  a \ntype prompt b", " a ", 80),
     (r"prompt a\nb\\", "a\nb\\", 80),
-    ("prompt a\nprompt b\ncolumns 7\n\ncolumns 10", "b", 10),
+    ("prompt a\nprompt b\ncolumns 70\n\ncolumns 10", "b", 10),
     ("columns 0080", "> ", 80),
-    ("columns 1", "> ", 1),
-    ("columns 65535", "> ", 65535),
+    ("columns 10", "> ", 10),
+    ("columns 1000", "> ", 1000),
 ];
 
 #[test]
@@ -236,7 +236,10 @@ const BAD: &[(&[u8], usize)] = &[
     (b"columns ", 1),
     (b"columns 0", 1),
     (b"columns 000", 1),
+    (b"columns 9", 1),
+    (b"columns 1001", 1),
     (b"columns 65536", 1),
+    (b"type a\ncolumns 9", 2),
     (b"columns +80", 1),
     (b"columns -1", 1),
     (b"columns 8 0", 1),
