@@ -148,49 +148,39 @@ phrases-fit keymap environment draft input items more c c' d d' i i' p q =
     let fit = Answers-fit (bound_command keymap left input (count_of p.typed) p.last) ((row_of input.style input.mode p.last left).means (count_of p.typed)) p.tail more c c' p.keyed there in
     (fit.0, fit.1, p.draft_left ∙ ap (λ t. after_count environment t draft) fits.same_typed ∙ sym q.draft_left, p.input_left ∙ sym q.input_left)
 
--- keys of a count, the key that ends it, and what is read behind that are a phrase
-keys-phrase : (keymap : Keymap) (environment : Environment) (draft : Draft) (input : Input) (typed : List KeyEvent) (last : KeyEvent) (tail : List Item) (command : Command)
-    → is_count_before input.style input.mode typed last ≡ true
-    → Keyed keymap (after_count environment typed draft) input (count_of typed) last tail command
-    → Phrase keymap environment draft input (map key typed ++ (key last ∷ tail)) command (after_count environment typed draft) input
-keys-phrase keymap environment draft input typed last tail command counted keyed = record {
-  typed = typed;
-  last = last;
-  tail = tail;
-  cut = refl;
-  counted = counted;
-  keyed = keyed;
-  draft_left = refl;
-  input_left = refl;
-}
-
 -- a key behind which more items are to be read begins a phrase
-pub keys-begin : (keymap : Keymap) (environment : Environment) (draft : Draft) (input : Input) (typed : List KeyEvent) (last : KeyEvent) (items : List Item)
+abbrev pub keys-begin : (keymap : Keymap) (environment : Environment) (draft : Draft) (input : Input) (typed : List KeyEvent) (last : KeyEvent) (items : List Item)
     → items ≡ map key typed ++ (key last ∷ []) → is_count_before input.style input.mode typed last ≡ true
     → LacksTail keymap (after_count environment typed draft) input (count_of typed) last → IsBeginning keymap environment draft input items
-keys-begin keymap environment draft input typed last items is counted lacks =
-    let P : List Item → Type 0 = λ i. Phrase keymap environment draft input i lacks.1 (after_count environment typed draft) input in
-    record {
-      rest = lacks.0;
-      command = lacks.1;
-      draft' = after_count environment typed draft;
-      input' = input;
-      proper = lacks.2;
-      phrase = subst P (sym (ap (λ x. x ++ lacks.0) is ∙ append_assoc (map key typed) (key last ∷ []) lacks.0))
-          (keys-phrase keymap environment draft input typed last lacks.0 lacks.1 counted lacks.3);
-    }
+keys-begin keymap environment draft input typed last items is counted lacks = record {
+  rest = lacks.0;
+  command = lacks.1;
+  draft' = after_count environment typed draft;
+  input' = input;
+  proper = lacks.2;
+  phrase = record {
+    typed = typed;
+    last = last;
+    tail = lacks.0;
+    cut = ap (λ x. x ++ lacks.0) is ∙ append_assoc (map key typed) (key last ∷ []) lacks.0;
+    counted = counted;
+    keyed = lacks.3;
+    draft_left = refl;
+    input_left = refl;
+  };
+}
 
 -- Enter is a key with nothing behind it, which belongs to no count
 abbrev enter : KeyEvent
 enter = event Enter NONE
 
-enter-begins-none : (style : EditMode) (mode : InputMode) → begins_count style mode enter ≡ false
+pub enter-begins-none : (style : EditMode) (mode : InputMode) → begins_count style mode enter ≡ false
 enter-begins-none Emacs mode = refl
 enter-begins-none Vi InputMode.Command = refl
 enter-begins-none Vi InputMode.Insert = refl
 enter-begins-none Vi InputMode.Replace = refl
 
-enter-ends : (style : EditMode) → continues_count style enter ≡ false
+pub enter-ends : (style : EditMode) → continues_count style enter ≡ false
 enter-ends Emacs = refl
 enter-ends Vi = refl
 
@@ -199,7 +189,7 @@ enter-gives : (style : EditMode) (mode : InputMode) (draft : Draft) (count : Cou
 enter-gives Emacs mode draft count = (_, (refl, refl))
 enter-gives Vi mode draft count = (_, (refl, refl))
 
-enter-answers : (keymap : Keymap) (draft : Draft) (input : Input) (count : Count) (bound : Option Command) → bound_command keymap draft input count enter ≡ bound
+pub enter-answers : (keymap : Keymap) (draft : Draft) (input : Input) (count : Count) (bound : Option Command) → bound_command keymap draft input count enter ≡ bound
     → (command : Command) × Keyed keymap draft input count enter [] command
 enter-answers keymap draft input count (Some command) is =
     let P : Option Command → Type 0 = λ o. Answers o ((row_of input.style input.mode enter draft).means count) [] command in
@@ -210,20 +200,27 @@ enter-answers keymap draft input count None is =
     (given.0, subst P (sym is) given.1)
 
 -- keys of a count that Enter could end begin a phrase
-count-begins : (keymap : Keymap) (environment : Environment) (draft : Draft) (input : Input) (typed : List KeyEvent) (items : List Item)
+abbrev count-begins : (keymap : Keymap) (environment : Environment) (draft : Draft) (input : Input) (typed : List KeyEvent) (items : List Item)
     → items ≡ map key typed → is_count_before input.style input.mode typed enter ≡ true → IsBeginning keymap environment draft input items
 count-begins keymap environment draft input typed items is counted =
     let left : Draft = after_count environment typed draft in
     let answers = enter-answers keymap left input (count_of typed) (bound_command keymap left input (count_of typed) enter) refl in
-    let P : List Item → Type 0 = λ i. Phrase keymap environment draft input i answers.0 left input in
     record {
       rest = key enter ∷ [];
       command = answers.0;
       draft' = left;
       input' = input;
       proper = λ empty. cc;
-      phrase = subst P (sym (ap (λ x. x ++ (key enter ∷ [])) is))
-          (keys-phrase keymap environment draft input typed enter [] answers.0 counted answers.1);
+      phrase = record {
+        typed = typed;
+        last = enter;
+        tail = [];
+        cut = ap (λ x. x ++ (key enter ∷ [])) is;
+        counted = counted;
+        keyed = answers.1;
+        draft_left = refl;
+        input_left = refl;
+      };
     }
 
 -- keys of a count are one before each key that does not go on with it
@@ -238,13 +235,13 @@ pub is-no-count : (style : EditMode) (mode : InputMode) (last : KeyEvent) → be
 is-no-count style mode last none = ap not none
 
 -- where no item is left, a phrase may begin
-pub nothing-begins : (keymap : Keymap) (environment : Environment) (draft : Draft) (input : Input) (items : List Item)
+abbrev pub nothing-begins : (keymap : Keymap) (environment : Environment) (draft : Draft) (input : Input) (items : List Item)
     → items ≡ [] → IsBeginning keymap environment draft input items
 nothing-begins keymap environment draft input items is =
     count-begins keymap environment draft input [] items is (is-no-count input.style input.mode enter (enter-begins-none input.style input.mode))
 
 -- the items may end in a count
-pub inside-begins : (keymap : Keymap) (environment : Environment) (draft : Draft) (input : Input) (first : KeyEvent) (more : List KeyEvent) (items : List Item)
+abbrev pub inside-begins : (keymap : Keymap) (environment : Environment) (draft : Draft) (input : Input) (first : KeyEvent) (more : List KeyEvent) (items : List Item)
     → items ≡ key first ∷ map key more → begins_count input.style input.mode first ≡ true → list_all (continues_count input.style) more ≡ true
     → IsBeginning keymap environment draft input items
 inside-begins keymap environment draft input first more items is begins all =

@@ -121,6 +121,7 @@ module _ {X Y : Type 0} (e : editors.Ghosts X) (r : readers.Ghosts Y) (editor : 
         begins = keys-begin _ _ _ _ [] k _ (took ∙ ap (λ t. key k ∷ t) dry.before) (is-no-count _ _ k begins) (subst P own (subst Q counted lacks));
         empty = dry.behind;
         draft = inl refl;
+        undrawn = λ none. (refl, record { display = refl; redraws = refl });
       }
 
   -- the items ended in a count
@@ -133,6 +134,7 @@ module _ {X Y : Type 0} (e : editors.Ghosts X) (r : readers.Ghosts Y) (editor : 
         begins = inside-begins _ _ _ _ k inside.more _ (took ∙ ap (λ t. key k ∷ t) inside.cut) begins inside.continue;
         empty = inside.empty;
         draft = inr (count.draft_at_eof eof);
+        undrawn = λ none. absurd (cc);
       }
 
   module _ (count : Count) (last : KeyEvent) (editor' : X) (mid' : Y) (read : ReadsCount e r (input_of input).style k (Ok (count, last)) editor mid editor' mid') (begins : begins_count (input_of input).style (input_of input).mode k ≡ true) where
@@ -181,6 +183,7 @@ module _ {X Y : Type 0} (e : editors.Ghosts X) (r : readers.Ghosts Y) (editor : 
               (subst P (read.own ∙ own) (subst Q keys.counted (subst R read.draft lacks)));
           empty = dry.behind;
           draft = inr read.draft;
+          undrawn = λ none. absurd (cc);
         }
 
     -- what else is left then

@@ -14,6 +14,10 @@ pub record Keymap : Type 0 where
   pub bound : Asked → Option Command
   pub own : KeyEvent → Option Command
 
+-- no key has a binding
+abbrev pub nothing_bound : Keymap
+nothing_bound = record { bound = λ asked. None; own = λ typed. None }
+
 -- the reader's end of input counts only on an empty line
 abbrev pub on_line : List ℕ → Option Command → Option Command
 on_line (_ ∷ _) (Some end_of_file) = None

@@ -90,11 +90,13 @@ module _ {X Y : Type 0} (e : editors.Ghosts X) (r : readers.Ghosts Y) where
     pub undrawn : phrase.typed ≡ [] → DrewNothing e editor editor'
     pub measured : (indent : ℕ) → ruler_of (e.display editor') indent ≡ ruler_behind phrase.typed (e.display editor) indent
 
-  -- the items end before a phrase or inside of one: all are read, and of the draft at most the hint changes
+  -- the items end before a phrase or inside of one: all are read, and of the draft at most the hint changes; where they write no
+  -- count, nothing does, and nothing is drawn
   pub record OutOfItems (editor : X) (input : InputState) (reader : Y) (editor' : X) (reader' : Y) : Type 0 where
     pub begins : IsBeginning (keymap_of input (r.own_binding reader)) (e.environment editor) (e.draft editor) (input_of input) (r.rest reader)
     pub empty : r.rest reader' ≡ []
     pub draft : LeftByCut (e.environment editor) (e.draft editor) (e.draft editor')
+    pub undrawn : begins.phrase.typed ≡ [] → (e.draft editor' ≡ e.draft editor) × DrewNothing e editor editor'
 
   -- an error of input or output comes only where the reader or the renderer failed, or a party is not sure
   abbrev pub FailsByReading : {T : Type 0} → Result T ReadlineError → X → Y → X → Y → Type 0

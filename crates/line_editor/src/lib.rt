@@ -4,6 +4,7 @@
 pub mod binding;
 pub mod command;
 pub mod edit;
+pub mod examples;
 pub mod keymap;
 pub mod laws;
 pub mod run;

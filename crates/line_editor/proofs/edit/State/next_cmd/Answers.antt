@@ -1,4 +1,6 @@
-use Rattle.std.proofs.Common.{◌∙◌}
+use Rattle.std.proofs.Common.{◌≡◌, Err, ap, ◌∙◌}
+use Rattle.std.proofs.lemmas.Result.{err_from_is_err_and}
+use Rattle.line_config.specs.declared.error.ReadlineError.TheVariants.{Eof}
 use Rattle.line_editor.proofs.CountLemmas.{rises_stays}
 use Rattle.line_editor.proofs.DrawnLemmas.{frame_then, keeps_then, stays_in_place}
 use Rattle.line_editor.proofs.ReadingLemmas.{phrase_behind}
@@ -30,3 +32,10 @@ returns-clause-reading g c =
       not_interrupted = λ no. absurd (cc);
       io = tt;
     }
+
+pub returns-in_err-command-clause-eof : goal.returns-in_err-command-clause-eof
+returns-in_err-command-clause-eof g c =
+    λ is_eof.
+    let p = err_from_is_err_and c.from_residual.result c.from_residual.ensures.1 in
+    let e : c.in_err-command.field-0.0 ≡ Eof = (cc) in
+    c.in_err-command.ensures.eof (ap Err e)

@@ -1,0 +1,25 @@
+use Rattle.std.proofs.Common.{[], ◌∷◌, refl}
+use Rattle.line_keys.specs.Key.{event}
+use Rattle.line_keys.specs.declared.keys.KeyCode.TheVariants.{Char}
+use Rattle.line_keys.specs.declared.keys.TheConstants.Modifiers.{CTRL}
+use Rattle.line_keys.specs.Item.{key}
+use Rattle.line_editor.proofs.examples.control_x_begins.Goals as goal
+
+pub returns : goal.returns
+returns c = λ environment. record {
+  rest = key (event (Char 85) CTRL) ∷ [];
+  command = _;
+  draft' = _;
+  input' = _;
+  proper = λ empty. cc;
+  phrase = record {
+    typed = [];
+    last = event (Char 88) CTRL;
+    tail = key (event (Char 85) CTRL) ∷ [];
+    cut = refl;
+    counted = refl;
+    keyed = (event (Char 85) CTRL, refl, refl);
+    draft_left = refl;
+    input_left = refl;
+  };
+}
