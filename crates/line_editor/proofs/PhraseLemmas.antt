@@ -15,12 +15,11 @@ use Rattle.line_keys.specs.Key.{event}
 use Rattle.line_keys.specs.declared.keys.KeyCode.TheVariants.{Enter}
 use Rattle.line_keys.specs.declared.keys.TheConstants.Modifiers.{NONE}
 use Rattle.line_keys.specs.declared.keymap.InputMode.{InputMode}
-use Rattle.line_keys.specs.declared.keymap.InputMode.TheVariants as InputMode
 use Rattle.line_keys.specs.declared.keys.KeyEvent.{KeyEvent}
 use Rattle.line_keys.specs.declared.count.Count.{Count}
 use Rattle.line_editor.specs.Input.{Input}
 use Rattle.line_editor.specs.Keymap.{Keymap, bound_command}
-use Rattle.line_editor.specs.Phrase.{Answers, IsBeginning, Keyed, LacksItems, LacksTail, Phrase, Tailed, after_count, moves_by, search_to}
+use Rattle.line_editor.specs.Phrase.{Answers, IsBeginning, Keyed, LacksItems, LacksTail, Tailed, after_count, moves_by, search_to}
 use Rattle.line_editor.specs.Laws.{IsPrefixFree}
 
 -- nothing comes behind an empty list that stays empty

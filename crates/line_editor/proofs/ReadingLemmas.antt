@@ -15,7 +15,7 @@ use Rattle.line_keys.specs.Count.{begins_count, count_of}
 use Rattle.line_keys.specs.Display.{Display, IsRight, Surface}
 use Rattle.line_keys.specs.Draft.{Draft, KeepsText, start_text}
 use Rattle.line_keys.specs.EditorState.{Frame, HasRightLayout, Undrawn}
-use Rattle.line_keys.specs.Item.{Item, key}
+use Rattle.line_keys.specs.Item.{key}
 use Rattle.line_keys.specs.Table.{one}
 use Rattle.line_keys.specs.declared.count.Count.{Count}
 use Rattle.line_keys.specs.declared.editor_state.EditorState as editors

@@ -1,5 +1,5 @@
 -- Facts on runs.
-use Rattle.std.proofs.Common.{◌≡◌, ◌≢◌, List, ◌++◌, subst}
+use Rattle.std.proofs.Common.{◌≡◌, ◌≢◌, List, subst}
 use Rattle.line_buffer.specs.KillRing.{Ring}
 use Rattle.line_parts.specs.Environment.{Environment}
 use Rattle.line_keys.specs.Command.{Command}
@@ -7,7 +7,7 @@ use Rattle.line_keys.specs.Draft.{Draft}
 use Rattle.line_keys.specs.Item.{Item}
 use Rattle.line_editor.specs.Input.{Input}
 use Rattle.line_editor.specs.Keymap.{Keymap}
-use Rattle.line_editor.specs.Phrase.{Phrase, IsBeginning}
+use Rattle.line_editor.specs.Phrase.{IsBeginning}
 use Rattle.line_editor.specs.Run.{Run, End, Turn, CutShort, goes_on, ends, runs_dry, stopped, dry, kills_before, ready}
 use Rattle.line_editor.specs.Editor.{Editor, Answer, Leaves, Ruler, grouped, proceeds}
 use Rattle.line_editor.specs.Step.{step}

@@ -1,5 +1,5 @@
 -- Facts on turns of a program's state.
-use Rattle.std.proofs.Common.{◌≡◌, refl, ◌∙◌, ℕ, ◌+◌, ◌-◌, length, arith}
+use Rattle.std.proofs.Common.{◌≡◌, ◌∙◌, ℕ, ◌+◌, ◌-◌, length, arith}
 use Rattle.line_buffer.specs.KillRing.{Ring}
 use Rattle.line_keys.specs.Command.{Command}
 use Rattle.line_keys.specs.Draft.{Draft, start_text}
