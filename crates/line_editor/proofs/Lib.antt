@@ -1,3 +1,8 @@
+pub mod BoundLemmas
+pub mod ChordLemmas
+pub mod SequenceLemmas
+pub mod SequenceReadLemmas
+pub mod TailLemmas
 pub mod AcceptLemmas
 pub mod CommandLemmas
 pub mod CountLemmas

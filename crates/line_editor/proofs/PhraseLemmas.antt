@@ -4,13 +4,14 @@ use Rattle.line_parts.specs.Environment.{Environment}
 use Rattle.line_buffer.specs.declared.keymap.CharSearch.{CharSearch}
 use Rattle.line_config.specs.declared.config.EditMode.{EditMode}
 use Rattle.line_config.specs.declared.config.EditMode.TheVariants.{Emacs, Vi}
-use Rattle.line_keys.specs.Command.{Command, insert}
+use Rattle.line_keys.specs.Command.{Command, insert, unknown}
 use Rattle.line_keys.specs.Draft.{Draft}
-use Rattle.std.specs.Prelude.{◌&&◌}
+use Rattle.std.specs.Prelude.{◌&&◌, unwrap_or}
+use Rattle.std.proofs.lemmas.List.{append-nil, map-append}
 use Rattle.std.specs.List.{list_all}
-use Rattle.line_keys.specs.Count.{begins_count, continues_count, count_of, is_count_before}
+use Rattle.line_keys.specs.Count.{begins_count, continues_count, is_count_before}
 use Rattle.line_keys.specs.Item.{Item, key, paste}
-use Rattle.line_keys.specs.Table.{Meaning, gives, has_second, pastes, row_of, searches}
+use Rattle.line_keys.specs.Table.{Meaning, gives, has_second, pastes, row_of, searches, unlisted}
 use Rattle.line_keys.specs.Key.{event}
 use Rattle.line_keys.specs.declared.keys.KeyCode.TheVariants.{Enter}
 use Rattle.line_keys.specs.declared.keys.TheConstants.Modifiers.{NONE}
@@ -18,8 +19,10 @@ use Rattle.line_keys.specs.declared.keymap.InputMode.{InputMode}
 use Rattle.line_keys.specs.declared.keys.KeyEvent.{KeyEvent}
 use Rattle.line_keys.specs.declared.count.Count.{Count}
 use Rattle.line_editor.specs.Input.{Input}
-use Rattle.line_editor.specs.Keymap.{Keymap, bound_command}
-use Rattle.line_editor.specs.Phrase.{Answers, IsBeginning, Keyed, LacksItems, LacksTail, Tailed, after_count, moves_by, search_to}
+use Rattle.line_editor.specs.Keymap.{Keymap, Source, bound_command, by_binding, by_reader, by_table, count_or_one, first_source, on_line, source_of}
+use Rattle.line_editor.specs.Phrase.{Answers, IsBeginning, Keyed, LacksItems, LacksTail, Seconds, Tailed, after_count, moves_by, search_to, typed_count}
+use Rattle.line_editor.specs.Sequence.{Sequenced, Sequences, sequences_of}
+use Rattle.line_editor.proofs.SequenceLemmas.{GoesOn, sequences_fit}
 use Rattle.line_editor.specs.Laws.{IsPrefixFree}
 
 -- nothing comes behind an empty list that stays empty
@@ -41,23 +44,43 @@ same-key k k' same = cc
 same-text : (text text' : List ℕ) → paste text ≡ paste text' → text ≡ text'
 same-text text text' same = cc
 
+-- so it is with the second key of all behind keys read for a sequence
+Seconds-fit : (by : KeyEvent → Command) (keys : List KeyEvent) (found : Option Command) (rest more : List Item) (c c' : Command)
+    → Seconds by keys found rest c → Seconds by keys found (rest ++ more) c' → (more ≡ []) × (c ≡ c')
+Seconds-fit by keys (Some answer) rest more c c' h k = (nothing-behind rest more h.0 k.0, h.1 ∙ sym k.1)
+Seconds-fit by [] None rest more c c' h k =
+    let one = one-item (key h.0) (key k.0) rest more h.1 k.1 in
+    (one.0, h.2 ∙ ap by (same-key h.0 k.0 one.1) ∙ sym k.2)
+Seconds-fit by (second ∷ keys) None rest more c c' h k = (nothing-behind rest more h.0 k.0, h.1 ∙ sym k.1)
+
 -- what is read behind a key is fixed by the key, and gives one command
-Tailed-fit : (meaning : Meaning) (tail more : List Item) (c c' : Command) → Tailed meaning tail c → Tailed meaning (tail ++ more) c' → (more ≡ []) × (c ≡ c')
-Tailed-fit (gives command) tail more c c' h k = (nothing-behind tail more h.0 k.0, h.1 ∙ sym k.1)
-Tailed-fit (searches n forth) tail more c c' h k =
+Tailed-fit : (s : Sequences) (last : KeyEvent) (meaning : Meaning) (tail more : List Item) (c c' : Command)
+    → Tailed s last meaning tail c → Tailed s last meaning (tail ++ more) c' → (more ≡ []) × (c ≡ c')
+Tailed-fit s last (gives command) tail more c c' h k = (nothing-behind tail more h.0 k.0, h.1 ∙ sym k.1)
+Tailed-fit s last (searches n forth) tail more c c' h k =
     let one = one-item (key h.0) (key k.0) tail more h.1 k.1 in
     (one.0, h.2 ∙ ap (λ x. moves_by n (search_to forth x)) (same-key h.0 k.0 one.1) ∙ sym k.2)
-Tailed-fit pastes tail more c c' h k =
+Tailed-fit s last pastes tail more c c' h k =
     let one = one-item (paste h.0) (paste k.0) tail more h.1 k.1 in
     (one.0, h.2 ∙ ap (λ x. insert 1 x) (same-text h.0 k.0 one.1) ∙ sym k.2)
-Tailed-fit (has_second by) tail more c c' h k =
-    let one = one-item (key h.0) (key k.0) tail more h.1 k.1 in
-    (one.0, h.2 ∙ ap by (same-key h.0 k.0 one.1) ∙ sym k.2)
+Tailed-fit s last (has_second by) tail more c c' h k =
+    let whole : map key h.0 ++ (h.2 ++ more) ≡ map key k.0 ++ k.2 =
+    sym (append_assoc (map key h.0) h.2 more) ∙ sym (ap (λ t. t ++ more) h.4) ∙ k.4 in
+    let fits = sequences_fit s last h.0 k.0 h.1 k.1 (h.2 ++ more) k.2 h.3 k.3 whole in
+    let P : List KeyEvent → Type 0 = λ ks. Seconds by ks k.1 k.2 c' in
+    let Q : Option Command → Type 0 = λ f. Seconds by h.0 f k.2 c' in
+    let R : List Item → Type 0 = λ t. Seconds by h.0 h.1 t c' in
+    Seconds-fit by h.0 h.1 h.2 more c c' h.5 (subst R (sym fits.same_rest) (subst Q (sym fits.same_answer) (subst P (sym fits.same_keys) k.5)))
+Tailed-fit s last unlisted tail more c c' h k =
+    let whole : map key h.0 ++ more ≡ map key k.0 ++ [] = sym (ap (λ t. t ++ more) h.3) ∙ k.3 ∙ sym (append-nil (map key k.0)) in
+    let fits = sequences_fit s last h.0 k.0 h.1 k.1 more [] h.2 k.2 whole in
+    (fits.same_rest, h.4 ∙ ap (λ f. unwrap_or f unknown) fits.same_answer ∙ sym k.4)
 
-Answers-fit : (bound : Option Command) (meaning : Meaning) (tail more : List Item) (c c' : Command)
-    → Answers bound meaning tail c → Answers bound meaning (tail ++ more) c' → (more ≡ []) × (c ≡ c')
-Answers-fit (Some b) meaning tail more c c' h k = (nothing-behind tail more h.0 k.0, h.1 ∙ sym k.1)
-Answers-fit None meaning tail more c c' h k = Tailed-fit meaning tail more c c' h k
+Answers-fit : (s : Sequences) (last : KeyEvent) (source : Source) (tail more : List Item) (c c' : Command)
+    → Answers s last source tail c → Answers s last source (tail ++ more) c' → (more ≡ []) × (c ≡ c')
+Answers-fit s last (by_binding b) tail more c c' h k = (nothing-behind tail more h.0 k.0, h.1 ∙ sym k.1)
+Answers-fit s last (by_reader b) tail more c c' h k = (nothing-behind tail more h.0 k.0, h.1 ∙ sym k.1)
+Answers-fit s last (by_table meaning) tail more c c' h k = Tailed-fit s last meaning tail more c c' h k
 
 -- both of two tests that hold together
 both : (a b : Bool) → (a && b) ≡ true → (a ≡ true) × (b ≡ true)
@@ -139,19 +162,20 @@ phrases-fit keymap environment draft input items more c c' d d' i i' p q =
     let whole : map key p.typed ++ (key p.last ∷ (p.tail ++ more)) ≡ map key q.typed ++ (key q.last ∷ q.tail) =
     sym (append_assoc (map key p.typed) (key p.last ∷ p.tail) more) ∙ sym (ap (λ x. x ++ more) p.cut) ∙ q.cut in
     let fits = keys-fit input.style input.mode p.typed q.typed p.last q.last p.tail q.tail more whole p.counted q.counted in
-    let P : List KeyEvent → Type 0 = λ t. Keyed keymap (after_count environment t draft) input (count_of t) q.last q.tail c' in
-    let Q : KeyEvent → Type 0 = λ k. Keyed keymap (after_count environment p.typed draft) input (count_of p.typed) k q.tail c' in
-    let R : List Item → Type 0 = λ t. Keyed keymap (after_count environment p.typed draft) input (count_of p.typed) p.last t c' in
+    let P : List KeyEvent → Type 0 = λ t. Keyed keymap (after_count environment t draft) input (typed_count t) q.last q.tail c' in
+    let Q : KeyEvent → Type 0 = λ k. Keyed keymap (after_count environment p.typed draft) input (typed_count p.typed) k q.tail c' in
+    let R : List Item → Type 0 = λ t. Keyed keymap (after_count environment p.typed draft) input (typed_count p.typed) p.last t c' in
     let there = subst R (sym fits.same_tail) (subst Q (sym fits.same_last) (subst P (sym fits.same_typed) q.keyed)) in
     let left : Draft = after_count environment p.typed draft in
-    let fit = Answers-fit (bound_command keymap left input (count_of p.typed) p.last) ((row_of input.style input.mode p.last left).means (count_of p.typed)) p.tail more c c' p.keyed there in
+    let typed = typed_count p.typed in
+    let fit = Answers-fit (sequences_of keymap.bound left input (count_or_one typed)) p.last (source_of keymap left input typed p.last) p.tail more c c' p.keyed there in
     (fit.0, fit.1, p.draft_left ∙ ap (λ t. after_count environment t draft) fits.same_typed ∙ sym q.draft_left, p.input_left ∙ sym q.input_left)
 
 -- a key behind which more items are to be read begins a phrase
-abbrev pub keys-begin : (keymap : Keymap) (environment : Environment) (draft : Draft) (input : Input) (typed : List KeyEvent) (last : KeyEvent) (items : List Item)
-    → items ≡ map key typed ++ (key last ∷ []) → is_count_before input.style input.mode typed last ≡ true
-    → LacksTail keymap (after_count environment typed draft) input (count_of typed) last → IsBeginning keymap environment draft input items
-keys-begin keymap environment draft input typed last items is counted lacks = record {
+abbrev pub keys-begin : (keymap : Keymap) (environment : Environment) (draft : Draft) (input : Input) (typed : List KeyEvent) (last : KeyEvent) (read items : List Item)
+    → items ≡ map key typed ++ (key last ∷ read) → is_count_before input.style input.mode typed last ≡ true
+    → LacksTail keymap (after_count environment typed draft) input (typed_count typed) last read → IsBeginning keymap environment draft input items
+keys-begin keymap environment draft input typed last read items is counted lacks = record {
   rest = lacks.0;
   command = lacks.1;
   draft' = after_count environment typed draft;
@@ -160,8 +184,8 @@ keys-begin keymap environment draft input typed last items is counted lacks = re
   phrase = record {
     typed = typed;
     last = last;
-    tail = lacks.0;
-    cut = ap (λ x. x ++ lacks.0) is ∙ append_assoc (map key typed) (key last ∷ []) lacks.0;
+    tail = read ++ lacks.0;
+    cut = ap (λ x. x ++ lacks.0) is ∙ append_assoc (map key typed) (key last ∷ read) lacks.0;
     counted = counted;
     keyed = lacks.3;
     draft_left = refl;
@@ -183,27 +207,31 @@ pub enter-ends : (style : EditMode) → continues_count style enter ≡ false
 enter-ends Emacs = refl
 enter-ends Vi = refl
 
-enter-gives : (style : EditMode) (mode : InputMode) (draft : Draft) (count : Count)
-    → (command : Command) × Tailed ((row_of style mode enter draft).means count) [] command
-enter-gives Emacs mode draft count = (_, (refl, refl))
-enter-gives Vi mode draft count = (_, (refl, refl))
+enter-gives : (s : Sequences) (style : EditMode) (mode : InputMode) (draft : Draft) (count : Count)
+    → (command : Command) × Tailed s enter ((row_of style mode enter draft).means count) [] command
+enter-gives s Emacs mode draft count = (_, (refl, refl))
+enter-gives s Vi mode draft count = (_, (refl, refl))
 
-pub enter-answers : (keymap : Keymap) (draft : Draft) (input : Input) (count : Count) (bound : Option Command) → bound_command keymap draft input count enter ≡ bound
-    → (command : Command) × Keyed keymap draft input count enter [] command
-enter-answers keymap draft input count (Some command) is =
-    let P : Option Command → Type 0 = λ o. Answers o ((row_of input.style input.mode enter draft).means count) [] command in
-    (command, subst P (sym is) (refl, refl))
-enter-answers keymap draft input count None is =
-    let given = enter-gives input.style input.mode draft count in
-    let P : Option Command → Type 0 = λ o. Answers o ((row_of input.style input.mode enter draft).means count) [] given.0 in
-    (given.0, subst P (sym is) given.1)
+-- a key with nothing behind it in the tables has nothing behind it
+first-answers : (s : Sequences) (last : KeyEvent) (bound own : Option Command) (meaning : Meaning)
+    → (command : Command) × Tailed s last meaning [] command → (command : Command) × Answers s last (first_source bound own meaning) [] command
+first-answers s last (Some b) own meaning given = (b, (refl, refl))
+first-answers s last None (Some b) meaning given = (b, (refl, refl))
+first-answers s last None None meaning given = given
+
+pub enter-answers : (keymap : Keymap) (draft : Draft) (input : Input) (typed : Option Count)
+    → (command : Command) × Keyed keymap draft input typed enter [] command
+enter-answers keymap draft input typed =
+    let s = sequences_of keymap.bound draft input (count_or_one typed) in
+    first-answers s enter (bound_command keymap draft input typed enter) (on_line draft.line.text (keymap.own enter))
+    ((row_of input.style input.mode enter draft).means (count_or_one typed)) (enter-gives s input.style input.mode draft (count_or_one typed))
 
 -- keys of a count that Enter could end begin a phrase
 abbrev count-begins : (keymap : Keymap) (environment : Environment) (draft : Draft) (input : Input) (typed : List KeyEvent) (items : List Item)
     → items ≡ map key typed → is_count_before input.style input.mode typed enter ≡ true → IsBeginning keymap environment draft input items
 count-begins keymap environment draft input typed items is counted =
     let left : Draft = after_count environment typed draft in
-    let answers = enter-answers keymap left input (count_of typed) (bound_command keymap left input (count_of typed) enter) refl in
+    let answers = enter-answers keymap left input (typed_count typed) in
     record {
       rest = key enter ∷ [];
       command = answers.0;
@@ -247,29 +275,77 @@ inside-begins keymap environment draft input first more items is begins all =
     count-begins keymap environment draft input (first ∷ more) items is (is-count input.style input.mode first more enter begins all (enter-ends input.style))
 
 -- more items are to be read behind a key without a binding where its meaning lacks them
-pub row-lacks : (keymap : Keymap) (draft : Draft) (input : Input) (count : Count) (k : KeyEvent) (meaning : Meaning)
-    → bound_command keymap draft input count k ≡ None → meaning ≡ (row_of input.style input.mode k draft).means count
-    → LacksItems meaning → LacksTail keymap draft input count k
-row-lacks keymap draft input count k meaning unbound is lacks =
-    let P : Option Command → Type 0 = λ o. Answers o ((row_of input.style input.mode k draft).means count) lacks.0 lacks.1 in
-    let Q : Meaning → Type 0 = λ m. Tailed m lacks.0 lacks.1 in
-    (lacks.0, lacks.1, lacks.2, subst P (sym unbound) (subst Q is lacks.3))
+pub row-lacks : (keymap : Keymap) (draft : Draft) (input : Input) (typed : Option Count) (k : KeyEvent) (meaning : Meaning) (read : List Item)
+    → None ≡ bound_command keymap draft input typed k → None ≡ on_line draft.line.text (keymap.own k)
+    → meaning ≡ (row_of input.style input.mode k draft).means (count_or_one typed)
+    → LacksItems (sequences_of keymap.bound draft input (count_or_one typed)) k meaning read → LacksTail keymap draft input typed k read
+row-lacks keymap draft input typed k meaning read unbound unowned is lacks =
+    let s = sequences_of keymap.bound draft input (count_or_one typed) in
+    let row = (row_of input.style input.mode k draft).means (count_or_one typed) in
+    let P : Option Command → Type 0 = λ o. Answers s k (first_source o (on_line draft.line.text (keymap.own k)) row) (read ++ lacks.0) lacks.1 in
+    let Q : Option Command → Type 0 = λ o. Answers s k (first_source None o row) (read ++ lacks.0) lacks.1 in
+    let R : Meaning → Type 0 = λ m. Tailed s k m (read ++ lacks.0) lacks.1 in
+    (lacks.0, lacks.1, lacks.2, subst P unbound (subst Q unowned (subst R is lacks.3)))
 
 -- what is read behind such a key is read by its meaning
-pub row-read : (keymap : Keymap) (draft : Draft) (input : Input) (count : Count) (k : KeyEvent) (meaning : Meaning) (tail : List Item) (command : Command)
-    → bound_command keymap draft input count k ≡ None → meaning ≡ (row_of input.style input.mode k draft).means count
-    → Tailed meaning tail command → Keyed keymap draft input count k tail command
-row-read keymap draft input count k meaning tail command unbound is tailed =
-    let P : Option Command → Type 0 = λ o. Answers o ((row_of input.style input.mode k draft).means count) tail command in
-    let Q : Meaning → Type 0 = λ m. Tailed m tail command in
-    subst P (sym unbound) (subst Q is tailed)
+pub row-read : (keymap : Keymap) (draft : Draft) (input : Input) (typed : Option Count) (k : KeyEvent) (meaning : Meaning) (tail : List Item) (command : Command)
+    → None ≡ bound_command keymap draft input typed k → None ≡ on_line draft.line.text (keymap.own k)
+    → meaning ≡ (row_of input.style input.mode k draft).means (count_or_one typed)
+    → Tailed (sequences_of keymap.bound draft input (count_or_one typed)) k meaning tail command → Keyed keymap draft input typed k tail command
+row-read keymap draft input typed k meaning tail command unbound unowned is tailed =
+    let s = sequences_of keymap.bound draft input (count_or_one typed) in
+    let row = (row_of input.style input.mode k draft).means (count_or_one typed) in
+    let P : Option Command → Type 0 = λ o. Answers s k (first_source o (on_line draft.line.text (keymap.own k)) row) tail command in
+    let Q : Option Command → Type 0 = λ o. Answers s k (first_source None o row) tail command in
+    let R : Meaning → Type 0 = λ m. Tailed s k m tail command in
+    subst P unbound (subst Q unowned (subst R is tailed))
 
--- each meaning but a command's lacks items
-pub search-lacks : (n : ℕ) (by : ℕ → CharSearch) → LacksItems (searches n by)
-search-lacks n by = (key enter ∷ [], _, (λ empty. cc), (enter, refl, refl))
+-- a binding's command, and the reader's, are the key's alone
+pub bound-read : (keymap : Keymap) (draft : Draft) (input : Input) (typed : Option Count) (k : KeyEvent) (command : Command)
+    → Some command ≡ bound_command keymap draft input typed k → Keyed keymap draft input typed k [] command
+bound-read keymap draft input typed k command bound =
+    let s = sequences_of keymap.bound draft input (count_or_one typed) in
+    let row = (row_of input.style input.mode k draft).means (count_or_one typed) in
+    let P : Option Command → Type 0 = λ o. Answers s k (first_source o (on_line draft.line.text (keymap.own k)) row) [] command in
+    subst P bound (refl, refl)
 
-pub paste-lacks : LacksItems pastes
-paste-lacks = (paste [] ∷ [], _, (λ empty. cc), ([], refl, refl))
+pub own-read : (keymap : Keymap) (draft : Draft) (input : Input) (typed : Option Count) (k : KeyEvent) (command : Command)
+    → None ≡ bound_command keymap draft input typed k → Some command ≡ on_line draft.line.text (keymap.own k)
+    → Keyed keymap draft input typed k [] command
+own-read keymap draft input typed k command unbound owned =
+    let s = sequences_of keymap.bound draft input (count_or_one typed) in
+    let row = (row_of input.style input.mode k draft).means (count_or_one typed) in
+    let P : Option Command → Type 0 = λ o. Answers s k (first_source o (on_line draft.line.text (keymap.own k)) row) [] command in
+    let Q : Option Command → Type 0 = λ o. Answers s k (first_source None o row) [] command in
+    subst P unbound (subst Q owned (refl, refl))
 
-pub second-lacks : (by : KeyEvent → Command) → LacksItems (has_second by)
-second-lacks by = (key enter ∷ [], _, (λ empty. cc), (enter, refl, refl))
+-- meanings that lack items where none is left
+pub search-lacks : (s : Sequences) (last : KeyEvent) (n : ℕ) (by : ℕ → CharSearch) → LacksItems s last (searches n by) []
+search-lacks s last n by = (key enter ∷ [], _, (λ empty. cc), (enter, refl, refl))
+
+pub paste-lacks : (s : Sequences) (last : KeyEvent) → LacksItems s last pastes []
+paste-lacks s last = (paste [] ∷ [], _, (λ empty. cc), ([], refl, refl))
+
+pub second-lacks : (s : Sequences) (last : KeyEvent) (by : KeyEvent → Command) → Sequenced s last [] None → LacksItems s last (has_second by) []
+second-lacks s last by sequenced = (key enter ∷ [], _, (λ empty. cc), ([], None, key enter ∷ [], sequenced, refl, (enter, refl, refl)))
+
+-- what is read behind keys of a sequence that goes on
+Seconds-there : (by : KeyEvent → Command) (more back : List KeyEvent) (next : KeyEvent) (found : Option Command)
+    → (command : Command) × Seconds by (more ++ (next ∷ back)) found [] command
+Seconds-there by more back next (Some answer) = (answer, (refl, refl))
+Seconds-there by [] back next None = (by next, (refl, refl))
+Seconds-there by (k ∷ more) back next None = (by k, (refl, refl))
+
+pub sequence-lacks : (s : Sequences) (last : KeyEvent) (more : List KeyEvent) → GoesOn s last more → LacksItems s last unlisted (map key more)
+sequence-lacks s last more on = (
+  map key (on.next ∷ on.back),
+  unwrap_or on.found unknown,
+  (λ empty. cc),
+  (more ++ (on.next ∷ on.back), on.found, on.sequenced, sym (map-append key more (on.next ∷ on.back)), refl),
+)
+
+pub seconds-lack : (s : Sequences) (last : KeyEvent) (by : KeyEvent → Command) (more : List KeyEvent) → GoesOn s last more → LacksItems s last (has_second by) (map key more)
+seconds-lack s last by more on =
+    let there = Seconds-there by more on.back on.next on.found in
+    let cut = sym (map-append key more (on.next ∷ on.back)) ∙ sym (append-nil (map key (more ++ (on.next ∷ on.back)))) in
+    (map key (on.next ∷ on.back), there.0, (λ empty. cc), (more ++ (on.next ∷ on.back), on.found, [], on.sequenced, cut, there.1))

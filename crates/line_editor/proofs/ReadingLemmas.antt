@@ -1,5 +1,5 @@
 -- Facts on phrases that are read.
-use Rattle.std.proofs.Common.{◌≡◌, ℕ, ◌+◌, ◌≤◌, ◌++◌, append_assoc, [], ◌∷◌, length, map, Option, Result, Ok, Err, true, false, inl, inr, refl, sym, ◌∙◌, ap, subst, arith}
+use Rattle.std.proofs.Common.{◌≡◌, ℕ, ◌+◌, ◌≤◌, ◌++◌, append_assoc, [], ◌∷◌, length, map, Option, Some, None, Result, Ok, Err, true, false, inl, inr, refl, sym, ◌∙◌, ap, subst, arith}
 use Rattle.std.specs.Prelude.{IsErrOf, OnErr, OnOk}
 use Rattle.std.proofs.lemmas.Bool.{cases_lt}
 use Rattle.std.proofs.lemmas.List.{length-append, length-map}
@@ -16,16 +16,14 @@ use Rattle.line_keys.specs.Display.{Display, IsRight, Surface}
 use Rattle.line_keys.specs.Draft.{Draft, KeepsText, start_text}
 use Rattle.line_keys.specs.EditorState.{Frame, HasRightLayout, Undrawn}
 use Rattle.line_keys.specs.Item.{key}
-use Rattle.line_keys.specs.Table.{one}
 use Rattle.line_keys.specs.declared.count.Count.{Count}
 use Rattle.line_keys.specs.declared.editor_state.EditorState as editors
 use Rattle.line_keys.specs.declared.keys.KeyEvent.{KeyEvent}
 use Rattle.line_keys.specs.declared.tty.RawReader as readers
 use Rattle.line_editor.specs.Editor.{Ruler, own_ruler, ruler_of}
-use Rattle.line_editor.specs.InputState.{input_of, keymap_of}
+use Rattle.line_editor.specs.Keymap.{KeyState, keymap_of}
 use Rattle.line_editor.specs.Phrase.{Keyed, LacksTail, after_count}
-use Rattle.line_editor.specs.Reading.{EitherRose, IsDry, OutOfItems, ReadsBehind, ReadsCount, ReadsOn, ReadsPhrase, RedrawsItems, TakesItems}
-use Rattle.line_editor.specs.declared.keymap.InputState.{InputState}
+use Rattle.line_editor.specs.Reading.{EitherRose, EndsBehind, OutOfItems, ReadsBehind, ReadsCount, ReadsOn, ReadsPhrase, RedrawsItems, TakesItems}
 use Rattle.line_editor.proofs.DrawnLemmas.{hint_trails}
 use Rattle.line_editor.proofs.PhraseLemmas.{inside-begins, is-count, is-no-count, keys-begin}
 
@@ -42,7 +40,7 @@ unless_fault : {T P : Type 0} (result : Result T ReadlineError) → P → Unless
 unless_fault (Ok x) p = p
 unless_fault (Err f) p = λ fault. p
 
-io_only : {T P Q : Type 0} (result : Result T ReadlineError) → (P → Q) → IoOnlyIf result P → IoOnlyIf result Q
+pub io_only : {T P Q : Type 0} (result : Result T ReadlineError) → (P → Q) → IoOnlyIf result P → IoOnlyIf result Q
 io_only (Ok x) goes io = tt
 io_only (Err f) goes io = λ is. goes (io is)
 
@@ -68,10 +66,10 @@ ruler_there e editor editor' indent frame right =
     ∙ ap h (right.drawn.mode ∙ ap (λ (s : Surface). s.mode) frame.surface)
 
 -- what is read and then followed by a step that draws nothing and leaves the line
-pub phrase_behind : {X Y : Type 0} (e : editors.Ghosts X) (r : readers.Ghosts Y) (editor mid new : X) (input input' : InputState) (reader reader' : Y) (command : Command) (draft : Draft)
+pub phrase_behind : {X Y : Type 0} (e : editors.Ghosts X) (r : readers.Ghosts Y) (editor mid new : X) (keys keys' : KeyState) (reader reader' : Y) (command : Command) (draft : Draft)
     → Undrawn e mid new → (e.draft new).line ≡ (e.draft mid).line
-    → ReadsPhrase e r editor input reader mid reader' command draft input' → ReadsPhrase e r editor input reader new reader' command draft input'
-phrase_behind e r editor mid new input input' reader reader' command draft undrawn line read =
+    → ReadsPhrase e r editor keys reader mid reader' command draft keys' → ReadsPhrase e r editor keys reader new reader' command draft keys'
+phrase_behind e r editor mid new keys keys' reader reader' command draft undrawn line read =
     let P : Display → Type 0 = λ d. IsRight d (e.draft mid).line in
     let Q : Line → Type 0 = λ l. IsRight (e.display new) l in
     let same = undrawn.drew.display in
@@ -84,14 +82,13 @@ phrase_behind e r editor mid new input input' reader reader' command draft undra
       measured = λ indent. ap (λ d. ruler_of d indent) same ∙ read.measured indent;
     }
 
-module _ {X Y : Type 0} (e : editors.Ghosts X) (r : readers.Ghosts Y) (editor : X) (input : InputState) (reader mid : Y) (k : KeyEvent) (took : r.rest reader ≡ key k ∷ r.rest mid) (own : r.own_binding mid ≡ r.own_binding reader) where
+module _ {X Y : Type 0} (e : editors.Ghosts X) (r : readers.Ghosts Y) (editor : X) (keys : KeyState) (reader mid : Y) (k : KeyEvent) (took : r.rest reader ≡ key k ∷ r.rest mid) (own : r.own_binding mid ≡ r.own_binding reader) where
   -- a key was read that begins no count, and what belongs to it
-  pub phrase_read : (reader' : Y) (count : Count) (command : Command) → count ≡ one → begins_count (input_of input).style (input_of input).mode k ≡ false
-      → ReadsBehind r mid reader' (keymap_of input (r.own_binding mid)) (e.draft editor) (input_of input) count k command
-      → ReadsPhrase e r editor input reader editor reader' command (e.draft editor) input
-  phrase_read reader' count command counted begins read =
-      let P : (KeyEvent → Option Command) → Type 0 = λ o. Keyed (keymap_of input o) (e.draft editor) (input_of input) one k read.tail command in
-      let Q : Count → Type 0 = λ n. Keyed (keymap_of input (r.own_binding mid)) (e.draft editor) (input_of input) n k read.tail command in
+  pub phrase_read : (reader' : Y) (command : Command) → begins_count keys.input.style keys.input.mode k ≡ false
+      → ReadsBehind r mid reader' (keymap_of keys (r.own_binding mid)) (e.draft editor) keys.input None k command
+      → ReadsPhrase e r editor keys reader editor reader' command (e.draft editor) keys
+  phrase_read reader' command begins read =
+      let P : (KeyEvent → Option Command) → Type 0 = λ o. Keyed (keymap_of keys o) (e.draft editor) keys.input None k read.tail command in
       record {
         items = key k ∷ read.tail;
         cut = took ∙ ap (λ t. key k ∷ t) read.cut;
@@ -100,8 +97,8 @@ module _ {X Y : Type 0} (e : editors.Ghosts X) (r : readers.Ghosts Y) (editor : 
           last = k;
           tail = read.tail;
           cut = refl;
-          counted = is-no-count (input_of input).style (input_of input).mode k begins;
-          keyed = subst P own (subst Q counted read.keyed);
+          counted = is-no-count keys.input.style keys.input.mode k begins;
+          keyed = subst P own read.keyed;
           draft_left = refl;
           input_left = refl;
         };
@@ -111,23 +108,22 @@ module _ {X Y : Type 0} (e : editors.Ghosts X) (r : readers.Ghosts Y) (editor : 
       }
 
   -- such a key was read, and no more items were left of what belongs to it
-  pub phrase_begun : (reader' : Y) (count : Count) → count ≡ one → begins_count (input_of input).style (input_of input).mode k ≡ false
-      → IsDry r mid reader' → LacksTail (keymap_of input (r.own_binding mid)) (e.draft editor) (input_of input) count k
-      → OutOfItems e r editor input reader editor reader'
-  phrase_begun reader' count counted begins dry lacks =
-      let P : (KeyEvent → Option Command) → Type 0 = λ o. LacksTail (keymap_of input o) (e.draft editor) (input_of input) one k in
-      let Q : Count → Type 0 = λ n. LacksTail (keymap_of input (r.own_binding mid)) (e.draft editor) (input_of input) n k in
+  pub phrase_begun : (reader' : Y) → begins_count keys.input.style keys.input.mode k ≡ false
+      → EndsBehind r mid reader' (keymap_of keys (r.own_binding mid)) (e.draft editor) keys.input None k
+      → OutOfItems e r editor keys reader editor reader'
+  phrase_begun reader' begins ended =
+      let P : (KeyEvent → Option Command) → Type 0 = λ o. LacksTail (keymap_of keys o) (e.draft editor) keys.input None k (r.rest mid) in
       record {
-        begins = keys-begin _ _ _ _ [] k _ (took ∙ ap (λ t. key k ∷ t) dry.before) (is-no-count _ _ k begins) (subst P own (subst Q counted lacks));
-        empty = dry.behind;
+        begins = keys-begin _ _ _ _ [] k (r.rest mid) _ took (is-no-count _ _ k begins) (subst P own ended.lacks);
+        empty = ended.empty;
         draft = inl refl;
         undrawn = λ none. (refl, record { display = refl; redraws = refl });
       }
 
   -- the items ended in a count
-  pub count_cut : (result : Result (Count × KeyEvent) ReadlineError) (editor' : X) (reader' : Y) → begins_count (input_of input).style (input_of input).mode k ≡ true
-      → ReadsCount e r (input_of input).style k result editor mid editor' reader' → IsErrOf result Eof
-      → OutOfItems e r editor input reader editor' reader'
+  pub count_cut : (result : Result (Count × KeyEvent) ReadlineError) (editor' : X) (reader' : Y) → begins_count keys.input.style keys.input.mode k ≡ true
+      → ReadsCount e r keys.input.style k result editor mid editor' reader' → IsErrOf result Eof
+      → OutOfItems e r editor keys reader editor' reader'
   count_cut result editor' reader' begins count eof =
       let inside = count.eof eof in
       record {
@@ -137,28 +133,28 @@ module _ {X Y : Type 0} (e : editors.Ghosts X) (r : readers.Ghosts Y) (editor : 
         undrawn = λ none. absurd (cc);
       }
 
-  module _ (count : Count) (last : KeyEvent) (editor' : X) (mid' : Y) (read : ReadsCount e r (input_of input).style k (Ok (count, last)) editor mid editor' mid') (begins : begins_count (input_of input).style (input_of input).mode k ≡ true) where
+  module _ (count : Count) (last : KeyEvent) (editor' : X) (mid' : Y) (read : ReadsCount e r keys.input.style k (Ok (count, last)) editor mid editor' mid') (begins : begins_count keys.input.style keys.input.mode k ≡ true) where
     -- a count was read, the key that ends it, and what belongs to that
     pub phrase_counted : (reader' : Y) (command : Command)
-        → ReadsBehind r mid' reader' (keymap_of input (r.own_binding mid')) (e.draft editor') (input_of input) count last command
-        → ReadsPhrase e r editor input reader editor' reader' command (e.draft editor') input
+        → ReadsBehind r mid' reader' (keymap_of keys (r.own_binding mid')) (e.draft editor') keys.input (Some count) last command
+        → ReadsPhrase e r editor keys reader editor' reader' command (e.draft editor') keys
     phrase_counted reader' command behind =
-        let keys = read.read in
-        let left : Draft = after_count (e.environment editor) (k ∷ keys.more) (e.draft editor) in
-        let P : (KeyEvent → Option Command) → Type 0 = λ o. Keyed (keymap_of input o) left (input_of input) (count_of (k ∷ keys.more)) last behind.tail command in
-        let Q : Count → Type 0 = λ n. Keyed (keymap_of input (r.own_binding mid')) left (input_of input) n last behind.tail command in
-        let R : Draft → Type 0 = λ d. Keyed (keymap_of input (r.own_binding mid')) d (input_of input) count last behind.tail command in
+        let count_keys = read.read in
+        let left : Draft = after_count (e.environment editor) (k ∷ count_keys.more) (e.draft editor) in
+        let P : (KeyEvent → Option Command) → Type 0 = λ o. Keyed (keymap_of keys o) left keys.input (Some (count_of (k ∷ count_keys.more))) last behind.tail command in
+        let Q : Count → Type 0 = λ n. Keyed (keymap_of keys (r.own_binding mid')) left keys.input (Some n) last behind.tail command in
+        let R : Draft → Type 0 = λ d. Keyed (keymap_of keys (r.own_binding mid')) d keys.input (Some count) last behind.tail command in
         record {
-          items = map key (k ∷ keys.more) ++ (key last ∷ behind.tail);
-          cut = took ∙ ap (λ t. key k ∷ t) (keys.cut ∙ ap (λ t. map key keys.more ++ (key last ∷ t)) behind.cut)
-              ∙ sym (append_assoc (map key (k ∷ keys.more)) (key last ∷ behind.tail) (r.rest reader'));
+          items = map key (k ∷ count_keys.more) ++ (key last ∷ behind.tail);
+          cut = took ∙ ap (λ t. key k ∷ t) (count_keys.cut ∙ ap (λ t. map key count_keys.more ++ (key last ∷ t)) behind.cut)
+              ∙ sym (append_assoc (map key (k ∷ count_keys.more)) (key last ∷ behind.tail) (r.rest reader'));
           phrase = record {
-            typed = k ∷ keys.more;
+            typed = k ∷ count_keys.more;
             last = last;
             tail = behind.tail;
             cut = refl;
-            counted = is-count (input_of input).style (input_of input).mode k keys.more last begins keys.continue keys.ends;
-            keyed = subst P (read.own ∙ own) (subst Q keys.counted (subst R read.draft behind.keyed));
+            counted = is-count keys.input.style keys.input.mode k count_keys.more last begins count_keys.continue count_keys.ends;
+            keyed = subst P (read.own ∙ own) (subst Q count_keys.counted (subst R read.draft behind.keyed));
             draft_left = read.draft;
             input_left = refl;
           };
@@ -168,37 +164,36 @@ module _ {X Y : Type 0} (e : editors.Ghosts X) (r : readers.Ghosts Y) (editor : 
         }
 
     -- no more items were left of what belongs to the key that ends it
-    pub counted_begun : (reader' : Y) → IsDry r mid' reader' → LacksTail (keymap_of input (r.own_binding mid')) (e.draft editor') (input_of input) count last
-        → OutOfItems e r editor input reader editor' reader'
-    counted_begun reader' dry lacks =
-        let keys = read.read in
-        let left : Draft = after_count (e.environment editor) (k ∷ keys.more) (e.draft editor) in
-        let P : (KeyEvent → Option Command) → Type 0 = λ o. LacksTail (keymap_of input o) left (input_of input) (count_of (k ∷ keys.more)) last in
-        let Q : Count → Type 0 = λ n. LacksTail (keymap_of input (r.own_binding mid')) left (input_of input) n last in
-        let R : Draft → Type 0 = λ d. LacksTail (keymap_of input (r.own_binding mid')) d (input_of input) count last in
+    pub counted_begun : (reader' : Y) → EndsBehind r mid' reader' (keymap_of keys (r.own_binding mid')) (e.draft editor') keys.input (Some count) last
+        → OutOfItems e r editor keys reader editor' reader'
+    counted_begun reader' ended =
+        let count_keys = read.read in
+        let left : Draft = after_count (e.environment editor) (k ∷ count_keys.more) (e.draft editor) in
+        let P : (KeyEvent → Option Command) → Type 0 = λ o. LacksTail (keymap_of keys o) left keys.input (Some (count_of (k ∷ count_keys.more))) last (r.rest mid') in
+        let Q : Count → Type 0 = λ n. LacksTail (keymap_of keys (r.own_binding mid')) left keys.input (Some n) last (r.rest mid') in
+        let R : Draft → Type 0 = λ d. LacksTail (keymap_of keys (r.own_binding mid')) d keys.input (Some count) last (r.rest mid') in
         record {
-          begins = keys-begin _ _ _ _ (k ∷ keys.more) last _
-              (took ∙ ap (λ t. key k ∷ t) (keys.cut ∙ ap (λ t. map key keys.more ++ (key last ∷ t)) dry.before))
-              (is-count (input_of input).style (input_of input).mode k keys.more last begins keys.continue keys.ends)
-              (subst P (read.own ∙ own) (subst Q keys.counted (subst R read.draft lacks)));
-          empty = dry.behind;
+          begins = keys-begin _ _ _ _ (k ∷ count_keys.more) last (r.rest mid') _ (took ∙ ap (λ t. key k ∷ t) count_keys.cut)
+              (is-count keys.input.style keys.input.mode k count_keys.more last begins count_keys.continue count_keys.ends)
+              (subst P (read.own ∙ own) (subst Q count_keys.counted (subst R read.draft ended.lacks)));
+          empty = ended.empty;
           draft = inr read.draft;
           undrawn = λ none. absurd (cc);
         }
 
     -- what else is left then
     pub counted_on : {T : Type 0} (result : Result T ReadlineError) (reader' : Y) → r.failures reader ≤ r.failures mid
-        → TakesItems r result mid' reader' → ReadsOn e r result editor input reader editor' input reader'
+        → TakesItems r keys.bound result mid' reader' → ReadsOn e r result editor keys reader editor' keys reader'
     counted_on result reader' counts takes =
-        let keys = read.read in
-        let whole : length (r.rest mid) ≡ length keys.more + length (key last ∷ r.rest mid') =
-        ap length keys.cut ∙ length-append (map key keys.more) (key last ∷ r.rest mid')
-        ∙ ap (λ n. n + length (key last ∷ r.rest mid')) (length-map keys.more key) in
+        let count_keys = read.read in
+        let whole : length (r.rest mid) ≡ length count_keys.more + length (key last ∷ r.rest mid') =
+        ap length count_keys.cut ∙ length-append (map key count_keys.more) (key last ∷ r.rest mid')
+        ∙ ap (λ n. n + length (key last ∷ r.rest mid')) (length-map count_keys.more key) in
         let first : length (r.rest reader) ≡ length (key k ∷ r.rest mid) = ap length took in
         let drew : RedrawsItems e r editor reader editor' reader' =
         λ below. let s = read.redraws (omega (arith, below, whole, first, takes.fewer)) in (s.0, omega (arith, s.1, whole, first, takes.fewer)) in
         record {
-          keeps = record { frame = read.frame; own = takes.own ∙ read.own ∙ own; keymap = refl; counts = omega (arith, counts, read.counts, takes.counts) };
+          keeps = record { frame = read.frame; own = takes.own ∙ read.own ∙ own; bound = refl; counts = omega (arith, counts, read.counts, takes.counts) };
           remembers = on_error result refl;
           reads = on_answer result (omega (arith, whole, first, takes.fewer));
           drawn = on_answer result (record { right = λ was. read.right; line = λ was. hint_trails e editor' read.shows });
@@ -208,6 +203,6 @@ module _ {X Y : Type 0} (e : editors.Ghosts X) (r : readers.Ghosts Y) (editor : 
           redraws_at_eof = λ eof. drew;
           not_interrupted = takes.not_interrupted;
           io =
-              io_only result (λ rose sure. either_rose _ _ _ _ _ (omega (arith, counts, read.counts)) takes.counts read.frame.failures rose)
+              io_only result (λ rose sure all. either_rose _ _ _ _ _ (omega (arith, counts, read.counts)) takes.counts read.frame.failures (rose all))
               takes.io;
         }

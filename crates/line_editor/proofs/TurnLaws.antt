@@ -3,13 +3,12 @@ use Rattle.std.proofs.Common.{◌≡◌, ◌≢◌, ◌⊎◌, inl, inr, List, [
 use Rattle.line_parts.specs.Environment.{Environment, hint_for}
 use Rattle.line_keys.specs.Command.{Command}
 use Rattle.line_keys.specs.Draft.{Draft, hinted}
-use Rattle.line_keys.specs.Count.{count_of}
 use Rattle.line_keys.specs.Item.{Item}
 use Rattle.line_keys.specs.declared.keys.KeyEvent.{KeyEvent}
 use Rattle.line_editor.specs.Input.{Input}
 use Rattle.line_editor.specs.Keymap.{Keymap}
 use Rattle.line_editor.specs.Laws.{ReadingAgain, TurnsFollow, TurnsAndRun}
-use Rattle.line_editor.specs.Phrase.{Phrase, Keyed, after_count}
+use Rattle.line_editor.specs.Phrase.{Phrase, Keyed, after_count, typed_count}
 use Rattle.line_editor.specs.Reading.{LeftByCut}
 use Rattle.line_editor.specs.Run.{Turn, Turns, goes_on, none, first}
 use Rattle.line_editor.specs.Editor.{Editor, Answer, Ruler, proceeds}
@@ -55,7 +54,7 @@ reads-alike : (keymap : Keymap) (environment : Environment) (draft other : Draft
     → after_count environment phrase.typed other ≡ after_count environment phrase.typed draft
     → Phrase keymap environment other input items command left input'
 reads-alike keymap environment draft other input input' items command left phrase same =
-    let P : Draft → Type 0 = λ d. Keyed keymap d input (count_of phrase.typed) phrase.last phrase.tail command in
+    let P : Draft → Type 0 = λ d. Keyed keymap d input (typed_count phrase.typed) phrase.last phrase.tail command in
     record {
       typed = phrase.typed;
       last = phrase.last;

@@ -10,8 +10,7 @@ use Rattle.line_keys.specs.declared.editor_state.EditorState as editors
 use Rattle.line_keys.specs.declared.tty.RawReader as readers
 use Rattle.line_editor.specs.Editor.{Editor, Ruler, own_ruler}
 use Rattle.line_editor.specs.Input.{Input}
-use Rattle.line_editor.specs.InputState.{input_of, keymap_of}
-use Rattle.line_editor.specs.Keymap.{Keymap}
+use Rattle.line_editor.specs.Keymap.{Keymap, keymap_of}
 use Rattle.line_editor.specs.Laws.{TwoRenderers}
 use Rattle.line_editor.specs.Run.{Run}
 use Rattle.line_editor.specs.Runs.{editor_of}
@@ -34,12 +33,12 @@ run-from keymap keymap' ruler ruler' environment environment' draft draft' kills
 
 -- runs that start alike leave the same
 pub two-renderers : {X Y X' Y' : Type 0} (e : editors.Ghosts X) (r : readers.Ghosts Y) (e' : editors.Ghosts X') (r' : readers.Ghosts Y') → TwoRenderers e r e' r'
-two-renderers e r e' r' state last state' last' input i input' i' reader reader' indent kills k k' end end' alike run run' =
+two-renderers e r e' r' state last state' last' keys i keys' i' reader reader' indent kills k k' end end' alike run run' =
     let f : ℕ → Ruler = λ n. record { prompt_column = n; cluster_mode = (e.display state).surface.mode; indent_size = indent } in
     let h : GraphemeClusterMode → Ruler = λ m. record { prompt_column = (e'.display state').prompt_end.col; cluster_mode = m; indent_size = indent } in
     let ruler : own_ruler (e.display state) indent ≡ own_ruler (e'.display state') indent =
     ap f (ap (λ (p : Position). p.col) alike.prompt_end) ∙ ap h alike.mode in
-    runs-fit (keymap_of input (r.own_binding reader)) (own_ruler (e.display state) indent) (e.environment state)
+    runs-fit (keymap_of keys (r.own_binding reader)) (own_ruler (e.display state) indent) (e.environment state)
     (record { draft = hinted (e.environment state) (e.draft state); kills = kills }) (editor_of e last k) (editor_of e' last' k')
-    (input_of input) (input_of i) (input_of i') (r.rest reader) end end' run
+    keys.input i.input i'.input (r.rest reader) end end' run
     (run-from _ _ _ _ _ _ (e.draft state) (e'.draft state') kills _ _ _ _ alike.keymap ruler alike.environment alike.draft alike.input_value alike.items run')

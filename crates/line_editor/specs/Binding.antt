@@ -1,9 +1,54 @@
--- Bindings of keys.
-use Rattle.std.specs.Prelude.{Option, None}
-use Rattle.line_keys.specs.Command.{Command}
+-- Bindings of events.
+use Rattle.std.specs.Prelude.{Bool, true, List, map, find, Option, Some, is_some, option_map}
+use Rattle.std.specs.List.{list_all, list_any}
+use Rattle.line_keys.specs.Command.{Command, command_of}
+use Rattle.line_keys.specs.declared.keys.KeyEvent.{KeyEvent}
 use Rattle.line_editor.specs.Asked.{Asked}
-use Rattle.line_editor.specs.declared.binding.Bindings.{Bindings}
+use Rattle.line_editor.specs.Event.{Chord, begins_chord, chord_of, keys, same_chord}
+use Rattle.line_editor.specs.declared.binding.ConditionalEventHandler as handlers
+use Rattle.line_editor.specs.declared.binding.EventHandler.{EventHandler}
+use Rattle.line_editor.specs.declared.binding.EventHandler.TheVariants.{Conditional, Simple}
+use Rattle.line_editor.specs.declared.bindings.Bindings.{Bindings}
 
--- what the bindings answer to what they are asked: nothing, while there are none
-abbrev pub bound_answer : Bindings → Asked → Option Command
-bound_answer bindings asked = None
+-- what a handler answers, and whether no error of input or output comes from it
+pub record Handler : Type 0 where
+  pub answer : Asked → Option Command
+  pub sure : Bool
+
+-- a handler that answers the same at each time
+abbrev pub answers : Option Command → Handler
+answers command = record { answer = λ asked. command; sure = true }
+
+-- bindings: events with their handlers, of which the first one of an event counts
+abbrev pub Bound : Type 0
+Bound = List (Chord × Handler)
+
+-- the handler of an event
+abbrev pub handler_of : Bound → Chord → Option Handler
+handler_of bound chord = option_map (λ binding. binding.1) (find (λ binding. same_chord binding.0 chord) bound)
+
+-- some bound sequence is these keys, or begins with them
+abbrev pub leads_on : Bound → List KeyEvent → Bool
+leads_on bound front = list_any (λ binding. begins_chord front binding.0) bound
+
+-- an event is bound, or is keys that a bound sequence begins with
+abbrev pub begins : Bound → Chord → Bool
+begins bound (keys front) = leads_on bound front
+begins bound chord = is_some (handler_of bound chord)
+
+-- no error of input or output comes from a handler
+abbrev pub all_sure : Bound → Bool
+all_sure bound = list_all (λ binding. binding.1.sure) bound
+
+module _ {X : Type 0} {P : X → Type 0} (g : (x : X) → handlers.Ghosts (P x)) where
+  -- a handler as a value: a command answers itself
+  abbrev pub handled : EventHandler X P → Handler
+  handled (Simple command) = answers (Some (command_of command))
+  handled (Conditional handler) = record {
+    answer = λ asked. (g handler.vtable).answer handler.value asked;
+    sure = (g handler.vtable).sure handler.value;
+  }
+
+  -- the bindings that a map holds
+  abbrev pub bound_of : Bindings X P → Bound
+  bound_of bindings = map (λ binding. (chord_of binding.0, handled binding.1)) bindings.entries.items

@@ -1,35 +1,93 @@
 -- Which command a key has before the tables are asked.
-use Rattle.std.specs.Prelude.{ℕ, List, [], ◌∷◌, Option, Some, None}
-use Rattle.line_keys.specs.Command.{Command, end_of_file}
+use Rattle.std.specs.Prelude.{ℕ, true, List, [], ◌∷◌, Option, Some, None, option_and_then, option_map, unwrap_or}
+use Rattle.line_buffer.specs.Changes.{last_insert_of}
+use Rattle.line_config.specs.declared.config.EditMode.{EditMode}
+use Rattle.line_config.specs.declared.config.EditMode.TheVariants.{Emacs, Vi}
+use Rattle.line_keys.specs.Command as commands
+use Rattle.line_keys.specs.Command.{end_of_file}
 use Rattle.line_keys.specs.Draft.{Draft}
-use Rattle.line_keys.specs.declared.keys.KeyEvent.{KeyEvent}
+use Rattle.line_keys.specs.Redo.{bound_anew}
+use Rattle.line_keys.specs.Table.{Meaning, one, row_of}
 use Rattle.line_keys.specs.declared.count.Count.{Count}
-use Rattle.line_editor.specs.Asked.{Asked}
-use Rattle.line_editor.specs.Event.{keys}
+use Rattle.line_keys.specs.declared.keymap.InputMode.{InputMode}
+use Rattle.line_keys.specs.declared.keymap.InputMode.TheVariants.{Insert, Replace}
+use Rattle.line_keys.specs.declared.keys.KeyEvent.{KeyEvent}
+use Rattle.line_editor.specs.Binding.{Bound, Handler, answers, handler_of}
+use Rattle.line_editor.specs.Event.{Chord, each_key, keys}
 use Rattle.line_editor.specs.Input.{Input}
 use Rattle.line_editor.specs.Moment.{moment_in}
 
--- what the bindings of the program answer, and what the reader gives each key by itself
+-- the bindings of the program, and what the reader gives each key by itself
 pub record Keymap : Type 0 where
-  pub bound : Asked → Option Command
-  pub own : KeyEvent → Option Command
+  pub bound : Bound
+  pub own : KeyEvent → Option commands.Command
 
 -- no key has a binding
 abbrev pub nothing_bound : Keymap
-nothing_bound = record { bound = λ asked. None; own = λ typed. None }
+nothing_bound = record { bound = []; own = λ typed. None }
+
+-- one event alone has a binding, which answers this
+abbrev pub only_bound : Chord → Option commands.Command → Keymap
+only_bound chord command = record { bound = (chord, answers command) ∷ []; own = λ typed. None }
+
+-- what keys are read by: the bindings of the program, and the input value
+pub record KeyState : Type 0 where
+  pub bound : Bound
+  pub input : Input
+
+-- and the commands that the reader itself gives
+abbrev pub keymap_of : KeyState → (KeyEvent → Option commands.Command) → Keymap
+keymap_of state own = record { bound = state.bound; own = own }
 
 -- the reader's end of input counts only on an empty line
-abbrev pub on_line : List ℕ → Option Command → Option Command
+abbrev pub on_line : List ℕ → Option commands.Command → Option commands.Command
 on_line (_ ∷ _) (Some end_of_file) = None
 on_line _ command = command
 
--- the first answer there is
-abbrev pub first_of_two : Option Command → Option Command → Option Command
-first_of_two (Some command) _ = Some command
+-- the first of two, if there is one, or else the second
+abbrev pub first_of_two : {X : Type 0} → Option X → Option X → Option X
+first_of_two (Some x) _ = Some x
 first_of_two None other = other
 
--- the command of a key by the bindings, or else by the reader
-abbrev pub bound_command : Keymap → Draft → Input → Count → KeyEvent → Option Command
-bound_command keymap draft input count key =
-    first_of_two (keymap.bound (record { event = keys (key ∷ []); count = count; moment = moment_in draft input }))
-    (on_line draft.line.text (keymap.own key))
+-- the binding of a key: that of its own, or else that of each key
+abbrev pub key_handler : Bound → KeyEvent → Option Handler
+key_handler bound key = first_of_two (handler_of bound (keys (key ∷ []))) (handler_of bound each_key)
+
+-- the count that the tables take: the one that was typed, or else one
+abbrev pub count_or_one : Option Count → Count
+count_or_one typed = unwrap_or typed one
+
+-- the count that a key's binding is handed: 0 in Vi's insert and replace modes
+abbrev pub handed : EditMode → InputMode → Option Count → Count
+handed Vi Insert typed = record { n = 0; positive = true }
+handed Vi Replace typed = record { n = 0; positive = true }
+handed _ _ typed = count_or_one typed
+
+-- the count that a bound command is done again with: in Emacs always one, in Vi one that was typed
+abbrev pub new_count : EditMode → Option Count → Option ℕ
+new_count Emacs typed = Some (count_or_one typed).n
+new_count Vi typed = option_map (λ count. count.n) typed
+
+-- the command that a key's binding answers, done again where it can be
+abbrev pub bound_command : Keymap → Draft → Input → Option Count → KeyEvent → Option commands.Command
+bound_command keymap draft input typed key =
+    option_map (bound_anew (new_count input.style typed) (last_insert_of draft.changes.entries))
+    (option_and_then (λ handler. handler.answer (record { event = keys (key ∷ []); count = handed input.style input.mode typed; moment = moment_in draft input }))
+    (key_handler keymap.bound key))
+
+-- where a key's command comes from: the bindings of the program, the reader, or the tables
+pub data Source : Type 0 where
+  by_binding : commands.Command → Source
+  by_reader : commands.Command → Source
+  by_table : Meaning → Source
+
+-- the first of these that has one
+abbrev pub first_source : Option commands.Command → Option commands.Command → Meaning → Source
+first_source (Some command) _ meaning = by_binding command
+first_source None (Some command) meaning = by_reader command
+first_source None None meaning = by_table meaning
+
+abbrev pub source_of : Keymap → Draft → Input → Option Count → KeyEvent → Source
+source_of keymap draft input typed key =
+    first_source (bound_command keymap draft input typed key) (on_line draft.line.text (keymap.own key))
+    ((row_of input.style input.mode key draft).means (count_or_one typed))

@@ -1,5 +1,6 @@
 -- Laws of the definitions.
 use Rattle.std.specs.Prelude.{◌≡◌, ◌≢◌, ◌⊎◌, ℕ, ◌≤◌, Bool, true, false, List, [], ◌∷◌, ◌++◌, length, take}
+use Rattle.std.specs.Bool.{Decides}
 use Rattle.std.specs.List.{list_any}
 use Rattle.line_keys.specs.Command.{Command, history_search_backward, history_search_forward, undo}
 use Rattle.line_keys.specs.Draft.{Draft, KeepsText, start_text}
@@ -7,18 +8,21 @@ use Rattle.line_keys.specs.Item.{Item}
 use Rattle.line_keys.specs.declared.editor_state.EditorState as editors
 use Rattle.line_keys.specs.declared.tty.RawReader as readers
 use Rattle.line_parts.specs.Environment.{Environment}
+use Rattle.line_editor.specs.Event.{Chord, same_chord}
 use Rattle.line_editor.specs.HistoryMoves.{is_at_end}
 use Rattle.line_editor.specs.Input.{Input}
-use Rattle.line_editor.specs.Keymap.{Keymap}
+use Rattle.line_editor.specs.Keymap.{KeyState, Keymap, keymap_of}
 use Rattle.line_editor.specs.Phrase.{Phrase}
 use Rattle.line_editor.specs.Reading.{LeftByCut}
 use Rattle.line_editor.specs.Run.{End, Run, Turn, Turns, ready, stopped}
 use Rattle.line_editor.specs.Runs.{RunsTo, editor_of}
 use Rattle.line_editor.specs.Step.{step}
 use Rattle.line_editor.specs.Editor.{Editor, Answer, Ruler}
-use Rattle.line_editor.specs.InputState.{input_of, keymap_of}
-use Rattle.line_editor.specs.declared.keymap.InputState.{InputState}
 use Rattle.line_buffer.specs.KillRing.{Ring}
+
+-- the test of two events tells whether they are equal
+abbrev pub ComparesEvents : Type 0
+ComparesEvents = (one other : Chord) → Decides (same_chord one other) (one ≡ other)
 
 -- no phrase is a proper beginning of another, and one list of items gives one command, and leaves one draft and one input
 abbrev pub IsPrefixFree : Type 0
@@ -111,19 +115,19 @@ ComingBack = (ruler : Ruler) (environment : Environment) (editor : Editor) (firs
 module _ {X Y X' Y' : Type 0} (e : editors.Ghosts X) (r : readers.Ghosts Y) (e' : editors.Ghosts X') (r' : readers.Ghosts Y') where
   -- two programs start alike, over two renderers and two readers: the prompts end alike and clusters are counted alike, and what is
   -- asked, edited, remembered and read is the same; columns and colours may be others
-  pub record StartsAlike (state : X) (input : InputState) (reader : Y) (state' : X') (input' : InputState) (reader' : Y') : Type 0 where
+  pub record StartsAlike (state : X) (keys : KeyState) (reader : Y) (state' : X') (keys' : KeyState) (reader' : Y') : Type 0 where
     pub prompt_end : (e.display state).prompt_end ≡ (e'.display state').prompt_end
     pub mode : (e.display state).surface.mode ≡ (e'.display state').surface.mode
     pub environment : e.environment state ≡ e'.environment state'
     pub draft : e.draft state ≡ e'.draft state'
-    pub input_value : input_of input ≡ input_of input'
-    pub keymap : keymap_of input (r.own_binding reader) ≡ keymap_of input' (r'.own_binding reader')
+    pub input_value : keys.input ≡ keys'.input
+    pub keymap : keymap_of keys (r.own_binding reader) ≡ keymap_of keys' (r'.own_binding reader')
     pub items : r.rest reader ≡ r'.rest reader'
 
   -- two such runs leave the same, by the same kill ring and indent
   abbrev pub TwoRenderers : Type 0
-  TwoRenderers = (state last : X) (state' last' : X') (input i input' i' : InputState) (reader : Y) (reader' : Y') (indent : ℕ) (kills k k' : Ring) (end end' : End)
-      → StartsAlike state input reader state' input' reader'
-      → RunsTo e r state input indent reader kills last i k end
-      → RunsTo e' r' state' input' indent reader' kills last' i' k' end'
-      → SameEnd (editor_of e last k) (editor_of e' last' k') (input_of i) (input_of i') end end'
+  TwoRenderers = (state last : X) (state' last' : X') (keys i keys' i' : KeyState) (reader : Y) (reader' : Y') (indent : ℕ) (kills k k' : Ring) (end end' : End)
+      → StartsAlike state keys reader state' keys' reader'
+      → RunsTo e r state keys indent reader kills last i k end
+      → RunsTo e' r' state' keys' indent reader' kills last' i' k' end'
+      → SameEnd (editor_of e last k) (editor_of e' last' k') i.input i'.input end end'

@@ -12,6 +12,7 @@ pub mod Input
 pub mod InputState
 pub mod Keymap
 pub mod Phrase
+pub mod Sequence
 pub mod Verdict
 pub mod Run
 pub mod Runs

@@ -1,5 +1,5 @@
 -- Phrases: the items that one command is read from.
-use Rattle.std.specs.Prelude.{◌≡◌, ◌≢◌, ℕ, true, if◌then◌else◌, List, [], ◌∷◌, ◌++◌, map, Option, Some, None, option_map}
+use Rattle.std.specs.Prelude.{◌≡◌, ◌≢◌, ℕ, true, if◌then◌else◌, List, [], ◌∷◌, ◌++◌, map, Option, Some, None, option_map, unwrap_or}
 use Rattle.line_buffer.specs.declared.keymap.CharSearch.{CharSearch}
 use Rattle.line_buffer.specs.declared.keymap.Movement.TheVariants.{ViCharSearch}
 use Rattle.line_parts.specs.Environment.{Environment}
@@ -7,12 +7,13 @@ use Rattle.line_keys.specs.Command.{Command, insert, move, unknown}
 use Rattle.line_keys.specs.Count.{char_of, count_of, is_count_before, is_with}
 use Rattle.line_keys.specs.Draft.{Draft, hinted}
 use Rattle.line_keys.specs.Item.{Item, key, paste}
-use Rattle.line_keys.specs.Table.{Meaning, gives, has_second, pastes, row_of, searches}
+use Rattle.line_keys.specs.Table.{Meaning, gives, has_second, pastes, searches, unlisted}
 use Rattle.line_keys.specs.declared.keys.KeyEvent.{KeyEvent}
 use Rattle.line_keys.specs.declared.keys.TheConstants.Modifiers.{NONE}
 use Rattle.line_keys.specs.declared.count.Count.{Count}
 use Rattle.line_editor.specs.Input.{Input}
-use Rattle.line_editor.specs.Keymap.{Keymap, bound_command}
+use Rattle.line_editor.specs.Keymap.{Keymap, Source, by_binding, by_reader, by_table, count_or_one, source_of}
+use Rattle.line_editor.specs.Sequence.{Sequenced, Sequences, sequences_of}
 
 -- the hint is asked again where a count was typed
 abbrev pub after_count : Environment → List KeyEvent → Draft → Draft
@@ -28,33 +29,53 @@ abbrev pub moves_by : ℕ → Option CharSearch → Command
 moves_by n (Some by) = move (ViCharSearch n by)
 moves_by n None = unknown
 
+-- behind keys that were read for a sequence and have a command, no item is read; else the second key of all is looked at, which is
+-- read now where it was not
+abbrev pub Seconds : (KeyEvent → Command) → List KeyEvent → Option Command → List Item → Command → Type 0
+Seconds by more (Some answer) rest command = (rest ≡ []) × (command ≡ answer)
+Seconds by [] None rest command = (second : KeyEvent) × (rest ≡ key second ∷ []) × (command ≡ by second)
+Seconds by (second ∷ _) None rest command = (rest ≡ []) × (command ≡ by second)
+
 -- the items that are read behind a key of this meaning, and the command that they give: none; the key of the character to
--- search for; a pasted text, which comes in once; or a second key
-abbrev pub Tailed : Meaning → List Item → Command → Type 0
-Tailed (gives by) tail command = (tail ≡ []) × (command ≡ by)
-Tailed (searches n by) tail command =
+-- search for; a pasted text, which comes in once; a second key, where no bound sequence has a command; or the keys of such
+-- a sequence, which else stand for nothing
+abbrev pub Tailed : Sequences → KeyEvent → Meaning → List Item → Command → Type 0
+Tailed sequences last (gives by) tail command = (tail ≡ []) × (command ≡ by)
+Tailed sequences last (searches n by) tail command =
     (second : KeyEvent) × (tail ≡ key second ∷ []) × (command ≡ moves_by n (search_to by second))
-Tailed pastes tail command = (text : List ℕ) × (tail ≡ paste text ∷ []) × (command ≡ insert 1 text)
-Tailed (has_second by) tail command = (second : KeyEvent) × (tail ≡ key second ∷ []) × (command ≡ by second)
+Tailed sequences last pastes tail command = (text : List ℕ) × (tail ≡ paste text ∷ []) × (command ≡ insert 1 text)
+Tailed sequences last (has_second by) tail command =
+    (more : List KeyEvent) × (found : Option Command) × (rest : List Item) × Sequenced sequences last more found
+    × (tail ≡ map key more ++ rest) × Seconds by more found rest command
+Tailed sequences last unlisted tail command =
+    (more : List KeyEvent) × (found : Option Command) × Sequenced sequences last more found
+    × (tail ≡ map key more) × (command ≡ unwrap_or found unknown)
 
 -- more items are to be read behind a key of this meaning
-abbrev pub LacksItems : Meaning → Type 0
-LacksItems meaning = (tail : List Item) × (command : Command) × (tail ≢ []) × Tailed meaning tail command
+abbrev pub LacksItems : Sequences → KeyEvent → Meaning → List Item → Type 0
+LacksItems sequences last meaning read =
+    (rest : List Item) × (command : Command) × (rest ≢ []) × Tailed sequences last meaning (read ++ rest) command
 
--- a key with a binding is its command alone, and another one is read with its tail
-abbrev pub Answers : Option Command → Meaning → List Item → Command → Type 0
-Answers (Some bound) meaning tail command = (tail ≡ []) × (command ≡ bound)
-Answers None meaning tail command = Tailed meaning tail command
+-- a command of the bindings or of the reader is the key's alone, and one of the tables is read with its tail
+abbrev pub Answers : Sequences → KeyEvent → Source → List Item → Command → Type 0
+Answers sequences last (by_binding by) tail command = (tail ≡ []) × (command ≡ by)
+Answers sequences last (by_reader by) tail command = (tail ≡ []) × (command ≡ by)
+Answers sequences last (by_table meaning) tail command = Tailed sequences last meaning tail command
 
 -- the items after a key, and the command that they give together
-abbrev pub Keyed : Keymap → Draft → Input → Count → KeyEvent → List Item → Command → Type 0
-Keyed keymap draft input count last tail command =
-    Answers (bound_command keymap draft input count last) ((row_of input.style input.mode last draft).means count) tail command
+abbrev pub Keyed : Keymap → Draft → Input → Option Count → KeyEvent → List Item → Command → Type 0
+Keyed keymap draft input typed last tail command =
+    Answers (sequences_of keymap.bound draft input (count_or_one typed)) last (source_of keymap draft input typed last) tail command
 
--- more items are to be read behind a key
-abbrev pub LacksTail : Keymap → Draft → Input → Count → KeyEvent → Type 0
-LacksTail keymap draft input count last =
-    (tail : List Item) × (command : Command) × (tail ≢ []) × Keyed keymap draft input count last tail command
+-- more items are to be read behind a key than these
+abbrev pub LacksTail : Keymap → Draft → Input → Option Count → KeyEvent → List Item → Type 0
+LacksTail keymap draft input typed last read =
+    (rest : List Item) × (command : Command) × (rest ≢ []) × Keyed keymap draft input typed last (read ++ rest) command
+
+-- the count that keys write, where there are any
+abbrev pub typed_count : List KeyEvent → Option Count
+typed_count [] = None
+typed_count (first ∷ more) = Some (count_of (first ∷ more))
 
 -- The items are one phrase: an optional count, a key and its tail. They give the command, and leave the draft and the input.
 pub record Phrase (keymap : Keymap) (environment : Environment) (draft : Draft) (input : Input) (items : List Item) (command : Command) (draft' : Draft) (input' : Input) : Type 0 where
@@ -63,7 +84,7 @@ pub record Phrase (keymap : Keymap) (environment : Environment) (draft : Draft) 
   pub tail : List Item
   pub cut : items ≡ map key typed ++ (key last ∷ tail)
   pub counted : is_count_before input.style input.mode typed last ≡ true
-  pub keyed : Keyed keymap (after_count environment typed draft) input (count_of typed) last tail command
+  pub keyed : Keyed keymap (after_count environment typed draft) input (typed_count typed) last tail command
   pub draft_left : draft' ≡ after_count environment typed draft
   pub input_left : input' ≡ input
 

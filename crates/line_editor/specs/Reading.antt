@@ -1,12 +1,12 @@
 -- Reading a command from the items that a reader has left.
-use Rattle.std.specs.Prelude.{◌≡◌, ◌≢◌, ◌⊎◌, ℕ, ◌+◌, ◌-◌, ◌<◌, ◌≤◌, ◌++◌, [], ◌∷◌, true, false, List, length, map, Result, IfOk, OnOk, OnErr, IsErrOf}
+use Rattle.std.specs.Prelude.{◌≡◌, ◌≢◌, ◌⊎◌, ℕ, ◌+◌, ◌-◌, ◌<◌, ◌≤◌, ◌++◌, [], ◌∷◌, true, false, List, length, map, Option, Some, None, slice_get, Result, IfOk, OnOk, OnErr, IsErrOf}
 use Rattle.std.specs.List.{list_all}
 use Rattle.line_config.specs.Error.{IoOnlyIf, Rose, max_count}
 use Rattle.line_config.specs.declared.config.EditMode.{EditMode}
 use Rattle.line_config.specs.declared.error.ReadlineError.{ReadlineError}
 use Rattle.line_config.specs.declared.error.ReadlineError.TheVariants.{Eof, Interrupted}
 use Rattle.line_parts.specs.Environment.{Environment}
-use Rattle.line_keys.specs.Command.{Command}
+use Rattle.line_keys.specs.Command.{Command, command_of}
 use Rattle.line_keys.specs.Count.{continues_count, count_of}
 use Rattle.line_keys.specs.Display.{Display}
 use Rattle.line_keys.specs.Draft.{Draft, KeepsText, hint_shown, hinted, start_text}
@@ -16,39 +16,76 @@ use Rattle.line_keys.specs.declared.editor_state.EditorState as editors
 use Rattle.line_keys.specs.declared.tty.RawReader as readers
 use Rattle.line_config.specs.Error.{UnlessFault}
 use Rattle.line_editor.specs.Editor.{Ruler, own_ruler, ruler_of}
-use Rattle.line_editor.specs.InputState.{input_of, keymap_of}
 use Rattle.line_keys.specs.Table.{Meaning}
 use Rattle.line_keys.specs.declared.count.Count.{Count}
 use Rattle.line_keys.specs.declared.keys.KeyEvent.{KeyEvent}
 use Rattle.line_editor.specs.Input.{Input}
-use Rattle.line_editor.specs.Keymap.{Keymap}
-use Rattle.line_editor.specs.Phrase.{IsBeginning, Keyed, Phrase, Tailed}
-use Rattle.line_editor.specs.declared.keymap.InputState.{InputState}
+use Rattle.line_editor.specs.Binding.{Bound, all_sure}
+use Rattle.line_editor.specs.Keymap.{KeyState, Keymap, keymap_of}
+use Rattle.line_editor.specs.Phrase.{IsBeginning, Keyed, LacksItems, LacksTail, Phrase, Tailed}
+use Rattle.line_editor.specs.Sequence.{IsReadOn, Sequenced, Sequences, sequence_command}
+use Rattle.line_editor.specs.declared.keymap.Sequence.{Sequence}
 
 -- the failures of the one or of the other party rose, where both counts can
 abbrev pub EitherRose : ℕ → ℕ → ℕ → ℕ → Type 0
 EitherRose one other one' other' = one < max_count → other < max_count → one + other < one' + other'
 
 module _ {Y : Type 0} (r : readers.Ghosts Y) where
-  -- what a call leaves that takes items from a reader, and asks no one else
-  pub record TakesItems {T : Type 0} (result : Result T ReadlineError) (reader reader' : Y) : Type 0 where
+  -- what a call leaves that takes items from a reader, and asks the handlers of bindings
+  pub record TakesItems {T : Type 0} (bindings : Bound) (result : Result T ReadlineError) (reader reader' : Y) : Type 0 where
     pub own : r.own_binding reader' ≡ r.own_binding reader
     pub counts : r.failures reader ≤ r.failures reader'
     pub fewer : length (r.rest reader') ≤ length (r.rest reader)
     pub not_interrupted : IsErrOf result Interrupted → ⊥
-    pub io : IoOnlyIf result (Rose (r.failures reader) (r.failures reader'))
+    pub io : IoOnlyIf result (all_sure bindings ≡ true → Rose (r.failures reader) (r.failures reader'))
+
+  -- the keys that were read behind a first one are answered with a command
+  pub record IsAnswered (reader reader' : Y) (sequences : Sequences) (first : KeyEvent) (command : Command) : Type 0 where
+    pub more : List KeyEvent
+    pub cut : r.rest reader ≡ map key more ++ r.rest reader'
+    pub sequenced : Sequenced sequences first more (Some command)
+
+  -- they were read in vain, and the second of all is this one, if one was read
+  pub record IsInVain (reader reader' : Y) (sequences : Sequences) (first : KeyEvent) (second : Option KeyEvent) : Type 0 where
+    pub more : List KeyEvent
+    pub cut : r.rest reader ≡ map key more ++ r.rest reader'
+    pub sequenced : Sequenced sequences first more None
+    pub told : second ≡ slice_get more 0
+
+  -- what was found of a sequence
+  abbrev pub FindsSequence : Y → Y → Sequences → KeyEvent → Sequence → Type 0
+  FindsSequence reader reader' sequences first (Sequence.Command command) = IsAnswered reader reader' sequences first (command_of command)
+  FindsSequence reader reader' sequences first (Sequence.InVain second) = IsInVain reader reader' sequences first second
+
+  -- all items that were left are keys behind which a sequence can go on
+  pub record EndsInSequence (reader reader' : Y) (sequences : Sequences) (first : KeyEvent) : Type 0 where
+    pub empty : r.rest reader' ≡ []
+    pub more : List KeyEvent
+    pub cut : r.rest reader ≡ map key more
+    pub read_on : IsReadOn sequences first more
+    pub leads : sequences.leads (first ∷ more) ≡ true
+    pub unanswered : sequence_command sequences first more ≡ None
 
   -- what was read behind a key of this meaning are the items of a command
-  pub record ReadsTail (reader reader' : Y) (meaning : Meaning) (command : Command) : Type 0 where
+  pub record ReadsTail (reader reader' : Y) (sequences : Sequences) (last : KeyEvent) (meaning : Meaning) (command : Command) : Type 0 where
     pub tail : List Item
     pub cut : r.rest reader ≡ tail ++ r.rest reader'
-    pub tailed : Tailed meaning tail command
+    pub tailed : Tailed sequences last meaning tail command
 
   -- the same of a key, whatever it is bound to
-  pub record ReadsBehind (reader reader' : Y) (keymap : Keymap) (draft : Draft) (input : Input) (count : Count) (last : KeyEvent) (command : Command) : Type 0 where
+  pub record ReadsBehind (reader reader' : Y) (keymap : Keymap) (draft : Draft) (input : Input) (typed : Option Count) (last : KeyEvent) (command : Command) : Type 0 where
     pub tail : List Item
     pub cut : r.rest reader ≡ tail ++ r.rest reader'
-    pub keyed : Keyed keymap draft input count last tail command
+    pub keyed : Keyed keymap draft input typed last tail command
+
+  -- all items that were left are read, and more are to be read behind a key of this meaning, or whatever it is bound to
+  pub record EndsInTail (reader reader' : Y) (sequences : Sequences) (last : KeyEvent) (meaning : Meaning) : Type 0 where
+    pub empty : r.rest reader' ≡ []
+    pub lacks : LacksItems sequences last meaning (r.rest reader)
+
+  pub record EndsBehind (reader reader' : Y) (keymap : Keymap) (draft : Draft) (input : Input) (typed : Option Count) (last : KeyEvent) : Type 0 where
+    pub empty : r.rest reader' ≡ []
+    pub lacks : LacksTail keymap draft input typed last (r.rest reader)
 
   -- the keys that were read go on with a count, up to one that ends it
   pub record EndsCount (style : EditMode) (first : KeyEvent) (reader reader' : Y) (count : Count) (last : KeyEvent) : Type 0 where
@@ -82,26 +119,26 @@ LeftByCut environment draft draft' = (draft' ≡ draft) ⊎ (draft' ≡ hinted e
 module _ {X Y : Type 0} (e : editors.Ghosts X) (r : readers.Ghosts Y) where
   -- what was read is one phrase, and nothing past it: where a count was typed, the line is drawn again behind its own prompt, and
   -- else nothing is drawn
-  pub record ReadsPhrase (editor : X) (input : InputState) (reader : Y) (editor' : X) (reader' : Y) (command : Command) (draft : Draft) (input' : InputState) : Type 0 where
+  pub record ReadsPhrase (editor : X) (keys : KeyState) (reader : Y) (editor' : X) (reader' : Y) (command : Command) (draft : Draft) (keys' : KeyState) : Type 0 where
     pub items : List Item
     pub cut : r.rest reader ≡ items ++ r.rest reader'
-    pub phrase : Phrase (keymap_of input (r.own_binding reader)) (e.environment editor) (e.draft editor) (input_of input) items command draft (input_of input')
+    pub phrase : Phrase (keymap_of keys (r.own_binding reader)) (e.environment editor) (e.draft editor) keys.input items command draft keys'.input
     pub right : phrase.typed ≢ [] → HasRightLayout e editor'
     pub undrawn : phrase.typed ≡ [] → DrewNothing e editor editor'
     pub measured : (indent : ℕ) → ruler_of (e.display editor') indent ≡ ruler_behind phrase.typed (e.display editor) indent
 
   -- the items end before a phrase or inside of one: all are read, and of the draft at most the hint changes; where they write no
   -- count, nothing does, and nothing is drawn
-  pub record OutOfItems (editor : X) (input : InputState) (reader : Y) (editor' : X) (reader' : Y) : Type 0 where
-    pub begins : IsBeginning (keymap_of input (r.own_binding reader)) (e.environment editor) (e.draft editor) (input_of input) (r.rest reader)
+  pub record OutOfItems (editor : X) (keys : KeyState) (reader : Y) (editor' : X) (reader' : Y) : Type 0 where
+    pub begins : IsBeginning (keymap_of keys (r.own_binding reader)) (e.environment editor) (e.draft editor) keys.input (r.rest reader)
     pub empty : r.rest reader' ≡ []
     pub draft : LeftByCut (e.environment editor) (e.draft editor) (e.draft editor')
     pub undrawn : begins.phrase.typed ≡ [] → (e.draft editor' ≡ e.draft editor) × DrewNothing e editor editor'
 
-  -- an error of input or output comes only where the reader or the renderer failed, or a party is not sure
-  abbrev pub FailsByReading : {T : Type 0} → Result T ReadlineError → X → Y → X → Y → Type 0
-  FailsByReading result editor reader editor' reader' =
-      IoOnlyIf result (e.sure editor ≡ true
+  -- an error of input or output comes only where the reader or the renderer failed, or a party or a handler is not sure
+  abbrev pub FailsByReading : {T : Type 0} → Result T ReadlineError → X → KeyState → Y → X → Y → Type 0
+  FailsByReading result editor keys reader editor' reader' =
+      IoOnlyIf result (e.sure editor ≡ true → all_sure keys.bound ≡ true
       → EitherRose (r.failures reader) (e.failures editor) (r.failures reader') (e.failures editor'))
 
   -- a step in reading a count: the count is shown and a key is read
@@ -117,7 +154,8 @@ module _ {X Y : Type 0} (e : editors.Ghosts X) (r : readers.Ghosts Y) where
     pub own : r.own_binding reader' ≡ r.own_binding reader
     pub counts : r.failures reader ≤ r.failures reader'
     pub not_interrupted : IsErrOf result Interrupted → ⊥
-    pub io : FailsByReading result editor reader editor' reader'
+    pub io : IoOnlyIf result (e.sure editor ≡ true
+        → EitherRose (r.failures reader) (e.failures editor) (r.failures reader') (e.failures editor'))
 
   -- the rest of a count that began with a key was read, and the key that ends it; the line is drawn again with its hint
   pub record ReadsCount (style : EditMode) (first : KeyEvent) (result : Result (Count × KeyEvent) ReadlineError) (editor : X) (reader : Y) (editor' : X) (reader' : Y) : Type 0 where
@@ -134,13 +172,14 @@ module _ {X Y : Type 0} (e : editors.Ghosts X) (r : readers.Ghosts Y) where
     pub own : r.own_binding reader' ≡ r.own_binding reader
     pub counts : r.failures reader ≤ r.failures reader'
     pub not_interrupted : IsErrOf result Interrupted → ⊥
-    pub io : FailsByReading result editor reader editor' reader'
+    pub io : IoOnlyIf result (e.sure editor ≡ true
+        → EitherRose (r.failures reader) (e.failures editor) (r.failures reader') (e.failures editor'))
 
   -- what stays of the editor, the reader and the bindings while commands are read and executed
-  pub record KeepsReading (editor : X) (input : InputState) (reader : Y) (editor' : X) (input' : InputState) (reader' : Y) : Type 0 where
+  pub record KeepsReading (editor : X) (keys : KeyState) (reader : Y) (editor' : X) (keys' : KeyState) (reader' : Y) : Type 0 where
     pub frame : Frame e editor editor'
     pub own : r.own_binding reader' ≡ r.own_binding reader
-    pub keymap : keymap_of input' (r.own_binding reader) ≡ keymap_of input (r.own_binding reader)
+    pub bound : keys'.bound ≡ keys.bound
     pub counts : r.failures reader ≤ r.failures reader'
 
   -- at most one full redraw for each item read
@@ -149,9 +188,9 @@ module _ {X Y : Type 0} (e : editors.Ghosts X) (r : readers.Ghosts Y) where
       Redraws e 0 (length (r.rest reader) - length (r.rest reader')) editor editor'
 
   -- what else a call leaves that reads one command: after an error the input value, and else what is drawn
-  pub record ReadsOn {T : Type 0} (result : Result T ReadlineError) (editor : X) (input : InputState) (reader : Y) (editor' : X) (input' : InputState) (reader' : Y) : Type 0 where
-    pub keeps : KeepsReading editor input reader editor' input' reader'
-    pub remembers : OnErr result (input_of input' ≡ input_of input)
+  pub record ReadsOn {T : Type 0} (result : Result T ReadlineError) (editor : X) (keys : KeyState) (reader : Y) (editor' : X) (keys' : KeyState) (reader' : Y) : Type 0 where
+    pub keeps : KeepsReading editor keys reader editor' keys' reader'
+    pub remembers : OnErr result (keys'.input ≡ keys.input)
     pub reads : OnOk result (length (r.rest reader') < length (r.rest reader))
     pub drawn : OnOk result (KeepsDrawn e editor editor')
     pub start : UnlessFault result (start_text (e.draft editor') ≡ start_text (e.draft editor))
@@ -159,4 +198,4 @@ module _ {X Y : Type 0} (e : editors.Ghosts X) (r : readers.Ghosts Y) where
     pub redraws : OnOk result (RedrawsItems editor reader editor' reader')
     pub redraws_at_eof : IsErrOf result Eof → RedrawsItems editor reader editor' reader'
     pub not_interrupted : IsErrOf result Interrupted → ⊥
-    pub io : FailsByReading result editor reader editor' reader'
+    pub io : FailsByReading result editor keys reader editor' reader'

@@ -12,14 +12,14 @@ use Rattle.line_keys.specs.declared.tty.RawReader as readers
 use Rattle.line_config.specs.Error.{IoOnlyIf, UnlessFault}
 use Rattle.line_parts.specs.Environment.{verdict_on}
 use Rattle.line_parts.specs.Verdict.{message_of}
-use Rattle.line_editor.specs.InputState.{input_of, keymap_of}
+use Rattle.line_editor.specs.Input.{Input}
+use Rattle.line_editor.specs.Keymap.{KeyState, keymap_of}
 use Rattle.line_editor.specs.Reading.{RedrawsItems, OutOfItems, ruler_behind}
 use Rattle.line_editor.specs.Run.{End, Run, Turn, dry, stopped}
 use Rattle.line_editor.specs.Status.{answer_of}
 use Rattle.line_editor.specs.Editor.{Answer, Editor, Leaves, Ruler, ended, interrupted, own_ruler, proceeds, ruler_of, submitted}
 use Rattle.line_editor.specs.Step.{asks_verdict, is_left_above, step}
 use Rattle.line_editor.specs.declared.command.Status.{Status}
-use Rattle.line_editor.specs.declared.keymap.InputState.{InputState}
 use Rattle.line_editor.specs.declared.run.Turned.{Turned}
 
 module _ {X : Type 0} (e : editors.Ghosts X) where
@@ -33,9 +33,9 @@ module _ {X : Type 0} (e : editors.Ghosts X) where
     pub kills_left : OnOk result (kills' ≡ left.kills)
 
   -- from a state, an input and a kill ring the command leads to a state and a kill ring with this answer
-  abbrev pub StepsTo : X → InputState → ℕ → Ring → Command → X → Ring → Answer → Type 0
+  abbrev pub StepsTo : X → Input → ℕ → Ring → Command → X → Ring → Answer → Type 0
   StepsTo state input indent kills command state' kills' answer =
-      Leaves (step (ruler_of (e.display state) indent) (e.environment state) (input_of input) (editor_of state kills) command)
+      Leaves (step (ruler_of (e.display state) indent) (e.environment state) input (editor_of state kills) command)
       (editor_of state' kills') answer
 
   -- what is drawn stays good behind the own prompt, and no hint stands behind the line any more
@@ -64,7 +64,7 @@ module _ {X : Type 0} (e : editors.Ghosts X) where
 
   -- a command that is executed: the step, what is drawn after it, with three full redraws at most, one for a changed text, and none
   -- where nothing happens, and the frame
-  pub record Executes (result : Result Status ReadlineError) (state : X) (input : InputState) (indent : ℕ) (kills : Ring) (command : Command) (state' : X) (kills' : Ring) : Type 0 where
+  pub record Executes (result : Result Status ReadlineError) (state : X) (input : Input) (indent : ℕ) (kills : Ring) (command : Command) (state' : X) (kills' : Ring) : Type 0 where
     pub steps : IfOk result (λ status. StepsTo state input indent kills command state' kills' (answer_of status))
     pub steps_at_eof : IsErrOf result Eof → StepsTo state input indent kills command state' kills' ended
     pub steps_at_interrupt : IsErrOf result Interrupted → StepsTo state input indent kills command state' kills' interrupted
@@ -83,49 +83,49 @@ module _ {X : Type 0} (e : editors.Ghosts X) where
 
 module _ {X Y : Type 0} (e : editors.Ghosts X) (r : readers.Ghosts Y) where
   -- from the first three values to the last four there is a turn with this answer, by this ruler
-  abbrev pub LeadsTo : Ruler → X → InputState → Y → Ring → X → InputState → Y → Ring → Answer → Type 0
-  LeadsTo ruler state input reader kills state' input' reader' kills' answer =
-      Turn (keymap_of input (r.own_binding reader)) ruler (e.environment state)
-      (editor_of e state kills) (input_of input) (r.rest reader)
-      (editor_of e state' kills') (input_of input') (r.rest reader') answer
+  abbrev pub LeadsTo : Ruler → X → KeyState → Y → Ring → X → KeyState → Y → Ring → Answer → Type 0
+  LeadsTo ruler state keys reader kills state' keys' reader' kills' answer =
+      Turn (keymap_of keys (r.own_binding reader)) ruler (e.environment state)
+      (editor_of e state kills) keys.input (r.rest reader)
+      (editor_of e state' kills') keys'.input (r.rest reader') answer
 
   -- a turn that was made, by the ruler of the display or behind a count by that of the own prompt: it draws what its answer says, in
   -- at most three full redraws and one for each item read
-  pub record TakesTurn (state : X) (input : InputState) (indent : ℕ) (reader : Y) (kills : Ring) (state' : X) (input' : InputState) (reader' : Y) (kills' : Ring) (answer : Answer) : Type 0 where
+  pub record TakesTurn (state : X) (keys : KeyState) (indent : ℕ) (reader : Y) (kills : Ring) (state' : X) (keys' : KeyState) (reader' : Y) (kills' : Ring) (answer : Answer) : Type 0 where
     pub ruler : Ruler
-    pub turn : LeadsTo ruler state input reader kills state' input' reader' kills' answer
+    pub turn : LeadsTo ruler state keys reader kills state' keys' reader' kills' answer
     pub measured : ruler ≡ ruler_behind turn.reads.typed (e.display state) indent
     pub start : start_text (e.draft state') ≡ start_text (e.draft state)
     pub drawn : DrawnAfter e answer state state'
     pub redraws : Redraws e 0 (3 + (length (r.rest reader) - length (r.rest reader'))) state state'
 
   -- the items run dry before a phrase or inside of one: the kills and the input value stay, and where none was read all stays
-  pub record NeedsMoreItems (state : X) (input : InputState) (reader : Y) (kills : Ring) (state' : X) (input' : InputState) (reader' : Y) (kills' : Ring) : Type 0 where
-    pub out : OutOfItems e r state input reader state' reader'
-    pub input_left : input_of input' ≡ input_of input
+  pub record NeedsMoreItems (state : X) (keys : KeyState) (reader : Y) (kills : Ring) (state' : X) (keys' : KeyState) (reader' : Y) (kills' : Ring) : Type 0 where
+    pub out : OutOfItems e r state keys reader state' reader'
+    pub input_left : keys'.input ≡ keys.input
     pub kills_left : kills' ≡ kills
     pub nothing_read : r.rest reader ≡ [] → (e.draft state' ≡ e.draft state) × DrewNothing e state state'
     pub redraws : RedrawsItems e r state reader state' reader'
 
   -- what a turn leaves, by the way in which it ended
-  abbrev pub AdvancesTo : Turned → X → InputState → ℕ → Y → Ring → X → InputState → Y → Ring → Type 0
-  AdvancesTo Turned.Proceeds state input indent reader kills state' input' reader' kills' =
-      TakesTurn state input indent reader kills state' input' reader' kills' proceeds
-  AdvancesTo Turned.Submitted state input indent reader kills state' input' reader' kills' =
-      TakesTurn state input indent reader kills state' input' reader' kills' submitted
-  AdvancesTo Turned.Ended state input indent reader kills state' input' reader' kills' =
-      TakesTurn state input indent reader kills state' input' reader' kills' ended
-  AdvancesTo Turned.Interrupted state input indent reader kills state' input' reader' kills' =
-      TakesTurn state input indent reader kills state' input' reader' kills' interrupted
-  AdvancesTo Turned.NeedsMore state input indent reader kills state' input' reader' kills' =
-      NeedsMoreItems state input reader kills state' input' reader' kills'
+  abbrev pub AdvancesTo : Turned → X → KeyState → ℕ → Y → Ring → X → KeyState → Y → Ring → Type 0
+  AdvancesTo Turned.Proceeds state keys indent reader kills state' keys' reader' kills' =
+      TakesTurn state keys indent reader kills state' keys' reader' kills' proceeds
+  AdvancesTo Turned.Submitted state keys indent reader kills state' keys' reader' kills' =
+      TakesTurn state keys indent reader kills state' keys' reader' kills' submitted
+  AdvancesTo Turned.Ended state keys indent reader kills state' keys' reader' kills' =
+      TakesTurn state keys indent reader kills state' keys' reader' kills' ended
+  AdvancesTo Turned.Interrupted state keys indent reader kills state' keys' reader' kills' =
+      TakesTurn state keys indent reader kills state' keys' reader' kills' interrupted
+  AdvancesTo Turned.NeedsMore state keys indent reader kills state' keys' reader' kills' =
+      NeedsMoreItems state keys reader kills state' keys' reader' kills'
 
   -- from the first four values, once the hint was asked, to the next three there is a run with this end
-  abbrev pub RunsTo : X → InputState → ℕ → Y → Ring → X → InputState → Ring → End → Type 0
-  RunsTo state input indent reader kills state' input' kills' end =
-      Run (keymap_of input (r.own_binding reader)) (own_ruler (e.display state) indent) (e.environment state)
-      (record { draft = hinted (e.environment state) (e.draft state); kills = kills }) (input_of input) (r.rest reader)
-      (editor_of e state' kills') (input_of input') end
+  abbrev pub RunsTo : X → KeyState → ℕ → Y → Ring → X → KeyState → Ring → End → Type 0
+  RunsTo state keys indent reader kills state' keys' kills' end =
+      Run (keymap_of keys (r.own_binding reader)) (own_ruler (e.display state) indent) (e.environment state)
+      (record { draft = hinted (e.environment state) (e.draft state); kills = kills }) keys.input (r.rest reader)
+      (editor_of e state' kills') keys'.input end
 
   -- the redraws of a run: the first one, and at most four for each item read
   abbrev pub RedrawsOfRun : X → Y → X → Y → Type 0
@@ -133,25 +133,25 @@ module _ {X Y : Type 0} (e : editors.Ghosts X) (r : readers.Ghosts Y) where
       Redraws e 1 (1 + 4 * (length (r.rest reader) - length (r.rest reader'))) state state'
 
   -- a run that was submitted: no hint stands behind the line
-  pub record RunsToSubmit (state : X) (input : InputState) (indent : ℕ) (reader : Y) (kills : Ring) (state' : X) (input' : InputState) (reader' : Y) (kills' : Ring) : Type 0 where
-    pub run : RunsTo state input indent reader kills state' input' kills' (stopped submitted (r.rest reader'))
+  pub record RunsToSubmit (state : X) (keys : KeyState) (indent : ℕ) (reader : Y) (kills : Ring) (state' : X) (keys' : KeyState) (reader' : Y) (kills' : Ring) : Type 0 where
+    pub run : RunsTo state keys indent reader kills state' keys' kills' (stopped submitted (r.rest reader'))
     pub right : HasRightLayout e state'
     pub no_hint : ShowsNoHint e state'
     pub start : start_text (e.draft state') ≡ start_text (e.draft state)
     pub redraws : RedrawsOfRun state reader state' reader'
 
   -- a run that the command for the end of the input ended, on an empty line: no hint stands behind it
-  pub record RunsToEnd (state : X) (input : InputState) (indent : ℕ) (reader : Y) (kills : Ring) (state' : X) (input' : InputState) (reader' : Y) (kills' : Ring) : Type 0 where
-    pub run : RunsTo state input indent reader kills state' input' kills' (stopped ended (r.rest reader'))
+  pub record RunsToEnd (state : X) (keys : KeyState) (indent : ℕ) (reader : Y) (kills : Ring) (state' : X) (keys' : KeyState) (reader' : Y) (kills' : Ring) : Type 0 where
+    pub run : RunsTo state keys indent reader kills state' keys' kills' (stopped ended (r.rest reader'))
     pub right : HasRightLayout e state'
     pub no_hint : ShowsNoHint e state'
     pub start : start_text (e.draft state') ≡ start_text (e.draft state)
     pub redraws : RedrawsOfRun state reader state' reader'
 
   -- a run whose items ran dry: all are read, and where no phrase was cut short what is drawn is right
-  pub record RunsDry (state : X) (input : InputState) (indent : ℕ) (reader : Y) (kills : Ring) (state' : X) (input' : InputState) (reader' : Y) (kills' : Ring) : Type 0 where
+  pub record RunsDry (state : X) (keys : KeyState) (indent : ℕ) (reader : Y) (kills : Ring) (state' : X) (keys' : KeyState) (reader' : Y) (kills' : Ring) : Type 0 where
     pub inside : List Item
-    pub run : RunsTo state input indent reader kills state' input' kills' (dry inside)
+    pub run : RunsTo state keys indent reader kills state' keys' kills' (dry inside)
     pub empty : r.rest reader' ≡ []
     pub start : start_text (e.draft state') ≡ start_text (e.draft state)
     pub redraws : RedrawsOfRun state reader state' reader'
@@ -159,8 +159,8 @@ module _ {X Y : Type 0} (e : editors.Ghosts X) (r : readers.Ghosts Y) where
     pub shown : inside ≡ [] → ShowsLine e state'
 
   -- an interrupted run: the kept cursor is at the end of what is shown, and the renderer stands there
-  pub record RunsToInterrupt (state : X) (input : InputState) (indent : ℕ) (reader : Y) (kills : Ring) (state' : X) (input' : InputState) (reader' : Y) (kills' : Ring) : Type 0 where
-    pub run : RunsTo state input indent reader kills state' input' kills' (stopped interrupted (r.rest reader'))
+  pub record RunsToInterrupt (state : X) (keys : KeyState) (indent : ℕ) (reader : Y) (kills : Ring) (state' : X) (keys' : KeyState) (reader' : Y) (kills' : Ring) : Type 0 where
+    pub run : RunsTo state keys indent reader kills state' keys' kills' (stopped interrupted (r.rest reader'))
     pub at_end : IsAtEnd e state'
     pub in_place : IsInPlace e state'
     pub ends : HasShownEnd e state'

@@ -1,17 +1,17 @@
 //! The keys that a program gives commands of its own.
-ghost use Rattle.std.specs.Prelude.{◌≡◌, Bool, false, ◌∷◌, [], IfOk, None, Option, option_copied, option_map, slice_get};
+ghost use Rattle.std.specs.Prelude.{◌≡◌, Bool, false, ◌∷◌, [], IfOk, None, Option, is_some, map, option_and_then, option_copied, option_map, slice_get};
 ghost use Rattle.line_config.specs.Error.{FaultsOnly, IoOnlyIf, MemoryOnly};
 ghost use Rattle.line_editor.specs.Asked.{Asked};
-ghost use Rattle.line_editor.specs.Binding.{bound_answer};
 ghost use Rattle.line_editor.specs.declared.binding.EventHandler.TheVariants.{Simple};
-ghost use Rattle.line_editor.specs.Event.{chord_of, keys, event_keys};
+ghost use Rattle.line_editor.specs.Event.{begins_chord, chord_of, event_keys, keys, normal_chord, same_chord};
 ghost use Rattle.line_editor.specs.Moment.{moment_of};
 ghost use Rattle.line_keys.specs.Command.{Command, command_of};
+ghost use Rattle.line_keys.specs.Key.{normalized};
 
 use line_buffer::RepeatCount;
 use line_config::{EditMode, Result};
 use line_keys::command::Cmd;
-use line_keys::keymap::InputMode;
+use line_keys::keymap::{InputMode, Refresher};
 use line_keys::keys::KeyEvent;
 use std::alloc::Global;
 
@@ -37,6 +37,69 @@ impl Event {
         Ok(Event::KeySeq(keys))
     }
 
+    /// Returns an equal event, whose keys grow from `alloc`.
+    ///
+    /// # Errors
+    /// That memory ran out.
+    pub fn clone(&self, alloc: Global) -> Result<Event>
+        ensures equal { IfOk result (λ event. chord_of event ≡ chord_of self.now) }
+        ensures memory { MemoryOnly result }
+    {
+        match self {
+            Event::Any => Ok(Event::Any),
+            Event::KeySeq(keys) => Event::of_keys(alloc, keys),
+            Event::Mouse => Ok(Event::Mouse),
+        }
+    }
+
+    // Returns the event of keys one after another.
+    pub(crate) fn of_keys(alloc: Global, sequence: &[KeyEvent]) -> Result<Event>
+        ensures event { IfOk result (λ event. chord_of event ≡ keys sequence.now) }
+        ensures memory { MemoryOnly result }
+    {
+        Ok(Event::KeySeq(sequence.to_vec(alloc)?))
+    }
+
+    /// Returns the event with each of its keys in normal form, as `KeyEvent::normalize` gives it.
+    pub fn normalize(self) -> Event
+        ensures { chord_of result ≡ normal_chord (chord_of self) }
+    {
+        match self {
+            Event::KeySeq(mut keys) => {
+                normalize_each(keys.as_mut_slice());
+                Event::KeySeq(keys)
+            }
+            event => event,
+        }
+    }
+
+    // Returns whether the event is these keys.
+    pub(crate) fn is_keys(&self, sequence: &[KeyEvent]) -> bool
+        ensures { result ≡ same_chord (chord_of self.now) (keys sequence.now) }
+    {
+        match self {
+            Event::KeySeq(keys) => keys.as_slice() == sequence,
+            _ => false,
+        }
+    }
+
+    // Returns whether the event is keys that begin with these.
+    pub(crate) fn begins_with(&self, front: &[KeyEvent]) -> bool
+        ensures { result ≡ begins_chord front.now (chord_of self.now) }
+    {
+        match self {
+            Event::KeySeq(keys) => keys.starts_with(front),
+            _ => false,
+        }
+    }
+
+    // Returns whether two events are the same.
+    pub(crate) fn is_same(&self, other: &Event) -> bool
+        ensures { result ≡ same_chord (chord_of self.now) (chord_of other.now) }
+    {
+        self == other
+    }
+
     /// The `i`th key of a sequence, from 0.
     pub fn get(&self, i: usize) -> Option<&KeyEvent>
         ensures { option_copied result ≡ slice_get (event_keys (chord_of self.now)) i }
@@ -45,6 +108,15 @@ impl Event {
             Event::KeySeq(keys) => keys.get(i),
             _ => None,
         }
+    }
+}
+
+// Puts each key into normal form.
+fn normalize_each(keys: &mut [KeyEvent])
+    ensures { keys.new ≡ map normalized keys.old }
+{
+    for key in keys.iter_mut() {
+        *key = KeyEvent::normalize(*key);
     }
 }
 
@@ -60,6 +132,27 @@ pub struct EventContext<'r> {
 }
 
 impl<'r> EventContext<'r> {
+    // Returns what is shown of a style, a mode and the editor.
+    pub(crate) fn new<W: Refresher>(mode: EditMode, input_mode: InputMode, wrt: &'r W) -> Self
+        ensures { let draft = W.draft wrt.now in (moment_of result ≡ record {
+          style = mode;
+          mode = input_mode;
+          has_hint = is_some draft.hint;
+          hint_text = option_and_then (λ hint. hint.completion) draft.hint;
+          text = draft.line.text;
+          cursor = draft.line.cursor;
+        }) }
+    {
+        EventContext {
+            mode,
+            input_mode,
+            has_hint: wrt.has_hint(),
+            hint_text: wrt.hint_text(),
+            line: wrt.line(),
+            pos: wrt.pos(),
+        }
+    }
+
     /// The style of editing.
     pub fn mode(&self) -> EditMode
         ensures { result ≡ (moment_of self.now).style }
@@ -145,25 +238,5 @@ impl From<Cmd> for EventHandler {
 
     fn from(command: Cmd) -> EventHandler {
         EventHandler::Simple(command)
-    }
-}
-
-/// The commands that a program binds to keys. In this stage there are none.
-#[derive(Drop)]
-pub struct Bindings {
-    alloc: Global,
-}
-
-impl Bindings {
-    /// No binding. The map grows from `alloc`.
-    pub fn new(alloc: Global) -> Bindings
-        ensures { (asked : Asked) → bound_answer result asked ≡ None }
-    {
-        Bindings { alloc }
-    }
-
-    // Where the map grows from.
-    pub(crate) fn alloc(&self) -> Global {
-        self.alloc
     }
 }

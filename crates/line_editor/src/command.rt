@@ -47,7 +47,7 @@ pub fn execute<'out, 'prompt, W: Renderer, H: Helper, P: Prompt, S: History>(
     config: &Config,
 ) -> Result<Status>
     ensures { Executes ⟦<State<'out, 'prompt, W, H, P, S> as EditorState>⟧ result state.old
-        input_state.now config.now.indent_size kill_ring.old (command_of cmd)
+        (input_of input_state.now) config.now.indent_size kill_ring.old (command_of cmd)
         state.new kill_ring.new }
 {
     match cmd {

@@ -1,18 +1,24 @@
 //! Reads keys, and gives the commands that they stand for.
-ghost use Rattle.std.specs.Prelude.{◌≡◌, ◌↔◌, List, [], Option, option_map, IfOk, IsErrOf, IsTrue};
-ghost use Rattle.line_editor.specs.Binding.{bound_answer};
-ghost use Rattle.line_editor.specs.Keymap.{on_line};
+ghost use Rattle.std.specs.Prelude.{◌≡◌, ◌↔◌, List, [], Option, false, option_map, IfOk, IsErrOf, IsTrue};
+ghost use Rattle.line_config.specs.Error.{FaultsOnly, IoOnlyIf};
+ghost use Rattle.line_editor.specs.Asked.{Asked};
+ghost use Rattle.line_editor.specs.Binding.{all_sure, bound_of, handled};
+ghost use Rattle.line_editor.specs.Event.{chord_of, keys};
+ghost use Rattle.line_editor.specs.Keymap.{bound_command, handed, keymap_of, new_count, on_line};
 ghost use Rattle.line_editor.specs.Input.{first_input, is_vi_command};
-ghost use Rattle.line_editor.specs.InputState.{input_of, keymap_of};
-ghost use Rattle.line_editor.specs.Phrase.{LacksItems, LacksTail, moves_by, search_to};
-ghost use Rattle.line_editor.specs.Reading.{IsDry, OutOfItems, ReadsBehind, ReadsCount, ReadsOn, ReadsPhrase, ReadsTail, ReadsUnderCount, TakesItems};
+ghost use Rattle.line_editor.specs.InputState.{input_of, keys_of};
+ghost use Rattle.line_editor.specs.Moment.{moment_in, moment_of};
+ghost use Rattle.line_editor.specs.Phrase.{moves_by, search_to};
+ghost use Rattle.line_editor.specs.Reading.{EndsBehind, EndsInSequence, EndsInTail, FindsSequence, OutOfItems, ReadsBehind, ReadsCount, ReadsOn, ReadsPhrase, ReadsTail, ReadsUnderCount, TakesItems};
+ghost use Rattle.line_editor.specs.Sequence.{sequences_of};
 ghost use Rattle.line_keys.specs.Command.{Command, command_of};
 ghost use Rattle.line_keys.specs.Draft.{KeepsText};
 ghost use Rattle.line_keys.specs.EditorState.{DrewNothing};
 ghost use Rattle.line_keys.specs.Row.{meaning_of, search_for};
 ghost use Rattle.line_keys.specs.declared.keys.KeyEvent.{KeyEvent};
 
-use crate::binding::Bindings;
+use crate::binding::{ConditionalEventHandler, Event, EventContext, EventHandler};
+use crate::bindings::Bindings;
 use line_buffer::{CharSearch, Movement, RepeatCount};
 use line_config::{Config, EditMode, ReadlineError, Result};
 use line_keys::command::Cmd;
@@ -22,6 +28,7 @@ use line_keys::keymap::{InputMode, Refresher};
 use line_keys::keys::{KeyCode, KeyEvent, Modifiers};
 use line_keys::tables::{Meaning, SearchKind, meaning_of_key, second_key};
 use line_keys::tty::RawReader;
+use std::alloc::Global;
 
 /// Reads keys as commands, by the program's bindings, the reader's own and the tables, and remembers what the next
 /// commands depend on.
@@ -38,8 +45,8 @@ impl<'b> InputState<'b> {
     /// Returns the state before the first key, in the configured style; the Vi style begins in insert mode.
     pub fn new(config: &Config, bindings: &'b Bindings) -> Self
         ensures input { input_of result ≡ first_input config.now.edit_mode }
-        ensures bindings { (own : KeyEvent → Option Command)
-            → keymap_of result own ≡ record { bound = bound_answer bindings.now; own = own } }
+        ensures bindings { let g = ⟦<dyn ConditionalEventHandler as ConditionalEventHandler>⟧ in
+            (keys_of g result).bound ≡ bound_of g bindings.now }
     {
         InputState {
             mode: config.edit_mode(),
@@ -81,23 +88,28 @@ impl<'b> InputState<'b> {
         wrt: &mut W,
         single_esc_abort: bool,
     ) -> Result<Cmd>
-        ensures phrase { IfOk result (λ c. ReadsPhrase W.EditorState R.RawReader
-            wrt.old self.old rdr.old wrt.new rdr.new (command_of c) (W.draft wrt.new) self.new) }
-        ensures eof { IsErrOf result ReadlineError.Eof
-            → OutOfItems W.EditorState R.RawReader wrt.old self.old rdr.old wrt.new rdr.new }
+        ensures phrase { let k =
+            keys_of ⟦<dyn ConditionalEventHandler as ConditionalEventHandler>⟧ in
+            IfOk result (λ c. ReadsPhrase W.EditorState R.RawReader wrt.old (k self.old) rdr.old
+            wrt.new rdr.new (command_of c) (W.draft wrt.new) (k self.new)) }
+        ensures eof { let k = keys_of ⟦<dyn ConditionalEventHandler as ConditionalEventHandler>⟧ in
+            IsErrOf result ReadlineError.Eof → OutOfItems W.EditorState R.RawReader
+            wrt.old (k self.old) rdr.old wrt.new rdr.new }
         // Where nothing was left to read, nothing changes.
         ensures dry { R.rest rdr.old ≡ []
             → (W.draft wrt.new ≡ W.draft wrt.old) × DrewNothing W.EditorState wrt.old wrt.new }
         ensures text { KeepsText (W.draft wrt.old) (W.draft wrt.new) }
-        ensures reading { ReadsOn W.EditorState R.RawReader result
-            wrt.old self.old rdr.old wrt.new self.new rdr.new }
+        ensures reading { let k =
+            keys_of ⟦<dyn ConditionalEventHandler as ConditionalEventHandler>⟧ in
+            ReadsOn W.EditorState R.RawReader result
+            wrt.old (k self.old) rdr.old wrt.new (k self.new) rdr.new }
     {
         let key = rdr.next_key(single_esc_abort && self.is_emacs_mode())?;
         if !begins_count(self.mode, self.input_mode, key) {
-            return self.read_behind(rdr, wrt, key, Count::one());
+            return self.read_behind(rdr, wrt, key, None);
         }
         let (count, key) = self.read_count(rdr, wrt, key)?;
-        self.read_behind(rdr, wrt, key, count)
+        self.read_behind(rdr, wrt, key, Some(count))
     }
 
     // Reads the rest of a count that began with a key, and the key that ends it, and draws the line again. Returns the count
@@ -137,44 +149,223 @@ impl<'b> InputState<'b> {
         rdr.next_key(true)
     }
 
-    // Reads what belongs to a key, under a count, and gives the command.
+    // Reads what belongs to a key, under the count that was typed, and gives the command.
     fn read_behind<R: RawReader, W: Refresher>(
         &self,
         rdr: &mut R,
         wrt: &W,
         key: KeyEvent,
-        count: Count,
+        typed: Option<Count>,
     ) -> Result<Cmd>
-        ensures reads { let keymap = keymap_of self.now (R.own_binding rdr.old) in IfOk result (λ c.
-            ReadsBehind R.RawReader rdr.old rdr.new keymap (W.draft wrt.now) (input_of self.now)
-            count key (command_of c)) }
-        ensures eof { let keymap = keymap_of self.now (R.own_binding rdr.old) in
-            IsErrOf result ReadlineError.Eof → IsDry R.RawReader rdr.old rdr.new
-            × LacksTail keymap (W.draft wrt.now) (input_of self.now) count key }
-        ensures items { TakesItems R.RawReader result rdr.old rdr.new }
+        ensures reads { let k =
+            keys_of ⟦<dyn ConditionalEventHandler as ConditionalEventHandler>⟧ in
+            IfOk result (λ c. ReadsBehind R.RawReader rdr.old rdr.new
+            (keymap_of (k self.now) (R.own_binding rdr.old)) (W.draft wrt.now) (input_of self.now)
+            typed key (command_of c)) }
+        ensures eof { let k = keys_of ⟦<dyn ConditionalEventHandler as ConditionalEventHandler>⟧ in
+            IsErrOf result ReadlineError.Eof → EndsBehind R.RawReader rdr.old rdr.new
+            (keymap_of (k self.now) (R.own_binding rdr.old)) (W.draft wrt.now) (input_of self.now)
+            typed key }
+        ensures items { let k =
+            keys_of ⟦<dyn ConditionalEventHandler as ConditionalEventHandler>⟧ in
+            TakesItems R.RawReader (k self.now).bound result rdr.old rdr.new }
     {
+        if let Some(command) = self.custom_binding(wrt, key, typed)? {
+            return Ok(command);
+        }
         if let Some(command) = own_command(rdr, wrt, &key) {
             return Ok(command);
         }
+        let count = typed.unwrap_or(Count::one());
         let meaning = meaning_of_key(self.mode, self.input_mode, key, count, wrt);
-        read_tail(rdr, meaning)
+        self.read_tail(rdr, wrt, key, count, meaning)
+    }
+
+    // Reads what belongs to a key of this meaning, and gives the command.
+    fn read_tail<R: RawReader, W: Refresher>(
+        &self,
+        rdr: &mut R,
+        wrt: &W,
+        key: KeyEvent,
+        count: Count,
+        meaning: Meaning,
+    ) -> Result<Cmd>
+        ensures reads { let g = ⟦<dyn ConditionalEventHandler as ConditionalEventHandler>⟧ in
+            let bound = (keys_of g self.now).bound in IfOk result (λ c.
+            ReadsTail R.RawReader rdr.old rdr.new
+            (sequences_of bound (W.draft wrt.now) (input_of self.now) count)
+            key (meaning_of meaning) (command_of c)) }
+        ensures eof { let g = ⟦<dyn ConditionalEventHandler as ConditionalEventHandler>⟧ in
+            let bound = (keys_of g self.now).bound in IsErrOf result ReadlineError.Eof →
+            EndsInTail R.RawReader rdr.old rdr.new
+            (sequences_of bound (W.draft wrt.now) (input_of self.now) count)
+            key (meaning_of meaning) }
+        ensures items { let k =
+            keys_of ⟦<dyn ConditionalEventHandler as ConditionalEventHandler>⟧ in
+            TakesItems R.RawReader (k self.now).bound result rdr.old rdr.new }
+    {
+        match meaning {
+            Meaning::Command(command) => Ok(command),
+            Meaning::Search(n, kind) => Ok(move_to(rdr.next_key(false)?, n, kind)),
+            Meaning::Paste => Ok(Cmd::Insert(1, rdr.read_pasted_text()?)),
+            Meaning::SecondKey(by) => {
+                match self.custom_seq_binding(rdr, wrt, key, count)? {
+                    Sequence::Command(command) => Ok(command),
+                    Sequence::InVain(Some(second)) => Ok(second_key(second, by)),
+                    Sequence::InVain(None) => Ok(second_key(rdr.next_key(true)?, by)),
+                }
+            }
+            Meaning::Unlisted => match self.custom_seq_binding(rdr, wrt, key, count)? {
+                Sequence::Command(command) => Ok(command),
+                Sequence::InVain(_) => Ok(Cmd::Unknown),
+            },
+        }
+    }
+
+    // Reads the keys of a bound sequence that begins with a key, up to one that has a command or behind which none goes on.
+    fn custom_seq_binding<R: RawReader, W: Refresher>(
+        &self,
+        rdr: &mut R,
+        wrt: &W,
+        first: KeyEvent,
+        count: Count,
+    ) -> Result<Sequence>
+        ensures reads { let g = ⟦<dyn ConditionalEventHandler as ConditionalEventHandler>⟧ in
+            let bound = (keys_of g self.now).bound in IfOk result (λ found.
+            FindsSequence R.RawReader rdr.old rdr.new
+            (sequences_of bound (W.draft wrt.now) (input_of self.now) count) first found) }
+        ensures eof { let g = ⟦<dyn ConditionalEventHandler as ConditionalEventHandler>⟧ in
+            let bound = (keys_of g self.now).bound in IsErrOf result ReadlineError.Eof →
+            EndsInSequence R.RawReader rdr.old rdr.new
+            (sequences_of bound (W.draft wrt.now) (input_of self.now) count) first }
+        ensures items { let k =
+            keys_of ⟦<dyn ConditionalEventHandler as ConditionalEventHandler>⟧ in
+            TakesItems R.RawReader (k self.now).bound result rdr.old rdr.new }
+    {
+        if !self.bindings.leads_on(&[first]) {
+            return Ok(Sequence::InVain(None));
+        }
+        let mut keys = Vec::new(self.bindings.alloc());
+        keys.push(first)?;
+        'keys: loop {
+            keys.push(rdr.next_key(true)?)?;
+            match self.sequence_command(wrt, keys.as_slice(), count)? {
+                Some(command) => return Ok(Sequence::Command(command)),
+                None => {}
+            }
+            if !self.bindings.leads_on(keys.as_slice()) {
+                return Ok(Sequence::InVain(keys.get(1).copied()));
+            }
+        }
+    }
+
+    // Returns the command that the program's bindings give a key under the count that was typed, done again where it can be.
+    fn custom_binding<W: Refresher>(
+        &self,
+        wrt: &W,
+        key: KeyEvent,
+        typed: Option<Count>,
+    ) -> Result<Option<Cmd>>
+        ensures command { let k =
+            keys_of ⟦<dyn ConditionalEventHandler as ConditionalEventHandler>⟧ in
+            (own : KeyEvent → Option Command) → IfOk result (λ c. option_map command_of c
+            ≡ bound_command (keymap_of (k self.now) own) (W.draft wrt.now)
+            (input_of self.now) typed key) }
+        ensures io { let k = keys_of ⟦<dyn ConditionalEventHandler as ConditionalEventHandler>⟧ in
+            IoOnlyIf result (all_sure (k self.now).bound ≡ false) }
+        ensures faults { FaultsOnly result }
+    {
+        let Some(handler) = self.bindings.of_key(key) else {
+            return Ok(None);
+        };
+        let count = self.handed(typed);
+        match self.answer(wrt, handler, &[key], count)? {
+            Some(command) => Ok(Some(command.redo(self.new_count(typed), wrt)?)),
+            None => Ok(None),
+        }
+    }
+
+    // Returns the command of a bound sequence, if it is bound and has one.
+    fn sequence_command<W: Refresher>(
+        &self,
+        wrt: &W,
+        sequence: &[KeyEvent],
+        count: Count,
+    ) -> Result<Option<Cmd>>
+        ensures command { let g = ⟦<dyn ConditionalEventHandler as ConditionalEventHandler>⟧ in
+            let bound = (keys_of g self.now).bound in IfOk result (λ c. option_map command_of c
+            ≡ (sequences_of bound (W.draft wrt.now) (input_of self.now) count).command
+            sequence.now) }
+        ensures io { let k = keys_of ⟦<dyn ConditionalEventHandler as ConditionalEventHandler>⟧ in
+            IoOnlyIf result (all_sure (k self.now).bound ≡ false) }
+        ensures faults { FaultsOnly result }
+    {
+        match self.bindings.of_keys(sequence) {
+            Some(handler) => self.answer(wrt, handler, sequence, count),
+            None => Ok(None),
+        }
+    }
+
+    // Returns what a handler answers to keys under a count.
+    fn answer<W: Refresher>(
+        &self,
+        wrt: &W,
+        handler: &EventHandler,
+        sequence: &[KeyEvent],
+        count: Count,
+    ) -> Result<Option<Cmd>>
+        ensures command { let g = ⟦<dyn ConditionalEventHandler as ConditionalEventHandler>⟧ in
+            IfOk result (λ c. option_map command_of c ≡ (handled g handler.now).answer (record {
+              event = keys sequence.now;
+              count = count;
+              moment = moment_in (W.draft wrt.now) (input_of self.now);
+            })) }
+        ensures io { let g = ⟦<dyn ConditionalEventHandler as ConditionalEventHandler>⟧ in
+            IoOnlyIf result ((handled g handler.now).sure ≡ false) }
+        ensures faults { FaultsOnly result }
+    {
+        let alloc = self.bindings.alloc();
+        match handler {
+            EventHandler::Simple(command) => Ok(Some(command.clone(alloc)?)),
+            EventHandler::Conditional(handler) => {
+                let event = Event::of_keys(alloc, sequence)?;
+                let context = EventContext::new(self.mode, self.input_mode, wrt);
+                handle(alloc, handler, &event, count, &context)
+            }
+        }
+    }
+
+    // Returns the count that a key's binding is handed: 0 in Vi's insert and replace modes.
+    fn handed(&self, typed: Option<Count>) -> Count
+        ensures { let input = input_of self.now in result ≡ handed input.style input.mode typed }
+    {
+        match (self.mode, self.input_mode) {
+            (EditMode::Vi, InputMode::Insert | InputMode::Replace) => Count {
+                n: 0,
+                positive: true,
+            },
+            _ => typed.unwrap_or(Count::one()),
+        }
+    }
+
+    // Returns the count that a bound command is done again with, if there is one.
+    fn new_count(&self, typed: Option<Count>) -> Option<RepeatCount>
+        ensures { result ≡ new_count (input_of self.now).style typed }
+    {
+        match (self.mode, typed) {
+            (_, Some(count)) => Some(count.n),
+            (EditMode::Emacs, None) => Some(1),
+            (EditMode::Vi, None) => None,
+        }
     }
 }
 
-// Reads what belongs to a key of this meaning, and gives the command.
-fn read_tail<R: RawReader>(rdr: &mut R, meaning: Meaning) -> Result<Cmd>
-    ensures reads { IfOk result (λ c.
-        ReadsTail R.RawReader rdr.old rdr.new (meaning_of meaning) (command_of c)) }
-    ensures eof { IsErrOf result ReadlineError.Eof → IsDry R.RawReader rdr.old rdr.new
-        × LacksItems (meaning_of meaning) }
-    ensures items { TakesItems R.RawReader result rdr.old rdr.new }
-{
-    match meaning {
-        Meaning::Command(command) => Ok(command),
-        Meaning::Search(n, kind) => Ok(move_to(rdr.next_key(false)?, n, kind)),
-        Meaning::Paste => Ok(Cmd::Insert(1, rdr.read_pasted_text()?)),
-        Meaning::SecondKey(count) => Ok(second_key(rdr.next_key(false)?, count)),
-    }
+/// What was read of a bound sequence.
+enum Sequence {
+    /// Keys that have a command.
+    Command(Cmd),
+    /// Keys that have none, of which the second one is given, if there was one.
+    InVain(Option<KeyEvent>),
 }
 
 // Returns the move by a search for the character of a key, so many times; another key stands for nothing.
@@ -187,6 +378,28 @@ fn move_to(key: KeyEvent, n: RepeatCount, kind: SearchKind) -> Cmd
         }
         _ => Cmd::Unknown,
     }
+}
+
+// Returns what a handler answers to an event under a count.
+fn handle(
+    alloc: Global,
+    handler: &Box<dyn ConditionalEventHandler>,
+    event: &Event,
+    count: Count,
+    context: &EventContext<'_>,
+) -> Result<Option<Cmd>>
+    ensures command { let g = ⟦<dyn ConditionalEventHandler as ConditionalEventHandler>⟧ in
+        let value = handled g (EventHandler.Conditional handler.now) in
+        IfOk result (λ c. option_map command_of c ≡ value.answer (record {
+          event = chord_of event.now;
+          count = record { n = count.n; positive = count.positive };
+          moment = moment_of context.now;
+        })) }
+    ensures io { let g = ⟦<dyn ConditionalEventHandler as ConditionalEventHandler>⟧ in
+        IoOnlyIf result ((handled g (EventHandler.Conditional handler.now)).sure ≡ false) }
+    ensures faults { FaultsOnly result }
+{
+    handler.handle(alloc, event, count.n, count.positive, context)
 }
 
 // The command that the reader itself gives the key.

@@ -1,11 +1,16 @@
 //! Laws of the definitions that the contracts cite. No call of the editor is made here.
-ghost use Rattle.line_editor.specs.Laws.{ComingBack, EnoughUndo, HasOneEnd, IsPrefixFree, ReadFromTheCut, ReadingAgain, TurnsAndRun, TwoRenderers, TurnsBeforeMore, TurnsFollow};
+ghost use Rattle.line_editor.specs.Laws.{ComingBack, ComparesEvents, EnoughUndo, HasOneEnd, IsPrefixFree, ReadFromTheCut, ReadingAgain, TurnsAndRun, TwoRenderers, TurnsBeforeMore, TurnsFollow};
 
 use crate::edit::State;
 use line_config::Prompt;
 use line_keys::editor_state::EditorState;
 use line_parts::{Helper, History};
 use line_state::Renderer;
+
+/// Events that the map takes for the same are equal, and equal ones are the same.
+pub fn events_are_compared_by_value()
+    ensures { ComparesEvents }
+{}
 
 /// No phrase is a proper beginning of another, and one list of items has one command.
 pub fn phrases_are_prefix_free()

@@ -2,6 +2,7 @@
 #![tactic(auto)]
 
 pub mod binding;
+pub mod bindings;
 pub mod command;
 pub mod edit;
 pub mod examples;
@@ -9,7 +10,8 @@ pub mod keymap;
 pub mod laws;
 pub mod run;
 
-pub use binding::{Bindings, ConditionalEventHandler, Event, EventContext, EventHandler};
+pub use binding::{ConditionalEventHandler, Event, EventContext, EventHandler};
+pub use bindings::Bindings;
 pub use command::{Status, execute};
 pub use edit::State;
 pub use keymap::InputState;

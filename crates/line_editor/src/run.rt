@@ -1,11 +1,13 @@
 //! Reads commands and executes them, until the line is submitted or the input ends.
 ghost use Rattle.std.specs.Prelude.{◌≡◌, ◌≢◌, ◌<◌, ◌⊎◌, length, IfOk, OnOk, IsErrOf};
 ghost use Rattle.line_config.specs.Error.{FaultsOnly};
+ghost use Rattle.line_editor.specs.InputState.{keys_of};
 ghost use Rattle.line_editor.specs.Reading.{FailsByReading, KeepsReading};
 ghost use Rattle.line_editor.specs.Run.{kills_before};
 ghost use Rattle.line_editor.specs.Runs.{RunsDry, RunsToEnd, RunsToInterrupt, RunsToSubmit, AdvancesTo};
 ghost use Rattle.line_keys.specs.Command.{command_of};
 
+use crate::binding::ConditionalEventHandler;
 use crate::command::{Status, execute};
 use crate::edit::State;
 use crate::keymap::InputState;
@@ -58,16 +60,20 @@ pub fn advance<'out, 'prompt, W: Renderer, H: Helper, P: Prompt, S: History>(
     kill_ring: &mut KillRing,
     config: &Config,
 ) -> Result<Turned>
-    ensures turned { let e = ⟦<State<'out, 'prompt, W, H, P, S> as EditorState>⟧ in
+    ensures turned { let k = keys_of ⟦<dyn ConditionalEventHandler as ConditionalEventHandler>⟧ in
+        let e = ⟦<State<'out, 'prompt, W, H, P, S> as EditorState>⟧ in
         IfOk result (λ turned. AdvancesTo e W.Reader.RawReader turned
-        state.old input_state.old config.now.indent_size rdr.old kill_ring.old
-        state.new input_state.new rdr.new kill_ring.new) }
+        state.old (k input_state.old) config.now.indent_size rdr.old kill_ring.old
+        state.new (k input_state.new) rdr.new kill_ring.new) }
     ensures reads { IfOk result (λ turned. turned ≢ Turned.NeedsMore
         → length (W.Reader.rest rdr.new) < length (W.Reader.rest rdr.old)) }
-    ensures keeps { KeepsReading ⟦<State<'out, 'prompt, W, H, P, S> as EditorState>⟧
-        W.Reader.RawReader state.old input_state.old rdr.old state.new input_state.new rdr.new }
-    ensures io { FailsByReading ⟦<State<'out, 'prompt, W, H, P, S> as EditorState>⟧
-        W.Reader.RawReader result state.old rdr.old state.new rdr.new }
+    ensures keeps { let k = keys_of ⟦<dyn ConditionalEventHandler as ConditionalEventHandler>⟧ in
+        KeepsReading ⟦<State<'out, 'prompt, W, H, P, S> as EditorState>⟧
+        W.Reader.RawReader state.old (k input_state.old) rdr.old
+        state.new (k input_state.new) rdr.new }
+    ensures io { let k = keys_of ⟦<dyn ConditionalEventHandler as ConditionalEventHandler>⟧ in
+        FailsByReading ⟦<State<'out, 'prompt, W, H, P, S> as EditorState>⟧
+        W.Reader.RawReader result state.old (k input_state.old) rdr.old state.new rdr.new }
     ensures faults { FaultsOnly result }
 {
     let command = match state.next_cmd(input_state, rdr, false) {
@@ -100,25 +106,33 @@ pub fn run<'out, 'prompt, W: Renderer, H: Helper, P: Prompt, S: History>(
     kill_ring: &mut KillRing,
     config: &Config,
 ) -> Result<()>
-    ensures submitted { let e = ⟦<State<'out, 'prompt, W, H, P, S> as EditorState>⟧ in
+    ensures submitted { let k =
+        keys_of ⟦<dyn ConditionalEventHandler as ConditionalEventHandler>⟧ in
+        let e = ⟦<State<'out, 'prompt, W, H, P, S> as EditorState>⟧ in
         OnOk result (RunsToSubmit e W.Reader.RawReader
-        state.old input_state.old config.now.indent_size rdr.old kill_ring.old
-        state.new input_state.new rdr.new kill_ring.new) }
-    ensures eof { let e = ⟦<State<'out, 'prompt, W, H, P, S> as EditorState>⟧ in
+        state.old (k input_state.old) config.now.indent_size rdr.old kill_ring.old
+        state.new (k input_state.new) rdr.new kill_ring.new) }
+    ensures eof { let k = keys_of ⟦<dyn ConditionalEventHandler as ConditionalEventHandler>⟧ in
+        let e = ⟦<State<'out, 'prompt, W, H, P, S> as EditorState>⟧ in
         IsErrOf result ReadlineError.Eof → RunsToEnd e W.Reader.RawReader
-        state.old input_state.old config.now.indent_size rdr.old kill_ring.old
-        state.new input_state.new rdr.new kill_ring.new
+        state.old (k input_state.old) config.now.indent_size rdr.old kill_ring.old
+        state.new (k input_state.new) rdr.new kill_ring.new
         ⊎ RunsDry e W.Reader.RawReader
-        state.old input_state.old config.now.indent_size rdr.old kill_ring.old
-        state.new input_state.new rdr.new kill_ring.new }
-    ensures interrupted { let e = ⟦<State<'out, 'prompt, W, H, P, S> as EditorState>⟧ in
+        state.old (k input_state.old) config.now.indent_size rdr.old kill_ring.old
+        state.new (k input_state.new) rdr.new kill_ring.new }
+    ensures interrupted { let k =
+        keys_of ⟦<dyn ConditionalEventHandler as ConditionalEventHandler>⟧ in
+        let e = ⟦<State<'out, 'prompt, W, H, P, S> as EditorState>⟧ in
         IsErrOf result ReadlineError.Interrupted → RunsToInterrupt e W.Reader.RawReader
-        state.old input_state.old config.now.indent_size rdr.old kill_ring.old
-        state.new input_state.new rdr.new kill_ring.new }
-    ensures keeps { KeepsReading ⟦<State<'out, 'prompt, W, H, P, S> as EditorState>⟧
-        W.Reader.RawReader state.old input_state.old rdr.old state.new input_state.new rdr.new }
-    ensures io { FailsByReading ⟦<State<'out, 'prompt, W, H, P, S> as EditorState>⟧
-        W.Reader.RawReader result state.old rdr.old state.new rdr.new }
+        state.old (k input_state.old) config.now.indent_size rdr.old kill_ring.old
+        state.new (k input_state.new) rdr.new kill_ring.new }
+    ensures keeps { let k = keys_of ⟦<dyn ConditionalEventHandler as ConditionalEventHandler>⟧ in
+        KeepsReading ⟦<State<'out, 'prompt, W, H, P, S> as EditorState>⟧
+        W.Reader.RawReader state.old (k input_state.old) rdr.old
+        state.new (k input_state.new) rdr.new }
+    ensures io { let k = keys_of ⟦<dyn ConditionalEventHandler as ConditionalEventHandler>⟧ in
+        FailsByReading ⟦<State<'out, 'prompt, W, H, P, S> as EditorState>⟧
+        W.Reader.RawReader result state.old (k input_state.old) rdr.old state.new rdr.new }
 {
     state.refresh_line()?;
     'turns: loop {

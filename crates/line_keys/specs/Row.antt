@@ -4,7 +4,7 @@ use Rattle.line_buffer.specs.declared.keymap.CharSearch.{CharSearch}
 use Rattle.line_buffer.specs.declared.keymap.CharSearch.TheVariants.{Backward, BackwardAfter, Forward, ForwardBefore}
 use Rattle.line_keys.specs.Command.{command_of}
 use Rattle.line_keys.specs.Table as table
-use Rattle.line_keys.specs.Table.{gives, has_second, pastes, searches, second_at}
+use Rattle.line_keys.specs.Table.{gives, has_second, pastes, searches, second_at, unlisted}
 use Rattle.line_keys.specs.declared.tables.Meaning.{Meaning}
 use Rattle.line_keys.specs.declared.tables.SearchKind.{SearchKind}
 
@@ -21,3 +21,4 @@ meaning_of (Meaning.Command command) = gives (command_of command)
 meaning_of (Meaning.Search n kind) = searches n (λ c. search_for kind c)
 meaning_of Meaning.Paste = pastes
 meaning_of (Meaning.SecondKey count) = has_second (second_at count)
+meaning_of Meaning.Unlisted = unlisted

@@ -34,12 +34,13 @@ holds on_text draft = not (length draft.line.text == 0)
 holds at_hint draft = is_some draft.hint && (draft.line.cursor == length draft.line.text)
 
 -- What a key stands for: a command, or one that depends on what is read next. That is the character to search for, a pasted
--- text, or a second key.
+-- text, or a second key. A key that no table has stands for nothing, unless it begins a bound sequence.
 pub data Meaning : Type 0 where
   gives : Command → Meaning
   searches : ℕ → (ℕ → CharSearch) → Meaning
   pastes : Meaning
   has_second : (KeyEvent → Command) → Meaning
+  unlisted : Meaning
 
 -- a row: which line it is for, and what its key means for a count
 pub record Row : Type 0 where
@@ -254,14 +255,14 @@ abbrev pub first_row : Option Row → Option Row → Option Row
 first_row (Some r) _ = Some r
 first_row None other = other
 
--- the row of a key; a key that no table has stands for nothing
-abbrev pub row_or_unknown : Option Row → Row
-row_or_unknown (Some r) = r
-row_or_unknown None = always unknown
+-- the row of a key; a key that no table has is unlisted
+abbrev pub row_or_unlisted : Option Row → Row
+row_or_unlisted (Some r) = r
+row_or_unlisted None = meaning_row (λ _. unlisted)
 
 -- the row of a key, by the style of editing and its mode
 abbrev pub row_of : EditMode → InputMode → KeyEvent → Draft → Row
-row_of Emacs mode key draft = row_or_unknown
+row_of Emacs mode key draft = row_or_unlisted
     (first_row (emacs_row key.0 (bits_of key.1) draft) (common_row Emacs key.0 (bits_of key.1) draft))
 row_of Vi mode key draft = always unknown
 

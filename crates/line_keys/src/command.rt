@@ -1,8 +1,11 @@
 //! The commands that keys stand for.
-ghost use Rattle.std.specs.Prelude.{◌≡◌};
+ghost use Rattle.std.specs.Prelude.{◌≡◌, IfOk, option_map, string_bytes};
+ghost use Rattle.line_config.specs.Error.{MemoryOnly};
 ghost use Rattle.line_keys.specs.Command.{command_of, resets_kill_ring};
 
 use line_buffer::{Movement, RepeatCount};
+use line_config::Result;
+use std::alloc::Global;
 
 /// Where a yanked text is put.
 #[derive(Clone, Copy, Debug, PartialEq, Eq)]
@@ -110,6 +113,65 @@ pub enum Cmd {
 }
 
 impl Cmd {
+    /// Returns an equal command, whose text grows from `alloc`.
+    ///
+    /// # Errors
+    /// That memory ran out.
+    pub fn clone(&self, alloc: Global) -> Result<Cmd>
+        ensures equal { IfOk result (λ command. command_of command ≡ command_of self.now) }
+        ensures memory { MemoryOnly result }
+    {
+        Ok(match self {
+            Cmd::Abort => Cmd::Abort,
+            Cmd::AcceptLine => Cmd::AcceptLine,
+            Cmd::BeginningOfHistory => Cmd::BeginningOfHistory,
+            Cmd::CapitalizeWord => Cmd::CapitalizeWord,
+            Cmd::ClearScreen => Cmd::ClearScreen,
+            Cmd::Complete => Cmd::Complete,
+            Cmd::CompleteBackward => Cmd::CompleteBackward,
+            Cmd::CompleteHint => Cmd::CompleteHint,
+            Cmd::Dedent(movement) => Cmd::Dedent(movement.clone()?),
+            Cmd::DowncaseWord => Cmd::DowncaseWord,
+            Cmd::EndOfFile => Cmd::EndOfFile,
+            Cmd::EndOfHistory => Cmd::EndOfHistory,
+            Cmd::ForwardSearchHistory => Cmd::ForwardSearchHistory,
+            Cmd::HistorySearchBackward => Cmd::HistorySearchBackward,
+            Cmd::HistorySearchForward => Cmd::HistorySearchForward,
+            Cmd::Indent(movement) => Cmd::Indent(movement.clone()?),
+            Cmd::Insert(n, text) => Cmd::Insert(*n, String::from_str(alloc, text)?),
+            Cmd::Interrupt => Cmd::Interrupt,
+            Cmd::Kill(movement) => Cmd::Kill(movement.clone()?),
+            Cmd::Move(movement) => Cmd::Move(movement.clone()?),
+            Cmd::NextHistory => Cmd::NextHistory,
+            Cmd::Noop => Cmd::Noop,
+            Cmd::Repaint => Cmd::Repaint,
+            Cmd::Overwrite(c) => Cmd::Overwrite(*c),
+            Cmd::PreviousHistory => Cmd::PreviousHistory,
+            Cmd::QuotedInsert => Cmd::QuotedInsert,
+            Cmd::ReplaceChar(n, c) => Cmd::ReplaceChar(*n, *c),
+            Cmd::Replace(movement, text) => Cmd::Replace(movement.clone()?, copied(alloc, text)?),
+            Cmd::ReverseSearchHistory => Cmd::ReverseSearchHistory,
+            Cmd::SelfInsert(n, c) => Cmd::SelfInsert(*n, *c),
+            Cmd::Suspend => Cmd::Suspend,
+            Cmd::TransposeChars => Cmd::TransposeChars,
+            Cmd::TransposeWords(n) => Cmd::TransposeWords(*n),
+            Cmd::Undo(n) => Cmd::Undo(*n),
+            Cmd::Unknown => Cmd::Unknown,
+            Cmd::UpcaseWord => Cmd::UpcaseWord,
+            Cmd::ViYankTo(movement) => Cmd::ViYankTo(movement.clone()?),
+            Cmd::Yank(n, anchor) => Cmd::Yank(*n, *anchor),
+            Cmd::YankPop => Cmd::YankPop,
+            Cmd::LineUpOrPreviousHistory(n) => Cmd::LineUpOrPreviousHistory(*n),
+            Cmd::LineDownOrNextHistory(n) => Cmd::LineDownOrNextHistory(*n),
+            Cmd::Newline => Cmd::Newline,
+            Cmd::AcceptOrInsertLine {
+                accept_in_the_middle,
+            } => Cmd::AcceptOrInsertLine {
+                accept_in_the_middle: *accept_in_the_middle,
+            },
+        })
+    }
+
     /// Returns whether a kill after this command begins a new slot of the kill ring.
     pub const fn should_reset_kill_ring(&self) -> bool
         ensures { result ≡ resets_kill_ring (command_of self.now) }
@@ -125,5 +187,16 @@ impl Cmd {
             | Cmd::YankPop => false,
             _ => true,
         }
+    }
+}
+
+// Returns a copy of a text, if there is one.
+fn copied(alloc: Global, text: &Option<String>) -> Result<Option<String>>
+    ensures equal { IfOk result (λ copy. option_map string_bytes copy ≡ option_map string_bytes text.now) }
+    ensures memory { MemoryOnly result }
+{
+    match text {
+        Some(text) => Ok(Some(String::from_str(alloc, text)?)),
+        None => Ok(None),
     }
 }

@@ -9,6 +9,7 @@ pub mod examples;
 pub mod keymap;
 pub mod keys;
 pub mod laws;
+pub mod redo;
 pub mod tables;
 pub mod tty;
 

@@ -51,6 +51,8 @@ pub enum Meaning {
     Paste,
     /// A second key, which is read next, with the count.
     SecondKey(Count),
+    /// None: no table has the key.
+    Unlisted,
 }
 
 /// Returns what a key stands for, by the style of editing and its mode, the count and the line.
@@ -73,7 +75,7 @@ pub fn meaning_of_key<W: Refresher>(
     }
     match common(mode, key, count, wrt) {
         Some(meaning) => meaning,
-        None => Meaning::Command(Cmd::Unknown),
+        None => Meaning::Unlisted,
     }
 }
 
@@ -216,7 +218,7 @@ fn common_ctrl<W: Refresher>(mode: EditMode, c: char, count: Count, wrt: &W) -> 
     }
 }
 
-// Returns the command of a second key after C-X.
+/// Returns the command of a second key after C-X.
 pub fn second_key(key: KeyEvent, count: Count) -> Cmd
     ensures { command_of result ≡ second_at count key }
 {

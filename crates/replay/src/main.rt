@@ -12,7 +12,7 @@ mod script;
 use helper::ScriptHelper;
 use line_buffer::{GraphemeClusterMode, KillRing};
 use line_config::{Config, ReadlineError};
-use line_editor::binding::Bindings;
+use line_editor::Bindings;
 use line_editor::edit::State;
 use line_editor::keymap::InputState;
 use line_editor::run::run;

@@ -2,3 +2,4 @@ pub mod Advisor
 pub mod Screen
 pub mod ScreenLaws
 pub mod Typist
+pub mod Watcher

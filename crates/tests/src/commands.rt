@@ -6,7 +6,7 @@ use crate::shelf::Shelf;
 use crate::typist::Typist;
 use line_buffer::{GraphemeClusterMode, KillRing, Unit};
 use line_config::{Config, EditMode, ReadlineError, Result};
-use line_editor::binding::Bindings;
+use line_editor::Bindings;
 use line_editor::command::{Status, execute};
 use line_editor::edit::State;
 use line_editor::keymap::InputState;

@@ -5,12 +5,11 @@ use crate::recorder::Recorder;
 use crate::typist::Typist;
 use line_buffer::{GraphemeClusterMode, KillRing, Movement, RepeatCount, Unit};
 use line_config::{Config, EditMode, ReadlineError, Result};
-use line_editor::binding::Bindings;
 use line_editor::command::{Status, execute};
 use line_editor::edit::State;
 use line_editor::keymap::InputState;
 use line_editor::run::run;
-use line_editor::{Turned, advance};
+use line_editor::{Bindings, Turned, advance};
 use line_keys::command::Cmd;
 use line_keys::keymap::Refresher;
 use line_keys::keys::KeyEvent;
@@ -23,6 +22,7 @@ use std::test::Fail;
 
 mod counts;
 mod draws;
+mod every;
 mod faults;
 mod lines;
 mod turns;
@@ -133,46 +133,38 @@ fn called(state: &mut Editor<'_, '_>, step: &Step) -> Result<()> {
 }
 
 /// How a turn ended by the status of its command.
-fn turned(status: Status) -> Turned {
-    match status {
-        Status::Proceed => Turned::Proceeds,
-        Status::Submit => Turned::Submitted,
+fn turned(executed: Result<Status>) -> Result<Turned> {
+    match executed? {
+        Status::Proceed => Ok(Turned::Proceeds),
+        Status::Submit => Ok(Turned::Submitted),
     }
 }
 
-/// Does the step.
-fn done(
-    state: &mut Editor<'_, '_>,
-    input: &mut InputState<'_>,
-    typist: &mut Typist,
-    kills: &mut KillRing,
-    config: &Config,
-    step: &Step,
-) -> Result<Turned> {
+/// Gives the reader what a step types.
+fn typed(typist: &mut Typist, step: &Step) -> Result<()> {
     match step {
-        Step::Run(keys) => {
-            typist.press(keys)?;
-            run(state, input, typist, kills, config)?;
-            return Ok(Turned::Submitted);
+        Step::Run(keys) | Step::Advance(keys) | Step::Turn(keys, _) | Step::Press(keys) => {
+            typist.press(keys)?
         }
-        Step::Advance(keys) => {
-            typist.press(keys)?;
-            return advance(state, input, typist, kills, config);
-        }
-        Step::Turn(keys, single_esc_abort) => {
-            typist.press(keys)?;
-            let command = state.next_cmd(input, typist, *single_esc_abort)?;
-            return Ok(turned(execute(command, state, input, kills, config)?));
-        }
-        Step::Press(keys) => typist.press(keys)?,
         Step::Paste(text) => typist.paste(text)?,
         Step::TakePasted => {
             let _ = typist.read_pasted_text()?;
         }
         _ => {}
     }
+    Ok(())
+}
+
+/// Does a step that reads nothing.
+fn done(
+    state: &mut Editor<'_, '_>,
+    input: &InputState<'_>,
+    kills: &mut KillRing,
+    config: &Config,
+    step: &Step,
+) -> Result<Turned> {
     match command(step) {
-        Some(command) => Ok(turned(execute(command, state, input, kills, config)?)),
+        Some(command) => turned(execute(command, state, input, kills, config)),
         None => {
             called(state, step)?;
             Ok(Turned::Proceeds)
@@ -258,14 +250,27 @@ fn edits(
     let mut state = State::new(alloc, screen, &"> ", helper, context)?;
     let mut last = Ok(Turned::Proceeds);
     for step in *steps {
-        last = done(
-            &mut state,
-            &mut input,
-            &mut typist,
-            &mut kills,
-            &config,
-            step,
-        );
+        last = match (typed(&mut typist, step), step) {
+            (Err(error), _) => Err(error),
+            (Ok(()), Step::Run(_)) => {
+                match run(&mut state, &mut input, &mut typist, &mut kills, &config) {
+                    Ok(()) => Ok(Turned::Submitted),
+                    Err(error) => Err(error),
+                }
+            }
+            (Ok(()), Step::Advance(_)) => {
+                advance(&mut state, &mut input, &mut typist, &mut kills, &config)
+            }
+            (Ok(()), Step::Turn(_, single_esc_abort)) => {
+                match state.next_cmd(&mut input, &mut typist, *single_esc_abort) {
+                    Ok(command) => {
+                        turned(execute(command, &mut state, &input, &mut kills, &config))
+                    }
+                    Err(error) => Err(error),
+                }
+            }
+            (Ok(()), _) => done(&mut state, &input, &mut kills, &config, step),
+        };
     }
     assert_eq!(rt; ended(&last), *end);
     let styles = (input.is_emacs_mode(), input.is_vi_cmd_mode());

@@ -4,6 +4,8 @@
 #[cfg(test)]
 mod advisor;
 #[cfg(test)]
+mod bindings;
+#[cfg(test)]
 mod brackets;
 #[cfg(test)]
 mod buffer;
@@ -37,3 +39,5 @@ mod shelf;
 mod tables;
 #[cfg(test)]
 mod typist;
+#[cfg(test)]
+mod watcher;

@@ -387,8 +387,8 @@ fn of_no_table(rt: HostRuntime) -> Result<(), Fail> {
         (K::Down, M::ALT),
     ];
     for (code, mods) in &keys {
-        let row = [(*code, *mods, Cmd::Unknown, Cmd::Unknown)];
-        look_up(&rt, rt.alloc(), &INSIDE, &row)?;
+        let row = [(*code, *mods, Meaning::Unlisted, Meaning::Unlisted)];
+        look_ahead(&rt, rt.alloc(), &row)?;
     }
     Ok(())
 }

@@ -10,7 +10,7 @@ use line_buffer::Movement::*;
 use line_buffer::Word::*;
 use line_buffer::{CharSearch, GraphemeClusterMode, KillRing};
 use line_config::{Config, ReadlineError, Result};
-use line_editor::binding::Bindings;
+use line_editor::Bindings;
 use line_editor::command::{Status, execute};
 use line_editor::edit::State;
 use line_editor::keymap::InputState;

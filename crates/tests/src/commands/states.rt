@@ -7,7 +7,7 @@ use crate::recorder::Recorder;
 use crate::shelf::Shelf;
 use line_buffer::{GraphemeClusterMode, KillRing, Position};
 use line_config::{Config, Result};
-use line_editor::binding::Bindings;
+use line_editor::Bindings;
 use line_editor::command::{Status, execute};
 use line_editor::edit::State;
 use line_editor::keymap::InputState;

@@ -5,4 +5,4 @@ use Rattle.line_keys.specs.declared.keys.TheConstants.Modifiers.{NONE}
 use Rattle.line_editor.proofs.examples.a_plain_key_is_searched_for.Goals as goal
 
 pub returns : goal.returns
-returns c = (event (Char 98) NONE, refl, refl)
+returns c = λ s last. (event (Char 98) NONE, refl, refl)

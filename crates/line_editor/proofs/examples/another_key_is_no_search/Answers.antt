@@ -5,4 +5,4 @@ use Rattle.line_keys.specs.declared.keys.TheConstants.Modifiers.{NONE}
 use Rattle.line_editor.proofs.examples.another_key_is_no_search.Goals as goal
 
 pub returns : goal.returns
-returns c = (event Enter NONE, refl, refl)
+returns c = λ s last. (event Enter NONE, refl, refl)

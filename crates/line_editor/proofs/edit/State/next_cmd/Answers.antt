@@ -19,7 +19,7 @@ returns-clause-reading g c =
       keeps = record {
         frame = frame_then _ _ _ _ read.keeps.frame group.undrawn.frame;
         own = read.keeps.own;
-        keymap = read.keeps.keymap;
+        bound = read.keeps.bound;
         counts = read.keeps.counts;
       };
       remembers = tt;

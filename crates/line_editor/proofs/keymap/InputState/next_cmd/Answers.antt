@@ -23,15 +23,14 @@ returns-then-not-begins_count-clause-phrase g c =
     let key = c.in_ok-key.ensures in
     let begins = sym c.if-not-begins_count.ensures in
     if_ok_then c.read_behind.result _ _
-    (λ command read. phrase_read _ _ c.args.wrt.now c.args.self.now _ _ _ key.took key.binding _ _ (command_of command) c.one.ensures begins read)
+    (λ command read. phrase_read _ _ c.args.wrt.now _ _ _ _ key.took key.binding _ (command_of command) begins read)
     c.read_behind.ensures.reads
 
 pub returns-then-not-begins_count-clause-eof : goal.returns-then-not-begins_count-clause-eof
 returns-then-not-begins_count-clause-eof g c = λ is_eof.
     let key = c.in_ok-key.ensures in
     let begins = sym c.if-not-begins_count.ensures in
-    let out = c.read_behind.ensures.eof is_eof in
-    phrase_begun _ _ c.args.wrt.now c.args.self.now _ _ _ key.took key.binding _ _ c.one.ensures begins out.0 out.1
+    phrase_begun _ _ c.args.wrt.now _ _ _ _ key.took key.binding _ begins (c.read_behind.ensures.eof is_eof)
 
 pub returns-in_err-count-clause-eof : goal.returns-in_err-count-clause-eof
 returns-in_err-count-clause-eof g c =
@@ -40,26 +39,25 @@ returns-in_err-count-clause-eof g c =
     let begins = sym c.if-not-begins_count.ensures in
     let p = err_from_is_err_and c.from_residual-in_err-count.result c.from_residual-in_err-count.ensures.1 in
     let e : c.in_err-count.field-0.0 ≡ Eof = (cc) in
-    count_cut _ _ c.args.wrt.now c.args.self.now _ _ _ key.took key.binding _ _ _ begins c.in_err-count.ensures (ap Err e)
+    count_cut _ _ c.args.wrt.now _ _ _ _ key.took key.binding _ _ _ begins c.in_err-count.ensures (ap Err e)
 
 pub returns-clause-phrase : goal.returns-clause-phrase
 returns-clause-phrase g c =
     let key = c.in_ok-key.ensures in
     let begins = sym c.if-not-begins_count.ensures in
     if_ok_then c.read_behind-2.result _ _
-    (λ command read. phrase_counted _ _ c.args.wrt.now c.args.self.now _ _ _ key.took key.binding _ _ _ _ c.in_ok-count.ensures begins _ (command_of command) read)
+    (λ command read. phrase_counted _ _ c.args.wrt.now _ _ _ _ key.took key.binding _ _ _ _ c.in_ok-count.ensures begins _ (command_of command) read)
     c.read_behind-2.ensures.reads
 
 pub returns-clause-eof : goal.returns-clause-eof
 returns-clause-eof g c = λ is_eof.
     let key = c.in_ok-key.ensures in
     let begins = sym c.if-not-begins_count.ensures in
-    let out = c.read_behind-2.ensures.eof is_eof in
-    counted_begun _ _ c.args.wrt.now c.args.self.now _ _ _ key.took key.binding _ _ _ _ c.in_ok-count.ensures begins _ out.0 out.1
+    counted_begun _ _ c.args.wrt.now _ _ _ _ key.took key.binding _ _ _ _ c.in_ok-count.ensures begins _ (c.read_behind-2.ensures.eof is_eof)
 
 pub returns-clause-reading : goal.returns-clause-reading
 returns-clause-reading g c =
     let key = c.in_ok-key.ensures in
     let begins = sym c.if-not-begins_count.ensures in
-    counted_on _ _ c.args.wrt.now c.args.self.now _ _ _ key.took key.binding _ _ _ _ c.in_ok-count.ensures begins _ _ key.counts
+    counted_on _ _ c.args.wrt.now _ _ _ _ key.took key.binding _ _ _ _ c.in_ok-count.ensures begins _ _ key.counts
     c.read_behind-2.ensures.items

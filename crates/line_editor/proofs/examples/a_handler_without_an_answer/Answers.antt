@@ -1,0 +1,19 @@
+use Rattle.std.proofs.Common.{[], ◌∷◌, None, refl}
+use Rattle.line_keys.specs.Key.{event}
+use Rattle.line_keys.specs.declared.keys.KeyCode.TheVariants.{Char, F}
+use Rattle.line_keys.specs.declared.keys.TheConstants.Modifiers.{NONE}
+use Rattle.line_keys.specs.Item.{key}
+use Rattle.line_editor.proofs.SequenceLemmas.{two_in_vain}
+use Rattle.line_editor.proofs.examples.a_handler_without_an_answer.Goals as goal
+
+pub returns : goal.returns
+returns c = λ environment. record {
+  typed = [];
+  last = event (F 4) NONE;
+  tail = key (event (Char 97) NONE) ∷ [];
+  cut = refl;
+  counted = refl;
+  keyed = (event (Char 97) NONE ∷ [], None, two_in_vain _ _ (event (Char 97) NONE) refl refl refl, refl, refl);
+  draft_left = refl;
+  input_left = refl;
+}

@@ -1,0 +1,19 @@
+use Rattle.std.proofs.Common.{[], ◌∷◌, None, refl}
+use Rattle.line_keys.specs.Key.{event}
+use Rattle.line_keys.specs.declared.keys.KeyCode.TheVariants.{Char}
+use Rattle.line_keys.specs.declared.keys.TheConstants.Modifiers.{CTRL}
+use Rattle.line_keys.specs.Item.{key}
+use Rattle.line_editor.proofs.SequenceLemmas.{two_in_vain}
+use Rattle.line_editor.proofs.examples.the_second_key_of_all.Goals as goal
+
+pub returns : goal.returns
+returns c = λ environment. record {
+  typed = [];
+  last = event (Char 88) CTRL;
+  tail = key (event (Char 85) CTRL) ∷ [];
+  cut = refl;
+  counted = refl;
+  keyed = (event (Char 85) CTRL ∷ [], None, [], two_in_vain _ _ (event (Char 85) CTRL) refl refl refl, refl, (refl, refl));
+  draft_left = refl;
+  input_left = refl;
+}

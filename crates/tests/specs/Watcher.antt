@@ -1,0 +1,28 @@
+-- The answers of the tests' handlers.
+use Rattle.std.specs.Prelude.{Bool, true, false, ◌==◌, ◌&&◌, if◌then◌else◌, length, Option, None, Some, codes}
+use Rattle.line_keys.specs.Command.{Command, insert, noop}
+use Rattle.line_editor.specs.Asked.{Asked}
+use Rattle.line_editor.specs.Event.{event_keys}
+use Rattle.tests.specs.declared.watcher.Watcher.{Watcher}
+use Rattle.tests.specs.declared.watcher.Watcher.TheVariants.{At, Fails, ForCount, Nothing}
+
+-- whether two answers of yes and no are the same
+abbrev pub same_bool : Bool → Bool → Bool
+same_bool true true = true
+same_bool false false = true
+same_bool _ _ = false
+
+-- what a handler answers
+abbrev pub watched : Watcher → Asked → Option Command
+watched Nothing asked = None
+watched (ForCount n positive) asked =
+    if (asked.count.n == n) && same_bool asked.count.positive positive then Some (insert 1 (codes "k")) else Some noop
+watched (At count len pos hinted) asked =
+    if (length (event_keys asked.event) == count) && (length asked.moment.text == len) && (asked.moment.cursor == pos) && same_bool asked.moment.has_hint hinted
+    then Some (insert 1 (codes "k")) else None
+watched Fails asked = None
+
+-- whether it never fails
+abbrev pub never_fails : Watcher → Bool
+never_fails Fails = false
+never_fails _ = true

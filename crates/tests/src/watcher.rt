@@ -1,0 +1,69 @@
+//! Handlers of bindings whose answers are set beforehand.
+ghost use Rattle.std.specs.Prelude.{◌≡◌, length};
+ghost use Rattle.line_editor.specs.Event.{chord_of, event_keys};
+ghost use Rattle.tests.specs.Watcher.{never_fails, watched};
+
+use line_buffer::RepeatCount;
+use line_config::{ReadlineError, Result};
+use line_editor::binding::{ConditionalEventHandler, Event, EventContext};
+use line_keys::command::Cmd;
+use std::alloc::Global;
+use std::io::ErrorKind;
+
+/// What a handler answers.
+#[derive(Clone, Copy, Drop)]
+pub(crate) enum Watcher {
+    /// Nothing.
+    Nothing,
+    /// A k that is inserted, where it is handed this count in this direction; else a command that does nothing.
+    ForCount(RepeatCount, bool),
+    /// A k that is inserted, where it is handed so many keys and shown a line of this length with the cursor at this place,
+    /// with or without a hint; else nothing.
+    At(usize, usize, usize, bool),
+    /// An error of input or output.
+    Fails,
+}
+
+impl ConditionalEventHandler for Watcher {
+    ghost sure = { λ watcher. never_fails watcher };
+
+    ghost answer = { λ watcher asked. watched watcher asked };
+
+    fn handle(
+        &self,
+        alloc: Global,
+        evt: &Event,
+        n: RepeatCount,
+        positive: bool,
+        ctx: &EventContext<'_>,
+    ) -> Result<Option<Cmd>> {
+        match self {
+            Watcher::Nothing => Ok(None),
+            Watcher::ForCount(wanted, forth) => {
+                if n == *wanted && positive == *forth {
+                    return Ok(Some(Cmd::Insert(1, String::from_str(alloc, "k")?)));
+                }
+                Ok(Some(Cmd::Noop))
+            }
+            Watcher::At(count, len, pos, hinted) => {
+                let keys = count_of(evt);
+                let there = ctx.line().len() == *len && ctx.pos() == *pos;
+                if keys == *count && there && ctx.has_hint() == *hinted {
+                    return Ok(Some(Cmd::Insert(1, String::from_str(alloc, "k")?)));
+                }
+                Ok(None)
+            }
+            Watcher::Fails => Err(ReadlineError::from(ErrorKind::Other)),
+        }
+    }
+}
+
+/// How many keys an event has.
+fn count_of(event: &Event) -> usize
+    ensures { result ≡ length (event_keys (chord_of event.now)) }
+{
+    match event {
+        Event::KeySeq(keys) => keys.len(),
+        _ => 0,
+    }
+}
