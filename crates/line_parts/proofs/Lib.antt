@@ -1,4 +1,5 @@
 pub mod BracketLemmas
+pub mod CutLemmas
 pub mod EscapeLemmas
 pub mod HintLemmas
 pub mod HistoryLawLemmas
@@ -6,9 +7,12 @@ pub mod HistoryLemmas
 pub mod LinesLemmas
 pub mod LoadLemmas
 pub mod MatchLemmas
+pub mod OrderLemmas
+pub mod PathLemmas
 pub mod PieceLemmas
 pub mod PlaceLemmas
 pub mod PrefixLemmas
+pub mod QuoteLemmas
 pub mod SaveLemmas
 pub mod TextLawLemmas
 pub mod WordLemmas

@@ -1,8 +1,8 @@
 -- Where words begin.
-use Rattle.std.proofs.Common.{◌≡◌, ℕ, suc, zero, ◌+◌, ◌-◌, ◌<◌, ◌≤◌, Bool, true, false, true≢false, not, ◌&&◌, if◌then◌else◌, List, [], ◌∷◌, ◌++◌, length, take, drop, get_or, reverse, Option, Some, None, MatchOption, ◌⊎◌, inl, inr, ⊎_elim, refl, sym, ap, ◌∙◌, arith, append_assoc, append-nil, zero-add, length-append, lt_trans, bytes_eq, eqb, subst}
+use Rattle.std.proofs.Common.{◌≡◌, ℕ, ◌+◌, ◌-◌, ◌<◌, ◌≤◌, Bool, true, false, true≢false, not, ◌&&◌, if◌then◌else◌, List, [], ◌∷◌, ◌++◌, length, take, drop, get_or, reverse, Option, Some, ⊎_elim, refl, sym, ap, ◌∙◌, arith, append_assoc, append-nil, zero-add, length-append, bytes_eq, eqb, subst}
 use lib.Utf8.{scalar, scalars, encodes, encode}
 use Rattle.std.specs.Char.{IsScalar}
-use Rattle.std.specs.List.{concat, flat_map, list_all, position_or_len, range_with_len}
+use Rattle.std.specs.List.{concat, flat_map, list_all, range_with_len}
 use Rattle.std.specs.Str.{IsCharBoundary, IsUtf8, chars}
 use Rattle.std.proofs.lemmas.Str.{IsCharBoundary-at_seam, IsCharBoundary-from_take, IsUtf8-append, IsUtf8-drop, IsUtf8-nil, chars-append, len_utf8_bounds, length-encode, chars-encodes, chars-nil, cons_from_encodes, encodes-append, encodes-chars, scalars-chars}
 use Rattle.std.proofs.lemmas.Bool.{cases_Bool}
@@ -10,13 +10,12 @@ use Rattle.std.proofs.lemmas.List.{drop-append-le, reverse-append, reverse-rever
 use Rattle.std.proofs.Math.Seq.{drop-append-add, drop-append_seam, take-append_seam}
 use Rattle.std.proofs.lemmas.List.FromFn.{get_or-range_with_len, length-range_with_len}
 use Rattle.std.proofs.lemmas.List.Sums.{position_or_len_is}
-use Rattle.line_parts.specs.History.{last_of}
 use Rattle.line_parts.specs.Quoting.{ends_in}
 use Rattle.line_parts.specs.Escape.{escaped, escaped_char, is_escape, is_word_piece, offset_at, word_start}
 use Rattle.line_parts.specs.Pieces.{is_made_of}
 use Rattle.line_parts.specs.declared.completion.words.Quote.TheVariants as quote
 use Rattle.line_parts.proofs.WordLemmas.{is_same}
-use Rattle.line_parts.proofs.PieceLemmas.{Cut, and, both, made_append, made_nil, made_one, made_pieces}
+use Rattle.line_parts.proofs.PieceLemmas.{and, both, made_append, made_nil, made_one, made_pieces}
 
 -- a text of whole characters is made of pieces of a word
 pub record WordBehind (escape : Option ℕ) (is_break : ℕ → Bool) (tail : List ℕ) : Type 0 where

@@ -1,5 +1,5 @@
 -- Completions, as text.
-use Rattle.std.specs.Prelude.{ℕ, List, [], slice_range, String, string_bytes}
+use Rattle.std.specs.Prelude.{ℕ, List, [], slice_range, string_bytes}
 use Rattle.line_buffer.specs.Changes.{Changes, with_entries, with_replace}
 use Rattle.line_buffer.specs.Line.{Line, replaced_in}
 use Rattle.line_parts.specs.declared.completion.Candidate.{Ghosts}

@@ -1,7 +1,10 @@
 -- Paths in a line, and the names that complete them.
-use Rattle.std.specs.Prelude.{ℕ, ◌+◌, ◌==◌, ◌||◌, ◌&&◌, Bool, true, false, not, if◌then◌else◌}
+use Rattle.std.specs.Prelude.{ℕ, ◌+◌, ◌==◌, Bool, not, if◌then◌else◌}
 use Rattle.std.specs.Prelude.{List, [], ◌∷◌, ◌++◌, length, map, filter, take, drop, chars}
-use Rattle.std.specs.Prelude.{Option, None, Some, encode_utf8_all, String, string_bytes}
+use Rattle.std.specs.Prelude.{Option, None, Some, encode_utf8_all, string_bytes}
+use Rattle.std.specs.Ordering.{is_lt, nat_cmp}
+use Rattle.std.specs.Cmp.Lexicographic.{slice_cmp}
+use Rattle.std.specs.List.Sorted.{IsPermutation, IsSortedBy, IsStableBy}
 use Rattle.std.specs.List.{list_all, list_any, position_or_len, range_with_len, starts_with}
 use Rattle.line_parts.specs.Candidate.{Completion, Offer}
 use Rattle.line_parts.specs.Escape.{escaped, offset_at, on_chars, unescaped, word_start}
@@ -9,6 +12,7 @@ use Rattle.line_parts.specs.Quoting.{backslash, open_quote}
 use Rattle.line_parts.specs.declared.completion.words.Quote.{Quote}
 use Rattle.line_parts.specs.declared.completion.words.Quote.TheVariants as quote
 use Rattle.line_parts.specs.declared.completion.filename.Entry.{Entry}
+use Rattle.line_parts.specs.declared.completion.filename.FilenameCompleter.{FilenameCompleter}
 
 -- where words break outside quotes: space, tab, newline, " \ ' ` @ $ > < = ; | & { ( and NUL
 abbrev pub breaks_word : ℕ → Bool
@@ -79,15 +83,44 @@ offered_for kind folder name None = []
 offered_for kind folder name (Some entries) = map (offered kind folder)
     (filter (λ entry. starts_with (λ a b. a == b) entry.name name) entries)
 
--- how the path before the cursor is completed, in the order of the folder, where this is what
--- stands in each folder
+-- the candidates for a path in quotes of a kind, in the order of its folder, where this is what stands in each folder
+abbrev pub offered_at : (List ℕ → Option (List Listed)) → Quote → List ℕ → List Offer
+offered_at listing kind path =
+    let place = name_start path in
+    let folder = encode_utf8_all (take place path) in
+    offered_for kind folder (encode_utf8_all (drop place path)) (listing folder)
+
+-- how the path before the cursor is completed, in a text that ends there
 abbrev pub path_completion : (List ℕ → Option (List Listed)) → List ℕ → Completion
 path_completion listing text =
     let cs = chars text in
     let found = path_before cs in
-    let place = name_start found.path in
-    let folder = encode_utf8_all (take place found.path) in
-    record {
-      start = offset_at cs found.start;
-      offers = offered_for found.quote folder (encode_utf8_all (drop place found.path)) (listing folder);
-    }
+    record { start = offset_at cs found.start; offers = offered_at listing found.quote found.path }
+
+-- whether a candidate shows a text that comes before another's, in the order of their bytes
+abbrev pub is_before : Offer → Offer → Bool
+is_before one other = is_lt (slice_cmp nat_cmp one.display other.display)
+
+-- candidates in the order of what they show; those that show one text in the order in which they came
+pub record InOrder (old new : List Offer) : Type 0 where
+  pub same : IsPermutation old new
+  pub sorted : IsSortedBy is_before new
+  pub stable : IsStableBy is_before old new
+
+-- a candidate before those that come after it
+abbrev pub put_in : Offer → List Offer → List Offer
+put_in offer [] = offer ∷ []
+put_in offer (first ∷ more) = if is_before first offer then first ∷ put_in offer more else offer ∷ first ∷ more
+
+-- that order as a function
+abbrev pub in_order : List Offer → List Offer
+in_order [] = []
+in_order (offer ∷ more) = put_in offer (in_order more)
+
+-- a completion with its candidates in order
+abbrev pub ordered : Completion → Completion
+ordered completion = record { start = completion.start; offers = in_order completion.offers }
+
+-- the lister that a completer asks
+abbrev pub lister_of : {L : Type 0} → FilenameCompleter L → L
+lister_of completer = completer.lister

@@ -1,11 +1,13 @@
--- Laws of words, escapes and common starts.
-use Rattle.std.specs.Prelude.{◌≡◌, ◌≢◌, ℕ, ◌+◌, Bool, true, false}
-use Rattle.std.specs.Prelude.{List, ◌∷◌, ◌++◌, length, Option, Some}
+-- Laws of words, escapes, quotes, common starts and the order of candidates.
+use Rattle.std.specs.Prelude.{◌≡◌, ◌≢◌, ℕ, ◌+◌, ◌≤◌, Bool, true, false}
+use Rattle.std.specs.Prelude.{List, ◌∷◌, ◌++◌, length, take, drop, Option, Some}
 use Rattle.std.specs.Char.{IsScalar}
 use Rattle.std.specs.Str.{IsUtf8}
+use Rattle.line_parts.specs.Candidate.{Offer}
+use Rattle.line_parts.specs.Completed.{InOrder, in_order}
 use Rattle.line_parts.specs.Escape.{escaped, on_chars, unescaped, word_start}
 use Rattle.line_parts.specs.Prefix.{IsCommonStart}
-use Rattle.line_parts.specs.Quoting.{ends_in}
+use Rattle.line_parts.specs.Quoting.{ends_in, is_closed, is_unclosed}
 use Rattle.line_parts.specs.declared.completion.words.Quote.{Quote}
 use Rattle.line_parts.specs.declared.completion.words.Quote.TheVariants as quote
 
@@ -28,3 +30,14 @@ EscapedIsWord = (escape break : ℕ) (is_break : ℕ → Bool) (before text : Li
 abbrev pub CommonStartIsOne : Type 0
 CommonStartIsOne = (texts : List (List ℕ)) (one other : Option (List ℕ))
     → IsCommonStart texts one → IsCommonStart texts other → one ≡ other
+
+-- at most one quote of a text stands open
+abbrev pub OneQuoteIsOpen : Type 0
+OneQuoteIsOpen = (cs : List ℕ) (place place' : ℕ) (kind kind' : Quote) → place ≤ length cs → place' ≤ length cs
+    → is_closed (take place cs) ≡ true → is_unclosed kind (drop place cs) ≡ true
+    → is_closed (take place' cs) ≡ true → is_unclosed kind' (drop place' cs) ≡ true
+    → (place ≡ place') × (kind ≡ kind')
+
+-- candidates can be put in order, and in one way
+abbrev pub OrderIsOne : Type 0
+OrderIsOne = (offers : List Offer) → InOrder offers (in_order offers) × ((other : List Offer) → InOrder offers other → other ≡ in_order offers)

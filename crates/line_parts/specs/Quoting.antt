@@ -1,6 +1,6 @@
 -- Quotes in a text, as a list of characters, and which of them stands open.
-use Rattle.std.specs.Prelude.{ℕ, ◌-◌, ◌==◌, ◌&&◌, ◌||◌, Bool, false, not}
-use Rattle.std.specs.Prelude.{List, [], ◌∷◌, length, take, drop, Option, bytes_eq}
+use Rattle.std.specs.Prelude.{◌≡◌, ◌≢◌, ◌⊎◌, ℕ, ◌+◌, ◌-◌, ◌==◌, ◌&&◌, ◌||◌, Bool, true, false, not}
+use Rattle.std.specs.Prelude.{List, [], ◌∷◌, ◌++◌, length, take, drop, Option, None, Some, bytes_eq}
 use Rattle.std.specs.List.{list_all}
 use Rattle.line_parts.specs.History.{last_of, least_below}
 use Rattle.line_parts.specs.Pieces.{is_made_of}
@@ -51,10 +51,13 @@ is_bare (c ∷ []) = not (c == double) && not (c == single) && not (c == backsla
 is_bare (c ∷ d ∷ []) = c == backslash
 is_bare (c ∷ d ∷ e ∷ cs) = false
 
--- whether each quote of a text is closed: it is made of bare and of quoted pieces
+-- whether characters are a piece of closed text: a bare one or a quoted one
+abbrev pub is_closed_piece : List ℕ → Bool
+is_closed_piece cs = is_bare cs || is_quoted quote.Double double cs || is_quoted quote.Single single cs
+
+-- whether each quote of a text is closed: it is made of such pieces
 abbrev pub is_closed : List ℕ → Bool
-is_closed =
-    is_made_of (λ cs. is_bare cs || is_quoted quote.Double double cs || is_quoted quote.Single single cs)
+is_closed = is_made_of is_closed_piece
 
 -- whether a text is a quote of a kind that never closes: in double quotes a last backslash may
 -- stand alone
@@ -70,3 +73,21 @@ is_unclosed quote.None (c ∷ cs) = false
 abbrev pub open_quote : Quote → List ℕ → Option ℕ
 open_quote kind cs =
     least_below (length cs) (λ place. is_closed (take place cs) && is_unclosed kind (drop place cs))
+
+-- characters that begin with no piece of closed text: with a quote that never closes, or a backslash that stands alone
+abbrev pub IsUnpaired : List ℕ → Type 0
+IsUnpaired cs = (is_unclosed quote.Double cs ≡ true) ⊎ (is_unclosed quote.Single cs ≡ true) ⊎ (cs ≡ backslash ∷ [])
+
+-- characters that begin with a piece of closed text, and what stands behind it
+pub record BeginsClosed (cs behind : List ℕ) : Type 0 where
+  pub piece : List ℕ
+  pub closed : is_closed_piece piece ≡ true
+  pub whole : cs ≡ piece ++ behind
+
+-- the quote of a kind stands open in a text, with this behind it, and no quote of the other kind does
+pub record OpensAt (cs : List ℕ) (kind : Quote) (behind : List ℕ) : Type 0 where
+  pub place : ℕ
+  pub opens : open_quote kind cs ≡ Some place
+  pub quoted : kind ≢ quote.None
+  pub alone : (other : Quote) → other ≢ kind → open_quote other cs ≡ None
+  pub rest : behind ≡ drop (place + 1) cs

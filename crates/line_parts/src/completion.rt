@@ -7,12 +7,14 @@ ghost use Rattle.line_config.specs.Usual.{IsUsualOrOwn};
 mod ends;
 mod filename;
 mod pair;
+mod paths;
 mod prefix;
+mod quotes;
 mod words;
 
 use crate::context::Context;
 use crate::history::History;
-pub use filename::{Entry, Lister};
+pub use filename::{Entry, FilenameCompleter, Lister};
 use line_buffer::{Changeset, LineBuffer};
 use line_config::Result;
 pub use pair::Pair;

@@ -1,6 +1,6 @@
 //! Laws over the definitions that the contracts cite.
 ghost use Rattle.line_parts.specs.BracketLaws.{StrikingOutGivesAVerdict, VerdictIsOne};
-ghost use Rattle.line_parts.specs.CompletionLaws.{CommonStartIsOne, EscapedIsUnescaped, EscapedIsWord};
+ghost use Rattle.line_parts.specs.CompletionLaws.{CommonStartIsOne, EscapedIsUnescaped, EscapedIsWord, OneQuoteIsOpen, OrderIsOne};
 ghost use Rattle.line_parts.specs.HistoryLaws.{AddingKeepsTheLast, FoundIsNearest, NoneIsNowhere};
 ghost use Rattle.line_parts.specs.HistoryTextLaws.{SavedIsLoaded, SavedIsRead, TextSaysOne};
 
@@ -66,4 +66,15 @@ pub fn escaped_is_word()
 #[tactic(auto, using(crate::proofs::PrefixLemmas::one_common))]
 pub fn common_start_is_one()
     ensures { CommonStartIsOne }
+{}
+
+/// At most one quote of a text stands open.
+#[tactic(auto, using(crate::proofs::QuoteLemmas::one_quote_is_open))]
+pub fn one_quote_is_open()
+    ensures { OneQuoteIsOpen }
+{}
+
+/// Candidates can be put in order, and in one way: those that show one text stay in the order in which they came.
+pub fn candidates_have_one_order()
+    ensures { OrderIsOne }
 {}

@@ -14,8 +14,8 @@ pub mod parties;
 pub mod validate;
 
 pub use completion::{
-    Candidate, Completer, Entry, Lister, Pair, Quote, escape, extract_word, longest_common_prefix,
-    unescape,
+    Candidate, Completer, Entry, FilenameCompleter, Lister, Pair, Quote, escape, extract_word,
+    longest_common_prefix, unescape,
 };
 pub use consulted::Consulted;
 pub use context::Context;

@@ -1,7 +1,17 @@
 //! Completion of the names of files and folders.
-ghost use Rattle.std.specs.Prelude.{◌≡◌, ℕ, Bool, false, List, Option, map, option_map, IfOk};
+ghost use Rattle.std.specs.Prelude.{◌≡◌, ◌≤◌, ℕ, Bool, false, List, Option, Some, chars, map, option_map, take, IfOk};
+ghost use Rattle.std.specs.Prelude.{IsCharBoundary, string_bytes};
+ghost use Rattle.std.specs.Cmp.Lexicographic.{slice_cmp};
+ghost use Rattle.std.specs.Ordering.{nat_cmp};
+ghost use Rattle.line_parts.specs.Candidate.{pair_offer};
 ghost use Rattle.line_config.specs.Error.{FaultsOnly, IoOnlyIf};
 
+use crate::completion::Completer;
+use crate::completion::pair::Pair;
+use crate::completion::paths::{candidates, path_before, split_path};
+use crate::completion::words::Quote;
+use crate::context::Context;
+use crate::history::History;
 use line_config::Result;
 use std::alloc::Global;
 
@@ -35,4 +45,104 @@ pub trait Lister {
             ≡ listing self.now dir.now) }
         ensures io { IoOnlyIf result (sure self.now ≡ false) }
         ensures faults { FaultsOnly result };
+}
+
+/// Completes the names of files and folders, which a lister gives.
+#[derive(Drop)]
+pub struct FilenameCompleter<L> {
+    lister: L,
+}
+
+impl<L: Lister> FilenameCompleter<L> {
+    ghost use Rattle.line_parts.specs.Completed.{InOrder, lister_of, offered_at, path_completion};
+
+    /// Returns a completer that asks `lister` for the names in a folder.
+    pub fn new(lister: L) -> Self
+        ensures { lister_of result ≡ lister }
+    {
+        FilenameCompleter { lister }
+    }
+
+    /// Returns the byte offset where the path begins that ends at the cursor, at byte `pos` of `line`, and its candidates:
+    /// the names in its folder that start with the path's last part, in the order of their bytes. A path in open quotes
+    /// begins behind the quote. A candidate puts in the path with its escapes, and a `/` behind the name of a folder.
+    ///
+    /// # Errors
+    /// `Io`, only where the lister is not sure, and `Memory`.
+    pub fn complete_path(&self, alloc: Global, line: &str, pos: usize) -> Result<(usize, Vec<Pair>)>
+        requires { IsCharBoundary line.now pos }
+        ensures start { IfOk result (λ r. (r.0 ≤ pos) × IsCharBoundary line.now r.0) }
+        ensures answer { let found =
+            path_completion (L.listing (lister_of self.now)) (take pos line.now) in
+            IfOk result (λ r. (r.0 ≡ found.start) × InOrder found.offers (map pair_offer r.1.items)) }
+        ensures io { IoOnlyIf result (L.sure (lister_of self.now) ≡ false) }
+        ensures faults { FaultsOnly result }
+    {
+        let (start, mut pairs) = self.complete_path_unsorted(alloc, line, pos)?;
+        pairs.sort_by(
+            |one, other|
+                ensures { result ≡ slice_cmp nat_cmp (string_bytes one.entry.now.display)
+                    (string_bytes other.entry.now.display) }
+            { one.display.cmp(&other.display) },
+        )?;
+        Ok((start, pairs))
+    }
+
+    /// Returns the same with the candidates in the order in which the lister gave the names.
+    ///
+    /// # Errors
+    /// `Io`, only where the lister is not sure, and `Memory`.
+    pub fn complete_path_unsorted(
+        &self,
+        alloc: Global,
+        line: &str,
+        pos: usize,
+    ) -> Result<(usize, Vec<Pair>)>
+        requires { IsCharBoundary line.now pos }
+        ensures start { IfOk result (λ r. (r.0 ≤ pos) × IsCharBoundary line.now r.0) }
+        ensures answer { IfOk result (λ r.
+            record { start = r.0; offers = map pair_offer r.1.items }
+            ≡ path_completion (L.listing (lister_of self.now)) (take pos line.now)) }
+        ensures io { IoOnlyIf result (L.sure (lister_of self.now) ≡ false) }
+        ensures faults { FaultsOnly result }
+    {
+        let (start, path, quote) = path_before(alloc, &line[..pos])?;
+        let pairs = self.offered(alloc, path.as_str(), quote)?;
+        Ok((start, pairs))
+    }
+
+    // Returns the candidates for a path in quotes of a kind.
+    fn offered(&self, alloc: Global, path: &str, quote: Quote) -> Result<Vec<Pair>>
+        ensures offers { IfOk result (λ pairs. map pair_offer pairs.items
+            ≡ offered_at (L.listing (lister_of self.now)) quote (chars path.now)) }
+        ensures io { IoOnlyIf result (L.sure (lister_of self.now) ≡ false) }
+        ensures faults { FaultsOnly result }
+    {
+        let (folder, name) = split_path(path);
+        match self.lister.list(alloc, folder)? {
+            Some(entries) => candidates(alloc, folder, name, entries, quote),
+            None => Ok(Vec::new(alloc)),
+        }
+    }
+}
+
+impl<L: Lister> Completer for FilenameCompleter<L> {
+    ghost use Rattle.line_parts.specs.Completed.{lister_of, ordered, path_completion};
+
+    type Candidate = Pair;
+
+    ghost sure = { λ completer. L.sure (lister_of completer) };
+
+    ghost own_completion = { λ completer shown. Some (ordered
+        (path_completion (L.listing (lister_of completer)) (take shown.cursor shown.text))) };
+
+    fn complete<S: History>(
+        &self,
+        alloc: Global,
+        line: &str,
+        pos: usize,
+        _ctx: &Context<'_, S>,
+    ) -> Result<(usize, Vec<Pair>)> {
+        self.complete_path(alloc, line, pos)
+    }
 }

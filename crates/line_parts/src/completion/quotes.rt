@@ -1,0 +1,77 @@
+//! Quotes in a text, and the one that stands open at its end.
+ghost use Rattle.std.specs.Prelude.{◌≡◌, ℕ, ◌++◌, ◌∷◌, chars, IfSome, List, MatchOption, None, true};
+ghost use Rattle.std.specs.Str.{IsUtf8};
+ghost use Rattle.line_parts.specs.Quoting.{BeginsClosed, IsUnpaired, OpensAt, double, is_inside, is_unclosed, open_quote, single};
+ghost use Rattle.line_parts.specs.declared.completion.words.Quote.TheVariants as quote;
+
+use crate::completion::ends::split_first;
+use crate::completion::words::Quote;
+
+// Returns what stands behind the double quote that closes, in a text that stands in double quotes.
+fn behind_double(text: &str) -> Option<&str>
+    ensures closed { MatchOption result (is_unclosed quote.Double (double ∷ chars text.now) ≡ true)
+        (λ rest. (body : List ℕ) × (is_inside quote.Double body ≡ true)
+        × (chars text.now ≡ body ++ double ∷ chars rest.now)) }
+    ensures utf8 { IfSome result (λ rest. IsUtf8 rest.now) }
+{
+    let mut rest = text;
+    while let Some((c, more)) = split_first(rest) {
+        match c {
+            '"' => return Some(more),
+            '\\' => rest = split_first(more)?.1,
+            _ => rest = more,
+        }
+    }
+    None
+}
+
+// Returns what stands behind the single quote that closes, in a text that stands in single quotes.
+fn behind_single(text: &str) -> Option<&str>
+    ensures closed { MatchOption result (is_unclosed quote.Single (single ∷ chars text.now) ≡ true)
+        (λ rest. (body : List ℕ) × (is_inside quote.Single body ≡ true)
+        × (chars text.now ≡ body ++ single ∷ chars rest.now)) }
+    ensures utf8 { IfSome result (λ rest. IsUtf8 rest.now) }
+{
+    let mut rest = text;
+    while let Some((c, more)) = split_first(rest) {
+        if c == '\'' {
+            return Some(more);
+        }
+        rest = more;
+    }
+    None
+}
+
+// Returns what stands behind the first piece of a text: a character, an escaped one, or what stands in quotes with these.
+fn behind_piece(first: char, more: &str) -> Option<&str>
+    ensures closed { MatchOption result (IsUnpaired (first ∷ chars more.now))
+        (λ rest. BeginsClosed (first ∷ chars more.now) (chars rest.now)) }
+    ensures utf8 { IfSome result (λ rest. IsUtf8 rest.now) }
+{
+    match first {
+        '"' => behind_double(more),
+        '\'' => behind_single(more),
+        '\\' => Some(split_first(more)?.1),
+        _ => Some(more),
+    }
+}
+
+// Returns the quote that stands open at the end of a text, and what stands behind it.
+pub(crate) fn find_unclosed_quote(text: &str) -> Option<(Quote, &str)>
+    ensures open { MatchOption result
+        ((open_quote quote.Double (chars text.now) ≡ None)
+        × (open_quote quote.Single (chars text.now) ≡ None))
+        (λ found. OpensAt (chars text.now) found.0 (chars found.1.now)) }
+    ensures utf8 { IfSome result (λ found. IsUtf8 found.1.now) }
+{
+    let mut rest = text;
+    while let Some((first, more)) = split_first(rest) {
+        match (behind_piece(first, more), first) {
+            (Some(behind), _) => rest = behind,
+            (None, '"') => return Some((Quote::Double, more)),
+            (None, '\'') => return Some((Quote::Single, more)),
+            (None, _) => return None,
+        }
+    }
+    None
+}
