@@ -12,6 +12,7 @@ pub mod DrawnLemmas
 pub mod EditLemmas
 pub mod HistoryMoveLemmas
 pub mod HistoryWayLaws
+pub mod KeysLaws
 pub mod MoveLemmas
 pub mod PhraseLemmas
 pub mod ReadingLemmas

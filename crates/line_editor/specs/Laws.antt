@@ -1,5 +1,5 @@
 -- Laws of the definitions.
-use Rattle.std.specs.Prelude.{◌≡◌, ◌≢◌, ◌⊎◌, ℕ, ◌≤◌, Bool, true, false, List, [], ◌∷◌, ◌++◌, length, take}
+use Rattle.std.specs.Prelude.{◌≡◌, ◌≢◌, ◌⊎◌, ℕ, ◌≤◌, ◌+◌, Bool, true, false, List, [], ◌∷◌, ◌++◌, length, take}
 use Rattle.std.specs.Bool.{Decides}
 use Rattle.std.specs.List.{list_any}
 use Rattle.line_keys.specs.Command.{Command, history_search_backward, history_search_forward, undo}
@@ -14,7 +14,7 @@ use Rattle.line_editor.specs.Input.{Input}
 use Rattle.line_editor.specs.Keymap.{KeyState, Keymap, keymap_of}
 use Rattle.line_editor.specs.Phrase.{Phrase}
 use Rattle.line_editor.specs.Reading.{LeftByCut}
-use Rattle.line_editor.specs.Run.{End, Run, Turn, Turns, ready, stopped}
+use Rattle.line_editor.specs.Run.{End, Run, Turn, Turns, commands_in, keys_in, ready, stopped, unread}
 use Rattle.line_editor.specs.Runs.{RunsTo, editor_of}
 use Rattle.line_editor.specs.Step.{step}
 use Rattle.line_editor.specs.Editor.{Editor, Answer, Ruler}
@@ -46,6 +46,12 @@ HasOneEnd = (keymap : Keymap) (ruler : Ruler) (environment : Environment) (edito
     → Run keymap ruler environment editor input items last i end
     → Run keymap ruler environment editor input items last' i' end'
     → SameEnd last last' i i' end end'
+
+-- a run executes at most as many commands as it reads keys
+abbrev pub ExecutesNoMoreThanKeys : Type 0
+ExecutesNoMoreThanKeys = (keymap : Keymap) (ruler : Ruler) (environment : Environment) (editor last : Editor) (input i : Input) (items : List Item) (end : End)
+    → (run : Run keymap ruler environment editor input items last i end)
+    → commands_in run + keys_in (unread end) ≤ keys_in items
 
 -- turns that proceed and more such turns behind them are such turns
 abbrev pub TurnsFollow : Type 0

@@ -1,10 +1,11 @@
 -- A run: commands read from the items and executed, one after another.
-use Rattle.std.specs.Prelude.{◌≡◌, ◌≢◌, if◌then◌else◌, List, ◌++◌}
+use Rattle.std.specs.Prelude.{◌≡◌, ◌≢◌, ℕ, ◌+◌, Bool, true, false, if◌then◌else◌, List, [], ◌++◌}
+use Rattle.std.specs.List.{count_by}
 use Rattle.line_buffer.specs.KillRing.{Ring, with_last, other}
 use Rattle.line_parts.specs.Environment.{Environment}
 use Rattle.line_keys.specs.Command.{Command, resets_kill_ring}
 use Rattle.line_keys.specs.Draft.{Draft}
-use Rattle.line_keys.specs.Item.{Item}
+use Rattle.line_keys.specs.Item.{Item, key, paste}
 use Rattle.line_editor.specs.Input.{Input}
 use Rattle.line_editor.specs.Keymap.{Keymap}
 use Rattle.line_editor.specs.Phrase.{Phrase, IsBeginning}
@@ -63,3 +64,23 @@ pub data Run (keymap : Keymap) (ruler : Ruler) (environment : Environment) : Edi
       → IsBeginning keymap environment editor.draft input items
       → CutShort environment editor last
       → Run keymap ruler environment editor input items last input (dry items)
+
+-- how many of the items are keys
+abbrev pub is_key : Item → Bool
+is_key (key _) = true
+is_key (paste _) = false
+
+abbrev pub keys_in : List Item → ℕ
+keys_in items = count_by is_key items
+
+-- the items that a run leaves unread
+abbrev pub unread : End → List Item
+unread (stopped _ rest) = rest
+unread (dry _) = []
+
+-- how many commands a run executes
+abbrev pub commands_in : {keymap : Keymap} {ruler : Ruler} {environment : Environment} {editor last : Editor} {input input' : Input} {items : List Item} {end : End}
+    → Run keymap ruler environment editor input items last input' end → ℕ
+commands_in (goes_on _ run) = 1 + commands_in run
+commands_in (ends _ _) = 1
+commands_in (runs_dry _ _) = 0

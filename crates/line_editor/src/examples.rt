@@ -1,19 +1,20 @@
 //! Examples of phrases: what the definitions say of fixed keys, worked out by hand. No call is made here.
 ghost use Rattle.std.specs.Prelude.{◌≡◌, [], ◌∷◌, None, Some, false, true};
-ghost use Rattle.line_buffer.specs.declared.keymap.CharSearch.TheVariants.{Forward};
+ghost use Rattle.line_buffer.specs.declared.keymap.CharSearch.TheVariants.{Backward, Forward};
 ghost use Rattle.line_buffer.specs.declared.keymap.Movement.TheVariants.{BackwardChar, ViCharSearch};
 ghost use Rattle.line_config.specs.declared.config.EditMode.TheVariants as styles;
 ghost use Rattle.line_config.specs.declared.config.EditMode.TheVariants.{Emacs};
-ghost use Rattle.line_editor.specs.Event.{each_key, keys};
+ghost use Rattle.line_editor.specs.Binding.{answers, handler_of, leads_on};
+ghost use Rattle.line_editor.specs.Event.{each_key, keys, mouse, normal_chord, same_chord};
 ghost use Rattle.line_editor.specs.Input.{first_input};
-ghost use Rattle.line_editor.specs.Keymap.{handed, nothing_bound, only_bound};
+ghost use Rattle.line_editor.specs.Keymap.{bound_command, by_binding, by_reader, by_table, handed, nothing_bound, on_line, only_bound, source_of};
 ghost use Rattle.line_editor.specs.Phrase.{IsBeginning, Phrase, Tailed};
 ghost use Rattle.line_editor.specs.Sequence.{Sequences};
-ghost use Rattle.line_keys.specs.Command.{insert, move, noop, self_insert, undo, unknown};
+ghost use Rattle.line_keys.specs.Command.{end_of_file, insert, interrupt, move, noop, self_insert, undo, unknown};
 ghost use Rattle.line_keys.specs.Draft.{empty_draft, hinted};
 ghost use Rattle.line_keys.specs.Item.{key, paste};
 ghost use Rattle.line_keys.specs.Key.{event};
-ghost use Rattle.line_keys.specs.Table.{one, searches};
+ghost use Rattle.line_keys.specs.Table.{gives, one, row_of, searches, unlisted};
 ghost use Rattle.line_keys.specs.declared.keys.KeyCode.TheVariants.{BracketedPasteStart, Char, Enter, F};
 ghost use Rattle.line_keys.specs.declared.keymap.InputMode.TheVariants as modes;
 ghost use Rattle.line_keys.specs.declared.keys.KeyEvent.{KeyEvent};
@@ -126,4 +127,66 @@ pub fn counts_that_are_handed()
     ensures emacs { handed styles.Emacs modes.Insert (Some (record { n = 3; positive = false }))
         ≡ record { n = 3; positive = false } }
     ensures untyped { handed styles.Emacs modes.Insert None ≡ one }
+{}
+
+/// M--, C-] and a are a phrase that goes to the a before the cursor.
+pub fn back_to_a_character()
+    ensures { (environment : Environment) → Phrase nothing_bound environment (empty_draft 0)
+        (first_input Emacs)
+        (key (event (Char 45) ALT) ∷ key (event (Char 93) CTRL) ∷ key (event (Char 97) NONE) ∷ [])
+        (move (ViCharSearch 1 (Backward 97))) (hinted environment (empty_draft 0))
+        (first_input Emacs) }
+{}
+
+/// F4, which no table has, is a phrase that does nothing, where nothing is bound.
+pub fn a_key_that_no_table_has()
+    ensures { (environment : Environment) → Phrase nothing_bound environment (empty_draft 0)
+        (first_input Emacs) (key (event (F 4) NONE) ∷ []) unknown (empty_draft 0)
+        (first_input Emacs) }
+{}
+
+/// On an empty line C-D does nothing, and the reader's end of the input counts; on another line it does not.
+pub fn the_end_of_the_input_is_for_an_empty_line()
+    ensures table { (row_of Emacs modes.Insert (event (Char 68) CTRL) (empty_draft 0)).means one
+        ≡ gives unknown }
+    ensures empty { on_line [] (Some end_of_file) ≡ Some end_of_file }
+    ensures text { on_line (97 ∷ []) (Some end_of_file) ≡ None }
+    ensures other { on_line (97 ∷ []) (Some interrupt) ≡ Some interrupt }
+{}
+
+/// F2 does what a binding says, else what the reader says, else what the table says.
+pub fn bindings_come_before_the_reader()
+    ensures bound { let bound = (keys (event (F 2) NONE ∷ []), answers (Some noop)) ∷ [] in
+        source_of (record { bound = bound; own = λ typed. Some interrupt }) (empty_draft 0)
+        (first_input Emacs) None (event (F 2) NONE) ≡ by_binding noop }
+    ensures reader { source_of (record { bound = []; own = λ typed. Some interrupt })
+        (empty_draft 0) (first_input Emacs) None (event (F 2) NONE) ≡ by_reader interrupt }
+    ensures table { source_of nothing_bound (empty_draft 0) (first_input Emacs) None
+        (event (F 2) NONE) ≡ by_table unlisted }
+{}
+
+/// Where F2's own handler answers nothing, that of each key is not asked for it.
+pub fn a_keys_own_handler_is_the_only_one()
+    ensures { let own = (keys (event (F 2) NONE ∷ []), answers None) in
+        let any = (each_key, answers (Some noop)) in
+        bound_command (record { bound = any ∷ own ∷ []; own = λ typed. None }) (empty_draft 0)
+        (first_input Emacs) None (event (F 2) NONE) ≡ None }
+{}
+
+/// Where C-X, a is bound, one more key is read behind C-X, and none behind C-X, b; C-X alone has no handler.
+pub fn the_beginning_of_a_bound_sequence()
+    ensures { let begin = event (Char 88) CTRL in
+        let bound = (keys (begin ∷ event (Char 97) NONE ∷ []), answers (Some noop)) ∷ [] in
+        (leads_on bound (begin ∷ []) ≡ true)
+        × (leads_on bound (begin ∷ event (Char 98) NONE ∷ []) ≡ false)
+        × (handler_of bound (keys (begin ∷ [])) ≡ None) }
+{}
+
+/// The keys C-a and C-A are two events, and the same in normal form.
+pub fn keys_are_compared_as_they_come()
+    ensures apart { same_chord (keys (event (Char 97) CTRL ∷ [])) (keys (event (Char 65) CTRL ∷ []))
+        ≡ false }
+    ensures normal { normal_chord (keys (event (Char 97) CTRL ∷ []))
+        ≡ keys (event (Char 65) CTRL ∷ []) }
+    ensures mouse { same_chord mouse each_key ≡ false }
 {}

@@ -1,5 +1,5 @@
 //! Laws of the definitions that the contracts cite. No call of the editor is made here.
-ghost use Rattle.line_editor.specs.Laws.{ComingBack, ComparesEvents, EnoughUndo, HasOneEnd, IsPrefixFree, ReadFromTheCut, ReadingAgain, TurnsAndRun, TwoRenderers, TurnsBeforeMore, TurnsFollow};
+ghost use Rattle.line_editor.specs.Laws.{ComingBack, ComparesEvents, EnoughUndo, ExecutesNoMoreThanKeys, HasOneEnd, IsPrefixFree, ReadFromTheCut, ReadingAgain, TurnsAndRun, TwoRenderers, TurnsBeforeMore, TurnsFollow};
 
 use crate::edit::State;
 use line_config::Prompt;
@@ -21,6 +21,11 @@ pub fn phrases_are_prefix_free()
 /// history index, kill ring and input value, and the same items unread.
 pub fn runs_have_one_end()
     ensures { HasOneEnd }
+{}
+
+/// A run executes at most as many commands as it reads keys.
+pub fn a_run_executes_no_more_commands_than_keys()
+    ensures { ExecutesNoMoreThanKeys }
 {}
 
 /// Turns that proceed, and more such turns behind them, are one list of turns.

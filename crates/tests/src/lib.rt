@@ -22,6 +22,8 @@ pub mod example;
 #[cfg(test)]
 mod examples;
 #[cfg(test)]
+mod filename;
+#[cfg(test)]
 mod history;
 #[cfg(test)]
 mod history_hinter;
@@ -39,5 +41,4 @@ mod shelf;
 mod tables;
 #[cfg(test)]
 mod typist;
-#[cfg(test)]
-mod watcher;
+pub mod watcher;

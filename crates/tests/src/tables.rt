@@ -1,5 +1,8 @@
 //! The tables of keys.
 
+mod typed;
+
+use self::typed::reads;
 use crate::advisor::Advisor;
 use crate::recorder::Recorder;
 use line_buffer::{At, CharSearch, Movement, Word};
@@ -37,8 +40,17 @@ type Line = (&'static str, usize, Option<&'static str>);
 /// A key, and its command for the counts 3 and -3.
 type Row = (K, M, Cmd, Cmd);
 
-/// Looks up rows on a line.
+/// Looks up rows on a line, and types their keys there.
 fn look_up(rt: &impl Abort, alloc: Global, line: &Line, rows: &[Row]) -> Result<(), Fail> {
+    look_at_tables(rt, alloc, line, rows)?;
+    for (code, mods, forth, back) in rows {
+        reads(rt, alloc, line, &[KeyEvent(*code, *mods)], (forth, back))?;
+    }
+    Ok(())
+}
+
+/// Looks up rows on a line.
+fn look_at_tables(rt: &impl Abort, alloc: Global, line: &Line, rows: &[Row]) -> Result<(), Fail> {
     let (text, cursor, hint) = line;
     let mut screen = Recorder::new(alloc, 80, false, 0);
     let history = MemHistory::new(alloc);
@@ -76,6 +88,8 @@ fn command(rt: &impl Abort, meaning: Meaning) -> Cmd {
         other => panic!(rt; "{other:?} is no command"),
     }
 }
+
+const CONTROL_X: KeyEvent = KeyEvent(K::Char('X'), M::CTRL);
 
 /// A line with its cursor inside, and no hint.
 const INSIDE: Line = ("ab", 1, None);
@@ -403,7 +417,7 @@ fn by_the_line(rt: HostRuntime) -> Result<(), Fail> {
     look_up(&rt, rt.alloc(), &("ab", 1, Some("c")), &moves)?;
     look_up(&rt, rt.alloc(), &("ab", 2, Some("c")), &takes)?;
     look_up(&rt, rt.alloc(), &("", 0, Some("c")), &takes)?;
-    look_up(&rt, rt.alloc(), &("", 0, None), &nothing)
+    look_at_tables(&rt, rt.alloc(), &("", 0, None), &nothing)
 }
 
 /// A key whose command depends on what is read next, and what it means for the counts 3 and -3.
@@ -465,7 +479,7 @@ fn of_what_is_read_next(rt: HostRuntime) -> Result<(), Fail> {
 }
 
 #[test]
-fn of_second_keys(rt: HostRuntime) {
+fn of_second_keys(rt: HostRuntime) -> Result<(), Fail> {
     let (to_start, to_end) = (Movement::BeginningOfLine, Movement::EndOfLine);
     let rows = [
         (K::Char('G'), M::CTRL, Cmd::Abort, Cmd::Abort),
@@ -487,7 +501,27 @@ fn of_second_keys(rt: HostRuntime) {
         let key = KeyEvent(*code, *mods);
         assert_eq!(rt; second_key(key, THREE), *forth, "{key:?}");
         assert_eq!(rt; second_key(key, MINUS_THREE), *back, "{key:?}");
+        reads(&rt, rt.alloc(), &INSIDE, &[CONTROL_X, key], (forth, back))?;
     }
+    Ok(())
+}
+
+#[test]
+fn of_searches(rt: HostRuntime) -> Result<(), Fail> {
+    let to = |search| Cmd::Move(Movement::ViCharSearch(3, search));
+    let (before, back) = (CharSearch::ForwardBefore('é'), CharSearch::Backward('é'));
+    let rows = [
+        (M::CTRL, to(before), to(back)),
+        (M::CTRL_ALT, to(back), to(before)),
+    ];
+    for (mods, forth, back) in &rows {
+        let keys = [
+            KeyEvent(K::Char(']'), *mods),
+            KeyEvent(K::Char('é'), M::NONE),
+        ];
+        reads(&rt, rt.alloc(), &INSIDE, &keys, (forth, back))?;
+    }
+    Ok(())
 }
 
 #[test]

@@ -12,7 +12,7 @@ use std::io::ErrorKind;
 
 /// What a handler answers.
 #[derive(Clone, Copy, Drop)]
-pub(crate) enum Watcher {
+pub enum Watcher {
     /// Nothing.
     Nothing,
     /// A k that is inserted, where it is handed this count in this direction; else a command that does nothing.

@@ -1,0 +1,51 @@
+-- A run executes at most as many commands as it reads keys.
+use Rattle.std.proofs.Common.{◌≡◌, ℕ, ◌+◌, ◌≤◌, cond, List, [], ◌∷◌, ◌++◌, map, ◌∙◌, ap}
+use Rattle.std.proofs.lemmas.List.Sums.{sum_by-append}
+use Rattle.line_parts.specs.Environment.{Environment}
+use Rattle.line_keys.specs.Command.{Command}
+use Rattle.line_keys.specs.Draft.{Draft}
+use Rattle.line_keys.specs.Item.{Item, key}
+use Rattle.line_keys.specs.declared.keys.KeyEvent.{KeyEvent}
+use Rattle.line_editor.specs.Editor.{Editor, Answer, Ruler}
+use Rattle.line_editor.specs.Input.{Input}
+use Rattle.line_editor.specs.Keymap.{Keymap}
+use Rattle.line_editor.specs.Laws.{ExecutesNoMoreThanKeys}
+use Rattle.line_editor.specs.Phrase.{Phrase}
+use Rattle.line_editor.specs.Run.{End, Run, Turn, goes_on, ends, runs_dry, commands_in, is_key, keys_in, unread}
+
+-- the keys of two lists, one behind the other
+keys-append : (items more : List Item) → keys_in (items ++ more) ≡ keys_in items + keys_in more
+keys-append items more = sum_by-append (λ item. cond (is_key item) 1 0) items more
+
+module _ (keymap : Keymap) (ruler : Ruler) (environment : Environment) where
+  -- a phrase has a key
+  has-key : (draft left : Draft) (input i : Input) (items : List Item) (command : Command)
+      → Phrase keymap environment draft input items command left i → 1 ≤ keys_in items
+  has-key draft left input i items command phrase =
+      let cut = ap keys_in phrase.cut ∙ keys-append (map key phrase.typed) (key phrase.last ∷ phrase.tail) in
+      let behind = keys-append (key phrase.last ∷ []) phrase.tail in
+      omega (arith, cut, behind)
+
+  -- a turn leaves fewer keys unread
+  reads-key : (editor left : Editor) (input i : Input) (items more : List Item) (answer : Answer)
+      → Turn keymap ruler environment editor input items left i more answer → 1 + keys_in more ≤ keys_in items
+  reads-key editor left input i items more answer turn =
+      let cut = ap keys_in turn.cut ∙ keys-append turn.phrase more in
+      let one = has-key editor.draft turn.draft input i turn.phrase turn.command turn.reads in
+      omega (arith, cut, one)
+
+  no-more : (editor last : Editor) (input i : Input) (items : List Item) (end : End)
+      → (run : Run keymap ruler environment editor input items last i end)
+      → commands_in run + keys_in (unread end) ≤ keys_in items
+  no-more editor last input i items end (goes_on {middle = middle} {input' = j} {more = more} turn run) =
+      let one = reads-key editor middle input j items more _ turn in
+      let rest = no-more middle last j i more end run in
+      omega (arith, one, rest)
+  no-more editor last input i items end (ends {rest = rest} {answer = answer} turn other) =
+      reads-key editor last input i items rest answer turn
+  no-more editor last input i items end (runs_dry begins short) = omega arith
+
+-- so does each run
+pub few-commands : ExecutesNoMoreThanKeys
+few-commands keymap ruler environment editor last input i items end run =
+    no-more keymap ruler environment editor last input i items end run
