@@ -192,7 +192,8 @@ impl Cmd {
 
 // Returns a copy of a text, if there is one.
 fn copied(alloc: Global, text: &Option<String>) -> Result<Option<String>>
-    ensures equal { IfOk result (λ copy. option_map string_bytes copy ≡ option_map string_bytes text.now) }
+    ensures equal { IfOk result
+        (λ copy. option_map string_bytes copy ≡ option_map string_bytes text.now) }
     ensures memory { MemoryOnly result }
 {
     match text {

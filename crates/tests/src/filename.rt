@@ -58,7 +58,14 @@ impl Lister for Folder {
 type Offer = (&'static str, &'static str);
 
 /// A line, its cursor, the folder that can be listed, the names in it, where the path begins, and what completes it.
-type Case = (&'static str, usize, &'static str, &'static [Name], usize, &'static [Offer]);
+type Case = (
+    &'static str,
+    usize,
+    &'static str,
+    &'static [Name],
+    usize,
+    &'static [Offer],
+);
 
 /// The names of most cases.
 const NAMES: &[Name] = &[
@@ -73,21 +80,73 @@ const BREAK_NAME: &str = " \t\n\"\\'`@$><=;|&{(\0x";
 
 const CASES: &[Case] = &[
     // The one name that starts so, escaped, and a slash behind a folder.
-    ("ls User", 7, "", NAMES, 3, &[("User Information", "User\\ Information/"), ("Users", "Users/")]),
-    ("ls Us", 5, "", &[("User Information", true)], 3, &[("User Information", "User\\ Information/")]),
-    ("ls User\\ ", 9, "", NAMES, 3, &[("User Information", "User\\ Information/")]),
+    (
+        "ls User",
+        7,
+        "",
+        NAMES,
+        3,
+        &[
+            ("User Information", "User\\ Information/"),
+            ("Users", "Users/"),
+        ],
+    ),
+    (
+        "ls Us",
+        5,
+        "",
+        &[("User Information", true)],
+        3,
+        &[("User Information", "User\\ Information/")],
+    ),
+    (
+        "ls User\\ ",
+        9,
+        "",
+        NAMES,
+        3,
+        &[("User Information", "User\\ Information/")],
+    ),
     // The folder cannot be listed, or has no such name.
     ("ls x", 4, "other/", NAMES, 3, &[]),
     ("ls x", 4, "", NAMES, 3, &[]),
     // All names, in the order of their bytes, and those that are equal as they came.
-    ("", 0, "", &[("b", false), ("a", true), ("a", false), ("B", false)], 0, &[("B", "B"), ("a", "a/"), ("a", "a"), ("b", "b")]),
+    (
+        "",
+        0,
+        "",
+        &[("b", false), ("a", true), ("a", false), ("B", false)],
+        0,
+        &[("B", "B"), ("a", "a/"), ("a", "a"), ("b", "b")],
+    ),
     // The text of the folder stands before the name, as it was typed but for its escapes.
-    ("ls src/li", 9, "src/", NAMES, 3, &[("lib.rs", "src/lib.rs")]),
+    (
+        "ls src/li",
+        9,
+        "src/",
+        NAMES,
+        3,
+        &[("lib.rs", "src/lib.rs")],
+    ),
     ("ls ~/li", 7, "~/", NAMES, 3, &[("lib.rs", "~/lib.rs")]),
-    ("ls a\\ b/li", 10, "a b/", NAMES, 3, &[("lib.rs", "a\\ b/lib.rs")]),
+    (
+        "ls a\\ b/li",
+        10,
+        "a b/",
+        NAMES,
+        3,
+        &[("lib.rs", "a\\ b/lib.rs")],
+    ),
     ("ls /", 4, "/", &[("x", false)], 3, &[("x", "/x")]),
     // In double quotes other characters are escaped, and in single ones none is.
-    ("ls \"User ", 9, "", NAMES, 4, &[("User Information", "User Information/")]),
+    (
+        "ls \"User ",
+        9,
+        "",
+        NAMES,
+        4,
+        &[("User Information", "User Information/")],
+    ),
     ("ls \"é", 6, "", NAMES, 4, &[("é$a\"b", "é\\$a\\\"b")]),
     ("ls 'é", 6, "", NAMES, 4, &[("é$a\"b", "é$a\"b")]),
     ("ls 'User\\ ", 10, "", NAMES, 4, &[]),
@@ -99,11 +158,40 @@ const CASES: &[Case] = &[
     ("'\" Users", 8, "", NAMES, 1, &[]),
     ("\"a\\\" Us", 7, "", NAMES, 1, &[]),
     // Each character at which words break.
-    ("", 0, "", &[(BREAK_NAME, false)], 0, &[(BREAK_NAME, "\\ \\\t\\\n\\\"\\\\\\'\\`\\@\\$\\>\\<\\=\\;\\|\\&\\{\\(\\\0x")]),
-    ("\"", 1, "", &[(BREAK_NAME, false)], 1, &[(BREAK_NAME, " \t\n\\\"\\\\'\\`@\\$><=;|&{(\0x")]),
+    (
+        "",
+        0,
+        "",
+        &[(BREAK_NAME, false)],
+        0,
+        &[(
+            BREAK_NAME,
+            "\\ \\\t\\\n\\\"\\\\\\'\\`\\@\\$\\>\\<\\=\\;\\|\\&\\{\\(\\\0x",
+        )],
+    ),
+    (
+        "\"",
+        1,
+        "",
+        &[(BREAK_NAME, false)],
+        1,
+        &[(BREAK_NAME, " \t\n\\\"\\\\'\\`@\\$><=;|&{(\0x")],
+    ),
     // What stands behind the cursor does not matter; a lone backslash at the end goes.
     ("ls lib \"x", 6, "", NAMES, 3, &[("lib.rs", "lib.rs")]),
-    ("ls lib\\", 7, "", NAMES, 7, &[("User Information", "User\\ Information/"), ("Users", "Users/"), ("lib.rs", "lib.rs"), ("é$a\"b", "é\\$a\\\"b")]),
+    (
+        "ls lib\\",
+        7,
+        "",
+        NAMES,
+        7,
+        &[
+            ("User Information", "User\\ Information/"),
+            ("Users", "Users/"),
+            ("lib.rs", "lib.rs"),
+            ("é$a\"b", "é\\$a\\\"b"),
+        ],
+    ),
     ("ls \"lib\\", 8, "", NAMES, 4, &[("lib.rs", "lib.rs")]),
 ];
 
@@ -150,7 +238,10 @@ fn names_stay_in_the_order_of_the_lister(rt: HostRuntime) -> result::Result<(), 
     });
     let (start, pairs) = completer.complete_path_unsorted(rt.alloc(), "Use", 3)?;
     assert_eq!(rt; start, 0);
-    let wanted = [("Users", "Users/"), ("User Information", "User\\ Information/")];
+    let wanted = [
+        ("Users", "Users/"),
+        ("User Information", "User\\ Information/"),
+    ];
     has_offers(&rt, pairs.as_slice(), &wanted, "Use");
     Ok(())
 }

@@ -74,7 +74,8 @@ impl<L: Lister> FilenameCompleter<L> {
         ensures start { IfOk result (λ r. (r.0 ≤ pos) × IsCharBoundary line.now r.0) }
         ensures answer { let found =
             path_completion (L.listing (lister_of self.now)) (take pos line.now) in
-            IfOk result (λ r. (r.0 ≡ found.start) × InOrder found.offers (map pair_offer r.1.items)) }
+            IfOk result (λ r. (r.0 ≡ found.start)
+            × InOrder found.offers (map pair_offer r.1.items)) }
         ensures io { IoOnlyIf result (L.sure (lister_of self.now) ≡ false) }
         ensures faults { FaultsOnly result }
     {

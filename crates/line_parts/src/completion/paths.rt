@@ -82,8 +82,10 @@ pub(crate) fn path_before(alloc: Global, text: &str) -> Result<(usize, CowStr<'_
 
 // Returns a path up to its last `/`, and the name behind it.
 pub(crate) fn split_path(path: &str) -> (&str, &str)
-    ensures folder { result.0.now ≡ encode_utf8_all (take (name_start (chars path.now)) (chars path.now)) }
-    ensures name { result.1.now ≡ encode_utf8_all (drop (name_start (chars path.now)) (chars path.now)) }
+    ensures folder { let cs = chars path.now in
+        result.0.now ≡ encode_utf8_all (take (name_start cs) cs) }
+    ensures name { let cs = chars path.now in
+        result.1.now ≡ encode_utf8_all (drop (name_start cs) cs) }
 {
     let (start, name) = extract_word(
         path,
@@ -98,7 +100,8 @@ pub(crate) fn split_path(path: &str) -> (&str, &str)
 
 // Returns a name in a folder as a candidate.
 fn candidate(alloc: Global, folder: &str, entry: Entry, quote: Quote) -> Result<Pair>
-    ensures offer { IfOk result (λ pair. pair_offer pair ≡ offered quote folder.now (listed_of entry)) }
+    ensures offer { IfOk result
+        (λ pair. pair_offer pair ≡ offered quote folder.now (listed_of entry)) }
     ensures memory { MemoryOnly result }
 {
     let mut path = String::from_str(alloc, folder)?;

@@ -95,20 +95,26 @@ fn is_once(found: &Cmd, thrice: &Cmd) -> bool {
         (Cmd::Yank(n, anchor), Cmd::Yank(3, wanted)) => *n == 1 && anchor == wanted,
         (Cmd::Undo(n), Cmd::Undo(3)) => *n == 1,
         (Cmd::TransposeWords(n), Cmd::TransposeWords(3)) => *n == 1,
-        (Cmd::Move(found), Cmd::Move(thrice)) => *found == for_one(*thrice),
-        (Cmd::Kill(found), Cmd::Kill(thrice)) => *found == for_one(*thrice),
+        (Cmd::Move(found), Cmd::Move(thrice)) => is_for_one(found, thrice),
+        (Cmd::Kill(found), Cmd::Kill(thrice)) => is_for_one(found, thrice),
         (found, thrice) => found == thrice,
     }
 }
 
-/// Returns a movement with the count 1, where it has the count 3.
-fn for_one(movement: Movement) -> Movement {
-    match movement {
-        Movement::BackwardChar(3) => Movement::BackwardChar(1),
-        Movement::ForwardChar(3) => Movement::ForwardChar(1),
-        Movement::BackwardWord(3, word) => Movement::BackwardWord(1, word),
-        Movement::ForwardWord(3, at, word) => Movement::ForwardWord(1, at, word),
-        Movement::ViCharSearch(3, search) => Movement::ViCharSearch(1, search),
-        movement => movement,
+/// Returns whether a movement is that for 3 with 1 in place of the count.
+fn is_for_one(found: &Movement, thrice: &Movement) -> bool {
+    match (found, thrice) {
+        (Movement::BackwardChar(n), Movement::BackwardChar(3)) => *n == 1,
+        (Movement::ForwardChar(n), Movement::ForwardChar(3)) => *n == 1,
+        (Movement::BackwardWord(n, word), Movement::BackwardWord(3, wanted)) => {
+            *n == 1 && word == wanted
+        }
+        (Movement::ForwardWord(n, at, word), Movement::ForwardWord(3, edge, wanted)) => {
+            *n == 1 && at == edge && word == wanted
+        }
+        (Movement::ViCharSearch(n, search), Movement::ViCharSearch(3, wanted)) => {
+            *n == 1 && search == wanted
+        }
+        (found, thrice) => found == thrice,
     }
 }
