@@ -167,10 +167,10 @@ pub fn bindings_come_before_the_reader()
 
 /// Where F2's own handler answers nothing, that of each key is not asked for it.
 pub fn a_keys_own_handler_is_the_only_one()
-    ensures { let own = (keys (event (F 2) NONE ∷ []), answers None) in
-        let any = (each_key, answers (Some noop)) in
-        bound_command (record { bound = any ∷ own ∷ []; own = λ typed. None }) (empty_draft 0)
-        (first_input Emacs) None (event (F 2) NONE) ≡ None }
+    ensures { bound_command (record {
+      bound = (each_key, answers (Some noop)) ∷ (keys (event (F 2) NONE ∷ []), answers None) ∷ [];
+      own = λ typed. None;
+    }) (empty_draft 0) (first_input Emacs) None (event (F 2) NONE) ≡ None }
 {}
 
 /// Where C-X, a is bound, one more key is read behind C-X, and none behind C-X, b; C-X alone has no handler.

@@ -258,3 +258,26 @@ fn a_listers_failure_is_passed_on(rt: HostRuntime) {
     let found = completer.complete_path_unsorted(rt.alloc(), "ls Us", 5);
     assert!(rt; matches!(found, Err(ReadlineError::Io(_))));
 }
+
+/// Run with any one allocation refused, this test passes: the answer is the right one, or there is none.
+#[test]
+fn a_refused_allocation_has_no_answer(rt: HostRuntime) -> result::Result<(), Fail> {
+    let completer = FilenameCompleter::new(Folder {
+        path: "a b/",
+        names: NAMES,
+        fails: false,
+    });
+    match completer.complete_path(rt.alloc(), "ls \"a b/User", 11) {
+        Ok((start, pairs)) => {
+            assert_eq!(rt; start, 4);
+            let wanted = [
+                ("User Information", "a b/User Information/"),
+                ("Users", "a b/Users/"),
+            ];
+            has_offers(&rt, pairs.as_slice(), &wanted, "a b/User");
+        }
+        Err(ReadlineError::Memory) => {}
+        Err(_) => return Err(Fail::from("no other error")),
+    }
+    Ok(())
+}
