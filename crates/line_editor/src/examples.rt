@@ -21,7 +21,7 @@ ghost use Rattle.line_keys.specs.declared.keys.KeyEvent.{KeyEvent};
 ghost use Rattle.line_keys.specs.declared.keys.TheConstants.Modifiers.{ALT, CTRL, NONE};
 ghost use Rattle.line_parts.specs.Environment.{Environment};
 
-/// Behind a key that searches twice, the key b gives the move to the second b.
+/// Behind a key that searches with the count 2, the key b gives the move to the second b.
 pub fn a_plain_key_is_searched_for()
     ensures { (s : Sequences) (last : KeyEvent) → Tailed s last (searches 2 (λ c. Forward c))
         (key (event (Char 98) NONE) ∷ []) (move (ViCharSearch 2 (Forward 98))) }
@@ -121,7 +121,7 @@ pub fn each_key_is_bound()
         noop (empty_draft 0) (first_input Emacs) }
 {}
 
-/// In Vi's insert mode a key's binding is handed no count, and in Emacs the one that was typed.
+/// In Vi's insert mode a key's binding is handed 0, in Emacs the count that was typed, or 1.
 pub fn counts_that_are_handed()
     ensures vi { handed styles.Vi modes.Insert None ≡ record { n = 0; positive = true } }
     ensures emacs { handed styles.Emacs modes.Insert (Some (record { n = 3; positive = false }))
@@ -145,7 +145,7 @@ pub fn a_key_that_no_table_has()
         (first_input Emacs) }
 {}
 
-/// On an empty line C-D does nothing, and the reader's end of the input counts; on another line it does not.
+/// By the table C-D on an empty line is Unknown. The reader's end of the input counts on an empty line, and not on another.
 pub fn the_end_of_the_input_is_for_an_empty_line()
     ensures table { (row_of Emacs modes.Insert (event (Char 68) CTRL) (empty_draft 0)).means one
         ≡ gives unknown }

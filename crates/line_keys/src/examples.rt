@@ -99,11 +99,12 @@ pub fn movements_take_a_new_count()
     ensures uncounted { redone true (Some 3) None (kill WholeLine) ≡ kill WholeLine }
 {}
 
-/// An insertion, a yank and a replaced character done again take the new count.
+/// An insertion, a yank and a replaced character done again take the new count; without one they keep their own.
 pub fn insertions_take_a_new_count()
     ensures inserts { redone true (Some 2) None (insert 5 (107 ∷ [])) ≡ insert 2 (107 ∷ []) }
     ensures yanks { redone true (Some 2) None (yank 5 Before) ≡ yank 2 Before }
-    ensures replaces { redone true None None (replace_char 5 120) ≡ replace_char 5 120 }
+    ensures replaces { redone true (Some 2) None (replace_char 5 120) ≡ replace_char 2 120 }
+    ensures keeps { redone true None None (replace_char 5 120) ≡ replace_char 5 120 }
 {}
 
 /// The dot puts the last text in again for a typed character; a bound one keeps its character.

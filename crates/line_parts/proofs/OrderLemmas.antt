@@ -298,7 +298,7 @@ order_is_one offers = (
 
 -- pairs in order are the completion with its candidates in order
 pub is_ordered : (found : Completion) (start : ℕ) (pairs : List Pair) → (start ≡ found.start) × InOrder found.offers (map pair_offer pairs)
-    → ◌≡◌ {A = Option Completion} (Some (ordered found)) (Some (record { start = start; offers = map pair_offer pairs }))
+    → ◌≡◌ {A = Completion} (ordered found) (record { start = start; offers = map pair_offer pairs })
 is_ordered found start pairs is =
-    ap (λ s. Some (record { start = s; offers = in_order found.offers })) (sym is.0)
-    ∙ ap (λ o. Some (record { start = start; offers = o })) (sym (is_the_order found.offers (map pair_offer pairs) is.1))
+    let made : ℕ → List Offer → Completion = λ s o. record { start = s; offers = o } in
+    ap (λ s. made s (in_order found.offers)) (sym is.0) ∙ ap (made start) (sym (is_the_order found.offers (map pair_offer pairs) is.1))

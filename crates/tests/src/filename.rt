@@ -79,7 +79,7 @@ const NAMES: &[Name] = &[
 const BREAK_NAME: &str = " \t\n\"\\'`@$><=;|&{(\0x";
 
 const CASES: &[Case] = &[
-    // The one name that starts so, escaped, and a slash behind a folder.
+    // The names that start so, escaped, and a slash behind a folder.
     (
         "ls User",
         7,
@@ -157,7 +157,7 @@ const CASES: &[Case] = &[
     ("\\\"Users", 7, "", NAMES, 0, &[]),
     ("'\" Users", 8, "", NAMES, 1, &[]),
     ("\"a\\\" Us", 7, "", NAMES, 1, &[]),
-    // Each character at which words break.
+    // Each character at which words break is escaped.
     (
         "",
         0,
@@ -177,7 +177,92 @@ const CASES: &[Case] = &[
         1,
         &[(BREAK_NAME, " \t\n\\\"\\\\'\\`@\\$><=;|&{(\0x")],
     ),
-    // What stands behind the cursor does not matter; a lone backslash at the end goes.
+    // Single quotes know no escape, so these are closed; an escaped backslash does not escape the quote behind it.
+    (
+        "'a\\' Us",
+        7,
+        "",
+        NAMES,
+        5,
+        &[
+            ("User Information", "User\\ Information/"),
+            ("Users", "Users/"),
+        ],
+    ),
+    (
+        "\"a\\\\\" Us",
+        8,
+        "",
+        NAMES,
+        6,
+        &[
+            ("User Information", "User\\ Information/"),
+            ("Users", "Users/"),
+        ],
+    ),
+    (
+        "\\\\\"Us",
+        5,
+        "",
+        NAMES,
+        3,
+        &[
+            ("User Information", "User Information/"),
+            ("Users", "Users/"),
+        ],
+    ),
+    // A quote inside a word stands open too.
+    ("a\"li", 4, "", NAMES, 2, &[("lib.rs", "lib.rs")]),
+    // In single quotes nothing is escaped, and a folder has its slash.
+    (
+        "ls 'Us",
+        6,
+        "",
+        NAMES,
+        4,
+        &[
+            ("User Information", "User Information/"),
+            ("Users", "Users/"),
+        ],
+    ),
+    // The folder is asked for without its escapes, and the candidate has those that its quotes need.
+    (
+        "\"a\\$b/l",
+        7,
+        "a$b/",
+        NAMES,
+        1,
+        &[("lib.rs", "a\\$b/lib.rs")],
+    ),
+    (
+        "\"a\\ b/l",
+        7,
+        "a b/",
+        NAMES,
+        1,
+        &[("lib.rs", "a b/lib.rs")],
+    ),
+    // The folder is cut off behind the last slash.
+    (
+        "ls a/b/li",
+        9,
+        "a/b/",
+        NAMES,
+        3,
+        &[("lib.rs", "a/b/lib.rs")],
+    ),
+    // A folder that cannot be listed, in quotes.
+    ("ls \"x", 5, "other/", NAMES, 4, &[]),
+    // Going back, the blank is passed together with the backslash before it, whatever stands before that.
+    (
+        "ls a\\\\ b",
+        8,
+        "",
+        &[(" bc", false)],
+        5,
+        &[(" bc", "\\ bc")],
+    ),
+    // What stands behind the cursor does not matter. A lone backslash at the end breaks the word, and goes in double quotes.
     ("ls lib \"x", 6, "", NAMES, 3, &[("lib.rs", "lib.rs")]),
     (
         "ls lib\\",
@@ -253,10 +338,36 @@ fn a_listers_failure_is_passed_on(rt: HostRuntime) {
         names: NAMES,
         fails: true,
     });
+    let history = MemHistory::new(rt.alloc());
     let found = completer.complete_path(rt.alloc(), "ls Us", 5);
-    assert!(rt; matches!(found, Err(ReadlineError::Io(_))));
+    assert!(rt; fails(&found));
     let found = completer.complete_path_unsorted(rt.alloc(), "ls Us", 5);
-    assert!(rt; matches!(found, Err(ReadlineError::Io(_))));
+    assert!(rt; fails(&found));
+    let found = completer.complete(rt.alloc(), "ls Us", 5, &Context::new(&history));
+    assert!(rt; fails(&found));
+}
+
+/// Whether the lister's failure was answered.
+fn fails(found: &Result<(usize, Vec<Pair>)>) -> bool {
+    match found {
+        Err(ReadlineError::Io(error)) => error.kind() == ErrorKind::NotFound,
+        _ => false,
+    }
+}
+
+#[test]
+fn a_boxed_completer_is_asked(rt: HostRuntime) -> result::Result<(), Fail> {
+    let completer = FilenameCompleter::new(Folder {
+        path: "",
+        names: NAMES,
+        fails: false,
+    });
+    let boxed = Box::new(rt.alloc(), completer)?;
+    let history = MemHistory::new(rt.alloc());
+    let (start, pairs) = boxed.complete(rt.alloc(), "ls li", 5, &Context::new(&history))?;
+    assert_eq!(rt; start, 3);
+    has_offers(&rt, pairs.as_slice(), &[("lib.rs", "lib.rs")], "ls li");
+    Ok(())
 }
 
 /// Run with any one allocation refused, this test passes: the answer is the right one, or there is none.
@@ -267,7 +378,7 @@ fn a_refused_allocation_has_no_answer(rt: HostRuntime) -> result::Result<(), Fai
         names: NAMES,
         fails: false,
     });
-    match completer.complete_path(rt.alloc(), "ls \"a b/User", 11) {
+    match completer.complete_path(rt.alloc(), "ls \"a\\ b/User", 13) {
         Ok((start, pairs)) => {
             assert_eq!(rt; start, 4);
             let wanted = [

@@ -4,9 +4,10 @@ ghost use Rattle.line_editor.specs.Event.{chord_of, event_keys};
 ghost use Rattle.tests.specs.Watcher.{never_fails, watched};
 
 use line_buffer::RepeatCount;
-use line_config::{ReadlineError, Result};
+use line_config::{EditMode, ReadlineError, Result};
 use line_editor::binding::{ConditionalEventHandler, Event, EventContext};
 use line_keys::command::Cmd;
+use line_keys::keymap::InputMode;
 use std::alloc::Global;
 use std::io::ErrorKind;
 
@@ -20,6 +21,9 @@ pub enum Watcher {
     /// A k that is inserted, where it is handed so many keys and shown a line of this length with the cursor at this place,
     /// with or without a hint; else nothing.
     At(usize, usize, usize, bool),
+    /// A k that is inserted, where it is shown the style of Emacs or not, the mode of inserting or not, and a hint of which
+    /// so many bytes complete the line; else nothing.
+    Sees(bool, bool, usize),
     /// An error of input or output.
     Fails,
 }
@@ -49,6 +53,14 @@ impl ConditionalEventHandler for Watcher {
                 let keys = count_of(evt);
                 let there = ctx.line().len() == *len && ctx.pos() == *pos;
                 if keys == *count && there && ctx.has_hint() == *hinted {
+                    return Ok(Some(Cmd::Insert(1, String::from_str(alloc, "k")?)));
+                }
+                Ok(None)
+            }
+            Watcher::Sees(emacs, inserting, len) => {
+                let style = matches!(ctx.mode(), EditMode::Emacs) == *emacs;
+                let mode = matches!(ctx.input_mode(), InputMode::Insert) == *inserting;
+                if style && mode && ctx.hint_text().unwrap_or("").len() == *len {
                     return Ok(Some(Cmd::Insert(1, String::from_str(alloc, "k")?)));
                 }
                 Ok(None)

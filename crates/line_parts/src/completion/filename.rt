@@ -35,8 +35,8 @@ pub trait Lister {
     ghost listing: { Self → List ℕ → Option (List Listed) };
 
     /// Returns the names in a folder, in an order of its own, or None where the folder can't be
-    /// listed. `dir` is a path up to its last `/`, as it was typed; it is empty for the folder in
-    /// which the program runs.
+    /// listed. `dir` is a path up to its last `/`, as it was typed but for its escapes; it is empty
+    /// where the path has no `/`.
     ///
     /// # Errors
     /// `Io`, only where this lister is not sure, and `Memory`.
@@ -65,7 +65,8 @@ impl<L: Lister> FilenameCompleter<L> {
 
     /// Returns the byte offset where the path begins that ends at the cursor, at byte `pos` of `line`, and its candidates:
     /// the names in its folder that start with the path's last part, in the order of their bytes. A path in open quotes
-    /// begins behind the quote. A candidate puts in the path with its escapes, and a `/` behind the name of a folder.
+    /// begins behind the quote. A candidate puts in the folder's text and the name, escaped as these quotes ask for it, and a
+    /// `/` behind the name of a folder.
     ///
     /// # Errors
     /// `Io`, only where the lister is not sure, and `Memory`.
@@ -143,7 +144,15 @@ impl<L: Lister> Completer for FilenameCompleter<L> {
         line: &str,
         pos: usize,
         _ctx: &Context<'_, S>,
-    ) -> Result<(usize, Vec<Pair>)> {
+    ) -> Result<(usize, Vec<Pair>)>
+        requires { IsCharBoundary line.now pos }
+        ensures start { IfOk result (λ r. (r.0 ≤ pos) × IsCharBoundary line.now r.0) }
+        ensures answer { let found =
+            ordered (path_completion (L.listing (lister_of self.now)) (take pos line.now)) in
+            IfOk result (λ r. found ≡ record { start = r.0; offers = map pair_offer r.1.items }) }
+        ensures io { IoOnlyIf result (L.sure (lister_of self.now) ≡ false) }
+        ensures faults { FaultsOnly result }
+    {
         self.complete_path(alloc, line, pos)
     }
 }

@@ -183,8 +183,9 @@ fn last_word<F: Fn(char) -> bool>(text: &str, esc_char: Option<char>, is_break_c
 }
 
 /// Returns the word that ends at the cursor, which is at byte `pos`, and the byte offset where it
-/// begins: behind the last character that `is_break_char` answers true for and that does not stand
-/// behind the escape character, or else at the start of the line.
+/// begins. Going back from the cursor, a character that `is_break_char` answers true for is passed
+/// together with the escape character right before it; the word begins behind the first one that has
+/// none, or else at the start of the line.
 pub fn extract_word<F: Fn(char) -> bool>(
     line: &str,
     pos: usize,

@@ -366,3 +366,45 @@ fn ask_by_kind(rt: HostRuntime) -> Result<(), Fail> {
     }
     Ok(())
 }
+
+const G: KeyEvent = KeyEvent(KeyCode::Char('g'), Modifiers::NONE);
+
+const I: KeyEvent = KeyEvent(KeyCode::Char('i'), Modifiers::NONE);
+
+const T: KeyEvent = KeyEvent(KeyCode::Char('t'), Modifiers::NONE);
+
+const RIGHT: KeyEvent = KeyEvent(KeyCode::Right, Modifiers::NONE);
+
+const COMPLETING: Setup = Setup {
+    hint: Some(" status"),
+    ..PLAIN
+};
+
+const COMPLETING_IN_COLOURS: Setup = Setup {
+    colors: true,
+    ..COMPLETING
+};
+
+/// A hint completes the line, over a screen with colours and over one without: line and cursor are the same.
+const COMPLETED: &[Case] = &[
+    (
+        COMPLETING,
+        &[Run(&[G, I, T, RIGHT, ENTER])],
+        "submits",
+        Wanted::Line("git status", 10, (0, 12), (0, 12)),
+    ),
+    (
+        COMPLETING_IN_COLOURS,
+        &[Run(&[G, I, T, RIGHT, ENTER])],
+        "submits",
+        Wanted::Line("git status", 10, (0, 12), (0, 12)),
+    ),
+];
+
+#[test]
+fn colours_change_no_line(rt: HostRuntime) -> Result<(), Fail> {
+    for case in COMPLETED {
+        holds(&rt, rt.alloc(), case)?;
+    }
+    Ok(())
+}
