@@ -1,5 +1,6 @@
 -- The folder that the tests' lister lists.
-use Rattle.std.specs.Prelude.{ℕ, Bool, if◌then◌else◌, List, map, bytes_eq, Option, None, Some, Bor}
+use Rattle.std.specs.Prelude.{ℕ, Bool, if◌then◌else◌, List, map, bytes_eq, Option, None, Some}
+use denote.Ref.{Bor}
 use Rattle.line_parts.specs.Completed.{Listed}
 
 -- a name with whether it is a folder's
