@@ -49,7 +49,7 @@ pub(super) fn reads(
     let (forth, back) = commands;
     for (count, wanted) in COUNTS {
         if count.is_empty() || !goes_on(keys) {
-            let found = typed(alloc, line, count, keys)?;
+            let found = typed(rt, alloc, line, count, keys)?;
             let is_right = match wanted {
                 Wanted::Once => is_once(&found, forth),
                 Wanted::Forth => found == *forth,
@@ -70,7 +70,13 @@ fn goes_on(keys: &[KeyEvent]) -> bool {
 }
 
 /// Returns the command of a count and keys that are typed in Emacs.
-fn typed(alloc: Global, line: &Line, count: &[KeyEvent], keys: &[KeyEvent]) -> Result<Cmd, Fail> {
+fn typed(
+    rt: &impl Abort,
+    alloc: Global,
+    line: &Line,
+    count: &[KeyEvent],
+    keys: &[KeyEvent],
+) -> Result<Cmd, Fail> {
     let (text, cursor, hint) = line;
     let config = Config::builder(GraphemeClusterMode::Unicode).build();
     let bindings = Bindings::new(alloc);
@@ -83,6 +89,7 @@ fn typed(alloc: Global, line: &Line, count: &[KeyEvent], keys: &[KeyEvent]) -> R
     typist.press(keys)?;
     let advisor = Some(&mut helper);
     let context = Context::new(&history);
+    assert!(rt; text.is_char_boundary(*cursor));
     let mut state = State::with_line(alloc, &mut screen, &"> ", advisor, context, text, *cursor)?;
     state.hint()?;
     Ok(state.next_cmd(&mut input, &mut typist, true)?)
