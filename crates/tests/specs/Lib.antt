@@ -1,7 +1,6 @@
 pub mod Advisor
 pub mod Folder
 pub mod Screen
-pub mod Folder
 pub mod ScreenLaws
 pub mod Typist
 pub mod Watcher
