@@ -88,6 +88,17 @@ fn completes<C: Completer>(
 }
 
 #[test]
+fn completers_offer_nothing(rt: HostRuntime) -> Result<()> {
+    let alloc = rt.alloc();
+    let mut line = LineBuffer::init(alloc, "us -l", 2)?;
+    assert_eq!(rt; completes(&(), alloc, &mut line)?, (0, 0, 0));
+    assert_eq!(rt; (line.as_str(), line.pos()), ("us -l", 2));
+    assert_eq!(rt; completes(&Plain, alloc, &mut line)?, (0, 0, 1));
+    assert_eq!(rt; (line.as_str(), line.pos()), ("usr -l", 3));
+    Ok(())
+}
+
+#[test]
 fn boxed_completers_are_asked(rt: HostRuntime) -> Result<()> {
     let alloc = rt.alloc();
     let mut line = LineBuffer::init(alloc, "us -l", 2)?;

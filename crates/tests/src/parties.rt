@@ -1,13 +1,10 @@
 //! The parties that a line editor asks, each through its trait.
 
-ghost use Rattle.std.specs.Prelude.{true, IsCharBoundary};
-
 use crate::advisor::Advisor;
-use line_buffer::{Changeset, LineBuffer};
 use line_config::{CompletionType, ReadlineError, Result};
 use line_parts::{
-    Candidate, CmdKind, Completer, Context, Helper, Highlighter, Hint, History, MemHistory,
-    ValidationContext, ValidationResult,
+    Candidate, CmdKind, Context, Helper, Highlighter, Hint, History, MemHistory, ValidationContext,
+    ValidationResult,
 };
 use std::alloc::Global;
 use std::process::Abort;
@@ -60,41 +57,6 @@ fn the_unit_highlighter_changes_nothing(rt: HostRuntime) -> Result<()> {
     for text in ["", "(é)"] {
         assert!(rt; shows_as_it_stands(&mut (), rt.alloc(), text)?);
     }
-    Ok(())
-}
-
-/// Offers nothing, and puts an elected text into the line.
-struct Plain;
-
-impl Completer for Plain {
-    type Candidate = &'static str;
-
-    ghost sure = { λ _. true };
-}
-
-/// Completes `ls u` and then takes the text `usr` at the start of a line: what is offered, and the line and its changes.
-fn completes<C: Completer>(
-    completer: &C,
-    alloc: Global,
-    line: &mut LineBuffer,
-) -> Result<(usize, usize, usize)>
-    requires { IsCharBoundary line.old.text 0 }
-{
-    let history = MemHistory::new(alloc);
-    let mut changes = Changeset::new(alloc);
-    let (start, candidates) = completer.complete(alloc, "ls u", 4, &Context::new(&history))?;
-    completer.update(line, 0, "usr", &mut changes)?;
-    Ok((start, candidates.len(), changes.len()))
-}
-
-#[test]
-fn completers_offer_nothing(rt: HostRuntime) -> Result<()> {
-    let alloc = rt.alloc();
-    let mut line = LineBuffer::init(alloc, "us -l", 2)?;
-    assert_eq!(rt; completes(&(), alloc, &mut line)?, (0, 0, 0));
-    assert_eq!(rt; (line.as_str(), line.pos()), ("us -l", 2));
-    assert_eq!(rt; completes(&Plain, alloc, &mut line)?, (0, 0, 1));
-    assert_eq!(rt; (line.as_str(), line.pos()), ("usr -l", 3));
     Ok(())
 }
 
