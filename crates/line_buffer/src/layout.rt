@@ -35,11 +35,11 @@ pub struct Layout {
     pub grapheme_cluster_mode: GraphemeClusterMode,
     /// Where the prompt ends.
     pub prompt_size: Position,
-    /// Whether the prompt is the one that the call was given.
+    /// Whether the prompt is the editor's own.
     pub default_prompt: bool,
     /// Where the cursor is.
     pub cursor: Position,
-    /// Where the line ends.
+    /// Where what is shown ends, a text behind the line included.
     pub end: Position,
     /// Whether something is shown behind the line.
     pub has_info: bool,

@@ -8,7 +8,7 @@ use Rattle.line_keys.specs.Display.{Display, corner}
 use Rattle.line_keys.specs.Draft.{Draft, in_group}
 use Rattle.line_state.specs.Edited.{Edited}
 
--- the abstract editor: the draft and the killed texts
+-- the abstract editor: the draft and the kill ring
 pub record Editor : Type 0 where
   pub draft : Draft
   pub kills : Ring
@@ -25,7 +25,7 @@ pub record Step : Type 0 where
   pub editor : Editor
   pub answer : Answer
 
--- what a command looks at beside the editor: the column where the kept prompt ends, how clusters are counted, and by how many
+-- what a command looks at beside the editor, the environment and the input value: the column where the kept prompt ends, how clusters are counted, and by how many
 -- spaces a line is indented
 pub record Ruler : Type 0 where
   pub prompt_column : ℕ
@@ -66,7 +66,7 @@ edited_of draft = record { line = draft.line; changes = draft.changes }
 abbrev pub with_edited : Draft → Edited → Draft
 with_edited draft edited = record draft { line = edited.line; changes = edited.changes }
 
--- the draft changes and the kills stay
+-- the draft changes and the kill ring stays
 abbrev pub with_draft : Editor → Draft → Editor
 with_draft editor draft = record { draft = draft; kills = editor.kills }
 

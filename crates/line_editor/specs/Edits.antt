@@ -21,7 +21,7 @@ use Rattle.line_state.specs.Moves.{moved}
 use Rattle.line_editor.specs.Editor.{Editor, Ruler, edited_of, measuring, with_draft, with_edited}
 use Rattle.line_editor.specs.Input.{Input, is_vi_command}
 
--- the draft after an edit: where the line buffer reported it, or the text changed, the hint is asked again
+-- the draft after an edit: where the edit is reported, the hint is asked again
 abbrev pub after_edit : Environment → Bool → Edited → Draft → Draft
 after_edit environment reported edited draft =
     if reported then hinted environment (with_edited draft edited) else with_edited draft edited

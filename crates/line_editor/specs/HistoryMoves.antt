@@ -84,7 +84,7 @@ abbrev pub search_of : Environment → SearchDirection → Draft → Option Foun
 search_of environment direction draft =
     if way_ends environment direction draft then None else search_beside environment direction draft
 
--- the index goes one line on, and what is found from there is shown; at the history's ends nothing happens
+-- the index goes one line back or on, and what is found from there is shown; at the history's ends nothing happens
 abbrev pub searched : Environment → SearchDirection → Draft → Draft
 searched environment direction draft =
     if way_ends environment direction draft then draft

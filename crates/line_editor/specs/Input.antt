@@ -23,6 +23,6 @@ abbrev pub is_vi_command_mode : EditMode → InputMode → Bool
 is_vi_command_mode Vi Command = true
 is_vi_command_mode _ _ = false
 
--- the style and the mode of an input are those
+-- an input is in the command mode of the Vi style
 abbrev pub is_vi_command : Input → Bool
 is_vi_command input = is_vi_command_mode input.style input.mode

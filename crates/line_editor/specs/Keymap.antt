@@ -35,7 +35,7 @@ pub record KeyState : Type 0 where
   pub bound : Bound
   pub input : Input
 
--- and the commands that the reader itself gives
+-- the keymap of a key state, with the commands that the reader itself gives
 abbrev pub keymap_of : KeyState → (KeyEvent → Option commands.Command) → Keymap
 keymap_of state own = record { bound = state.bound; own = own }
 
@@ -81,7 +81,7 @@ pub data Source : Type 0 where
   by_reader : commands.Command → Source
   by_table : Meaning → Source
 
--- the first of these that has one
+-- where a command comes from: the binding's, or else the reader's, or else what the tables mean
 abbrev pub first_source : Option commands.Command → Option commands.Command → Meaning → Source
 first_source (Some command) _ meaning = by_binding command
 first_source None (Some command) meaning = by_reader command

@@ -120,7 +120,7 @@ ComingBack = (ruler : Ruler) (environment : Environment) (editor : Editor) (firs
 
 module _ {X Y X' Y' : Type 0} (e : editors.Ghosts X) (r : readers.Ghosts Y) (e' : editors.Ghosts X') (r' : readers.Ghosts Y') where
   -- two programs start alike, over two renderers and two readers: the prompts end alike and clusters are counted alike, and what is
-  -- asked, edited, remembered and read is the same; columns and colours may be others
+  -- asked, edited, remembered and read is the same; columns and colors may be others
   pub record StartsAlike (state : X) (keys : KeyState) (reader : Y) (state' : X') (keys' : KeyState) (reader' : Y') : Type 0 where
     pub prompt_end : (e.display state).prompt_end ≡ (e'.display state').prompt_end
     pub mode : (e.display state).surface.mode ≡ (e'.display state').surface.mode

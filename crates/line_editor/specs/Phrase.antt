@@ -24,13 +24,13 @@ after_count environment (_ ∷ _) draft = hinted environment draft
 abbrev pub search_to : (ℕ → CharSearch) → KeyEvent → Option CharSearch
 search_to by typed = if is_with NONE typed then option_map by (char_of typed.0) else None
 
--- so many moves by a search, if there is one
+-- the move to the n-th place of a search, or Unknown without a search
 abbrev pub moves_by : ℕ → Option CharSearch → Command
 moves_by n (Some by) = move (ViCharSearch n by)
 moves_by n None = unknown
 
--- behind keys that were read for a sequence and have a command, no item is read; else the second key of all is looked at, which is
--- read now where it was not
+-- the items behind the keys that were read for a sequence: none where these have a command; else the second key of all
+-- gives the command, and is read now where it was not read yet
 abbrev pub Seconds : (KeyEvent → Command) → List KeyEvent → Option Command → List Item → Command → Type 0
 Seconds by more (Some answer) rest command = (rest ≡ []) × (command ≡ answer)
 Seconds by [] None rest command = (second : KeyEvent) × (rest ≡ key second ∷ []) × (command ≡ by second)

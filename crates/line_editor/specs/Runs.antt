@@ -82,7 +82,7 @@ module _ {X : Type 0} (e : editors.Ghosts X) where
     pub io : IoOnlyIf result (PartyFailed e state state')
 
 module _ {X Y : Type 0} (e : editors.Ghosts X) (r : readers.Ghosts Y) where
-  -- from the first three values to the last four there is a turn with this answer, by this ruler
+  -- from a state, an input state, a reader and a kill ring there is a turn, by this ruler and with this answer, to the four with a prime
   abbrev pub LeadsTo : Ruler → X → KeyState → Y → Ring → X → KeyState → Y → Ring → Answer → Type 0
   LeadsTo ruler state keys reader kills state' keys' reader' kills' answer =
       Turn (keymap_of keys (r.own_binding reader)) ruler (e.environment state)
@@ -120,7 +120,7 @@ module _ {X Y : Type 0} (e : editors.Ghosts X) (r : readers.Ghosts Y) where
   AdvancesTo Turned.NeedsMore state keys indent reader kills state' keys' reader' kills' =
       NeedsMoreItems state keys reader kills state' keys' reader' kills'
 
-  -- from the first four values, once the hint was asked, to the next three there is a run with this end
+  -- from a state, an input state, an indent, a reader and a kill ring, once the hint was asked, there is a run with this end to the three with a prime
   abbrev pub RunsTo : X → KeyState → ℕ → Y → Ring → X → KeyState → Ring → End → Type 0
   RunsTo state keys indent reader kills state' keys' kills' end =
       Run (keymap_of keys (r.own_binding reader)) (own_ruler (e.display state) indent) (e.environment state)

@@ -15,7 +15,7 @@ pub record Sequences : Type 0 where
   pub leads : List KeyEvent → Bool
   pub command : List KeyEvent → Option Command
 
--- those of a map, under a count
+-- what the bindings of a map say of sequences, under a count
 abbrev pub sequences_of : Bound → Draft → Input → Count → Sequences
 sequences_of bound draft input count = record {
   leads = leads_on bound;

@@ -18,16 +18,19 @@ use std::alloc::Global;
 /// What a command can be bound to.
 #[derive(Debug, PartialEq, Eq, Hash, Drop)]
 pub enum Event {
-    /// Each key.
+    /// Each key that has no binding of its own.
     Any,
     /// A key, or keys one after another.
     KeySeq(Vec<KeyEvent>),
-    /// The mouse.
+    /// The mouse. It can be bound, but no reader gives it yet: such a binding is never asked.
     Mouse,
 }
 
 impl Event {
-    /// The event of one key. `Memory` comes where the list of the one key is refused.
+    /// Returns the event of one key.
+    ///
+    /// # Errors
+    /// That memory ran out.
     pub fn from_key(alloc: Global, key: KeyEvent) -> Result<Event>
         ensures event { IfOk result (λ event. chord_of event ≡ keys (key ∷ [])) }
         ensures memory { MemoryOnly result }
@@ -100,7 +103,7 @@ impl Event {
         self == other
     }
 
-    /// The `i`th key of a sequence, from 0.
+    /// Returns the `i`-th key of a sequence, counted from 0, or None where there is none.
     pub fn get(&self, i: usize) -> Option<&KeyEvent>
         ensures { option_copied result ≡ slice_get (event_keys (chord_of self.now)) i }
     {
@@ -153,42 +156,42 @@ impl<'r> EventContext<'r> {
         }
     }
 
-    /// The style of editing.
+    /// Returns the style of editing.
     pub fn mode(&self) -> EditMode
         ensures { result ≡ (moment_of self.now).style }
     {
         self.mode
     }
 
-    /// The mode of the Vi style.
+    /// Returns the mode of the Vi style; in Emacs it is `Insert`.
     pub fn input_mode(&self) -> InputMode
         ensures { result ≡ (moment_of self.now).mode }
     {
         self.input_mode
     }
 
-    /// Whether there is a hint.
+    /// Returns whether there is a hint.
     pub fn has_hint(&self) -> bool
         ensures { result ≡ (moment_of self.now).has_hint }
     {
         self.has_hint
     }
 
-    /// What the hint completes the line with, if there is one and it can be taken.
+    /// Returns what the hint completes the line with, if there is one and it can be taken.
     pub fn hint_text(&self) -> Option<&'r str>
         ensures { option_map (λ s. s.now) result ≡ (moment_of self.now).hint_text }
     {
         self.hint_text
     }
 
-    /// The whole text.
+    /// Returns the whole text.
     pub fn line(&self) -> &'r str
         ensures { result.now ≡ (moment_of self.now).text }
     {
         self.line
     }
 
-    /// The cursor's place in bytes.
+    /// Returns the cursor's byte offset.
     pub fn pos(&self) -> usize
         ensures { result ≡ (moment_of self.now).cursor }
     {
@@ -203,10 +206,12 @@ pub trait ConditionalEventHandler: Drop {
 
     ghost answer: { Self → Asked → Option Command };
 
-    /// The command for the event, typed with the count `n` or with its opposite where `positive` is false. None leaves the
-    /// event to the tables.
+    /// Returns the command for the event `evt`, typed with the count `n`, or with its opposite where `positive` is false.
+    /// With None a key goes on to the reader's own binding, and then to the tables; of a sequence one more key is read,
+    /// where a longer one may be bound.
     ///
-    /// Errors are of input or output, which come only where this handler is not sure, and that memory ran out.
+    /// # Errors
+    /// `Io`, only where this handler is not sure, and `Memory`.
     fn handle(
         &self,
         alloc: Global,
@@ -224,7 +229,7 @@ pub trait ConditionalEventHandler: Drop {
         ensures faults { FaultsOnly result };
 }
 
-/// What a key is bound to.
+/// What an event is bound to.
 #[derive(Drop)]
 pub enum EventHandler {
     /// The same command at each moment.

@@ -14,7 +14,7 @@ use std::alloc::Global;
 /// The commands that a program binds to events: a map from event to handler.
 ///
 /// A key is looked up as it is read, and the map keeps an event as it was given. Where a reader gives its keys in normal
-/// form, bind them in it (`Event::normalize`).
+/// form, bind events in normal form too (`Event::normalize`).
 #[derive(Drop)]
 pub struct Bindings {
     alloc: Global,

@@ -32,7 +32,9 @@ pub enum Status {
     Submit,
 }
 
-/// Does what a command says, on the line, its history and the kill ring, and draws what changed.
+/// Does what a command says, on the line, its history and the kill ring, and draws what changed. Returns whether the
+/// next command is to be read or the line is submitted. Abort, Complete, CompleteBackward, ForwardSearchHistory,
+/// QuotedInsert, ReverseSearchHistory and Suspend do nothing here: they are left to the program above.
 ///
 /// # Errors
 /// `Eof` for the end of the input on an empty line alone, and `Interrupted` for an interrupt alone, with the drawn cursor at

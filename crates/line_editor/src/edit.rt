@@ -216,7 +216,8 @@ impl<'out, 'prompt, W: Renderer, H: Helper, P: Prompt, S: History> State<
         self.view.layout()
     }
 
-    /// Returns the history index; the history's length is that of the line that is being typed.
+    /// Returns the history index: which line of the history is edited. For the line that is being written it is the number
+    /// of the history's lines.
     pub fn place(&self) -> usize
         ensures within { result ≤ length (⟦<Self as EditorState>⟧.environment self.now).lines }
         ensures value { result ≡ (⟦<Self as EditorState>⟧.draft self.now).index }
@@ -249,7 +250,7 @@ impl<'out, 'prompt, W: Renderer, H: Helper, P: Prompt, S: History> State<
         Ok(())
     }
 
-    // Asks whether characters of the line are highlighted, where colours are on.
+    // Asks whether characters of the line are highlighted, where colors are on.
     fn ask_highlight(&mut self, kind: CmdKind)
         ensures draft { let d = ⟦<Self as EditorState>⟧.draft in d self.new ≡ d self.old }
         ensures display { let e = ⟦<Self as EditorState>⟧ in

@@ -27,7 +27,7 @@ pub fn a_plain_key_is_searched_for()
         (key (event (Char 98) NONE) ∷ []) (move (ViCharSearch 2 (Forward 98))) }
 {}
 
-/// Behind it Enter is read, and stands for nothing.
+/// Behind a key that searches with the count 2, Enter is read too, and stands for nothing.
 pub fn another_key_is_no_search()
     ensures { (s : Sequences) (last : KeyEvent) → Tailed s last (searches 2 (λ c. Forward c))
         (key (event Enter NONE) ∷ []) unknown }
@@ -79,7 +79,7 @@ pub fn a_bound_sequence()
         noop (empty_draft 0) (first_input Emacs) }
 {}
 
-/// There C-X, b is read in vain, and b is lost.
+/// Where the sequence C-X, a is bound, C-X, b is read in vain, and b is lost.
 pub fn a_key_read_in_vain()
     ensures { (environment : Environment) →
         let sequence = keys (event (Char 88) CTRL ∷ event (Char 97) NONE ∷ []) in
@@ -88,7 +88,7 @@ pub fn a_key_read_in_vain()
         unknown (empty_draft 0) (first_input Emacs) }
 {}
 
-/// There C-X, C-U takes a step back: of keys read in vain the second one is looked at.
+/// Where the sequence C-X, a is bound, C-X, C-U takes a step back: the second of the keys read in vain counts.
 pub fn the_second_key_of_all()
     ensures { (environment : Environment) →
         let sequence = keys (event (Char 88) CTRL ∷ event (Char 97) NONE ∷ []) in

@@ -74,9 +74,9 @@ impl<'b> InputState<'b> {
         }
     }
 
-    /// Reads the keys of one phrase, and nothing past it, and gives the command that they stand for.
+    /// Reads the keys of one phrase, and nothing past it, and returns the command that they stand for.
     ///
-    /// `single_esc_abort` is handed on to the reader in the Emacs style.
+    /// `single_esc_abort` is handed on to the reader for the first key, in the Emacs style alone.
     ///
     /// # Errors
     /// `Eof` where the items ended inside a phrase or before one; then a phrase that was cut short can be read again with
@@ -402,7 +402,7 @@ fn handle(
     handler.handle(alloc, event, count.n, count.positive, context)
 }
 
-// The command that the reader itself gives the key.
+// Returns the command that the reader itself gives the key; `EndOfFile` counts on an empty line alone.
 fn own_command<R: RawReader, W: Refresher>(rdr: &R, wrt: &W, key: &KeyEvent) -> Option<Cmd>
     ensures { option_map command_of result
         ≡ on_line (W.draft wrt.now).line.text (R.own_binding rdr.now key.now) }

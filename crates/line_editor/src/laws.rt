@@ -50,24 +50,25 @@ pub fn reading_again_gives_the_turn()
     ensures { ReadingAgain }
 {}
 
-/// The other way round: what is read from the draft that the cut left is the whole phrase's turn from the first draft.
+/// A turn read from the draft that a cut left is the whole phrase's turn from the draft before it: where the cut left the
+/// hint as it was, or the phrase began with a count.
 pub fn a_turn_read_again_is_the_whole_phrases()
     ensures { ReadFromTheCut }
 {}
 
-/// An undo with a count no less than the changes leaves the text that taking back all of them gives.
+/// An undo of at least as many steps as there are changes leaves the text that taking back all of them gives.
 pub fn enough_undo_gives_the_start()
     ensures { EnoughUndo }
 {}
 
-/// Where the line that is being written is left for the history's lines and comes back, it comes back as it was, with its
-/// cursor, whatever was edited in between: where no command searches the history.
+/// Where no command searches the history, the line that is being written comes back from the history as it was left, with
+/// its cursor, whatever was edited in between.
 pub fn coming_back_restores_the_line()
     ensures { ComingBack }
 {}
 
 /// Two runs over renderers of the same prompt end and cluster mode, which start alike, leave the same line, cursor, history
-/// index, kill ring and outcome, whatever the columns and colours are.
+/// index, kill ring and outcome, whatever the columns and colors are.
 pub fn two_renderers_leave_the_same<
     'out,
     'prompt,

@@ -31,7 +31,8 @@ pub enum Turned {
     Ended,
     /// The person interrupted.
     Interrupted,
-    /// The items ran out before a phrase or inside of one. It can be read again with more items behind it.
+    /// The items ran out before a phrase or inside of one. The items of such a phrase are to be given again, with more
+    /// behind them.
     NeedsMore,
 }
 

@@ -1,5 +1,6 @@
 -- Counts: which keys write one, and which number they write.
-use Rattle.std.specs.Prelude.{◌≡◌, ℕ, ◌+◌, ◌-◌, ◌*◌, ◌==◌, ◌&&◌, ◌||◌, Bool, false, not, if◌then◌else◌, nat_le, List, [], ◌∷◌, map, fold, find, filter_map, Option, Some, None, is_some, unwrap_or}
+use Rattle.std.specs.Prelude.{◌≡◌, ℕ, ◌+◌, ◌-◌, ◌*◌, ◌==◌, ◌&&◌, ◌||◌, Bool, false, not, if◌then◌else◌, nat_le, List, [], ◌∷◌, ◌++◌, map, fold, find, filter_map, Option, Some, None, codes, is_some, unwrap_or}
+use Rattle.std.specs.Fmt.{decimal}
 use Rattle.std.specs.List.{list_all}
 use Rattle.line_config.specs.declared.config.EditMode.{EditMode}
 use Rattle.line_config.specs.declared.config.EditMode.TheVariants.{Emacs, Vi}
@@ -20,7 +21,7 @@ abbrev pub char_of : KeyCode → Option ℕ
 char_of (Char c) = Some c
 char_of _ = None
 
--- a key is of this set of modifiers
+-- a key has exactly these modifiers
 abbrev pub is_with : Modifiers → KeyEvent → Bool
 is_with mods key = bits_of key.1 == bits_of mods
 
@@ -57,7 +58,7 @@ abbrev pub continues_count : EditMode → KeyEvent → Bool
 continues_count Emacs key = (is_with NONE key || is_with ALT key) && (is_digit key || is_minus key)
 continues_count Vi key = is_with NONE key && is_digit key
 
--- these keys are a count, which this key behind them ends; without keys of a count, it begins none
+-- these keys are a whole count, and the last key ends it; where there are no such keys, the last key begins no count
 abbrev pub is_count_before : EditMode → InputMode → List KeyEvent → KeyEvent → Bool
 is_count_before style mode [] last = not (begins_count style mode last)
 is_count_before style mode (first ∷ more) last =
@@ -94,6 +95,16 @@ count_by negative (Some n) = if n == 0 then one else record { n = n; positive = 
 abbrev pub count_of : List KeyEvent → Count
 count_of [] = one
 count_of (first ∷ more) = count_by (is_minus first) (number_of (digits_of (first ∷ more)))
+
+-- a number with its sign, as it is shown; 0 has none
+abbrev pub shown_number : Bool → ℕ → List ℕ
+shown_number negative n = (if negative && not (n == 0) then codes "-" else []) ++ decimal n
+
+-- the prompt that shows the count of keys: the number of their digits, and 1 without one, with their sign
+abbrev pub count_prompt : List KeyEvent → List ℕ
+count_prompt [] = []
+count_prompt (first ∷ more) =
+    codes "(arg: " ++ shown_number (is_minus first) (unwrap_or (number_of (digits_of (first ∷ more))) 1) ++ codes ") "
 
 -- a count that is being read is that of these keys so far: their sign, and the number of their digits
 abbrev pub IsCountOf : TypedCount → List KeyEvent → Type 0

@@ -12,7 +12,7 @@ use Rattle.line_parts.specs.declared.highlight.CmdKind.{CmdKind}
 abbrev pub Measure : Type 0
 Measure = List ℕ → Position → Position
 
--- what of a screen never changes: how it measures, how many columns it has, whether it shows colours, and how it counts clusters
+-- what of a screen never changes: how it measures, how many columns it has, whether it shows colors, and how it counts clusters
 pub record Surface : Type 0 where
   pub measure : Measure
   pub columns : ℕ
@@ -37,7 +37,7 @@ pub record Display : Type 0 where
 abbrev pub corner : Position
 corner = record { row = 0; col = 0 }
 
--- nothing is drawn yet: of the kept layout the prompt's end and the mode stand
+-- nothing is drawn yet: of the kept layout only the prompt's end and the mode are set
 abbrev pub undrawn : Surface → Screen → List ℕ → Display
 undrawn surface screen prompt = record {
   surface = surface;
@@ -110,7 +110,7 @@ pub record GoesToShownEnd {T : Type 0} (result : Result T ReadlineError) (old ne
   pub origin : new.screen.origin ≡ old.screen.origin
   pub lit : new.lit ≡ old.lit
 
--- the last answer of `highlight_char` once it was asked, which is done with colours alone
+-- the last answer of `highlight_char`, after it was asked where colors are shown
 abbrev pub lit_after : Environment → Display → Line → CmdKind → Bool
 lit_after environment display line kind =
     if display.surface.colors then environment.lights line.text line.cursor kind else display.lit

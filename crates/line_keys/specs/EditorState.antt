@@ -42,7 +42,7 @@ Rises least most old new = old + most ≤ max_count → (old + least ≤ new) ×
 abbrev pub Redraws : {X : Type 0} → Ghosts X → ℕ → ℕ → X → X → Type 0
 Redraws e least most old new = Rises least most (e.redraws old) (e.redraws new)
 
--- an error is one of input or output, where this holds, or that memory ran out
+-- an error of input or output comes only where this holds; the only other error is that memory ran out
 pub record FailsOnlyIf {T : Type 0} (result : Result T ReadlineError) (cause : Type 0) : Type 0 where
   pub io : IoOnlyIf result cause
   pub faults : FaultsOnly result
@@ -128,11 +128,11 @@ pub record Does {X T : Type 0} (e : Ghosts X) (result : Result T ReadlineError) 
   pub frame : Frame e old new
   pub fails : FailsOnlyIf result (PartyFailed e old new)
 
--- the line was drawn in full with nothing behind it, or its cursor stood where it is drawn and nothing was drawn
+-- the line was drawn in full with nothing behind it, or nothing was drawn
 abbrev pub DrewMove : {X : Type 0} → Ghosts X → CmdKind → X → X → Type 0
 DrewMove e kind old new = Drew e old new None kind ⊎ DrewNothing e old new
 
--- an edit that was reported was drawn in full with its hint; without one the cursor was drawn where it is
+-- an edit that was reported was drawn in full with its hint; else the line was drawn with nothing behind it, or nothing was drawn
 abbrev pub DrewEdit : {X : Type 0} → Ghosts X → Bool → X → X → Type 0
 DrewEdit e reported old new = MatchBool reported (Drew e old new (hint_shown (e.draft new)) Other) (DrewMove e MoveCursor old new)
 
@@ -178,13 +178,13 @@ IsAtEnd e editor = (e.display editor).layout.cursor ≡ (e.display editor).layou
 abbrev pub IsInPlace : {X : Type 0} → Ghosts X → X → Type 0
 IsInPlace e editor = (e.display editor).screen.position ≡ (e.display editor).layout.cursor
 
--- nothing is drawn and no one is asked: only the draft may change
+-- nothing is drawn and no failure is counted: only the draft may change
 pub record Undrawn {X : Type 0} (e : Ghosts X) (old new : X) : Type 0 where
   pub drew : DrewNothing e old new
   pub failures : e.failures new ≡ e.failures old
   pub frame : Frame e old new
 
--- what stands behind a line that is drawn by a kept layout: the hint where that has room for an info, and else nothing
+-- what stands behind a line that is drawn by a kept layout: the hint where the layout has an info, and else nothing
 abbrev pub info_kept : Layout → Draft → Option (List ℕ)
 info_kept layout draft = if layout.has_info then hint_shown draft else None
 

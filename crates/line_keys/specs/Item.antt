@@ -9,7 +9,7 @@ pub data Item : Type 0 where
   key : KeyEvent → Item
   paste : List ℕ → Item
 
--- what a reader's error says of the items that are left: the end of the input comes only where none is
+-- what a reader's error says of the items that are left: the end of the input comes only where none is, and an interrupt never
 abbrev pub ReadFault : ReadlineError → List Item → Type 0
 ReadFault Eof rest = rest ≡ []
 ReadFault Interrupted rest = ⊥

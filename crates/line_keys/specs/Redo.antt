@@ -17,12 +17,12 @@ is_repeatable_change (vi_yank_to _) = true
 is_repeatable_change (yank _ _) = true
 is_repeatable_change _ = false
 
--- these, and moves
+-- the commands that can be done again: these changes, and moves
 abbrev pub is_repeatable : Command → Bool
 is_repeatable (move _) = true
 is_repeatable command = is_repeatable_change command
 
--- a movement with another count, where it has one
+-- a movement with another count, where the movement has a count
 abbrev pub counted_anew : Movement → ℕ → Movement
 counted_anew (BackwardWord _ word) n = BackwardWord n word
 counted_anew (ForwardWord _ at word) n = ForwardWord n at word

@@ -35,7 +35,7 @@ pub enum Cmd {
     CompleteBackward,
     /// Puts the completion of the hint that is shown into the line.
     CompleteHint,
-    /// Takes one step of indentation away from each line of the movement.
+    /// Takes up to one step of indentation away from each line of the movement.
     Dedent(Movement),
     /// Makes the next word lower case.
     DowncaseWord,
@@ -56,7 +56,7 @@ pub enum Cmd {
     /// Gives up the line, as by Ctrl-C.
     Interrupt,
     /// Deletes the text of the movement, and puts it into the kill ring unless the movement is by
-    /// characters.
+    /// single clusters.
     Kill(Movement),
     /// Moves the cursor.
     Move(Movement),
@@ -74,7 +74,7 @@ pub enum Cmd {
     QuotedInsert,
     /// Puts so many copies of the character in place of as many clusters.
     ReplaceChar(RepeatCount, char),
-    /// Deletes the text of the movement, and inserts another where one is given.
+    /// Kills the text of the movement, and inserts another where one is given.
     Replace(Movement, Option<String>),
     /// Searches the history backward while a term is typed.
     ReverseSearchHistory,
@@ -84,7 +84,7 @@ pub enum Cmd {
     Suspend,
     /// Exchanges the clusters before and under the cursor.
     TransposeChars,
-    /// Exchanges the word before the cursor with the one that is so many words on.
+    /// Exchanges the word that ends so many words on from the cursor with the one as many words before it.
     TransposeWords(RepeatCount),
     /// Undoes so many changes.
     Undo(RepeatCount),
@@ -94,7 +94,7 @@ pub enum Cmd {
     UpcaseWord,
     /// Copies the text of the movement to the kill ring.
     ViYankTo(Movement),
-    /// Inserts the newest text of the kill ring so many times.
+    /// Inserts the text of the kill ring's current slot so many times.
     Yank(RepeatCount, Anchor),
     /// Puts the text that was killed before the yanked one in its place.
     YankPop,

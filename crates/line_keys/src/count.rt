@@ -1,7 +1,7 @@
 //! Counts: how often a command is done.
-ghost use Rattle.std.specs.Prelude.{◌≡◌, ◌≤◌, ◌++◌, ◌∷◌, [], ◌||◌, ℕ, List, IfSome};
+ghost use Rattle.std.specs.Prelude.{◌≡◌, ◌≤◌, ◌++◌, ◌∷◌, [], ◌||◌, ℕ, List, IfOk, IfSome, string_bytes};
 ghost use Rattle.line_config.specs.Error.{MemoryOnly};
-ghost use Rattle.line_keys.specs.Count.{IsCountOf, begins_count, continues_count, count_of, digit_of, digits_of, is_digit, is_minus, number_of};
+ghost use Rattle.line_keys.specs.Count.{IsCountOf, begins_count, continues_count, count_of, count_prompt, digit_of, digits_of, is_digit, is_minus, number_of};
 ghost use Rattle.line_keys.specs.Table.{one};
 ghost use Rattle.line_keys.specs.declared.keys.KeyEvent.{KeyEvent};
 
@@ -16,7 +16,7 @@ use std::alloc::Global;
 pub struct Count {
     /// How often.
     pub n: RepeatCount,
-    /// Whether the direction is the command's own: no minus sign was typed.
+    /// Whether the direction is the command's own: the first key was no minus sign, or the number is 0.
     pub positive: bool,
 }
 
@@ -128,16 +128,21 @@ impl TypedCount {
         }
     }
 
-    /// Returns the prompt that shows the count.
+    /// Returns the prompt that shows the count: `(arg: N) `, where N is -1 for a minus sign alone.
+    ///
+    /// # Errors
+    /// That memory ran out.
     pub fn prompt(&self, alloc: Global) -> Result<String>
-        ensures { MemoryOnly result }
+        ensures text { (keys : List KeyEvent) → IsCountOf self.now keys
+            → IfOk result (λ prompt. string_bytes prompt ≡ count_prompt keys) }
+        ensures memory { MemoryOnly result }
     {
-        let sign = if self.negative && self.number != Some(0) {
+        let number = self.number.unwrap_or(1);
+        let sign = if self.negative && number != 0 {
             "-"
         } else {
             ""
         };
-        let number = self.number.unwrap_or(1);
         Ok(format!(in alloc; "(arg: {sign}{number}) ")?)
     }
 }

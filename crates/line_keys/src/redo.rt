@@ -11,7 +11,7 @@ use line_buffer::{Movement, RepeatCount};
 use line_config::Result;
 
 impl Cmd {
-    /// Returns the command as it is done for a key that a program gave it. A change of the line, a copy of it or a move takes
+    /// Returns the command as it is done for a key that a program bound to it. A change of the line, a copy of it or a move takes
     /// the new count, if there is one, and a replacement without a text of its own the text that came in last. Each other
     /// command stays as it is.
     ///
@@ -61,7 +61,7 @@ fn recounted(movement: Movement, new: Option<RepeatCount>) -> Movement
     }
 }
 
-// Returns what is replaced by the text that came in last: as many characters as it has bytes, where it was typed over the line.
+// Returns what is replaced by the text that came in last: as many clusters as it has bytes, where it was typed over the line.
 fn over_text(movement: Movement, new: Option<RepeatCount>, text: &Option<String>) -> Movement
     ensures { result ≡ replaced_again new (option_map string_bytes text.now) movement }
 {

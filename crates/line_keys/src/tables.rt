@@ -45,13 +45,13 @@ impl SearchKind {
 pub enum Meaning {
     /// A command.
     Command(Cmd),
-    /// The move to a character, which is read next, so many times.
+    /// The move to the n-th place of a character; the character is read next.
     Search(RepeatCount, SearchKind),
     /// A pasted text, which is read next.
     Paste,
     /// A second key, which is read next, with the count.
     SecondKey(Count),
-    /// None: no table has the key.
+    /// Nothing: no table has the key.
     Unlisted,
 }
 
@@ -240,7 +240,7 @@ fn search(forth: SearchKind, back: SearchKind, count: Count) -> Option<Meaning>
     Some(Meaning::Search(count.n, kind))
 }
 
-// Returns the command that Delete has as a character: on a line with a text it deletes, and in Vi ends the input.
+// Returns the command of C-D: on a line with a text Kill in Emacs and EndOfFile in Vi, and on an empty line Unknown.
 fn delete<W: Refresher>(mode: EditMode, count: Count, wrt: &W) -> Cmd
     ensures { (if length (W.draft wrt.now).line.text == 0 then unknown else deletes mode count)
         ≡ command_of result }
@@ -283,7 +283,7 @@ fn yank(count: Count) -> Cmd
     Cmd::Unknown
 }
 
-// Returns so many characters on, or back for a negative count.
+// Returns so many clusters on, or back for a negative count.
 fn chars_on(count: Count) -> Movement
     ensures { result ≡ chars_on count }
 {
@@ -293,7 +293,7 @@ fn chars_on(count: Count) -> Movement
     Movement::BackwardChar(count.n)
 }
 
-// Returns so many characters back, or on for a negative count.
+// Returns so many clusters back, or on for a negative count.
 fn chars_back(count: Count) -> Movement
     ensures { result ≡ chars_back count }
 {

@@ -1,4 +1,4 @@
-// What reads keys.
+//! What reads keys.
 ghost use Rattle.std.specs.Prelude.{◌≡◌, ◌≤◌, ◌∷◌, ℕ, List, Option, IfOk, IfErr, OnErr, option_map, string_bytes};
 ghost use Rattle.line_config.specs.Error.{IoOnlyIf, Rose};
 ghost use Rattle.line_keys.specs.Command.{Command, command_of};
@@ -12,8 +12,9 @@ use line_config::ReadlineError;
 
 /// A source of keys and pasted texts: a finite list of items, of which each call takes the next one.
 ///
-/// A failed call takes nothing, and raises the count of failures where the failure is one of input or
-/// output. At the end of the list each call answers `Eof`.
+/// # Errors
+/// A failed call takes nothing. `Eof` comes only at the end of the list, where no call succeeds, and `Interrupted` never.
+/// Another error is one of input or output, and then the count of failures has risen; or that memory ran out.
 pub trait RawReader {
     ghost rest: { Self → List Item };
 
@@ -21,7 +22,7 @@ pub trait RawReader {
 
     ghost own_binding: { Self → KeyEvent → Option Command };
 
-    /// Takes the next item, which is a key. Where it is a pasted text, that is a failure.
+    /// Takes the next item, which is a key, and returns it. A pasted text there is a failure, and stays.
     ///
     /// `single_esc_abort` says that an escape key is not to wait for more keys: what is read is the same.
     fn next_key(&mut self, single_esc_abort: bool) -> Result<KeyEvent, ReadlineError>
@@ -32,7 +33,8 @@ pub trait RawReader {
         ensures counts { failures self.old ≤ failures self.new }
         ensures binding { own_binding self.new ≡ own_binding self.old };
 
-    /// Takes the next item, which is the key of a character without a modifier, and gives the character.
+    /// Takes the next item, which is the key of a character without a modifier, and returns the character. Another item
+    /// there is a failure, and stays.
     fn next_char(&mut self) -> Result<char, ReadlineError>
         ensures took { IfOk result (λ c.
             rest self.old ≡ key (event (KeyCode.Char c) Modifiers.NONE) ∷ rest self.new) }
@@ -42,7 +44,7 @@ pub trait RawReader {
         ensures counts { failures self.old ≤ failures self.new }
         ensures binding { own_binding self.new ≡ own_binding self.old };
 
-    /// Takes the next item, which is a pasted text. Where it is a key, that is a failure.
+    /// Takes the next item, which is a pasted text, and returns it. A key there is a failure, and stays.
     fn read_pasted_text(&mut self) -> Result<String, ReadlineError>
         ensures took { IfOk result (λ t. rest self.old ≡ paste (string_bytes t) ∷ rest self.new) }
         ensures kept { OnErr result (rest self.new ≡ rest self.old) }
@@ -51,7 +53,7 @@ pub trait RawReader {
         ensures counts { failures self.old ≤ failures self.new }
         ensures binding { own_binding self.new ≡ own_binding self.old };
 
-    /// The command that the reader itself gives the key, if it gives one.
+    /// Returns the command that the reader itself gives the key, if it gives one.
     fn find_binding(&self, key: &KeyEvent) -> Option<Cmd>
         ensures { option_map command_of result ≡ own_binding self.now key.now };
 }

@@ -83,7 +83,7 @@ offered_for kind folder name None = []
 offered_for kind folder name (Some entries) = map (offered kind folder)
     (filter (λ entry. starts_with (λ a b. a == b) entry.name name) entries)
 
--- the candidates for a path in quotes of a kind, in the order of its folder, where this is what stands in each folder
+-- the candidates for a path in quotes of a kind, in the lister's order; the listing says which names each folder has
 abbrev pub offered_at : (List ℕ → Option (List Listed)) → Quote → List ℕ → List Offer
 offered_at listing kind path =
     let place = name_start path in
@@ -112,7 +112,7 @@ abbrev pub put_in : Offer → List Offer → List Offer
 put_in offer [] = offer ∷ []
 put_in offer (first ∷ more) = if is_before first offer then first ∷ put_in offer more else offer ∷ first ∷ more
 
--- that order as a function
+-- candidates put in that order
 abbrev pub in_order : List Offer → List Offer
 in_order [] = []
 in_order (offer ∷ more) = put_in offer (in_order more)

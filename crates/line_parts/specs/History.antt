@@ -79,7 +79,7 @@ all_taken rules lines (line ∷ more) =
     if leaves_out rules lines line then all_taken rules (added rules lines line) more
     else line ∷ all_taken rules (added rules lines line) more
 
--- a line of a history, its index, and the byte offset of what was looked for
+-- a line of a history, its index, and a byte offset in it, which the search tells
 pub record Found : Type 0 where
   pub entry : List ℕ
   pub index : ℕ

@@ -22,7 +22,7 @@ pub enum CmdKind {
     MoveCursor,
     /// Something else changed.
     Other,
-    /// The line is drawn for the last time, without a hint and without highlighted brackets.
+    /// The line is drawn without a hint and without highlighted brackets, as before it is submitted.
     ForcedRefresh,
 }
 

@@ -32,7 +32,7 @@ pub struct SearchResult<'a> {
     pub entry: CowStr<'a>,
     /// The index of the line.
     pub idx: usize,
-    /// The byte offset in the line of what was looked for.
+    /// A byte offset in the line: where the term first stands for `search`, behind it for `starts_with`, 0 for `get`.
     pub pos: usize,
 }
 

@@ -63,7 +63,7 @@ abbrev pub at_anchor : Anchor → Edited → Edited
 at_anchor Before e = e
 at_anchor After e = with_place (place_on e.line 1) e
 
--- in Vi's command mode a yank ends on the last cluster of what came
+-- the cursor goes one cluster back, if it is to, as after a yank in Vi's command mode
 abbrev pub stepped_back : Bool → Edited → Edited
 stepped_back true e = with_place (place_back e.line 1) e
 stepped_back false e = e
@@ -94,8 +94,8 @@ with_overwritten c (Some stop) e =
     edited_to (replaced_in e.line e.line.cursor stop (encode_utf8 c))
     (with_replaced e.line.text e.line.cursor stop (encode_utf8 c)) e
 
--- as many copies of a character come in the place of the clusters up to a place, if there is one;
--- the cursor is then on the last
+-- so many copies of a character come in the place of the clusters up to a place, if there is one;
+-- the cursor is then on the last copy
 abbrev pub with_copies_to : ℕ → ℕ → Option ℕ → Edited → Edited
 with_copies_to c count None e = e
 with_copies_to c count (Some stop) e =

@@ -12,7 +12,7 @@ use Rattle.line_buffer.specs.declared.keymap.Word.TheVariants.{Big}
 use Rattle.line_buffer.specs.declared.layout.Layout.{Layout}
 use Rattle.line_parts.specs.History.{begins_blank}
 
--- from white space at the cursor it goes on to the next word
+-- the cursor goes from white space on to the next Big word, and else stays
 abbrev pub to_first_print : Line → Line
 to_first_print line = if begins_blank (after line) then moved_to line (word_on Start Big line 1) else line
 

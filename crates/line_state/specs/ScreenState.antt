@@ -9,7 +9,7 @@ use Rattle.line_keys.specs.EditorState.{FailsOnlyIf}
 use Rattle.line_state.specs.declared.screen_state.ScreenState.{Ghosts}
 
 -- what is handed over for a full redraw agrees: the prompt ends at the layout's prompt end, the layout is a full redraw's, the old
--- layout's cursor is the drawn one, and a highlighter comes only with colours
+-- layout's cursor is the drawn one, and a highlighter comes only with colors
 pub record Agrees (surface : Surface) (screen : Screen) (prompt : List ℕ) (line : Line) (trailing : Option (List ℕ)) (old : Option Layout) (layout : Layout) (highlighted : Bool) : Type 0 where
   pub prompt_end : layout.prompt_size ≡ surface.measure prompt corner
   pub full : IsFullRedraw surface layout.prompt_size line trailing layout

@@ -80,7 +80,8 @@ impl EditedLine {
         Ok(())
     }
 
-    /// Kills the text of a movement, with the kill ring as the line buffer has it. Returns whether there was a text to kill.
+    /// Kills the text of a movement, and keeps it in `kill_ring` as `LineBuffer::kill` does. Returns whether there was a
+    /// text to kill.
     pub fn kill(
         &mut self,
         movement: &Movement,
@@ -100,6 +101,9 @@ impl EditedLine {
     }
 
     /// Returns a copy of the text of a movement, if it has one.
+    ///
+    /// # Errors
+    /// That memory ran out.
     pub fn copy(&self, movement: &Movement) -> Result<Option<String>, OutOfMemory>
         ensures { IfOk result (λ r. option_map string_bytes r
             ≡ text_in self.now.line.text (unless_empty (range_of self.now.line movement.now))) }
@@ -139,6 +143,9 @@ impl EditedLine {
 
     /// Returns the text that came in last: that of the newest insert or replacement, unless a group was begun or a text
     /// deleted since.
+    ///
+    /// # Errors
+    /// That memory ran out.
     pub fn last_insert(&self) -> Result<Option<String>, OutOfMemory>
         ensures { IfOk result (λ r.
             option_map string_bytes r ≡ last_insert_of self.now.changes.entries) }

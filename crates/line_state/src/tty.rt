@@ -30,11 +30,11 @@ pub trait Renderer: ScreenState {
         ensures origin { (Self.screen self.new).origin ≡ (Self.screen self.old).origin }
         ensures part { DrawsPart Self.ScreenState result self.old self.new };
 
-    /// Draws the prompt, the line and a text behind it in full.
+    /// Draws the prompt, the line and the text behind it in full. That text, `hint`, is a hint or a verdict's message.
     ///
     /// The cursor then stands where `new_layout` has it, if what is handed over agrees: the prompt ends at the prompt end of
     /// `new_layout`, which is the layout of a full redraw; the cursor of `old_layout` is the drawn one; and a highlighter
-    /// comes only with colours. `old_layout` says which rows were drawn before; with none nothing is cleared.
+    /// comes only with colors. `old_layout` says which rows were drawn before; with none nothing is cleared.
     fn refresh_line<P: Prompt, H: Highlighter>(
         &mut self,
         prompt: &P,
@@ -83,8 +83,8 @@ pub trait Renderer: ScreenState {
     fn calculate_position(&self, s: &str, orig: Position) -> Position
         ensures { result ≡ (Self.surface self.now).measure s.now orig };
 
-    /// Writes a text where the cursor stands. One printable ASCII character behind the shown text, with room on the
-    /// row, goes one column on and is shown.
+    /// Writes a text where the cursor stands. Where that is the end of the shown text, a column is free behind it, and the
+    /// text is one printable ASCII character, the character is shown and the cursor goes one column on.
     fn write_and_flush(&mut self, buf: &str) -> Result<()>
         ensures shown { (c : ℕ) → buf.now ≡ c ∷ [] → IsPrintable c
             → HasRoom (Self.surface self.old) (Self.screen self.old)
@@ -104,8 +104,8 @@ pub trait Renderer: ScreenState {
     fn clear_rows(&mut self, layout: &Layout) -> Result<()>
         ensures part { DrawsPart Self.ScreenState result self.old self.new };
 
-    /// Clears the rest of the cursor's row. Where just that many printable ASCII characters are shown there, at the
-    /// end of the text, they are taken away.
+    /// Clears the rest of the cursor's row. Where the shown text ends on that row, and what it has from the cursor on is
+    /// printable ASCII, that part is taken away from it.
     fn clear_to_eol(&mut self) -> Result<()>
         ensures position { (Self.screen self.new).position ≡ (Self.screen self.old).position }
         ensures cleared { (kept gone : List ℕ) → (Self.screen self.old).text ≡ kept ++ gone
@@ -129,7 +129,7 @@ pub trait Renderer: ScreenState {
     /// Returns how many rows the terminal has.
     fn get_rows(&self) -> Unit;
 
-    /// Returns whether colours are shown.
+    /// Returns whether colors are shown.
     fn colors_enabled(&self) -> bool
         ensures { result ≡ (Self.surface self.now).colors };
 

@@ -23,7 +23,7 @@ pub enum RefreshKind {
 }
 
 /// The drawn line: the renderer and the prompt, the layout of what is drawn, and whether characters are highlighted that
-/// the next drawing has to show without their colours.
+/// the next drawing has to show without their colors.
 pub struct View<'out, 'prompt, W: Renderer, P: Prompt> {
     out: &'out mut W,
     prompt: &'prompt P,
@@ -107,7 +107,7 @@ impl<'out, 'prompt, W: Renderer, P: Prompt> View<'out, 'prompt, W, P> {
     }
 
     /// Draws the line in full behind the prompt, with `info` behind it, if there is one. A highlighter may come only
-    /// with colours.
+    /// with colors.
     ///
     /// # Errors
     /// Those of the renderer.
@@ -126,7 +126,7 @@ impl<'out, 'prompt, W: Renderer, P: Prompt> View<'out, 'prompt, W, P> {
     }
 
     /// Draws the line in full behind another prompt, with `info` behind it, if there is one. A highlighter may
-    /// come only with colours.
+    /// come only with colors.
     ///
     /// # Errors
     /// Those of the renderer.
@@ -178,7 +178,7 @@ impl<'out, 'prompt, W: Renderer, P: Prompt> View<'out, 'prompt, W, P> {
     }
 
     /// Draws the kept layout again behind the prompt, with `info` behind the line, if there is one, and keeps it. A
-    /// highlighter may come only with colours.
+    /// highlighter may come only with colors.
     ///
     /// # Errors
     /// Those of the renderer.
@@ -280,14 +280,14 @@ impl<'out, 'prompt, W: Renderer, P: Prompt> View<'out, 'prompt, W, P> {
         self.out.move_cursor_at_leftmost(rdr)
     }
 
-    /// Returns whether colours are shown.
+    /// Returns whether colors are shown.
     pub fn colors_enabled(&self) -> bool
         ensures { result ≡ (⟦<Self as Drawn>⟧.display self.now).surface.colors }
     {
         self.out.colors_enabled()
     }
 
-    /// Returns whether characters are highlighted that the next drawing has to show without their colours.
+    /// Returns whether characters are highlighted that the next drawing has to show without their colors.
     pub fn is_lit(&self) -> bool
         ensures { result ≡ (⟦<Self as Drawn>⟧.display self.now).lit }
     {

@@ -15,7 +15,7 @@ const ORIGIN: Position = Position { row: 0, col: 0 };
 /// The rows that the screen says it has.
 const ROWS: Unit = 24;
 
-/// A screen without colours, which counts its full redraws.
+/// A screen without colors, which counts its full redraws.
 #[derive(Debug, Drop)]
 pub(crate) struct Plain {
     columns: Unit,

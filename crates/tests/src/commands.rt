@@ -42,7 +42,7 @@ mod undos;
 mod words;
 mod yanks;
 
-/// What the editor stands on: the style, whether the screen has colours, the history's lines, whether there is a helper,
+/// What the editor stands on: the style, whether the screen has colors, the history's lines, whether there is a helper,
 /// its hint and verdict, for which kind `highlight_char` answers yes, and which of its hints and verdicts and which of the
 /// history's look-ups fails, from 1 on, or 0 for none.
 #[derive(Clone, Copy)]
@@ -58,7 +58,7 @@ struct Setup {
     failing_look_up: u64,
 }
 
-/// A screen without colours, an empty history, and a helper that hints nothing and takes each line.
+/// A screen without colors, an empty history, and a helper that hints nothing and takes each line.
 const PLAIN: Setup = Setup {
     style: EditMode::Emacs,
     colors: false,

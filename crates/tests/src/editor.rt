@@ -27,7 +27,7 @@ mod faults;
 mod lines;
 mod turns;
 
-/// What the editor stands on: the style, the screen's columns and whether it has colours, which call of the renderer
+/// What the editor stands on: the style, the screen's columns and whether it has colors, which call of the renderer
 /// fails (0 for none), whether there is a helper, its hint and verdict, and for which kind `highlight_char` answers yes.
 #[derive(Clone, Copy)]
 struct Setup {
@@ -41,7 +41,7 @@ struct Setup {
     lit: Option<CmdKind>,
 }
 
-/// A screen of 80 columns without colours, and a helper that hints nothing and takes each line.
+/// A screen of 80 columns without colors, and a helper that hints nothing and takes each line.
 const PLAIN: Setup = Setup {
     style: EditMode::Emacs,
     columns: 80,

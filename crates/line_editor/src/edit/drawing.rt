@@ -20,7 +20,7 @@ impl<'out, 'prompt, W: Renderer, H: Helper, P: Prompt, S: History> State<
     P,
     S,
 > {
-    /// Returns the helper as a highlighter, if there is one and colours are shown.
+    /// Returns the helper as a highlighter, if there is one and colors are shown.
     pub fn highlighter(&self) -> Option<&H>
         ensures { let e = ⟦<Self as EditorState>⟧ in is_some result
             ≡ ((e.display self.now).surface.colors && is_some (e.environment self.now).verdict_at) }

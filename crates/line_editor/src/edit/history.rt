@@ -76,8 +76,8 @@ impl<'out, 'prompt, W: Renderer, H: Helper, P: Prompt, S: History> State<
         self.show_next()
     }
 
-    /// Shows the first line of the history, or comes back to the line that is being written. Nothing happens where that
-    /// line is shown already, and in an empty history.
+    /// Shows the first line of the history where `first` is true, or else comes back to the line that is being written.
+    /// Nothing happens where that line is shown already, and in an empty history.
     ///
     /// # Errors
     /// Those of the parties and of the renderer, and that memory ran out.
@@ -95,8 +95,9 @@ impl<'out, 'prompt, W: Renderer, H: Helper, P: Prompt, S: History> State<
         self.show_end()
     }
 
-    /// Goes one line back in the history, or on, and from there to the nearest one that begins with the text before the
-    /// cursor. It is shown with the cursor where it was. Without one, and at the history's ends, there is a beep.
+    /// Goes one line back in the history, or on, and from there to the nearest line that begins with the text before the
+    /// cursor. That line is shown, with the cursor behind that text. Where there is none the index has moved, and there
+    /// is a beep. At the history's ends there is only a beep.
     ///
     /// # Errors
     /// Those of the parties and of the renderer, and that memory ran out.

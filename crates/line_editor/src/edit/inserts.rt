@@ -80,7 +80,8 @@ impl<'out, 'prompt, W: Renderer, H: Helper, P: Prompt, S: History> State<
     }
 
     /// Puts `n` copies of a text before the cluster at the cursor, or behind it, and the cursor behind them; in Vi's command
-    /// mode it is then on the last cluster before that. Of the empty text the cursor moves alone.
+    /// mode the cursor then goes one cluster back. With the empty text only the cursor moves: for `After`, behind the
+    /// cluster.
     ///
     /// # Errors
     /// Those of the parties and of the renderer, and that memory ran out.

@@ -26,8 +26,8 @@ impl<'out, 'prompt, W: Renderer, H: Helper, P: Prompt, S: History> State<
     P,
     S,
 > {
-    /// Kills the text of a movement, with the kill ring as the line buffer has it, asks for the hint and draws the line
-    /// again. Where there is nothing to kill, nothing happens.
+    /// Kills the text of a movement and keeps it in `kill_ring` as `LineBuffer::kill` does, asks for the hint and draws the
+    /// line again. Where there is nothing to kill, nothing happens.
     ///
     /// # Errors
     /// Those of the parties and of the renderer, and that memory ran out. The line is text with its cursor on a boundary,

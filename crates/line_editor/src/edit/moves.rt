@@ -27,7 +27,8 @@ impl<'out, 'prompt, W: Renderer, H: Helper, P: Prompt, S: History> State<
     P,
     S,
 > {
-    /// Takes the drawn cursor to where the line's cursor is. Nothing is drawn where it stands there already.
+    /// Takes the drawn cursor to where the line's cursor is: draws the line in full, with nothing behind it. Nothing is
+    /// drawn where the kept cursor is there already. `kind` is what `highlight_char` is told.
     ///
     /// # Errors
     /// Those of the renderer.
@@ -118,7 +119,7 @@ impl<'out, 'prompt, W: Renderer, H: Helper, P: Prompt, S: History> State<
         self.follow(&Movement::EndOfBuffer, kind)
     }
 
-    /// Moves the cursor back to the start of the `n`th word before it. The drawn cursor goes along.
+    /// Moves the cursor back to the start of the `n`-th word before it. The drawn cursor goes along.
     ///
     /// # Errors
     /// Those of the renderer.
@@ -130,7 +131,8 @@ impl<'out, 'prompt, W: Renderer, H: Helper, P: Prompt, S: History> State<
         self.follow(&Movement::BackwardWord(n, word_def), CmdKind::MoveCursor)
     }
 
-    /// Moves the cursor on to a place at the `n`th word from it. The drawn cursor goes along.
+    /// Moves the cursor on by `n` words: to the start of one, to before its end or to after it, as `at` says. The drawn
+    /// cursor goes along.
     ///
     /// # Errors
     /// Those of the renderer.
@@ -142,7 +144,8 @@ impl<'out, 'prompt, W: Renderer, H: Helper, P: Prompt, S: History> State<
         self.follow(&Movement::ForwardWord(n, at, word_def), CmdKind::MoveCursor)
     }
 
-    /// Moves the cursor to the `n`th place of a character, or to the last one. The drawn cursor goes along.
+    /// Moves the cursor to the `n`-th place that the search leads to, or to the last where there are fewer. The drawn
+    /// cursor goes along.
     ///
     /// # Errors
     /// Those of the renderer.

@@ -35,7 +35,7 @@ impl<'out, 'prompt, W: Renderer, H: Helper, P: Prompt, S: History> State<
         self.show_edit(exchanged)
     }
 
-    /// Exchanges the word before the place where `n` words end with the word that many before it. The cursor goes behind
+    /// Exchanges the word that ends `n` words on from the cursor with the `n`-th word before it. The cursor goes behind
     /// both. Where these are not two words, the cursor alone moves: behind the first.
     ///
     /// # Errors
@@ -64,7 +64,8 @@ impl<'out, 'prompt, W: Renderer, H: Helper, P: Prompt, S: History> State<
         self.show_edit(changed)
     }
 
-    /// Puts `amount` spaces before each line of the movement, or takes as many white-space characters from its front.
+    /// Puts `amount` spaces before each line of the movement, or with `dedent` takes up to as many white-space
+    /// characters from its front.
     ///
     /// # Errors
     /// Those of the parties and of the renderer, and that memory ran out.

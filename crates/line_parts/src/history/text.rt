@@ -174,12 +174,13 @@ impl FileHistory {
         Ok(())
     }
 
-    /// Writes the lines to `out`. With `append` only the new lines are written, those that came
-    /// since all were saved or loaded, and without the header.
+    /// Writes the header line `#V2` and all lines to `out`, with their escapes and a line feed behind each, and flushes
+    /// it. With `append` only the new lines are written, those that came since all were saved or loaded, and no header.
+    /// After that no line counts as new.
     ///
     /// # Errors
-    /// `Io`, where the writer fails, and `Memory`. The history then stays as it was, and so do its
-    /// new lines.
+    /// `Io`, where the writer fails, and `Memory`. The history and its new lines then stay as they were, and `out` may
+    /// have a part of the text.
     pub fn save_to<T: Write>(&mut self, out: &mut T, append: bool) -> Result<()>
         ensures text { OnOk result
             (Appends (T.contents out.old) (T.contents out.new) (to_save append self.old)) }

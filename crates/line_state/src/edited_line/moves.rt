@@ -110,7 +110,8 @@ impl EditedLine {
     }
 
     #[tactic(auto, using(crate::proofs::EditedLemmas::first_by_text))]
-    /// Moves the cursor by a movement, with columns measured by `layout`. Returns whether it may have moved.
+    /// Moves the cursor by a movement, with columns measured by `layout`. Returns false only where the cursor
+    /// stayed.
     pub fn move_by(&mut self, movement: &Movement, layout: &Layout) -> bool
         ensures line { self.new
             ≡ record self.old { line = moved layout.now movement.now self.old.line } }

@@ -98,7 +98,7 @@ fn begins_with_a_line(rt: HostRuntime) -> Result<()> {
     Ok(())
 }
 
-/// Whether the screen has colours, whether there is a helper, and whether it is given as a highlighter.
+/// Whether the screen has colors, whether there is a helper, and whether it is given as a highlighter.
 const HIGHLIGHTERS: &[(bool, bool, bool)] = &[
     (false, false, false),
     (false, true, false),
@@ -135,7 +135,7 @@ fn is_given(
 }
 
 #[test]
-fn gives_the_highlighter_with_colours(rt: HostRuntime) -> Result<()> {
+fn gives_the_highlighter_with_colors(rt: HostRuntime) -> Result<()> {
     for case in HIGHLIGHTERS {
         highlights(&rt, rt.alloc(), *case)?;
     }

@@ -195,7 +195,7 @@ fn start_anew_after_a_fault(rt: HostRuntime) -> Result<(), Fail> {
     Ok(())
 }
 
-/// A highlighter is handed over where colours are on and a helper is there, and is asked of the change before. Where its last answer was yes, a submit draws
+/// A highlighter is handed over where colors are on and a helper is there, and is asked of the change before. Where its last answer was yes, a submit draws
 /// once more.
 const COLOURS: &[Case] = &[
     (
@@ -276,7 +276,7 @@ draw \"> \" \"a\" 1 None old 0:2 0:3 0:5+ new 0:2 0:3 0:3 for the last time
 ];
 
 #[test]
-fn with_colours(rt: HostRuntime) -> Result<(), Fail> {
+fn with_colors(rt: HostRuntime) -> Result<(), Fail> {
     for case in COLOURS {
         holds(&rt, rt.alloc(), case)?;
     }
@@ -385,7 +385,7 @@ const COMPLETING_IN_COLOURS: Setup = Setup {
     ..COMPLETING
 };
 
-/// A hint completes the line, over a screen with colours and over one without: line and cursor are the same.
+/// A hint completes the line, over a screen with colors and over one without: line and cursor are the same.
 const COMPLETED: &[Case] = &[
     (
         COMPLETING,
@@ -402,7 +402,7 @@ const COMPLETED: &[Case] = &[
 ];
 
 #[test]
-fn colours_change_no_line(rt: HostRuntime) -> Result<(), Fail> {
+fn colors_change_no_line(rt: HostRuntime) -> Result<(), Fail> {
     for case in COMPLETED {
         holds(&rt, rt.alloc(), case)?;
     }
