@@ -47,7 +47,7 @@ module _ {X Y : Type 0} (e : editors.Ghosts X) (r : readers.Ghosts Y) (start : X
     pub counts : r.failures reader ≤ r.failures reader'
     pub redraws : Redraws e 0 (length more) start now
 
-  module _ (typed : TypedCount) (now : X) (reader' : Y) (c : Counting typed now reader') (k : KeyEvent) (next : X) (reader'' : Y) (read : ReadsUnderCount e r (Ok k) now reader' next reader'') where
+  module _ (typed : TypedCount) (now : X) (reader' : Y) (c : Counting typed now reader') (k : KeyEvent) (next : X) (reader'' : Y) (read : ReadsUnderCount e r typed (Ok k) now reader' next reader'') where
     -- one more key was read
     cut_on : r.rest reader ≡ map key (c.more ++ k ∷ []) ++ r.rest reader''
     cut_on =

@@ -7,8 +7,8 @@ use Rattle.line_config.specs.declared.error.ReadlineError.{ReadlineError}
 use Rattle.line_config.specs.declared.error.ReadlineError.TheVariants.{Eof, Interrupted}
 use Rattle.line_parts.specs.Environment.{Environment}
 use Rattle.line_keys.specs.Command.{Command, command_of}
-use Rattle.line_keys.specs.Count.{continues_count, count_of}
-use Rattle.line_keys.specs.Display.{Display}
+use Rattle.line_keys.specs.Count.{IsCountOf, continues_count, count_of, count_prompt}
+use Rattle.line_keys.specs.Display.{Display, ShowsInFull, corner}
 use Rattle.line_keys.specs.Draft.{Draft, KeepsText, hint_shown, hinted, start_text}
 use Rattle.line_keys.specs.EditorState.{DrewNothing, Frame, HasRightLayout, IsInPlace, KeepsDrawn, Redraws, Shows}
 use Rattle.line_keys.specs.Item.{Item, key}
@@ -18,6 +18,7 @@ use Rattle.line_config.specs.Error.{UnlessFault}
 use Rattle.line_editor.specs.Editor.{Ruler, own_ruler, ruler_of}
 use Rattle.line_keys.specs.Table.{Meaning}
 use Rattle.line_keys.specs.declared.count.Count.{Count}
+use Rattle.line_keys.specs.declared.count.TypedCount.{TypedCount}
 use Rattle.line_keys.specs.declared.keys.KeyEvent.{KeyEvent}
 use Rattle.line_editor.specs.Input.{Input}
 use Rattle.line_editor.specs.Binding.{Bound, all_sure}
@@ -141,13 +142,21 @@ module _ {X Y : Type 0} (e : editors.Ghosts X) (r : readers.Ghosts Y) where
       IoOnlyIf result (e.sure editor ≡ true → all_sure keys.bound ≡ true
       → EitherRose (r.failures reader) (e.failures editor) (r.failures reader') (e.failures editor'))
 
+  -- the line is shown behind the prompt of a count, with its hint
+  abbrev pub ShowsCount : List KeyEvent → X → Type 0
+  ShowsCount keys editor =
+      ShowsInFull (e.display editor) ((e.display editor).surface.measure (count_prompt keys) corner)
+      (e.draft editor).line (hint_shown (e.draft editor))
+
   -- a step in reading a count: the count is shown and a key is read
-  pub record ReadsUnderCount (result : Result KeyEvent ReadlineError) (editor : X) (reader : Y) (editor' : X) (reader' : Y) : Type 0 where
+  pub record ReadsUnderCount (typed : TypedCount) (result : Result KeyEvent ReadlineError) (editor : X) (reader : Y) (editor' : X) (reader' : Y) : Type 0 where
     pub took : IfOk result (λ k. r.rest reader ≡ key k ∷ r.rest reader')
     pub eof : IsErrOf result Eof → IsDry r reader reader'
     pub draft : OnOk result (e.draft editor' ≡ hinted (e.environment editor) (e.draft editor))
     pub draft_at_eof : IsErrOf result Eof → e.draft editor' ≡ hinted (e.environment editor) (e.draft editor)
     pub text : KeepsText (e.draft editor) (e.draft editor')
+    pub shows : (keys : List KeyEvent) → IsCountOf typed keys → OnOk result (ShowsCount keys editor')
+    pub shows_at_eof : (keys : List KeyEvent) → IsCountOf typed keys → IsErrOf result Eof → ShowsCount keys editor'
     pub redraws : OnOk result (Redraws e 0 1 editor editor')
     pub redraws_at_eof : IsErrOf result Eof → Redraws e 0 1 editor editor'
     pub frame : Frame e editor editor'

@@ -141,7 +141,7 @@ impl<'b> InputState<'b> {
         wrt: &mut W,
         typed: &TypedCount,
     ) -> Result<KeyEvent>
-        ensures { ReadsUnderCount W.EditorState R.RawReader result
+        ensures { ReadsUnderCount W.EditorState R.RawReader typed.now result
             wrt.old rdr.old wrt.new rdr.new }
     {
         let prompt = typed.prompt(self.bindings.alloc())?;
