@@ -118,6 +118,8 @@ module _ {X Y : Type 0} (e : editors.Ghosts X) (r : readers.Ghosts Y) (editor : 
         empty = ended.empty;
         draft = inl refl;
         undrawn = λ none. (refl, record { display = refl; redraws = refl });
+        counting = λ some. absurd (some refl);
+        counted = λ some. absurd (some refl);
       }
 
   -- the items ended in a count
@@ -125,12 +127,16 @@ module _ {X Y : Type 0} (e : editors.Ghosts X) (r : readers.Ghosts Y) (editor : 
       → ReadsCount e r keys.input.style k result editor mid editor' reader' → IsErrOf result Eof
       → OutOfItems e r editor keys reader editor' reader'
   count_cut result editor' reader' begins count eof =
-      let inside = count.eof eof in
+      let cut = count.eof eof in
+      let inside = cut.inside in
+      let items = took ∙ ap (λ t. key k ∷ t) inside.cut in
       record {
-        begins = inside-begins _ _ _ _ k inside.more _ (took ∙ ap (λ t. key k ∷ t) inside.cut) begins inside.continue;
+        begins = inside-begins _ _ _ _ k inside.more _ items begins inside.continue;
         empty = inside.empty;
         draft = inr (count.draft_at_eof eof);
         undrawn = λ none. absurd (cc);
+        counting = λ some is. cut.shows;
+        counted = λ some other. absurd (other items);
       }
 
   module _ (count : Count) (last : KeyEvent) (editor' : X) (mid' : Y) (read : ReadsCount e r keys.input.style k (Ok (count, last)) editor mid editor' mid') (begins : begins_count keys.input.style keys.input.mode k ≡ true) where
@@ -179,6 +185,12 @@ module _ {X Y : Type 0} (e : editors.Ghosts X) (r : readers.Ghosts Y) (editor : 
           empty = ended.empty;
           draft = inr read.draft;
           undrawn = λ none. absurd (cc);
+          counting =
+              λ some is.
+              let whole = ap length (took ∙ ap (λ t. key k ∷ t) count_keys.cut)
+                  ∙ ap (λ n. 1 + n) (length-append (map key count_keys.more) (key last ∷ r.rest mid')) in
+              absurd (omega (arith, whole, ap length is));
+          counted = λ some other. read.right;
         }
 
     -- what else is left then

@@ -128,25 +128,27 @@ module _ {X Y : Type 0} (e : editors.Ghosts X) (r : readers.Ghosts Y) where
     pub undrawn : phrase.typed ≡ [] → DrewNothing e editor editor'
     pub measured : (indent : ℕ) → ruler_of (e.display editor') indent ≡ ruler_behind phrase.typed (e.display editor) indent
 
+  -- the line is shown behind the prompt of a count, with its hint
+  abbrev pub ShowsCount : List KeyEvent → X → Type 0
+  ShowsCount keys editor =
+      ShowsInFull (e.display editor) ((e.display editor).surface.measure (count_prompt keys) corner)
+      (e.draft editor).line (hint_shown (e.draft editor))
+
   -- the items end before a phrase or inside of one: all are read, and of the draft at most the hint changes; where they write no
-  -- count, nothing does, and nothing is drawn
+  -- count, nothing does, and nothing is drawn; where they end in a count, it is shown, and behind one the layout is right
   pub record OutOfItems (editor : X) (keys : KeyState) (reader : Y) (editor' : X) (reader' : Y) : Type 0 where
     pub begins : IsBeginning (keymap_of keys (r.own_binding reader)) (e.environment editor) (e.draft editor) keys.input (r.rest reader)
     pub empty : r.rest reader' ≡ []
     pub draft : LeftByCut (e.environment editor) (e.draft editor) (e.draft editor')
     pub undrawn : begins.phrase.typed ≡ [] → (e.draft editor' ≡ e.draft editor) × DrewNothing e editor editor'
+    pub counting : begins.phrase.typed ≢ [] → r.rest reader ≡ map key begins.phrase.typed → ShowsCount begins.phrase.typed editor'
+    pub counted : begins.phrase.typed ≢ [] → r.rest reader ≢ map key begins.phrase.typed → HasRightLayout e editor'
 
   -- an error of input or output comes only where the reader or the renderer failed, or a party or a handler is not sure
   abbrev pub FailsByReading : {T : Type 0} → Result T ReadlineError → X → KeyState → Y → X → Y → Type 0
   FailsByReading result editor keys reader editor' reader' =
       IoOnlyIf result (e.sure editor ≡ true → all_sure keys.bound ≡ true
       → EitherRose (r.failures reader) (e.failures editor) (r.failures reader') (e.failures editor'))
-
-  -- the line is shown behind the prompt of a count, with its hint
-  abbrev pub ShowsCount : List KeyEvent → X → Type 0
-  ShowsCount keys editor =
-      ShowsInFull (e.display editor) ((e.display editor).surface.measure (count_prompt keys) corner)
-      (e.draft editor).line (hint_shown (e.draft editor))
 
   -- a step in reading a count: the count is shown and a key is read
   pub record ReadsUnderCount (typed : TypedCount) (result : Result KeyEvent ReadlineError) (editor : X) (reader : Y) (editor' : X) (reader' : Y) : Type 0 where
@@ -166,10 +168,15 @@ module _ {X Y : Type 0} (e : editors.Ghosts X) (r : readers.Ghosts Y) where
     pub io : IoOnlyIf result (e.sure editor ≡ true
         → EitherRose (r.failures reader) (e.failures editor) (r.failures reader') (e.failures editor'))
 
+  -- the items ended in a count that began with a key, and it is shown
+  pub record CutInCount (style : EditMode) (first : KeyEvent) (reader : Y) (editor' : X) (reader' : Y) : Type 0 where
+    pub inside : InsideCount r style reader reader'
+    pub shows : ShowsCount (first ∷ inside.more) editor'
+
   -- the rest of a count that began with a key was read, and the key that ends it; the line is drawn again with its hint
   pub record ReadsCount (style : EditMode) (first : KeyEvent) (result : Result (Count × KeyEvent) ReadlineError) (editor : X) (reader : Y) (editor' : X) (reader' : Y) : Type 0 where
     pub read : IfOk result (λ ended. EndsCount r style first reader reader' ended.0 ended.1)
-    pub eof : IsErrOf result Eof → InsideCount r style reader reader'
+    pub eof : IsErrOf result Eof → CutInCount style first reader editor' reader'
     pub draft : OnOk result (e.draft editor' ≡ hinted (e.environment editor) (e.draft editor))
     pub draft_at_eof : IsErrOf result Eof → e.draft editor' ≡ hinted (e.environment editor) (e.draft editor)
     pub text : KeepsText (e.draft editor) (e.draft editor')
