@@ -1,10 +1,12 @@
 -- Facts on counts that are read.
-use Rattle.std.proofs.Common.{◌≡◌, ◌+◌, ◌≤◌, List, [], ◌∷◌, ◌++◌, append_assoc, map, length, true, false, Ok, inl, inr, sym, ◌∙◌, ap, arith}
+use Rattle.std.proofs.Common.{◌≡◌, ◌+◌, ◌-◌, ◌≤◌, List, [], ◌∷◌, ◌++◌, append_assoc, map, length, true, false, Ok, Err, inl, inr, sym, ◌∙◌, ap, arith}
 use Rattle.std.specs.Prelude.{◌&&◌}
 use Rattle.std.specs.List.{list_all}
-use Rattle.std.proofs.lemmas.List.{length-append, length-map, map-append}
+use Rattle.std.proofs.lemmas.List.{append-nil, length-append, length-map, map-append}
 use Rattle.std.proofs.lemmas.List.Folds.{list_all-append}
 use Rattle.line_config.specs.declared.config.EditMode.{EditMode}
+use Rattle.line_config.specs.declared.error.ReadlineError.{ReadlineError}
+use Rattle.line_config.specs.declared.error.ReadlineError.TheVariants.{Eof}
 use Rattle.line_parts.specs.Environment.{Environment}
 use Rattle.line_parts.specs.declared.highlight.CmdKind.TheVariants.{Other}
 use Rattle.line_keys.specs.Count.{IsCountOf, continues_count, count_of}
@@ -16,7 +18,7 @@ use Rattle.line_keys.specs.declared.count.TypedCount.{TypedCount}
 use Rattle.line_keys.specs.declared.editor_state.EditorState as editors
 use Rattle.line_keys.specs.declared.keys.KeyEvent.{KeyEvent}
 use Rattle.line_keys.specs.declared.tty.RawReader as readers
-use Rattle.line_editor.specs.Reading.{LeftByCut, ReadsCount, ReadsUnderCount}
+use Rattle.line_editor.specs.Reading.{CutInCount, LeftByCut, ReadsCount, ReadsUnderCount}
 use Rattle.line_editor.proofs.CountLemmas.{rises_twice}
 use Rattle.line_editor.proofs.DrawnLemmas.{frame_then}
 
@@ -46,6 +48,33 @@ module _ {X Y : Type 0} (e : editors.Ghosts X) (r : readers.Ghosts Y) (start : X
     pub own : r.own_binding reader' ≡ r.own_binding reader
     pub counts : r.failures reader ≤ r.failures reader'
     pub redraws : Redraws e 0 (length more) start now
+
+  -- no item was left where one more was to be read
+  pub cut_in_count : (typed : TypedCount) (now : X) (reader' : Y) → Counting typed now reader' → (f : ReadlineError) (next : X) (reader'' : Y)
+      → ReadsUnderCount e r typed (Err f) now reader' next reader'' → f ≡ Eof → CutInCount e r style first reader next reader''
+  cut_in_count typed now reader' c f next reader'' read is =
+      let dry = read.eof (ap Err is) in
+      record {
+        inside = record {
+          more = c.more;
+          cut = c.cut ∙ ap (λ t. map key c.more ++ t) dry.before ∙ append-nil (map key c.more);
+          continue = c.continue;
+          empty = dry.behind;
+        };
+        shows = read.shows_at_eof (first ∷ c.more) c.counted (ap Err is);
+      }
+
+  pub drawn_in_count : (typed : TypedCount) (now : X) (reader' : Y) → Counting typed now reader' → (f : ReadlineError) (next : X) (reader'' : Y)
+      → ReadsUnderCount e r typed (Err f) now reader' next reader'' → f ≡ Eof
+      → Redraws e 0 (1 + (length (r.rest reader) - length (r.rest reader''))) start next
+  drawn_in_count typed now reader' c f next reader'' read is =
+      let dry = read.eof (ap Err is) in
+      let size : length (r.rest reader) ≡ length c.more + length (r.rest reader') =
+      ap length c.cut ∙ length-append (map key c.more) (r.rest reader') ∙ ap (λ n. n + length (r.rest reader')) (length-map c.more key) in
+      let before : length (r.rest reader') ≡ 0 = ap length dry.before in
+      let behind : length (r.rest reader'') ≡ 0 = ap length dry.behind in
+      let drawn = rises_twice 0 (length c.more) 0 1 (e.redraws start) (e.redraws now) (e.redraws next) c.redraws (read.redraws_at_eof (ap Err is)) in
+      λ below. let s = drawn (omega (arith, below, size, before, behind)) in (s.0, omega (arith, s.1, size, before, behind))
 
   module _ (typed : TypedCount) (now : X) (reader' : Y) (c : Counting typed now reader') (k : KeyEvent) (next : X) (reader'' : Y) (read : ReadsUnderCount e r typed (Ok k) now reader' next reader'') where
     -- one more key was read

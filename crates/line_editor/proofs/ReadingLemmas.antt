@@ -187,9 +187,9 @@ module _ {X Y : Type 0} (e : editors.Ghosts X) (r : readers.Ghosts Y) (editor : 
           undrawn = λ none. absurd (cc);
           counting =
               λ some is.
-              let whole = ap length (took ∙ ap (λ t. key k ∷ t) count_keys.cut)
-                  ∙ ap (λ n. 1 + n) (length-append (map key count_keys.more) (key last ∷ r.rest mid')) in
-              absurd (omega (arith, whole, ap length is));
+              let whole = ap length (took ∙ ap (λ t. key k ∷ t) count_keys.cut) in
+              let behind = length-append (map key count_keys.more) (key last ∷ r.rest mid') in
+              absurd (omega (arith, whole, behind, ap length is));
           counted = λ some other. read.right;
         }
 
