@@ -76,10 +76,15 @@ const SCRIPTS: &[Case] = &[
         "outcome submitted\nline ]\ncursor 1\nplace 0\nat 0 3\nredraws 2\n",
         0,
     ),
-    // a hint is shown behind the line, and is no part of it
+    // a hint is shown behind the line, and is no part of it; moves keep it, and Right at the end takes it
     (
         "hints\nhistory git status\ntype gi\nkey C-a\nkey C-e\n",
         "outcome eof\nline gi\ncursor 2\nplace 1\nat 0 4\nredraws 5\n",
+        1,
+    ),
+    (
+        "hints\nhistory git status\ntype gi\nkey C-a\nkey C-e\nkey Right\n",
+        "outcome eof\nline git status\ncursor 10\nplace 1\nat 0 12\nredraws 6\n",
         1,
     ),
     // 77 and 78 characters behind a prompt of two columns, on 80 columns

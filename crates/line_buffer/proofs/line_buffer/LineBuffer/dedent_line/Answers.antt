@@ -44,18 +44,18 @@ set_pos-requires c =
 
 pub returns : goal.returns
 returns c =
+    let text = c.args.self.now.text in
+    let start = c.args.start in
+    let lost = c.blank_len-lost.result in
+    let within = c.requires.boundary.0 in
+    let line = line_is text c.text_from-rest.result.now c.range.result.now start c.first_line_len.result c.text_from-rest.ensures c.first_line_len.ensures.place c.range.ensures.value in
+    let fits : lost ≤ length (line_from text start) = omega (arith, c.blank_len-lost.ensures.boundary.0, ap length line) in
+    let made = c.in_ok-delete_range.ensures.line in
+    let gone : c.delete_range.new.self.text ≡ remove_range text start (start + lost) = ap (λ (x : Line). x.text) made in
+    let cursor = c.pos-cursor.ensures.value in
+    let is : lost ≡ length (blank_front c.args.amount (line_from text start)) = c.blank_len-lost.ensures.len ∙ ap (λ x. length (blank_front c.args.amount x)) line in
     record {
       line =
-          let text = c.args.self.now.text in
-          let start = c.args.start in
-          let lost = c.blank_len-lost.result in
-          let within = c.requires.boundary.0 in
-          let line = line_is text c.text_from-rest.result.now c.range.result.now start c.first_line_len.result c.text_from-rest.ensures c.first_line_len.ensures.place c.range.ensures.value in
-          let fits : lost ≤ length (line_from text start) = omega (arith, c.blank_len-lost.ensures.boundary.0, ap length line) in
-          let made = c.in_ok-delete_range.ensures.line in
-          let gone : c.delete_range.new.self.text ≡ remove_range text start (start + lost) = ap (λ (x : Line). x.text) made in
-          let cursor = c.pos-cursor.ensures.value in
-          let is : lost ≡ length (blank_front c.args.amount (line_from text start)) = c.blank_len-lost.ensures.len ∙ ap (λ x. length (blank_front c.args.amount x)) line in
           let l = c.args.self.now in
           let place : c.if-cursor-start.place ≡ moved_from true c.args.amount start (line_from text start ∷ []) l.cursor = elim c.if-cursor-start.branch [
             | then-cursor-start w ↦ w.place-is ∙ cursor ∙ sym (moved_before true c.args.amount start (line_from text start ∷ []) l.cursor (omega (arith, w.if-cursor-start.true, cursor)))
@@ -67,26 +67,11 @@ returns c =
           c.set_pos.ensures.line ∙ ap (λ (x : Line). with_cursor x c.if-cursor-start.place) made
           ∙ line_without_front l c.args.amount start lost c.if-cursor-start.place within fits is place;
       changes =
-          let text = c.args.self.now.text in
-          let start = c.args.start in
-          let lost = c.blank_len-lost.result in
-          let within = c.requires.boundary.0 in
-          let line = line_is text c.text_from-rest.result.now c.range.result.now start c.first_line_len.result c.text_from-rest.ensures c.first_line_len.ensures.place c.range.ensures.value in
-          let fits : lost ≤ length (line_from text start) = omega (arith, c.blank_len-lost.ensures.boundary.0, ap length line) in
           let bytes = ap (take lost) (sym line) ∙ c.blank_len-lost.ensures.bytes ∙ ap (λ x. blank_front c.args.amount x) line in
           c.in_ok-delete_range.ensures.changes
           ∙ ap (λ x. with_entries c.args.changes.now (with_delete start x c.args.changes.now.entries)) (gone_from_front text start lost within fits ∙ bytes);
       tells = search rules;
       cursor =
-          let text = c.args.self.now.text in
-          let start = c.args.start in
-          let lost = c.blank_len-lost.result in
-          let within = c.requires.boundary.0 in
-          let line = line_is text c.text_from-rest.result.now c.range.result.now start c.first_line_len.result c.text_from-rest.ensures c.first_line_len.ensures.place c.range.ensures.value in
-          let fits : lost ≤ length (line_from text start) = omega (arith, c.blank_len-lost.ensures.boundary.0, ap length line) in
-          let made = c.in_ok-delete_range.ensures.line in
-          let gone : c.delete_range.new.self.text ≡ remove_range text start (start + lost) = ap (λ (x : Line). x.text) made in
-          let cursor = c.pos-cursor.ensures.value in
           let there : IsCharBoundary c.delete_range.new.self.text start = rw (← ap (λ (x : Line). x.cursor) made) c.in_ok-delete_range.ensures.cursor in
           let here : IsCharBoundary text c.args.self.now.cursor = rw (← cursor) c.pos-cursor.ensures.boundary in
           let place : IsCharBoundary c.delete_range.new.self.text c.if-cursor-start.place = elim c.if-cursor-start.branch [
@@ -98,15 +83,6 @@ returns c =
           ] in
           rw c.set_pos.ensures.line place;
       stop =
-          let text = c.args.self.now.text in
-          let start = c.args.start in
-          let lost = c.blank_len-lost.result in
-          let within = c.requires.boundary.0 in
-          let line = line_is text c.text_from-rest.result.now c.range.result.now start c.first_line_len.result c.text_from-rest.ensures c.first_line_len.ensures.place c.range.ensures.value in
-          let fits : lost ≤ length (line_from text start) = omega (arith, c.blank_len-lost.ensures.boundary.0, ap length line) in
-          let made = c.in_ok-delete_range.ensures.line in
-          let gone : c.delete_range.new.self.text ≡ remove_range text start (start + lost) = ap (λ (x : Line). x.text) made in
-          let is : lost ≡ length (blank_front c.args.amount (line_from text start)) = c.blank_len-lost.ensures.len ∙ ap (λ x. length (blank_front c.args.amount x)) line in
           c.end_of_line-stop.ensures.place ∙ ap end_of_line made ∙ end_without_front text start lost within fits (remove_range text start (start + lost)) refl
           ∙ ap (λ n. start + length (drop n (line_from text start))) is;
       boundary = search rules;
