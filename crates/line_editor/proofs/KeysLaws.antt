@@ -1,11 +1,10 @@
 -- A run executes at most as many commands as it reads keys.
-use Rattle.std.proofs.Common.{arith, ◌≡◌, ℕ, ◌+◌, ◌≤◌, cond, List, [], ◌∷◌, ◌++◌, map, ◌∙◌, ap}
+use Rattle.std.proofs.Common.{arith, ◌≡◌, ◌+◌, ◌≤◌, cond, List, [], ◌∷◌, ◌++◌, map, ◌∙◌, ap}
 use Rattle.std.proofs.lemmas.List.Sums.{sum_by-append}
 use Rattle.line_parts.specs.Environment.{Environment}
 use Rattle.line_keys.specs.Command.{Command}
 use Rattle.line_keys.specs.Draft.{Draft}
 use Rattle.line_keys.specs.Item.{Item, key}
-use Rattle.line_keys.specs.declared.keys.KeyEvent.{KeyEvent}
 use Rattle.line_editor.specs.Editor.{Editor, Answer, Ruler}
 use Rattle.line_editor.specs.Input.{Input}
 use Rattle.line_editor.specs.Keymap.{Keymap}
