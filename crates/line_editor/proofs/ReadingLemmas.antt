@@ -118,6 +118,7 @@ module _ {X Y : Type 0} (e : editors.Ghosts X) (r : readers.Ghosts Y) (editor : 
         empty = ended.empty;
         draft = inl refl;
         undrawn = λ none. (refl, record { display = refl; redraws = refl });
+        within = omega arith;
         counting = λ some. absurd (some refl);
         counted = λ some. absurd (some refl);
       }
@@ -135,6 +136,7 @@ module _ {X Y : Type 0} (e : editors.Ghosts X) (r : readers.Ghosts Y) (editor : 
         empty = inside.empty;
         draft = inr (count.draft_at_eof eof);
         undrawn = λ none. absurd (cc);
+        within = let size = ap length items in let same = length-map inside.more key in omega (arith, size, same);
         counting = λ some is. cut.shows;
         counted = λ some other. absurd (other items);
       }
@@ -185,6 +187,11 @@ module _ {X Y : Type 0} (e : editors.Ghosts X) (r : readers.Ghosts Y) (editor : 
           empty = ended.empty;
           draft = inr read.draft;
           undrawn = λ none. absurd (cc);
+          within =
+              let whole = ap length (took ∙ ap (λ t. key k ∷ t) count_keys.cut) in
+              let behind = length-append (map key count_keys.more) (key last ∷ r.rest mid') in
+              let same = length-map count_keys.more key in
+              omega (arith, whole, behind, same);
           counting =
               λ some is.
               let whole = ap length (took ∙ ap (λ t. key k ∷ t) count_keys.cut) in

@@ -141,6 +141,7 @@ module _ {X Y : Type 0} (e : editors.Ghosts X) (r : readers.Ghosts Y) where
     pub empty : r.rest reader' ≡ []
     pub draft : LeftByCut (e.environment editor) (e.draft editor) (e.draft editor')
     pub undrawn : begins.phrase.typed ≡ [] → (e.draft editor' ≡ e.draft editor) × DrewNothing e editor editor'
+    pub within : length begins.phrase.typed ≤ length (r.rest reader)
     pub counting : begins.phrase.typed ≢ [] → r.rest reader ≡ map key begins.phrase.typed → ShowsCount begins.phrase.typed editor'
     pub counted : begins.phrase.typed ≢ [] → r.rest reader ≢ map key begins.phrase.typed → HasRightLayout e editor'
 

@@ -1,4 +1,4 @@
-use Rattle.std.proofs.Common.{◌≡◌, [], Err, ap, inl, refl, sym, ◌∙◌, subst}
+use Rattle.std.proofs.Common.{arith, ◌≡◌, [], Err, ap, inl, refl, sym, ◌∙◌, subst}
 use Rattle.std.proofs.result.Match.{if_ok_then}
 use Rattle.std.proofs.lemmas.Result.{err_from_is_err_and}
 use Rattle.line_config.specs.declared.error.ReadlineError.{ReadlineError}
@@ -16,7 +16,7 @@ returns-in_err-key-clause-eof g c =
     let e : c.in_err-key.field-0.0 ≡ Eof = (cc) in
     let P : ReadlineError → Type 0 = λ x. ReadFault x (g.R.RawReader.rest c.args.rdr.now) in
     let dry : g.R.RawReader.rest c.args.rdr.now ≡ [] = subst P e c.in_err-key.ensures.fault in
-    record { begins = nothing-begins _ _ _ _ _ dry; empty = c.in_err-key.ensures.kept ∙ dry; draft = inl refl; undrawn = λ none. (refl, record { display = refl; redraws = refl }); counting = λ some. absurd (some refl); counted = λ some. absurd (some refl) }
+    record { begins = nothing-begins _ _ _ _ _ dry; empty = c.in_err-key.ensures.kept ∙ dry; draft = inl refl; undrawn = λ none. (refl, record { display = refl; redraws = refl }); within = omega arith; counting = λ some. absurd (some refl); counted = λ some. absurd (some refl) }
 
 pub returns-then-not-begins_count-clause-phrase : goal.returns-then-not-begins_count-clause-phrase
 returns-then-not-begins_count-clause-phrase g c =
