@@ -135,7 +135,8 @@ module _ {X Y : Type 0} (e : editors.Ghosts X) (r : readers.Ghosts Y) where
       (e.draft editor).line (hint_shown (e.draft editor))
 
   -- the items end before a phrase or inside of one: all are read, and of the draft at most the hint changes; where they write no
-  -- count, nothing does, and nothing is drawn; where they end in a count, it is shown, and behind one the layout is right
+  -- count, nothing does, and nothing is drawn; the keys of a count are among those that were read, and where the items end with
+  -- them it is shown, and behind it the layout is right
   pub record OutOfItems (editor : X) (keys : KeyState) (reader : Y) (editor' : X) (reader' : Y) : Type 0 where
     pub begins : IsBeginning (keymap_of keys (r.own_binding reader)) (e.environment editor) (e.draft editor) keys.input (r.rest reader)
     pub empty : r.rest reader' ≡ []

@@ -207,8 +207,7 @@ pub trait ConditionalEventHandler: Drop {
     ghost answer: { Self → Asked → Option Command };
 
     /// Returns the command for the event `evt`, typed with the count `n`, or with its opposite where `positive` is false.
-    /// With None a key goes on to the reader's own binding, and then to the tables; of a sequence one more key is read,
-    /// where a longer one may be bound.
+    /// With None a key goes on to the reader's own binding, and then to the tables; behind a sequence one more key is read.
     ///
     /// # Errors
     /// `Io`, only where this handler is not sure, and `Memory`.
