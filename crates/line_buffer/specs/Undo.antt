@@ -1,5 +1,5 @@
 -- Taking changes back.
-use Rattle.std.specs.Prelude.{◌≡◌, ℕ, ◌+◌, ◌≤◌, max, Result, OnOk, OnErr, nat_le, Bool, true, false, List, [], ◌∷◌, length, take, drop, filter, count_by, unwrap_or, slice_range, IsCharBoundary}
+use Rattle.std.specs.Prelude.{◌≡◌, ◌⊎◌, ℕ, ◌+◌, ◌≤◌, max, Result, OnOk, OnErr, nat_le, Bool, true, false, List, [], ◌∷◌, length, take, drop, filter, count_by, unwrap_or, slice_range, IsCharBoundary}
 use Rattle.std.specs.Fn.{iterate}
 use Rattle.std.specs.List.{range_with_len, remove_range, insert_slice, replace_range}
 use Rattle.line_buffer.specs.Changes.{Changes, Entry, no_changes, with_entries, begins, ends, inserted, deleted, replaced}
@@ -116,6 +116,11 @@ pub record TellTheSame (old new : List Entry) : Type 0 where
 pub record KeepsTold {T E : Type 0} (result : Result T E) (old : Changes) (line : Line) (new : Changes) (line' : Line) : Type 0 where
   pub tells : OnOk result (StillTells old.entries line.text new.entries line'.text)
   pub err : OnErr result (new ≡ no_changes)
+
+-- after a call's success the changes tell of the new text what they told of the old one; after its error they do too, or there are none
+pub record StillTellsOrGone {T E : Type 0} (result : Result T E) (old : Changes) (line : Line) (new : Changes) (line' : Line) : Type 0 where
+  pub tells : OnOk result (StillTells old.entries line.text new.entries line'.text)
+  pub err : OnErr result (StillTells old.entries line.text new.entries line'.text ⊎ (new ≡ no_changes))
 
 -- the same of a call that leaves the text, whichever it is
 pub record KeepsToldAnywhere {T E : Type 0} (result : Result T E) (old new : Changes) : Type 0 where

@@ -1,5 +1,11 @@
 //! Laws over the definitions that the contracts cite.
+ghost use Rattle.line_buffer.specs.Comparison.{ClonesAreSame, IsOnlyDefault, IsReadingOrder, IsSameness};
 ghost use Rattle.line_buffer.specs.Laws.{ClosedGroupIsOneStep, KilledIsYanked, KillsInARowAreYanked, KillsInARowShareASlot, LastFittingIsLast, NoneCountedNoneOpen, PlacesAreBetweenClusters, TakingAllBack, UndoingStepByStep, YankPopsComeRound};
+
+use crate::keymap::{At, CharSearch, Movement, Word};
+use crate::kill_ring::Mode;
+use crate::layout::{GraphemeClusterMode, Position};
+use crate::line_buffer::{Direction, WordAction};
 
 /// Taking back a whole list of changes gives the text that it tells of.
 pub fn taking_all_back()
@@ -53,4 +59,28 @@ pub fn closed_group_is_one_step()
 /// Of places that fit, a move by lines and the character before a place take the last.
 pub fn last_fitting_is_last()
     ensures { LastFittingIsLast }
+{}
+
+/// Values are equal just where they are the same.
+pub fn equal_is_same()
+    ensures word { IsSameness ⟦<Word as PartialEq>⟧.eq }
+    ensures at { IsSameness ⟦<At as PartialEq>⟧.eq }
+    ensures search { IsSameness ⟦<CharSearch as PartialEq>⟧.eq }
+    ensures movement { IsSameness ⟦<Movement as PartialEq>⟧.eq }
+    ensures mode { IsSameness ⟦<Mode as PartialEq>⟧.eq }
+    ensures width { IsSameness ⟦<GraphemeClusterMode as PartialEq>⟧.eq }
+    ensures position { IsSameness ⟦<Position as PartialEq>⟧.eq }
+    ensures action { IsSameness ⟦<WordAction as PartialEq>⟧.eq }
+    ensures direction { IsSameness ⟦<Direction as PartialEq>⟧.eq }
+{}
+
+/// A clone of a movement is that movement.
+pub fn clones_are_same()
+    ensures { ClonesAreSame ⟦<Movement as Clone>⟧ }
+{}
+
+/// Positions are ordered by row, then by column, and the first of all is the default.
+pub fn positions_are_read_in_order()
+    ensures order { IsReadingOrder ⟦<Position as Ord>⟧.cmp }
+    ensures first { IsOnlyDefault ⟦<Position as Default>⟧.is_default (record { row = 0; col = 0 }) }
 {}
