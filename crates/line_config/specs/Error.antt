@@ -64,3 +64,11 @@ IsIoOfKind Eof _ = ⊥
 IsIoOfKind Interrupted _ = ⊥
 IsIoOfKind (Io cause) kind = error_kind cause ≡ kind
 IsIoOfKind Memory _ = ⊥
+
+-- an error of input or output has a kind for which this holds
+abbrev pub IoOnlyOfKind : {T : Type 0} → Result T ReadlineError → (ErrorKind → Type 0) → Type 0
+IoOnlyOfKind (Ok _) P = Unit {0}
+IoOnlyOfKind (Err Eof) P = Unit {0}
+IoOnlyOfKind (Err Interrupted) P = Unit {0}
+IoOnlyOfKind (Err (Io cause)) P = P (error_kind cause)
+IoOnlyOfKind (Err Memory) P = Unit {0}

@@ -1,3 +1,4 @@
 pub mod Error
 pub mod Settings
 pub mod Usual
+pub mod Failures

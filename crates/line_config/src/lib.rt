@@ -3,6 +3,7 @@
 
 pub mod config;
 pub mod error;
+pub mod laws;
 pub mod prompt;
 
 pub use config::{
