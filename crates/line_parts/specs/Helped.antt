@@ -1,6 +1,7 @@
 -- The answers of a helper, where there may be none.
 use Rattle.std.specs.Prelude.{ℕ, Bool, true, false, List, Option, Some, None}
 use Rattle.std.specs.Borrow.{MutBor}
+use Rattle.line_parts.specs.Environment.{Environment}
 use Rattle.line_parts.specs.Hint.{Suggestion}
 use Rattle.line_parts.specs.Shown.{Shown}
 use Rattle.line_parts.specs.Verdict.{Verdict}
@@ -28,3 +29,13 @@ lights_by lights (Some helper) text cursor kind = lights helper.now text cursor 
 unfoldable pub is_sure_by : {H : Type 0} → (H → Bool) → Option (MutBor H) → Bool
 is_sure_by sure None = true
 is_sure_by sure (Some helper) = sure helper.now
+
+-- what answers for a line: a helper, if there is one, and the lines of a history
+abbrev pub environment_by : {H : Type 0} → (H → Shown → Option Suggestion) → (H → List ℕ → Verdict)
+    → (H → List ℕ → ℕ → CmdKind → Bool) → Option (MutBor H) → List (List ℕ) → Environment
+environment_by hint_at verdict_at lights helper lines = record {
+  hint_at = hint_by hint_at helper;
+  verdict_at = verdict_by verdict_at helper;
+  lights = lights_by lights helper;
+  lines = lines;
+}

@@ -3,6 +3,8 @@ use Rattle.std.specs.Prelude.{◌≡◌, ◌≢◌, ℕ, ◌-◌, ◌==◌, ◌&
 use Rattle.std.specs.Prelude.{List, [], ◌∷◌, ◌++◌, filter, length, map, take, Option, IfSome, MatchOption, Result, Ok, Err}
 use Rattle.std.specs.Char.{is_newline}
 use Rattle.std.specs.List.{AllZip, flat_map, slice_split}
+use Rattle.std.specs.declared.io.ErrorKind.{ErrorKind}
+use Rattle.std.specs.declared.io.ErrorKind.TheVariants.{Interrupted, OutOfMemory}
 use Rattle.line_parts.specs.History.{FiledHistory, all_filed, all_taken, last_of, settled}
 
 -- a byte as it is written: `\` as `\\`, a newline as `\n`
@@ -122,6 +124,10 @@ pub record Begins (text rest : Option (List ℕ)) (old new : FiledHistory) (head
   pub no_header : headed ≡ false
       → IfSome text (λ t. (more : List (List ℕ)) → lines_of t ≢ header ∷ more)
   pub added : headed ≡ false → new ≡ all_filed old (filter is_some_text firsts)
+
+-- faults of this kind stop the reading: no want of memory, and no interruption, after which it goes on
+abbrev pub StopsReading : ErrorKind → Type 0
+StopsReading kind = (kind ≢ OutOfMemory) × (kind ≢ Interrupted)
 
 -- the text that a save writes: all lines behind the header, or the new ones to be appended
 abbrev pub to_save : Bool → FiledHistory → List ℕ

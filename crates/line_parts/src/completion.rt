@@ -1,6 +1,7 @@
 //! Completions of a part of the line.
 ghost use Rattle.std.specs.Prelude.{◌≡◌, ◌≤◌, ℕ, Bool, true, false, List, Option, Some, None};
 ghost use Rattle.std.specs.Prelude.{map, IfOk, IsOk, OnOk, IsCharBoundary, string_bytes};
+ghost use Rattle.line_buffer.specs.Undo.{StillTellsOrGone};
 ghost use Rattle.line_config.specs.Error.{IoOnlyIf, FaultsOnly};
 ghost use Rattle.line_config.specs.Usual.{IsUsualOrOwn};
 
@@ -120,7 +121,8 @@ pub trait Completer {
     /// cursor then stands behind that text.
     ///
     /// # Errors
-    /// `Io`, only where this completer is not sure, and `Memory`.
+    /// `Io`, only where this completer is not sure, and `Memory`. The changes then tell of the line
+    /// still, or there are none.
     fn update(
         &self,
         line: &mut LineBuffer,
@@ -134,6 +136,7 @@ pub trait Completer {
             OnOk result (IsUsualOrOwn (put_to_cursor old start elected.now)
             (own_update self.now old start elected.now)
             (record { line = line.new; changes = changes.new })) }
+        ensures told { StillTellsOrGone result changes.old line.old changes.new line.new }
         ensures io { IoOnlyIf result (sure self.now ≡ false) }
         ensures faults { FaultsOnly result }
     {

@@ -10,6 +10,12 @@ pub trait Consulted {
     // The history index of the line.
     ghost index: { Self → ℕ };
 
+    // Whether no error of input or output comes from its hints, where the history may be asked too.
+    ghost sure_of_hints: { Self → Bool };
+
+    // Whether no error of input or output comes from its verdicts.
+    ghost sure_of_verdicts: { Self → Bool };
+
     // Whether no error of input or output comes from its hints, its verdicts and its history.
     ghost sure: { Self → Bool };
 }

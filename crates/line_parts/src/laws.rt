@@ -1,8 +1,14 @@
 //! Laws over the definitions that the contracts cite.
+ghost use Rattle.line_buffer.specs.Comparison.{IsSameness, IsSamenessOf};
 ghost use Rattle.line_parts.specs.BracketLaws.{StrikingOutGivesAVerdict, VerdictIsOne};
 ghost use Rattle.line_parts.specs.CompletionLaws.{CommonStartIsOne, EscapedIsUnescaped, EscapedIsWord, OneQuoteIsOpen, OrderIsOne};
+ghost use Rattle.line_parts.specs.History.{found_of};
 ghost use Rattle.line_parts.specs.HistoryLaws.{AddingKeepsTheLast, FoundIsNearest, NoneIsNowhere};
 ghost use Rattle.line_parts.specs.HistoryTextLaws.{SavedIsLoaded, SavedIsRead, TextSaysOne};
+
+use crate::completion::Quote;
+use crate::highlight::CmdKind;
+use crate::history::{SearchDirection, SearchResult};
 
 /// A history without lines, to which lines are added one by one, then holds the last of those that
 /// it took, as many as its limit.
@@ -77,4 +83,13 @@ pub fn one_quote_is_open()
 /// Candidates can be put in order, and in one way: those that show one text stay in the order in which they came.
 pub fn candidates_have_one_order()
     ensures { OrderIsOne }
+{}
+
+/// Values are equal just where they are the same: lines that were found where the line, its index
+/// and the place in it are.
+pub fn equal_is_same()
+    ensures found { IsSamenessOf found_of ⟦<SearchResult<'static> as PartialEq>⟧.eq }
+    ensures direction { IsSameness ⟦<SearchDirection as PartialEq>⟧.eq }
+    ensures kind { IsSameness ⟦<CmdKind as PartialEq>⟧.eq }
+    ensures quote { IsSameness ⟦<Quote as PartialEq>⟧.eq }
 {}

@@ -5,7 +5,7 @@ ghost use Rattle.line_config.specs.Error.{FaultsOnly, IoOnlyIf};
 ghost use Rattle.line_parts.specs.Consulted.{Unchanged};
 ghost use Rattle.line_parts.specs.Context.{shown_in};
 ghost use Rattle.line_parts.specs.Environment.{Environment, hint_for, verdict_on};
-ghost use Rattle.line_parts.specs.Helped.{hint_by, is_sure_by, lights_by, verdict_by};
+ghost use Rattle.line_parts.specs.Helped.{environment_by, hint_by, is_sure_by, lights_by, verdict_by};
 ghost use Rattle.line_parts.specs.Hint.{suggestion_of, visible};
 ghost use Rattle.line_parts.specs.Shown.{NotBoth};
 ghost use Rattle.line_parts.specs.Verdict.{verdict_of};
@@ -35,14 +35,14 @@ impl<H: Helper, S: History> Drop for Parties<'_, H, S> {
 }
 
 impl<'out, H: Helper, S: History> Consulted for Parties<'out, H, S> {
-    ghost environment = { λ p. record {
-      hint_at = hint_by H.hint_at p.helper;
-      verdict_at = verdict_by H.verdict_at p.helper;
-      lights = lights_by H.lights p.helper;
-      lines = S.lines p.ctx.history;
-    } };
+    ghost environment = { λ p.
+        environment_by H.hint_at H.verdict_at H.lights p.helper (S.lines p.ctx.history) };
 
     ghost index = { λ p. p.ctx.index };
+
+    ghost sure_of_hints = { λ p. is_sure_by H.Hinter.sure p.helper && S.sure p.ctx.history };
+
+    ghost sure_of_verdicts = { λ p. is_sure_by H.Validator.sure p.helper };
 
     ghost sure = { λ p. is_sure_by H.Hinter.sure p.helper
         && is_sure_by H.Validator.sure p.helper && S.sure p.ctx.history };
@@ -144,16 +144,15 @@ fn highlighter_of<'a, 'out, H: Helper>(
 impl<'out, H: Helper, S: History> Parties<'out, H, S> {
     /// Returns the parties that are asked about a line at the position `ctx` in the history.
     pub fn new(helper: Option<&'out mut H>, ctx: Context<'out, S>) -> Self
-        ensures environment { ⟦<Self as Consulted>⟧.environment result ≡ record {
-          hint_at = hint_by H.hint_at helper.entry;
-          verdict_at = verdict_by H.verdict_at helper.entry;
-          lights = lights_by H.lights helper.entry;
-          lines = S.lines ctx.entry.history;
-        } }
+        ensures environment { ⟦<Self as Consulted>⟧.environment result ≡ environment_by
+            H.hint_at H.verdict_at H.lights helper.entry (S.lines ctx.entry.history) }
         ensures index { ⟦<Self as Consulted>⟧.index result ≡ ctx.entry.index }
-        ensures sure { ⟦<Self as Consulted>⟧.sure result
-            ≡ (is_sure_by H.Hinter.sure helper.entry && is_sure_by H.Validator.sure helper.entry
-            && S.sure ctx.entry.history) }
+        ensures hints { ⟦<Self as Consulted>⟧.sure_of_hints result
+            ≡ (is_sure_by H.Hinter.sure helper.entry && S.sure ctx.entry.history) }
+        ensures verdicts { ⟦<Self as Consulted>⟧.sure_of_verdicts result
+            ≡ is_sure_by H.Validator.sure helper.entry }
+        ensures sure { let p = ⟦<Self as Consulted>⟧ in p.sure result
+            ≡ (p.sure_of_hints result && p.sure_of_verdicts result) }
     {
         Parties { helper, ctx }
     }
@@ -161,12 +160,12 @@ impl<'out, H: Helper, S: History> Parties<'out, H, S> {
     /// Returns the helper's hint for `line`, or None where there is no hint or it displays nothing.
     ///
     /// # Errors
-    /// `Io`, only where one of the parties is not sure, and `Memory`.
+    /// `Io`, only where the hinter or the history is not sure, and `Memory`.
     pub fn hint(&self, alloc: Global, line: &LineBuffer) -> Result<Option<H::Hint>>
         ensures answer { let p = ⟦<Self as Consulted>⟧ in IfOk result (λ hint.
             option_map (suggestion_of H.Hint.Hint) hint ≡ hint_for (p.environment self.now)
             line.now.text line.now.cursor (p.index self.now)) }
-        ensures io { IoOnlyIf result (⟦<Self as Consulted>⟧.sure self.now ≡ false) }
+        ensures io { IoOnlyIf result (⟦<Self as Consulted>⟧.sure_of_hints self.now ≡ false) }
         ensures faults { FaultsOnly result }
     {
         Ok(visible_hint(helper_hint(alloc, &self.helper, line, &self.ctx)?))
@@ -182,11 +181,11 @@ impl<'out, H: Helper, S: History> Parties<'out, H, S> {
     /// Returns the helper's verdict on the text of `line`. Without a helper the text is valid.
     ///
     /// # Errors
-    /// `Io`, only where one of the parties is not sure, and `Memory`.
+    /// `Io`, only where the validator is not sure, and `Memory`.
     pub fn validate(&self, alloc: Global, line: &LineBuffer) -> Result<ValidationResult>
         ensures answer { IfOk result (λ r. verdict_of r
             ≡ verdict_on (⟦<Self as Consulted>⟧.environment self.now) line.now.text) }
-        ensures io { IoOnlyIf result (⟦<Self as Consulted>⟧.sure self.now ≡ false) }
+        ensures io { IoOnlyIf result (⟦<Self as Consulted>⟧.sure_of_verdicts self.now ≡ false) }
         ensures faults { FaultsOnly result }
     {
         let verdict = helper_verdict(alloc, &self.helper, line.as_str())?;
@@ -234,6 +233,10 @@ impl<'out, H: Helper, S: History> Parties<'out, H, S> {
         ensures index { ⟦<Self as Consulted>⟧.index self.new ≡ index }
         ensures environment { let p = ⟦<Self as Consulted>⟧ in
             p.environment self.new ≡ p.environment self.old }
+        ensures hints { let p = ⟦<Self as Consulted>⟧ in
+            p.sure_of_hints self.new ≡ p.sure_of_hints self.old }
+        ensures verdicts { let p = ⟦<Self as Consulted>⟧ in
+            p.sure_of_verdicts self.new ≡ p.sure_of_verdicts self.old }
         ensures sure { let p = ⟦<Self as Consulted>⟧ in p.sure self.new ≡ p.sure self.old }
     {
         self.ctx.set_history_index(index);

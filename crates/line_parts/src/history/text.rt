@@ -1,20 +1,21 @@
 //! The text in which a history is saved and loaded.
 ghost use Rattle.std.specs.Prelude.{◌≡◌, ◌≢◌, ◌+◌, ◌<◌, ◌≤◌, ℕ, length, drop, slice_index};
 ghost use Rattle.std.specs.Prelude.{if◌then◌else◌, ◌++◌, ◌∷◌, [], true, false, not};
-ghost use Rattle.std.specs.Prelude.{List, All, OnOk, OnErr, IfErr, IfOk, MatchOption, IfSome};
+ghost use Rattle.std.specs.Prelude.{List, All, OnOk, OnErr, IfOk, MatchOption, IfSome};
 ghost use Rattle.std.specs.Io.BufRead.{ends_with_byte, strip_last};
 ghost use Rattle.std.specs.Str.{IsUtf8};
-ghost use Rattle.std.specs.declared.io.ErrorKind.TheVariants.{InvalidData};
-ghost use Rattle.line_config.specs.Error.{FaultsOnly, IoOnlyIf, IsIoOfKind, MemoryOnly};
+ghost use Rattle.std.specs.IoError.{error_kind};
+ghost use Rattle.std.specs.declared.io.ErrorKind.TheVariants.{InvalidData, OutOfMemory};
+ghost use Rattle.line_config.specs.Error.{FaultsOnly, IoOnlyIf, IoOnlyOfKind, MemoryOnly};
 ghost use Rattle.line_config.specs.Error.{is_fault, is_io};
-ghost use Rattle.line_config.specs.declared.error.ReadlineError.TheVariants.{Io};
+ghost use Rattle.line_config.specs.declared.error.ReadlineError.TheVariants.{Io, Memory};
 ghost use Rattle.memchr.specs.Find.{is_byte2};
 ghost use Rattle.std.specs.Io.{StopsAt};
 ghost use Rattle.std.specs.Io.KnownBytes.{append_known, Appends};
 ghost use Rattle.line_parts.specs.History.{filed, leaves_out, settled};
 ghost use Rattle.line_parts.specs.HistoryText.{escaped_byte, escaped, lines_of, to_save, written};
 ghost use Rattle.line_parts.specs.HistoryText.{Adds, AddsBeginning, AddsSome, Begins, FilesSome};
-ghost use Rattle.line_parts.specs.HistoryText.{GoesOn, Loads, LoadsBeginning, Says};
+ghost use Rattle.line_parts.specs.HistoryText.{GoesOn, Loads, LoadsBeginning, Says, StopsReading};
 
 use crate::history::{FileHistory, History};
 use line_config::{ReadlineError, Result};
@@ -110,6 +111,7 @@ fn read_line<B: BufRead>(reader: &mut B, line: &mut Vec<u8>) -> Result<bool>
     ensures ended { IfOk result (λ more. more ≡ false
         → IfSome (B.remaining reader.old) (λ text. lines_of text ≡ [])) }
     ensures plain { OnOk result (All (λ b. b ≢ 10) line.new.items) }
+    ensures kind { IoOnlyOfKind result StopsReading }
     ensures faults { FaultsOnly result }
 {
     line.clear();
@@ -135,6 +137,8 @@ const BUFFERED: usize = 8192;
 fn stream_fault(cause: io::Error) -> ReadlineError
     ensures fault { is_fault result ≡ true }
     ensures kept { is_io result ≡ true → result ≡ Io cause }
+    ensures memory { error_kind cause ≡ OutOfMemory → result ≡ Memory }
+    ensures other { error_kind cause ≢ OutOfMemory → result ≡ Io cause }
 {
     if cause.kind() == io::ErrorKind::OutOfMemory {
         return ReadlineError::Memory;
@@ -146,6 +150,7 @@ fn stream_fault(cause: io::Error) -> ReadlineError
 fn write_out<T: Write>(text: &mut Vec<u8>, out: &mut T) -> Result<()>
     ensures text { OnOk result (Appends (T.contents out.old) (T.contents out.new) text.old.items) }
     ensures empty { OnOk result (text.new.items ≡ []) }
+    ensures kind { IoOnlyOfKind result (λ kind. kind ≢ OutOfMemory) }
     ensures faults { FaultsOnly result }
 {
     out.write_all(text.as_slice()).map_err(stream_fault)?;
@@ -163,6 +168,7 @@ impl FileHistory {
             (append_known (T.contents out.old) text.old.items)
             (append_known (T.contents out.new) text.new.items)
             (written (drop first self.now.lines))) }
+        ensures kind { IoOnlyOfKind result (λ kind. kind ≢ OutOfMemory) }
         ensures faults { FaultsOnly result }
     {
         for index in first..self.len() {
@@ -186,6 +192,7 @@ impl FileHistory {
             (Appends (T.contents out.old) (T.contents out.new) (to_save append self.old)) }
         ensures history { OnOk result (self.new ≡ settled self.old) }
         ensures unchanged { OnErr result (self.new ≡ self.old) }
+        ensures kind { IoOnlyOfKind result (λ kind. kind ≢ OutOfMemory) }
         ensures faults { FaultsOnly result }
     {
         let mut text = Vec::new(self.alloc());
@@ -210,7 +217,7 @@ impl FileHistory {
         ensures filed { OnOk result (self.new ≡ filed self.old line.now) }
         ensures unchanged { OnErr result (self.new ≡ self.old) }
         ensures io { IoOnlyIf result (¬ (IsUtf8 line.now)) }
-        ensures kind { IfErr result (λ e. is_io e ≡ true → IsIoOfKind e InvalidData) }
+        ensures kind { IoOnlyOfKind result (λ kind. kind ≡ InvalidData) }
         ensures faults { FaultsOnly result }
     {
         match str::from_utf8(line) {
@@ -225,7 +232,7 @@ impl FileHistory {
         requires { All (λ b. b ≢ 10) line.now }
         ensures adds { IfOk result (Adds headed (line.now ∷ []) self.old self.new) }
         ensures unchanged { OnErr result (self.new ≡ self.old) }
-        ensures kind { IfErr result (λ e. is_io e ≡ true → IsIoOfKind e InvalidData) }
+        ensures kind { IoOnlyOfKind result (λ kind. kind ≡ InvalidData) }
         ensures faults { FaultsOnly result }
     {
         if line.is_empty() {
@@ -246,6 +253,7 @@ impl FileHistory {
         ensures begins { IfOk result
             (Begins (B.remaining reader.old) (B.remaining reader.new) self.old self.new) }
         ensures unchanged { OnErr result (self.new ≡ self.old) }
+        ensures kind { IoOnlyOfKind result StopsReading }
         ensures faults { FaultsOnly result }
     {
         let mut line = Vec::new(self.alloc());
@@ -269,6 +277,7 @@ impl FileHistory {
         ensures beginning { OnErr result (IfSome (B.remaining reader.old)
             (λ text. AddsBeginning headed (lines_of text) self.old self.new)) }
         ensures some { AddsSome self.old self.new }
+        ensures kind { IoOnlyOfKind result StopsReading }
         ensures faults { FaultsOnly result }
     {
         let mut line = Vec::new(self.alloc());
@@ -292,6 +301,7 @@ impl FileHistory {
         ensures beginning { OnErr result (IfSome (B.remaining reader.old)
             (λ text. LoadsBeginning text self.old self.new)) }
         ensures adds { FilesSome result self.old self.new }
+        ensures kind { IoOnlyOfKind result StopsReading }
         ensures faults { FaultsOnly result }
     {
         let headed = self.load_first(reader)?;
@@ -319,6 +329,7 @@ impl FileHistory {
         ensures beginning { OnErr result (IfSome (T.remaining reader)
             (λ text. LoadsBeginning text self.old self.new)) }
         ensures adds { FilesSome result self.old self.new }
+        ensures kind { IoOnlyOfKind result StopsReading }
         ensures faults { FaultsOnly result }
     {
         match BufReader::new(self.alloc(), reader) {
