@@ -8,6 +8,8 @@ pub mod Row
 pub mod Draft
 pub mod Display
 pub mod EditorState
+pub mod ShownLine
+pub mod Drawing
 pub use Rattle.line_parts.specs.Shown
 pub use Rattle.line_parts.specs.Context
 pub use Rattle.line_parts.specs.Environment

@@ -1,11 +1,9 @@
 //! What the keys' tables ask of the editor.
-ghost use Rattle.std.specs.Prelude.{◌≡◌, ℕ, ◌↔◌, false, List, IfOk, OnOk, OnErr, IsTrue, is_some, option_map, option_and_then, length, string_bytes, IsCharBoundary};
+ghost use Rattle.std.specs.Prelude.{◌≡◌, ℕ, ◌↔◌, List, IfOk, OnOk, OnErr, IsTrue, is_some, option_map, option_and_then, length, string_bytes, IsCharBoundary};
 ghost use Rattle.line_buffer.specs.Changes.{last_insert_of};
 ghost use Rattle.line_config.specs.Error.{MemoryOnly};
-ghost use Rattle.line_keys.specs.Display.{ShowsInFull, corner, lit_after};
-ghost use Rattle.line_keys.specs.Draft.{hint_shown, hinted, unhinted, in_group, out_of_group, without_changes};
-ghost use Rattle.line_keys.specs.EditorState.{Drew, Redraws, Refreshes, Undrawn};
-ghost use Rattle.line_parts.specs.declared.highlight.CmdKind.TheVariants.{Other};
+ghost use Rattle.line_keys.specs.Draft.{hinted, unhinted, in_group, out_of_group, without_changes};
+ghost use Rattle.line_keys.specs.Drawing.{Refreshes, Undrawn, behind_prompt, with_hint, with_text};
 
 use crate::editor_state::EditorState;
 use line_config::Result;
@@ -48,32 +46,18 @@ impl Invoke for &str {
 pub trait Refresher: EditorState {
     /// Asks for the hint and draws all again.
     fn refresh_line(&mut self) -> Result<()>
-        ensures refreshed { let e = Self.EditorState in
-            Refreshes e result self.old self.new
-            (hinted (e.environment self.old) (e.draft self.old)) }
-        ensures drew { let e = Self.EditorState in
-            OnOk result (Drew e self.old self.new (hint_shown (e.draft self.new)) Other) };
+        ensures { let e = Self.EditorState in Refreshes e result self.old self.new
+            (hinted (e.environment self.old) (e.draft self.old)) with_hint };
 
     /// Takes the hint away, and draws all again with a message, if there is one, behind the line.
     fn refresh_line_with_msg(&mut self, msg: Option<&str>, kind: CmdKind) -> Result<()>
-        ensures refreshed { let e = Self.EditorState in
-            Refreshes e result self.old self.new (unhinted (e.draft self.old)) }
-        ensures drew { OnOk result
-            (Drew Self.EditorState self.old self.new (option_map (λ s. s.now) msg.entry) kind) };
+        ensures { let e = Self.EditorState in Refreshes e result self.old self.new
+            (unhinted (e.draft self.old)) (with_text (option_map (λ s. s.now) msg.entry) kind) };
 
     /// Asks for the hint and draws all again, with another prompt in place of the editor's.
     fn refresh_prompt_and_line(&mut self, prompt: &str) -> Result<()>
-        ensures refreshed { let e = Self.EditorState in
-            Refreshes e result self.old self.new
-            (hinted (e.environment self.old) (e.draft self.old)) }
-        ensures redraws { OnOk result (Redraws Self.EditorState 1 1 self.old self.new) }
-        ensures shown { let e = Self.EditorState in let d = e.display self.new in
-            OnOk result (ShowsInFull d (d.surface.measure prompt.now corner) (e.draft self.new).line
-            (hint_shown (e.draft self.new))) }
-        ensures prompt { OnOk result ((Self.display self.new).layout.default_prompt ≡ false) }
-        ensures lit { let e = Self.EditorState in let line = (e.draft self.new).line in
-            OnOk result ((e.display self.new).lit
-            ≡ lit_after (e.environment self.old) (e.display self.old) line Other) };
+        ensures { let e = Self.EditorState in Refreshes e result self.old self.new
+            (hinted (e.environment self.old) (e.draft self.old)) (behind_prompt prompt.now) };
 
     /// Opens a group of changes.
     ///

@@ -1,6 +1,6 @@
 //! What reads keys.
-ghost use Rattle.std.specs.Prelude.{◌≡◌, ◌≤◌, ◌∷◌, ℕ, List, Option, IfOk, IfErr, OnErr, option_map, string_bytes};
-ghost use Rattle.line_config.specs.Error.{IoOnlyIf, Rose};
+ghost use Rattle.std.specs.Prelude.{◌≡◌, ◌∷◌, ℕ, List, Option, IfOk, IfErr, OnErr, option_map, string_bytes};
+ghost use Rattle.line_config.specs.Failures.{CountsFailures};
 ghost use Rattle.line_keys.specs.Command.{Command, command_of};
 ghost use Rattle.line_keys.specs.Item.{Item, key, paste, ReadFault};
 ghost use Rattle.line_keys.specs.Key.{event};
@@ -14,7 +14,8 @@ use line_config::ReadlineError;
 ///
 /// # Errors
 /// A failed call takes nothing. `Eof` comes only at the end of the list, where no call succeeds, and `Interrupted` never.
-/// Another error is one of input or output, and then the count of failures has risen; or that memory ran out.
+/// Another error is one of input or output, and then the count of failures has risen; or that memory ran out. Without an
+/// error of input or output the count of failures stays.
 pub trait RawReader {
     ghost rest: { Self → List Item };
 
@@ -29,8 +30,7 @@ pub trait RawReader {
         ensures took { IfOk result (λ k. rest self.old ≡ key k ∷ rest self.new) }
         ensures kept { OnErr result (rest self.new ≡ rest self.old) }
         ensures fault { IfErr result (λ e. ReadFault e (rest self.old)) }
-        ensures io { IoOnlyIf result (Rose (failures self.old) (failures self.new)) }
-        ensures counts { failures self.old ≤ failures self.new }
+        ensures counts { CountsFailures result (failures self.old) (failures self.new) }
         ensures binding { own_binding self.new ≡ own_binding self.old };
 
     /// Takes the next item, which is the key of a character without a modifier, and returns the character. Another item
@@ -40,8 +40,7 @@ pub trait RawReader {
             rest self.old ≡ key (event (KeyCode.Char c) Modifiers.NONE) ∷ rest self.new) }
         ensures kept { OnErr result (rest self.new ≡ rest self.old) }
         ensures fault { IfErr result (λ e. ReadFault e (rest self.old)) }
-        ensures io { IoOnlyIf result (Rose (failures self.old) (failures self.new)) }
-        ensures counts { failures self.old ≤ failures self.new }
+        ensures counts { CountsFailures result (failures self.old) (failures self.new) }
         ensures binding { own_binding self.new ≡ own_binding self.old };
 
     /// Takes the next item, which is a pasted text, and returns it. A key there is a failure, and stays.
@@ -49,8 +48,7 @@ pub trait RawReader {
         ensures took { IfOk result (λ t. rest self.old ≡ paste (string_bytes t) ∷ rest self.new) }
         ensures kept { OnErr result (rest self.new ≡ rest self.old) }
         ensures fault { IfErr result (λ e. ReadFault e (rest self.old)) }
-        ensures io { IoOnlyIf result (Rose (failures self.old) (failures self.new)) }
-        ensures counts { failures self.old ≤ failures self.new }
+        ensures counts { CountsFailures result (failures self.old) (failures self.new) }
         ensures binding { own_binding self.new ≡ own_binding self.old };
 
     /// Returns the command that the reader itself gives the key, if it gives one.

@@ -1,0 +1,145 @@
+-- What a call draws.
+use Rattle.std.specs.Prelude.{◌≡◌, ◌⊎◌, ℕ, Bool, false, if◌then◌else◌, MatchBool, List, Option, None, OnOk, Result}
+use Rattle.line_buffer.specs.Line.{Line}
+use Rattle.line_config.specs.declared.error.ReadlineError.{ReadlineError}
+use Rattle.line_keys.specs.Display.{HasCursorAt, IsRight, ShowsInFull, ShowsText, corner, lit_after}
+use Rattle.line_keys.specs.Draft.{Draft, KeepsText, hint_shown, hinted, start_text}
+use Rattle.line_keys.specs.EditorState.{FailsByParty, FailsByRenderer, Frame, HasCursorDrawn, HasRightLayout, IsAtEnd, Redraws, Shows}
+use Rattle.line_keys.specs.ShownLine.{KeepsDrawn}
+use Rattle.line_keys.specs.declared.editor_state.EditorState.{Ghosts}
+use Rattle.line_parts.specs.declared.highlight.CmdKind.{CmdKind}
+use Rattle.line_parts.specs.declared.highlight.CmdKind.TheVariants.{MoveCursor, Other}
+
+-- what is drawn: nothing; the line in full with its hint; with another text behind it or none, for a kind that `highlight_char` is
+-- told; with its hint behind another prompt; the cursor where the line's is; the same on the way to it; or the cursor at the end of what is shown
+pub data Drawing : Type 0 where
+  nothing : Drawing
+  with_hint : Drawing
+  with_text : Option (List ℕ) → CmdKind → Drawing
+  behind_prompt : List ℕ → Drawing
+  cursor : CmdKind → Drawing
+  cursor_over : Line → Drawing
+  cursor_to_end : Drawing
+
+-- nothing was drawn
+pub record DrewNothing {X : Type 0} (e : Ghosts X) (old new : X) : Type 0 where
+  pub display : e.display new ≡ e.display old
+  pub redraws : e.redraws new ≡ e.redraws old
+
+-- the line was drawn in full with this behind it, at most so often, and at last `highlight_char` was asked for this kind
+pub record DrewLine {X : Type 0} (e : Ghosts X) (most : ℕ) (trailing : Option (List ℕ)) (kind : CmdKind) (old new : X) : Type 0 where
+  pub shows : Shows e new trailing
+  pub right : HasRightLayout e new
+  pub lit : (e.display new).lit ≡ lit_after (e.environment old) (e.display old) (e.draft new).line kind
+  pub redraws : Redraws e 1 most old new
+
+-- the line was drawn in full once with its hint behind another prompt
+pub record DrewBehind {X : Type 0} (e : Ghosts X) (prompt : List ℕ) (old new : X) : Type 0 where
+  pub shows : ShowsInFull (e.display new) ((e.display new).surface.measure prompt corner) (e.draft new).line (hint_shown (e.draft new))
+  pub other : (e.display new).layout.default_prompt ≡ false
+  pub lit : (e.display new).lit ≡ lit_after (e.environment old) (e.display old) (e.draft new).line Other
+  pub redraws : Redraws e 1 1 old new
+
+-- the cursor was drawn: the line in full with nothing behind it, or nothing, which is so where the kept cursor is the line's already
+pub record DrewCursor {X : Type 0} (e : Ghosts X) (kind : CmdKind) (old new : X) : Type 0 where
+  pub drew : DrewLine e 1 None kind old new ⊎ DrewNothing e old new
+  pub still : HasCursorAt (e.display old) (e.draft new).line → DrewNothing e old new
+
+-- the cursor was drawn on the way to where the line's is, and then there
+pub record DrewCursorOver {X : Type 0} (e : Ghosts X) (line : Line) (old new : X) : Type 0 where
+  pub way : X
+  pub on_way : (e.draft way).line ≡ line
+  pub frame : Frame e old way
+  pub first : DrewCursor e MoveCursor old way
+  pub second : DrewCursor e MoveCursor way new
+
+-- the kept cursor went to the end of what is shown, and the line was not drawn
+pub record DrewCursorAtEnd {X : Type 0} (e : Ghosts X) (old new : X) : Type 0 where
+  pub at_end : IsAtEnd e new
+  pub lit : (e.display new).lit ≡ (e.display old).lit
+  pub redraws : e.redraws new ≡ e.redraws old
+
+-- this was drawn, with at most so many full redraws
+abbrev pub Drew : {X : Type 0} → Ghosts X → ℕ → Drawing → X → X → Type 0
+Drew e most nothing old new = DrewNothing e old new
+Drew e most with_hint old new = DrewLine e most (hint_shown (e.draft new)) Other old new
+Drew e most (with_text trailing kind) old new = DrewLine e most trailing kind old new
+Drew e most (behind_prompt prompt) old new = DrewBehind e prompt old new
+Drew e most (cursor kind) old new = DrewCursor e kind old new
+Drew e most (cursor_over line) old new = DrewCursorOver e line old new
+Drew e most cursor_to_end old new = DrewCursorAtEnd e old new
+
+-- what is drawn of an edit: the line with its hint where the edit was reported, and else the cursor
+abbrev pub edit_drawn : Bool → Drawing
+edit_drawn reported = if reported then with_hint else cursor MoveCursor
+
+-- the line with its hint, where there is something to draw
+abbrev pub drawn_if : Bool → Drawing
+drawn_if found = if found then with_hint else nothing
+
+-- nothing is drawn and no failure is counted: only the draft may change
+pub record Undrawn {X : Type 0} (e : Ghosts X) (old new : X) : Type 0 where
+  pub drew : DrewNothing e old new
+  pub failures : e.failures new ≡ e.failures old
+  pub frame : Frame e old new
+
+-- what a call leaves that only draws, once in full or never: the draft and the last answer of `highlight_char` stay
+pub record Paints {X T : Type 0} (e : Ghosts X) (in_full : Bool) (result : Result T ReadlineError) (old new : X) : Type 0 where
+  pub draft : e.draft new ≡ e.draft old
+  pub lit : (e.display new).lit ≡ (e.display old).lit
+  pub redraws : MatchBool in_full (OnOk result (Redraws e 1 1 old new)) (e.redraws new ≡ e.redraws old)
+  pub frame : Frame e old new
+  pub fails : FailsByRenderer e result old new
+
+-- what each refresh leaves: the draft, and all of it but the hint in any case; and what it draws
+pub record Refreshes {X T : Type 0} (e : Ghosts X) (result : Result T ReadlineError) (old new : X) (left : Draft) (drawing : Drawing) : Type 0 where
+  pub draft : OnOk result (e.draft new ≡ left)
+  pub text : KeepsText (e.draft old) (e.draft new)
+  pub drew : OnOk result (Drew e 1 drawing old new)
+  pub frame : Frame e old new
+  pub fails : FailsByParty e result old new
+
+-- a text that changed was drawn in full with its hint, with so many full redraws at most
+abbrev pub ShowsChange : {X : Type 0} → Ghosts X → ℕ → X → X → Type 0
+ShowsChange e most old new =
+    ((e.draft new).line.text ≡ (e.draft old).line.text) ⊎ (Shows e new (hint_shown (e.draft new)) × Redraws e 1 most old new)
+
+-- what a call leaves that edits the line or moves its cursor: the draft, and the text that all changes taken back give; and what it
+-- draws, with so many full redraws at most: what is drawn stays good, and a changed text is drawn
+pub record Does {X T : Type 0} (e : Ghosts X) (result : Result T ReadlineError) (old new : X) (left : Draft) (drawing : Drawing) (most : ℕ) : Type 0 where
+  pub draft : OnOk result (e.draft new ≡ left)
+  pub start : OnOk result (start_text (e.draft new) ≡ start_text (e.draft old))
+  pub drew : OnOk result (Drew e most drawing old new)
+  pub keeps : OnOk result (KeepsDrawn e old new)
+  pub change : OnOk result (ShowsChange e most old new)
+  pub frame : Frame e old new
+  pub fails : FailsByParty e result old new
+
+-- what drawing the cursor leaves: the draft as it was, and the kept cursor where the line's is
+pub record DrawsCursor {X T : Type 0} (e : Ghosts X) (result : Result T ReadlineError) (old new : X) (kind : CmdKind) : Type 0 where
+  pub draft : e.draft new ≡ e.draft old
+  pub drew : OnOk result (DrewCursor e kind old new)
+  pub placed : OnOk result (HasCursorDrawn e new)
+  pub right : OnOk result (ShowsText (e.display old) (e.draft old).line.text → IsRight (e.display new) (e.draft old).line)
+  pub frame : Frame e old new
+  pub fails : FailsByRenderer e result old new
+
+-- what showing an edit leaves: where it was reported the hint is asked again and the line is drawn in full with it; else the drawn
+-- cursor goes to the line's
+pub record ShowsEdit {X T : Type 0} (e : Ghosts X) (edited : Bool) (result : Result T ReadlineError) (old new : X) : Type 0 where
+  pub draft : OnOk result (e.draft new ≡ (if edited then hinted (e.environment old) (e.draft old) else e.draft old))
+  pub drew : OnOk result (Drew e 1 (edit_drawn edited) old new)
+  pub placed : OnOk result (HasCursorDrawn e new)
+  pub right : OnOk result (ShowsText (e.display old) (e.draft old).line.text → IsRight (e.display new) (e.draft old).line)
+  pub frame : Frame e old new
+  pub fails : FailsByParty e result old new
+
+-- what a move of the cursor leaves: the line with its text, whatever comes; and the cursor drawn
+pub record MovesTo {X T : Type 0} (e : Ghosts X) (result : Result T ReadlineError) (old new : X) (kind : CmdKind) (line : Line) : Type 0 where
+  pub draft : e.draft new ≡ record (e.draft old) { line = line }
+  pub text : (e.draft new).line.text ≡ (e.draft old).line.text
+  pub start : start_text (e.draft new) ≡ start_text (e.draft old)
+  pub drew : OnOk result (DrewCursor e kind old new)
+  pub keeps : OnOk result (KeepsDrawn e old new)
+  pub frame : Frame e old new
+  pub fails : FailsByRenderer e result old new
