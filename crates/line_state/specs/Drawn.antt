@@ -16,6 +16,10 @@ pub record KeepsSurface {X : Type 0} (d : Ghosts X) (old new : X) : Type 0 where
   pub prompt_end : (d.display new).prompt_end ≡ (d.display old).prompt_end
   pub failures : d.failures old ≤ d.failures new
 
+-- how a call may fail that asks the renderer
+abbrev pub FailsBySurface : {X T : Type 0} → Ghosts X → Result T ReadlineError → X → X → Type 0
+FailsBySurface d result old new = FailsOnlyIf result (Rose (d.failures old) (d.failures new)) (d.failures old) (d.failures new)
+
 -- a full redraw of a line, behind a prompt that ends there and is the own one or another, with a trailing text or none
 pub record DrawsInFull {X T : Type 0} (d : Ghosts X) (result : Result T ReadlineError) (old new : X) (prompt_end : Position) (own : Bool) (line : Line) (trailing : Option (List ℕ)) : Type 0 where
   pub shown : OnOk result (ShowsInFull (d.display new) prompt_end line trailing)
@@ -23,7 +27,7 @@ pub record DrawsInFull {X T : Type 0} (d : Ghosts X) (result : Result T Readline
   pub lit : (d.display new).lit ≡ (d.display old).lit
   pub redraws : OnOk result (IsOneMore (d.redraws old) (d.redraws new))
   pub keeps : KeepsSurface d old new
-  pub fails : FailsOnlyIf result (Rose (d.failures old) (d.failures new))
+  pub fails : FailsBySurface d result old new
 
 -- a kept layout is drawn again behind the own prompt, and stays; where it is a full redraw's, the line is shown in full
 pub record RedrawsKept {X T : Type 0} (d : Ghosts X) (result : Result T ReadlineError) (old new : X) (line : Line) (trailing : Option (List ℕ)) : Type 0 where
@@ -33,14 +37,14 @@ pub record RedrawsKept {X T : Type 0} (d : Ghosts X) (result : Result T Readline
       → OnOk result (ShowsInFull (d.display new) (d.display old).prompt_end line trailing)
   pub redraws : OnOk result (IsOneMore (d.redraws old) (d.redraws new))
   pub keeps : KeepsSurface d old new
-  pub fails : FailsOnlyIf result (Rose (d.failures old) (d.failures new))
+  pub fails : FailsBySurface d result old new
 
 -- a call of the renderer that draws nothing in full
 pub record DrawsNoneInFull {X T : Type 0} (d : Ghosts X) (result : Result T ReadlineError) (old new : X) : Type 0 where
   pub lit : (d.display new).lit ≡ (d.display old).lit
   pub redraws : d.redraws new ≡ d.redraws old
   pub keeps : KeepsSurface d old new
-  pub fails : FailsOnlyIf result (Rose (d.failures old) (d.failures new))
+  pub fails : FailsBySurface d result old new
 
 -- a layout once the screen was cleared: its cursor and its end are at the corner
 abbrev pub cleared : Layout → Layout

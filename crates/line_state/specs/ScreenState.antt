@@ -1,11 +1,11 @@
 -- What is said of a renderer by what contracts see of it.
-use Rattle.std.specs.Prelude.{◌≡◌, ℕ, ◌≤◌, ◌+◌, ◌++◌, ◌∷◌, ◌<◌, [], Bool, true, List, Option, IfSome, Result}
+use Rattle.std.specs.Prelude.{◌≡◌, ℕ, ◌+◌, ◌++◌, ◌∷◌, ◌<◌, [], Bool, true, List, Option, IfSome, Result}
 use Rattle.line_buffer.specs.Line.{Line}
 use Rattle.line_buffer.specs.declared.layout.Layout.{Layout}
-use Rattle.line_config.specs.Error.{Rose}
+use Rattle.line_config.specs.Error.{FaultsOnly}
+use Rattle.line_config.specs.Failures.{CountsFailures}
 use Rattle.line_config.specs.declared.error.ReadlineError.{ReadlineError}
 use Rattle.line_keys.specs.Display.{Surface, Screen, IsFullRedraw, corner}
-use Rattle.line_keys.specs.EditorState.{FailsOnlyIf}
 use Rattle.line_state.specs.declared.screen_state.ScreenState.{Ghosts}
 
 -- what is handed over for a full redraw agrees: the prompt ends at the layout's prompt end, the layout is a full redraw's, the old
@@ -39,11 +39,12 @@ EndsBehind surface screen columns =
     ((surface.measure screen.text screen.origin).row ≡ screen.position.row)
     × (screen.position.col + columns ≡ (surface.measure screen.text screen.origin).col)
 
--- a call that may fail: the surface stays, and an error of input or output raises the count of failures, which never falls
+-- a call that may fail: the surface stays, an error of input or output raises the count of failures and nothing else changes it, and the
+-- only other error is that memory ran out
 pub record Tries {X T : Type 0} (r : Ghosts X) (result : Result T ReadlineError) (old new : X) : Type 0 where
   pub surface : r.surface new ≡ r.surface old
-  pub counts : r.failures old ≤ r.failures new
-  pub fails : FailsOnlyIf result (Rose (r.failures old) (r.failures new))
+  pub counts : CountsFailures result (r.failures old) (r.failures new)
+  pub faults : FaultsOnly result
 
 -- such a call that draws nothing in full
 pub record DrawsPart {X T : Type 0} (r : Ghosts X) (result : Result T ReadlineError) (old new : X) : Type 0 where

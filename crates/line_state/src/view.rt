@@ -1,10 +1,8 @@
 //! What is drawn of a line: the renderer, the prompt, and the layout that is kept of them.
 ghost use Rattle.std.specs.Prelude.{◌≡◌, ◌↔◌, if◌then◌else◌, Some, None, ℕ, Bool, true, false, List, Option, is_some, option_map, OnOk, OnErr, IsTrue};
 ghost use Rattle.line_buffer.specs.declared.layout.Position.{Position};
-ghost use Rattle.line_config.specs.Error.{Rose};
 ghost use Rattle.line_keys.specs.Display.{GoesToShownEnd, corner, cursor_position, undrawn};
-ghost use Rattle.line_keys.specs.EditorState.{FailsOnlyIf};
-ghost use Rattle.line_state.specs.Drawn.{DrawsInFull, DrawsNoneInFull, KeepsSurface, RedrawsKept, cleared};
+ghost use Rattle.line_state.specs.Drawn.{DrawsInFull, DrawsNoneInFull, FailsBySurface, KeepsSurface, RedrawsKept, cleared};
 
 use crate::drawn::Drawn;
 use crate::screen_state::ScreenState;
@@ -222,8 +220,7 @@ impl<'out, 'prompt, W: Renderer, P: Prompt> View<'out, 'prompt, W, P> {
             GoesToShownEnd result (d self.old) (d self.new) }
         ensures redraws { ⟦<Self as Drawn>⟧.redraws self.new ≡ ⟦<Self as Drawn>⟧.redraws self.old }
         ensures keeps { KeepsSurface ⟦<Self as Drawn>⟧ self.old self.new }
-        ensures fails { let d = ⟦<Self as Drawn>⟧ in
-            FailsOnlyIf result (Rose (d.failures self.old) (d.failures self.new)) }
+        ensures fails { FailsBySurface ⟦<Self as Drawn>⟧ result self.old self.new }
     {
         if self.layout.cursor == self.layout.end {
             return Ok(());
