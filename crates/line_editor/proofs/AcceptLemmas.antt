@@ -1,97 +1,263 @@
--- Facts on verdicts that are asked for.
-use Rattle.std.proofs.Common.{◌≡◌, ℕ, ◌++◌, Bool, true, false, cond, List, length, take, drop, Option, Some, None, is_some, option_map, unwrap_or, refl, sym, ◌∙◌, ap, subst, arith}
-use Rattle.std.specs.Prelude.{◌&&◌, MatchBool}
-use Rattle.std.specs.List.{insert_slice, repeat}
-use Rattle.std.proofs.lemmas.List.{length-append, take-append-drop}
-use Rattle.std.proofs.Math.Utf8.{encode}
-use Rattle.std.proofs.lemmas.Str.{encode_ascii}
-use Rattle.line_keys.specs.Display.{Display}
-use Rattle.line_keys.specs.Draft.{Draft, in_group, out_of_group, unhinted}
-use Rattle.line_keys.specs.EditorState.{Drew, DrewNothing, Frame, Shows}
+-- Facts on lines that are accepted.
+use Rattle.std.proofs.Common.{◌≡◌, ℕ, ◌+◌, Bool, true, false, cond, not, List, Option, Some, None, Result, Ok, refl, sym, ◌∙◌, ap, subst, arith, inl, inr}
+use Rattle.std.specs.Prelude.{◌||◌, ◌&&◌, if◌then◌else◌, is_some}
+use Rattle.line_buffer.specs.Changes.{adds_end}
+use Rattle.line_buffer.specs.KillRing.{Ring}
+use Rattle.line_buffer.specs.Line.{Line, ends_in_white_space}
+use Rattle.line_config.specs.declared.error.ReadlineError.{ReadlineError}
+use Rattle.line_keys.specs.Command.{accept_line, accept_or_insert_line, end_of_file}
+use Rattle.line_keys.specs.Display.{Display, Surface}
+use Rattle.line_keys.specs.Draft.{Draft, hint_shown, in_group, out_of_group, start_text, unhinted}
+use Rattle.line_keys.specs.Drawing.{Does, Drawing, Drew, DrewLine, Undrawn, nothing, with_hint, with_text}
+use Rattle.line_keys.specs.EditorState.{Frame}
+use Rattle.line_keys.specs.ShownLine.{LosesHint, ShowsNoHint}
 use Rattle.line_keys.specs.declared.editor_state.EditorState.{Ghosts}
 use Rattle.line_parts.specs.Environment.{Environment, verdict_on}
 use Rattle.line_parts.specs.Verdict.{Verdict, incomplete, invalid, message_of, valid}
 use Rattle.line_parts.specs.declared.highlight.CmdKind.{CmdKind}
-use Rattle.line_editor.specs.Accept.{unhinted_by, validated}
+use Rattle.line_parts.specs.declared.highlight.CmdKind.TheVariants.{ForcedRefresh, Other}
+use Rattle.line_editor.specs.Accept.{accepted, answer_at_end, replied, reply_to, unhinted_by, validated}
+use Rattle.line_editor.specs.Drawings.{reply_drawn, unhinted_drawn, validated_drawn, verdict_drawn}
+use Rattle.line_editor.specs.Editor.{Answer, Editor, proceeds, submitted}
 use Rattle.line_editor.specs.Edits.{typed_in}
-use Rattle.line_editor.specs.Verdict.{draws_verdict, draws_verdict_on}
+use Rattle.line_editor.specs.Input.{Input}
+use Rattle.line_editor.specs.Runs.{DrawnAfter, Executed}
+use Rattle.line_editor.specs.declared.command.Reply.{Reply}
+use Rattle.line_editor.specs.declared.command.Reply.TheVariants.{GoesOn, Stays, Submits}
+use Rattle.line_editor.specs.Verdict.{draws_verdict, draws_verdict_on, kind_of_verdict}
+use Rattle.line_editor.proofs.CommandLemmas.{editor_with, line_kept, line_then, perhaps_lit, perhaps_redraws}
+use Rattle.line_editor.proofs.CountLemmas.{rises_twice, rises_up_to}
+use Rattle.line_editor.proofs.DoneLemmas.{line_after}
+use Rattle.line_editor.proofs.DrawnLemmas.{frame_then, hint_trails, keeps_then, no_hint_line}
+use Rattle.line_editor.proofs.EditLemmas.{was_validated}
 
--- a verdict keeps the text
+-- the end of the input, where the hint was taken away
+pub ends_at : {X T : Type 0} (e : Ghosts X) (x : T) (old new : X) (input : Input) (indent : ℕ) (kills : Ring) (answer : Answer)
+    → Does e (Ok x) old new (unhinted (e.draft old)) (unhinted_drawn (e.display old) (e.draft old)) 1
+    → answer_at_end input.style (e.draft old).line.text ≡ answer → DrawnAfter e answer old new
+    → Executed e old input indent kills end_of_file new kills answer
+ends_at e x old new input indent kills answer drop is drawn = record {
+  steps = record { editor = ap (λ (d : Draft). editor_with d kills) drop.draft; answered = is };
+  drew = drop.drew;
+  drawn = drawn;
+  change = inl (ap (λ (d : Draft). d.line.text) drop.draft);
+  start = drop.start;
+}
+
+-- a verdict keeps the line
 verdict_keeps : (asked : Bool) (verdict : Verdict) (draft : Draft)
-    → (cond asked (unhinted_by verdict (out_of_group (in_group draft))) draft).line.text ≡ draft.line.text
+    → (cond asked (unhinted_by verdict (out_of_group (in_group draft))) draft).line ≡ draft.line
 verdict_keeps false verdict draft = refl
 verdict_keeps true incomplete draft = refl
 verdict_keeps true (valid message) draft = refl
 verdict_keeps true (invalid message) draft = refl
 
-pub validated_text : (environment : Environment) (draft : Draft) → (validated environment draft).line.text ≡ draft.line.text
-validated_text environment draft = verdict_keeps (is_some environment.verdict_at) (verdict_on environment draft.line.text) draft
+pub validated_line : (environment : Environment) (draft : Draft) → (validated environment draft).line ≡ draft.line
+validated_line environment draft = verdict_keeps (is_some environment.verdict_at) (verdict_on environment draft.line.text) draft
 
--- a message is drawn
-message_draws : (verdict : Verdict) (stale : Bool) → is_some (message_of verdict) ≡ true → draws_verdict_on verdict stale ≡ true
-message_draws incomplete stale some = absurd (cc)
-message_draws (valid message) true some = refl
-message_draws (valid message) false some = some
-message_draws (invalid message) true some = refl
-message_draws (invalid message) false some = some
+-- a text that may be drawn behind a step that draws nothing
+perhaps_after : {X : Type 0} (e : Ghosts X) (old mid new : X) → Undrawn e old mid → (drawn : Bool) (trailing : Option (List ℕ)) (kind : CmdKind)
+    → Drew e 1 (if drawn then with_text trailing kind else nothing) mid new → Drew e 1 (if drawn then with_text trailing kind else nothing) old new
+perhaps_after e old mid new undrawn true trailing kind drew = line_after e old mid new undrawn 1 trailing kind drew
+perhaps_after e old mid new undrawn false trailing kind drew =
+    record { display = drew.display ∙ undrawn.drew.display; redraws = drew.redraws ∙ undrawn.drew.redraws }
 
-asked_draws : (asked : Option (List ℕ → Verdict)) (text : List ℕ) (stale : Bool)
-    → is_some (message_of (unwrap_or (option_map (λ v. v text) asked) (valid None))) ≡ true
-    → (is_some asked && draws_verdict_on (unwrap_or (option_map (λ v. v text) asked) (valid None)) stale) ≡ true
-asked_draws None text stale some = absurd (cc)
-asked_draws (Some verdict) text stale some = message_draws (verdict text) stale some
+-- a verdict that was asked for in a group, and then drawn
+pub validates : {X T U V : Type 0} (e : Ghosts X) (x : T) (y : U) (z : V) (old mid new : X) (verdict : Verdict) (corrected : Bool)
+    → is_some (e.environment old).verdict_at ≡ true
+    → verdict ≡ verdict_on (e.environment old) (e.draft old).line.text
+    → corrected ≡ adds_end (in_group (e.draft old)).changes.open_groups (in_group (e.draft old)).changes.entries
+    → Does e (Ok x) old mid (out_of_group (in_group (e.draft old))) nothing 1
+    → Does e (Ok y) mid new (unhinted_by verdict (e.draft mid))
+    (if draws_verdict_on verdict (corrected || is_some (e.draft mid).hint) then with_text (message_of verdict) (kind_of_verdict verdict) else nothing) 1
+    → Does e (Ok z) old new (validated (e.environment old) (e.draft old)) (verdict_drawn (e.environment old) (e.draft old)) 1
+validates e x y z old mid new verdict corrected helped said ends asked shown =
+    let undrawn : Undrawn e old mid = record { drew = asked.drew; failures = asked.fails.quiet; frame = asked.frame } in
+    let n = undrawn.drew.redraws in
+    let v : Verdict = verdict_on (e.environment old) (e.draft old).line.text in
+    let left : e.draft new ≡ validated (e.environment old) (e.draft old) =
+    shown.draft ∙ ap (λ d. unhinted_by verdict d) asked.draft ∙ ap (λ w. unhinted_by w (out_of_group (in_group (e.draft old)))) said
+    ∙ sym (was_validated (e.environment old) (e.draft old) helped) in
+    let draws : draws_verdict_on verdict (corrected || is_some (e.draft mid).hint) ≡ draws_verdict (e.environment old) (e.draft old) =
+    ap (λ b. draws_verdict_on verdict (b || is_some (e.draft mid).hint)) ends
+    ∙ ap (λ (d : Draft). draws_verdict_on verdict (adds_end (in_group (e.draft old)).changes.open_groups (in_group (e.draft old)).changes.entries || is_some d.hint)) asked.draft
+    ∙ ap (λ w. draws_verdict_on w (adds_end (in_group (e.draft old)).changes.open_groups (in_group (e.draft old)).changes.entries || is_some (e.draft old).hint)) said
+    ∙ sym (ap (λ b. b && draws_verdict_on v (adds_end (in_group (e.draft old)).changes.open_groups (in_group (e.draft old)).changes.entries || is_some (e.draft old).hint)) helped) in
+    record {
+      draft = left;
+      start = shown.start ∙ asked.start;
+      drew = subst (λ w. Drew e 1 (if draws_verdict (e.environment old) (e.draft old) then with_text (message_of w) (kind_of_verdict w) else nothing) old new) said
+          (subst (λ b. Drew e 1 (if b then with_text (message_of verdict) (kind_of_verdict verdict) else nothing) old new) draws
+          (perhaps_after e old mid new undrawn _ (message_of verdict) (kind_of_verdict verdict) shown.drew));
+      keeps = keeps_then e old mid new asked.keeps shown.keeps;
+      change = inl (ap (λ (d : Draft). d.line.text) left ∙ ap (λ (l : Line). l.text) (validated_line (e.environment old) (e.draft old)));
+      frame = frame_then e old mid new asked.frame shown.frame;
+      fails = record { io = tt; faults = tt; quiet = shown.fails.quiet ∙ asked.fails.quiet };
+    }
 
-is_drawn : (needed : Bool) (Drawn Undrawn : Type 0) → needed ≡ true → MatchBool needed Drawn Undrawn → Drawn
-is_drawn true _ _ is drawn = drawn
-is_drawn false _ _ is drawn = absurd (cc)
+-- the hint taken away, and then a verdict: the last of both is what was drawn
+two_drawn : {X : Type 0} (e : Ghosts X) (old mid new : X) (dropped said : Bool) (message : Option (List ℕ)) (kind : CmdKind) → Frame e old mid
+    → (e.draft new).line ≡ (e.draft mid).line
+    → Drew e 1 (if dropped then with_text None ForcedRefresh else nothing) old mid
+    → Drew e 1 (if said then with_text message kind else nothing) mid new
+    → Drew e 2 (if said then (if said then with_text message kind else nothing) else (if dropped then with_text None ForcedRefresh else nothing)) old new
+two_drawn e old mid new dropped true message kind frame line first second =
+    line_then e old mid new frame (perhaps_lit e dropped 1 None ForcedRefresh old mid first) 1 1 message kind (perhaps_redraws e dropped 1 None ForcedRefresh old mid first) second
+two_drawn e old mid new true false message kind frame line first second = line_kept e old mid new None ForcedRefresh second line first
+two_drawn e old mid new false false message kind frame line first second =
+    record { display = second.display ∙ first.display; redraws = second.redraws ∙ first.redraws }
 
--- a message that was asked for is shown
-pub message_shown : {X : Type 0} (e : Ghosts X) (old new : X) (kind : CmdKind)
-    → let message = message_of (verdict_on (e.environment old) (e.draft old).line.text) in
-    MatchBool (draws_verdict (e.environment old) (e.draft old)) (Drew e old new message kind) (DrewNothing e old new)
-    → is_some message ≡ true → Shows e new message
-message_shown e old new kind drew some =
-    (is_drawn _ _ _ (asked_draws (e.environment old).verdict_at (e.draft old).line.text _ some) drew).shows
-
--- the same behind a step that takes the hint away
-pub message_behind_drop : {X : Type 0} (e : Ghosts X) (old mid new : X) (kind : CmdKind) → Frame e old mid → e.draft mid ≡ unhinted (e.draft old)
-    → MatchBool (draws_verdict (e.environment mid) (e.draft mid))
-    (Drew e mid new (message_of (verdict_on (e.environment mid) (e.draft mid).line.text)) kind) (DrewNothing e mid new)
-    → is_some (message_of (verdict_on (e.environment old) (e.draft old).line.text)) ≡ true
-    → Shows e new (message_of (verdict_on (e.environment old) (e.draft old).line.text))
-message_behind_drop e old mid new kind frame draft drew some =
-    let same : verdict_on (e.environment mid) (e.draft mid).line.text ≡ verdict_on (e.environment old) (e.draft old).line.text =
-    ap (λ w. verdict_on w (e.draft mid).line.text) frame.environment ∙ ap (λ (d : Draft). verdict_on (e.environment old) d.line.text) draft in
-    subst (λ v. Shows e new (message_of v)) same
-    (message_shown e mid new kind drew (subst (λ v. is_some (message_of v) ≡ true) (sym same) some))
-
--- what is drawn behind the own prompt stays there
-pub own_prompt_stays : {X : Type 0} (e : Ghosts X) (old new : X) (needed : Bool) (trailing : Option (List ℕ)) (kind : CmdKind)
-    → (e.display old).layout.default_prompt ≡ true → MatchBool needed (Drew e old new trailing kind) (DrewNothing e old new)
+-- the own prompt stays behind a verdict
+prompt_stays : {X : Type 0} (e : Ghosts X) (mid new : X) (said : Bool) (message : Option (List ℕ)) (kind : CmdKind)
+    → (e.display mid).layout.default_prompt ≡ true → Drew e 1 (if said then with_text message kind else nothing) mid new
     → (e.display new).layout.default_prompt ≡ true
-own_prompt_stays e old new true trailing kind own drew = drew.shows.own_prompt
-own_prompt_stays e old new false trailing kind own drew = ap (λ (d : Display). d.layout.default_prompt) drew.display ∙ own
+prompt_stays e mid new true message kind own drew = drew.shows.own_prompt
+prompt_stays e mid new false message kind own drew = ap (λ (d : Display). d.layout.default_prompt) drew.display ∙ own
 
--- a newline makes the text longer
-longer : (text : List ℕ) (place : ℕ) (put : List ℕ) → length put ≡ 1 → insert_slice text place put ≡ text → ⊥
-longer text place put one same =
-    let whole : length ((take place text ++ put) ++ drop place text) ≡ length text = ap length same in
-    let parts = length-append (take place text ++ put) (drop place text) in
-    let front = length-append (take place text) put in
-    let cut = ap length (take-append-drop place text) in
-    let sum = length-append (take place text) (drop place text) in
-    omega (arith, whole, parts, front, cut, sum, one)
+-- more redraws are allowed
+more_drawn : {X : Type 0} (e : Ghosts X) (old new : X) (said dropped : Bool) (message : Option (List ℕ)) (kind : CmdKind)
+    → Drew e 2 (if said then (if said then with_text message kind else nothing) else (if dropped then with_text None ForcedRefresh else nothing)) old new
+    → Drew e 3 (if said then (if said then with_text message kind else nothing) else (if dropped then with_text None ForcedRefresh else nothing)) old new
+more_drawn e old new true dropped message kind drew =
+    record { shows = drew.shows; right = drew.right; lit = drew.lit; redraws = rises_up_to 1 2 3 (e.redraws old) (e.redraws new) (omega arith) drew.redraws }
+more_drawn e old new false true message kind drew =
+    record { shows = drew.shows; right = drew.right; lit = drew.lit; redraws = rises_up_to 1 2 3 (e.redraws old) (e.redraws new) (omega arith) drew.redraws }
+more_drawn e old new false false message kind drew = drew
 
-typed_longer : (environment : Environment) (draft : Draft) → (typed_in environment 1 10 draft).line.text ≡ draft.line.text → ⊥
-typed_longer environment draft same =
-    longer draft.line.text draft.line.cursor (repeat 1 (encode 10)) (ap (λ t. length (repeat 1 t)) (encode_ascii 10 (omega arith))) same
+-- without colors the verdict's drawing leaves the last answer of `highlight_char`
+both_lit : {X : Type 0} (e : Ghosts X) (old mid new : X) (dropped said : Bool) (message : Option (List ℕ)) (kind : CmdKind) → Frame e old mid
+    → Drew e 1 (if dropped then with_text None ForcedRefresh else nothing) old mid
+    → Drew e 1 (if said then with_text message kind else nothing) mid new
+    → (e.display old).surface.colors ≡ false → (e.display new).lit ≡ (e.display old).lit
+both_lit e old mid new dropped said message kind frame first second none =
+    perhaps_lit e said 1 message kind mid new second (ap (λ (s : Surface). s.colors) frame.surface ∙ none)
+    ∙ perhaps_lit e dropped 1 None ForcedRefresh old mid first none
 
--- so a line that was given a newline behind its verdict has another text
-pub newline_longer : {X : Type 0} (e : Ghosts X) (old mid middle new : X) → Frame e old mid → Frame e mid middle → Frame e middle new
-    → e.draft mid ≡ unhinted (e.draft old)
-    → e.draft middle ≡ validated (e.environment mid) (e.draft mid) → e.draft new ≡ typed_in (e.environment middle) 1 10 (e.draft middle)
-    → (e.draft new).line.text ≡ (e.draft old).line.text → ⊥
-newline_longer e old mid middle new _ _ _ dropped asked typed same =
-    let text : Draft → List ℕ = λ d. d.line.text in
-    typed_longer (e.environment middle) (e.draft middle)
-    (sym (ap text typed) ∙ same ∙ sym (ap text asked ∙ validated_text (e.environment mid) (e.draft mid) ∙ ap text dropped))
+module _ {X T U : Type 0} (e : Ghosts X) (x : T) (y : U) (old mid new : X)
+    (drop : Does e (Ok x) old mid (unhinted (e.draft old)) (unhinted_drawn (e.display old) (e.draft old)) 1) (loses : LosesHint e old mid)
+    (asked : Does e (Ok y) mid new (validated (e.environment mid) (e.draft mid)) (verdict_drawn (e.environment mid) (e.draft mid)) 1)
+    (no_hint : ShowsNoHint e mid → ShowsNoHint e new) where
+  -- what is left, by the environment and the draft before
+  left_is : e.draft new ≡ validated (e.environment old) (unhinted (e.draft old))
+  left_is = asked.draft ∙ ap (λ w. validated w (e.draft mid)) drop.frame.environment ∙ ap (λ d. validated (e.environment old) d) drop.draft
+
+  line_is : (e.draft new).line ≡ (e.draft mid).line
+  line_is = ap (λ (d : Draft). d.line) asked.draft ∙ validated_line (e.environment mid) (e.draft mid)
+
+  text_is : (e.draft new).line.text ≡ (e.draft old).line.text
+  text_is = ap (λ (l : Line). l.text) line_is ∙ ap (λ (d : Draft). d.line.text) drop.draft
+
+  said_there : Drew e 1 (verdict_drawn (e.environment old) (unhinted (e.draft old))) mid new
+  said_there =
+      subst (λ d. Drew e 1 (verdict_drawn (e.environment old) d) mid new) drop.draft
+      (subst (λ w. Drew e 1 (verdict_drawn w (e.draft mid)) mid new) drop.frame.environment asked.drew)
+
+  abbrev has_stale : Bool
+  has_stale = is_some (e.draft old).hint || (e.display old).lit || not (e.display old).layout.default_prompt
+
+  abbrev says : Bool
+  says = draws_verdict (e.environment old) (unhinted (e.draft old))
+
+  abbrev said : Verdict
+  said = verdict_on (e.environment old) (e.draft old).line.text
+
+  shown_both : Drew e 2 (validated_drawn (e.display old) (e.environment old) (e.draft old)) old new
+  shown_both = two_drawn e old mid new has_stale says (message_of said) (kind_of_verdict said) drop.frame line_is drop.drew said_there
+
+  shown_three : Drew e 3 (validated_drawn (e.display old) (e.environment old) (e.draft old)) old new
+  shown_three = more_drawn e old new says has_stale (message_of said) (kind_of_verdict said) shown_both
+
+  loses_both : LosesHint e old new
+  loses_both = record {
+    own_prompt = prompt_stays e mid new says (message_of said) (kind_of_verdict said) loses.own_prompt said_there;
+    right = λ was. asked.keeps.right (loses.right was);
+    no_hint = λ shown. no_hint (loses.no_hint shown);
+  }
+
+  -- a line that is submitted whatever is said of it
+  pub accepts : (input : Input) (indent : ℕ) (kills : Ring) → Executed e old input indent kills accept_line new kills submitted
+  accepts input indent kills = record {
+    steps = record { editor = ap (λ (d : Draft). editor_with d kills) left_is; answered = refl };
+    drew = shown_both;
+    drawn = loses_both;
+    change = inl text_is;
+    start = asked.start ∙ drop.start;
+  }
+
+  module _ (in_the_middle at_end : Bool) (verdict : Verdict) (told : verdict ≡ verdict_on (e.environment mid) (e.draft mid).line.text) (ends : at_end ≡ ends_in_white_space (e.draft new).line) (reply : Reply) (replies : reply ≡ reply_to verdict (in_the_middle || at_end)) where
+    abbrev shown : Drawing
+    shown = validated_drawn (e.display old) (e.environment old) (e.draft old)
+
+    abbrev left : Draft
+    left = validated (e.environment old) (unhinted (e.draft old))
+
+    reply_is : reply_to said (in_the_middle || ends_in_white_space (e.draft old).line) ≡ reply
+    reply_is =
+        sym (replies
+        ∙ ap (λ v. reply_to v (in_the_middle || at_end)) (told ∙ ap (λ w. verdict_on w (e.draft mid).line.text) drop.frame.environment ∙ ap (λ (d : Draft). verdict_on (e.environment old) d.line.text) drop.draft)
+        ∙ ap (λ b. reply_to said (in_the_middle || b)) (ends ∙ ap (λ l. ends_in_white_space l) (line_is ∙ ap (λ (d : Draft). d.line) drop.draft)))
+
+    whole : accepted (e.environment old) in_the_middle (unhinted (e.draft old)) ≡ replied reply left (typed_in (e.environment old) 1 10 left)
+    whole = ap (λ r. replied r left (typed_in (e.environment old) 1 10 left)) reply_is
+
+    drawn_is : (given : Reply) → reply ≡ given → reply_drawn given shown ≡ reply_drawn (reply_to said (in_the_middle || ends_in_white_space (e.draft old).line)) shown
+    drawn_is given is = ap (λ r. reply_drawn r shown) (sym (reply_is ∙ is))
+
+    left_by : (given : Reply) → reply ≡ given → replied given left (typed_in (e.environment old) 1 10 left) ≡ accepted (e.environment old) in_the_middle (unhinted (e.draft old))
+    left_by given is = ap (λ r. replied r left (typed_in (e.environment old) 1 10 left)) (sym is) ∙ sym whole
+
+    -- a line that is submitted
+    pub submits_line : reply ≡ Submits → (input : Input) (indent : ℕ) (kills : Ring) → Executed e old input indent kills (accept_or_insert_line in_the_middle) new kills submitted
+    submits_line is input indent kills = record {
+      steps = record {
+        editor = ap (λ (d : Draft). editor_with d kills) (left_is ∙ ap (λ (p : Draft × Answer). p.0) (left_by Submits is));
+        answered = ap (λ (p : Draft × Answer). p.1) (sym (left_by Submits is));
+      };
+      drew = subst (λ d. Drew e 3 d old new) (drawn_is Submits is) shown_three;
+      drawn = loses_both;
+      change = inl text_is;
+      start = asked.start ∙ drop.start;
+    }
+
+    -- a line that stays as it is
+    pub line_stays_so : reply ≡ Stays → (input : Input) (indent : ℕ) (kills : Ring) → Executed e old input indent kills (accept_or_insert_line in_the_middle) new kills proceeds
+    line_stays_so is input indent kills = record {
+      steps = record {
+        editor = ap (λ (d : Draft). editor_with d kills) (left_is ∙ ap (λ (p : Draft × Answer). p.0) (left_by Stays is));
+        answered = ap (λ (p : Draft × Answer). p.1) (sym (left_by Stays is));
+      };
+      drew = subst (λ d. Drew e 3 d old new) (drawn_is Stays is) shown_three;
+      drawn = record { right = λ was. asked.keeps.right (loses.right was); line = λ there. no_hint_line e new (no_hint (loses.no_hint there)) };
+      change = inl text_is;
+      start = asked.start ∙ drop.start;
+    }
+
+    -- a line that is given a newline
+    pub newline_comes : {V : Type 0} (z : V) (last : X) → reply ≡ GoesOn
+        → Does e (Ok z) new last (typed_in (e.environment new) 1 10 (e.draft new)) with_hint 1
+        → (input : Input) (indent : ℕ) (kills : Ring) → Executed e old input indent kills (accept_or_insert_line in_the_middle) last kills proceeds
+    newline_comes z last is typed input indent kills =
+        let all : Frame e old new = frame_then e old mid new drop.frame asked.frame in
+        let longer : e.draft last ≡ typed_in (e.environment old) 1 10 left =
+        typed.draft ∙ ap (λ w. typed_in w 1 10 (e.draft new)) all.environment ∙ ap (λ d. typed_in (e.environment old) 1 10 d) left_is in
+        let line : DrewLine e 3 (hint_shown (e.draft last)) Other old last =
+        line_then e old new last all (both_lit e old mid new has_stale says (message_of said) (kind_of_verdict said) drop.frame drop.drew said_there) 2 1 _ Other
+        (rises_twice 0 1 0 1 (e.redraws old) (e.redraws mid) (e.redraws new)
+        (perhaps_redraws e has_stale 1 None ForcedRefresh old mid drop.drew) (perhaps_redraws e says 1 (message_of said) (kind_of_verdict said) mid new said_there)) typed.drew in
+        record {
+          steps = record {
+            editor = ap (λ (d : Draft). editor_with d kills) (longer ∙ ap (λ (p : Draft × Answer). p.0) (left_by GoesOn is));
+            answered = ap (λ (p : Draft × Answer). p.1) (sym (left_by GoesOn is));
+          };
+          drew = subst (λ d. Drew e 3 d old last) (drawn_is GoesOn is) line;
+          drawn = record { right = λ was. line.right; line = λ there. hint_trails e last line.shows };
+          change = inr (line.shows, line.redraws);
+          start = typed.start ∙ asked.start ∙ drop.start;
+        }
+
+  -- what fails behind the hint that was taken away
+  pub frame_both : Frame e old new
+  frame_both = frame_then e old mid new drop.frame asked.frame
+
+  pub none_failed : e.failures new ≡ e.failures old
+  none_failed = asked.fails.quiet ∙ drop.fails.quiet

@@ -1,23 +1,45 @@
 -- Facts on what commands leave.
-use Rattle.std.proofs.Common.{◌≡◌, ℕ, ◌+◌, ◌≤◌, Bool, inl, inr, Result, Ok, Err, refl, ◌∙◌, ap, subst, arith}
+use Rattle.std.proofs.Common.{◌≡◌, ℕ, ◌+◌, ◌≤◌, Bool, true, false, cond, inl, inr, List, Option, Some, None, option_map, Result, Ok, Err, refl, sym, ◌∙◌, ap, subst, arith}
 use Rattle.std.proofs.lemmas.Bool.{cases_lt}
-use Rattle.std.specs.Prelude.{OnOk}
+use Rattle.std.specs.Prelude.{◌||◌, ◌==◌, if◌then◌else◌, length, not, is_some}
+use Rattle.line_buffer.specs.KillRing.{Ring, after_yank_pop}
 use Rattle.line_buffer.specs.Line.{Line}
 use Rattle.line_buffer.specs.declared.keymap.Movement.{Movement}
 use Rattle.line_buffer.specs.declared.keymap.Movement.TheVariants as By
 use Rattle.line_config.specs.declared.error.ReadlineError.{ReadlineError}
-use Rattle.line_config.specs.Error.{Rose, max_count}
-use Rattle.line_keys.specs.Display.{Display}
+use Rattle.line_config.specs.Error.{Rose, is_io, max_count}
+use Rattle.line_keys.specs.Command.{Command, accept_line, accept_or_insert_line, command_of, end_of_file, interrupt, kill, newline, replace, vi_yank_to, yank, yank_pop}
+use Rattle.line_keys.specs.declared.command.Anchor.{Anchor}
+use Rattle.line_keys.specs.declared.command.Cmd.{Cmd}
+use Rattle.line_keys.specs.declared.command.Cmd.TheVariants as Cmd
+use Rattle.line_keys.specs.Display.{Display, IsRight, ShowsInFull, Surface, lit_after}
 use Rattle.line_keys.specs.Draft.{Draft, hint_shown, start_text}
-use Rattle.line_keys.specs.EditorState.{Does, DrawsEdit, DrawsEditIf, Drew, FailsOnlyIf, Frame, KeepsDrawn, PartyFailed, Redraws, Refreshes, ShowsChange}
+use Rattle.line_keys.specs.Drawing.{Does, Drawing, Drew, DrewLine, DrewNothing, Refreshes, drawn_if, edit_drawn, ShowsChange, behind_prompt, cursor, cursor_over, cursor_to_end, nothing, with_hint, with_text}
+use Rattle.line_keys.specs.EditorState.{FailsByParty, FailsByRenderer, Frame, Redraws}
+use Rattle.line_keys.specs.ShownLine.{KeepsDrawn}
 use Rattle.line_keys.specs.declared.editor_state.EditorState.{Ghosts}
 use Rattle.line_parts.specs.Environment.{Environment}
 use Rattle.line_parts.specs.declared.highlight.CmdKind.{CmdKind}
+use Rattle.line_parts.specs.declared.highlight.CmdKind.TheVariants.{ForcedRefresh, Other}
 use Rattle.line_state.specs.Moves.{moved}
-use Rattle.line_editor.specs.Editor.{measuring, ruler_of}
-use Rattle.line_editor.specs.Runs.{LosesHint}
-use Rattle.line_editor.proofs.CountLemmas.{rises_more, rises_twice, rises_up_to}
-use Rattle.line_editor.proofs.DrawnLemmas.{frame_then, hint_trails, keeps_then, no_hint_line}
+use Rattle.line_state.specs.Edited as edits
+use Rattle.line_state.specs.Edited.{pops_text}
+use Rattle.line_editor.specs.Drawings.{drawing_of, edited_drawn, has_text, most_drawn, pop_drawn}
+use Rattle.line_editor.specs.Editor.{Editor, Ruler, Step, edited_of, measuring, proceeding, ruler_of, with_draft}
+use Rattle.line_editor.specs.Edits.{after_edit, kill_popped, killed_by, popped_in, replaced_by, text_inserted}
+use Rattle.line_editor.specs.Input.{Input}
+use Rattle.line_editor.specs.Runs.{DoesWithKills, Executed, Executes, editor_of}
+use Rattle.line_editor.specs.Status.{answer_at, answer_of}
+use Rattle.line_editor.specs.Step.{edited_by, step}
+use Rattle.line_editor.specs.declared.command.Status.{Status}
+use Rattle.line_editor.specs.declared.command.Status.TheVariants.{Proceed}
+use Rattle.line_editor.proofs.CountLemmas.{rises_more, rises_stays, rises_twice, rises_up_to}
+use Rattle.line_editor.proofs.HistoryMoveLemmas.{always}
+use Rattle.line_editor.proofs.DoneLemmas.{does_nothing, nothing_drawn}
+use Rattle.line_editor.proofs.DrawnLemmas.{frame_then, hint_trails, keeps_then}
+
+abbrev pub editor_with : Draft → Ring → Editor
+editor_with draft kills = record { draft = draft; kills = kills }
 
 -- a move measures by nothing but the ruler
 pub measured_by : (d : Display) (indent : ℕ) (movement : Movement) (line : Line)
@@ -37,6 +59,20 @@ measured_by d indent By.WholeBuffer line = refl
 measured_by d indent By.BeginningOfBuffer line = refl
 measured_by d indent By.EndOfBuffer line = refl
 
+-- so a move is done by the ruler
+pub moved_by_ruler : {X T : Type 0} (e : Ghosts X) (r : Result T ReadlineError) (old new : X) (indent : ℕ) (movement : Movement) (drawing : Drawing) (most : ℕ)
+    → Does e r old new (record (e.draft old) { line = moved (e.display old).layout movement (e.draft old).line }) drawing most
+    → Does e r old new (record (e.draft old) { line = moved (measuring (ruler_of (e.display old) indent)) movement (e.draft old).line }) drawing most
+moved_by_ruler e r old new indent movement drawing most does =
+    subst (λ l. Does e r old new (record (e.draft old) { line = l }) drawing most) (measured_by (e.display old) indent movement (e.draft old).line) does
+
+-- a command that is left to the program above does nothing
+pub nothing_there : {X T : Type 0} (e : Ghosts X) (x : T) (old : X) (left : Draft) (drawing : Drawing) (most : ℕ) → drawing ≡ nothing → left ≡ e.draft old
+    → Does e (Ok x) old old left drawing most
+nothing_there e x old left drawing most none same =
+    subst (λ d. Does e (Ok x) old old left d most) (sym none) (subst (λ l. Does e (Ok x) old old l nothing most) (sym same)
+    (does_nothing e x old old most (nothing_drawn e old old refl refl refl refl refl refl) refl))
+
 -- a count that rose behind one that never falls rose from before it
 rose_later : (old mid new : ℕ) → old ≤ mid → mid ≤ new → Rose mid new → Rose old new
 rose_later old mid new first second rose =
@@ -45,11 +81,130 @@ rose_later old mid new first second rose =
       | inr more ↦ omega (arith, below, more, second)
     ]
 
--- where the hint is taken away, what is drawn stays good
-pub hint_lost : {X : Type 0} (e : Ghosts X) (old new : X) → LosesHint e old new → KeepsDrawn e old new
-hint_lost e old new loses = record { right = loses.right; line = λ shown. no_hint_line e new (loses.no_hint shown) }
+-- the same answer of `highlight_char` where what is asked is the same, and no colors leave the last one
+lit_same : (colors colors' asked asked' last last' : Bool) → colors' ≡ colors → asked' ≡ asked → (colors ≡ false → last' ≡ last)
+    → cond colors' asked' last' ≡ cond colors asked last
+lit_same true true asked asked' last last' same by none = by
+lit_same false false asked asked' last last' same by none = none refl
+lit_same true false asked asked' last last' same by none = absurd (cc)
+lit_same false true asked asked' last last' same by none = absurd (cc)
+
+-- no command draws the line in full more than three times
+pub few_drawn : (command : Command) → most_drawn command ≤ 3
+few_drawn newline = omega arith
+few_drawn (replace movement text) = omega arith
+few_drawn accept_line = omega arith
+few_drawn (accept_or_insert_line in_the_middle) = omega arith
+few_drawn _ = omega arith
+
+-- the commands that only edit
+abbrev only_edits : Command → Bool
+only_edits accept_line = false
+only_edits (accept_or_insert_line in_the_middle) = false
+only_edits end_of_file = false
+only_edits interrupt = false
+only_edits (kill movement) = false
+only_edits (replace movement text) = false
+only_edits (vi_yank_to movement) = false
+only_edits (yank n anchor) = false
+only_edits yank_pop = false
+only_edits _ = true
+
+-- a command is one of them where it is none of the others
+pub edits_else : (cmd : Cmd) → (cmd ≡ Cmd.AcceptLine → ⊥) → ((b : Bool) → cmd ≡ Cmd.AcceptOrInsertLine b → ⊥) → (cmd ≡ Cmd.EndOfFile → ⊥) → (cmd ≡ Cmd.Interrupt → ⊥)
+    → ((m : Movement) → cmd ≡ Cmd.Kill m → ⊥) → ((m : Movement) (t : _) → cmd ≡ Cmd.Replace m t → ⊥) → ((m : Movement) → cmd ≡ Cmd.ViYankTo m → ⊥)
+    → ((n : ℕ) (a : Anchor) → cmd ≡ Cmd.Yank n a → ⊥) → (cmd ≡ Cmd.YankPop → ⊥) → only_edits (command_of cmd) ≡ true
+edits_else Cmd.AcceptLine a b c d e f g h i = absurd (a refl)
+edits_else (Cmd.AcceptOrInsertLine x) a b c d e f g h i = absurd (b x refl)
+edits_else Cmd.EndOfFile a b c d e f g h i = absurd (c refl)
+edits_else Cmd.Interrupt a b c d e f g h i = absurd (d refl)
+edits_else (Cmd.Kill x) a b c d e f g h i = absurd (e x refl)
+edits_else (Cmd.Replace x y) a b c d e f g h i = absurd (f x y refl)
+edits_else (Cmd.ViYankTo x) a b c d e f g h i = absurd (g x refl)
+edits_else (Cmd.Yank x y) a b c d e f g h i = absurd (h x y refl)
+edits_else Cmd.YankPop a b c d e f g h i = absurd (i refl)
+edits_else _ a b c d e f g h i = refl
+
+-- the step and the drawing of such a command
+pub edit_steps : (ruler : Ruler) (environment : Environment) (input : Input) (editor : Editor) (command : Command) → only_edits command ≡ true
+    → step ruler environment input editor command ≡ proceeding (with_draft editor (edited_by ruler environment input editor.draft command))
+edit_steps ruler environment input editor accept_line only = absurd (cc)
+edit_steps ruler environment input editor (accept_or_insert_line in_the_middle) only = absurd (cc)
+edit_steps ruler environment input editor end_of_file only = absurd (cc)
+edit_steps ruler environment input editor interrupt only = absurd (cc)
+edit_steps ruler environment input editor (kill movement) only = absurd (cc)
+edit_steps ruler environment input editor (replace movement text) only = absurd (cc)
+edit_steps ruler environment input editor (vi_yank_to movement) only = absurd (cc)
+edit_steps ruler environment input editor (yank n anchor) only = absurd (cc)
+edit_steps ruler environment input editor yank_pop only = absurd (cc)
+edit_steps ruler environment input editor _ only = refl
+
+pub edit_draws : (display : Display) (environment : Environment) (editor : Editor) (command : Command) → only_edits command ≡ true
+    → drawing_of display environment editor command ≡ edited_drawn display environment editor.draft command
+edit_draws display environment editor accept_line only = absurd (cc)
+edit_draws display environment editor (accept_or_insert_line in_the_middle) only = absurd (cc)
+edit_draws display environment editor end_of_file only = absurd (cc)
+edit_draws display environment editor interrupt only = absurd (cc)
+edit_draws display environment editor (kill movement) only = absurd (cc)
+edit_draws display environment editor (replace movement text) only = absurd (cc)
+edit_draws display environment editor (vi_yank_to movement) only = absurd (cc)
+edit_draws display environment editor (yank n anchor) only = absurd (cc)
+edit_draws display environment editor yank_pop only = absurd (cc)
+edit_draws display environment editor _ only = refl
+
+-- an editor is its draft and its kills
+editor_is : (draft draft' : Draft) (kills kills' : Ring) → draft' ≡ draft → kills' ≡ kills → editor_with draft' kills' ≡ editor_with draft kills
+editor_is draft draft' kills kills' same too = ap (λ d. editor_with d kills') same ∙ ap (λ k. editor_with draft k) too
+
+module _ {X : Type 0} (e : Ghosts X) (old mid new : X) (frame : Frame e old mid) (lit : (e.display old).surface.colors ≡ false → (e.display mid).lit ≡ (e.display old).lit) where
+  -- a full redraw behind another drawing is the last of both
+  pub line_then : (before most : ℕ) (trailing : _) (kind : CmdKind) → Redraws e 0 before old mid → DrewLine e most trailing kind mid new
+      → DrewLine e (before + most) trailing kind old new
+  line_then before most trailing kind redraws drew = record {
+    shows = drew.shows;
+    right = drew.right;
+    lit = drew.lit ∙ lit_same (e.display old).surface.colors (e.display mid).surface.colors
+        ((e.environment old).lights (e.draft new).line.text (e.draft new).line.cursor kind) ((e.environment mid).lights (e.draft new).line.text (e.draft new).line.cursor kind)
+        (e.display old).lit (e.display mid).lit (ap (λ (s : Surface). s.colors) frame.surface)
+        (ap (λ (w : Environment). w.lights (e.draft new).line.text (e.draft new).line.cursor kind) frame.environment) lit;
+    redraws = rises_twice 0 before 1 most (e.redraws old) (e.redraws mid) (e.redraws new) redraws drew.redraws;
+  }
+
+-- a full redraw that nothing was drawn behind
+pub line_kept : {X : Type 0} (e : Ghosts X) (old mid new : X) (trailing : Option (List ℕ)) (kind : CmdKind) → DrewNothing e mid new
+    → (e.draft new).line ≡ (e.draft mid).line → DrewLine e 1 trailing kind old mid → DrewLine e 2 trailing kind old new
+line_kept e old mid new trailing kind undrew line drew = record {
+  shows = record {
+    in_full =
+        subst (λ (l : Line). ShowsInFull (e.display new) (e.display new).prompt_end l trailing) (sym line)
+        (subst (λ (d : Display). ShowsInFull d d.prompt_end (e.draft mid).line trailing) (sym undrew.display) drew.shows.in_full);
+    own_prompt = ap (λ (d : Display). d.layout.default_prompt) undrew.display ∙ drew.shows.own_prompt;
+  };
+  right =
+      subst (λ (l : Line). IsRight (e.display new) l) (sym line)
+      (subst (λ (d : Display). IsRight d (e.draft mid).line) (sym undrew.display) drew.right);
+  lit = ap (λ (d : Display). d.lit) undrew.display ∙ drew.lit ∙ ap (λ (l : Line). lit_after (e.environment old) (e.display old) l kind) (sym line);
+  redraws = rises_up_to 1 1 2 (e.redraws old) (e.redraws new) (omega arith)
+      (rises_stays 1 1 (e.redraws old) (e.redraws mid) (e.redraws new) drew.redraws undrew.redraws);
+}
 
 module _ {X : Type 0} (e : Ghosts X) where
+  -- without colors the last answer of `highlight_char` stays
+  colorless : (w : Environment) (d : Display) (line : Line) (kind : CmdKind) → d.surface.colors ≡ false → lit_after w d line kind ≡ d.lit
+  colorless w d line kind none = ap (λ b. cond b (w.lights line.text line.cursor kind) d.lit) none
+
+  -- a drawing that takes a hint away, where it draws anything
+  pub perhaps_lit : (drawn : Bool) (most : ℕ) (trailing : _) (kind : CmdKind) (old mid : X)
+      → Drew e most (if drawn then with_text trailing kind else nothing) old mid
+      → (e.display old).surface.colors ≡ false → (e.display mid).lit ≡ (e.display old).lit
+  perhaps_lit true most trailing kind old mid drew none = drew.lit ∙ colorless (e.environment old) (e.display old) (e.draft mid).line kind none
+  perhaps_lit false most trailing kind old mid drew none = ap (λ (d : Display). d.lit) drew.display
+
+  pub perhaps_redraws : (drawn : Bool) (most : ℕ) (trailing : _) (kind : CmdKind) (old mid : X)
+      → Drew e most (if drawn then with_text trailing kind else nothing) old mid → Redraws e 0 most old mid
+  perhaps_redraws true most trailing kind old mid drew = rises_more 1 most most (e.redraws old) (e.redraws mid) (omega arith) drew.redraws
+  perhaps_redraws false most trailing kind old mid drew = λ below. (omega (arith, drew.redraws), omega (arith, drew.redraws))
+
   -- a change that was drawn with fewer redraws was drawn with more
   pub change_more : (old new : X) (less more : ℕ) → less ≤ more → ShowsChange e less old new → ShowsChange e more old new
   change_more old new less more within change =
@@ -58,97 +213,215 @@ module _ {X : Type 0} (e : Ghosts X) where
         | inr drew ↦ inr (drew.0, rises_up_to 1 less more (e.redraws old) (e.redraws new) within drew.1)
       ]
 
-  -- a change behind a step that keeps the text is one from before it
-  change_then : (old mid new : X) (before behind : ℕ) → (e.draft mid).line.text ≡ (e.draft old).line.text → Redraws e 0 before old mid
-      → ShowsChange e behind mid new → ShowsChange e (before + behind) old new
-  change_then old mid new before behind text redraws change =
-      elim change [
-        | inl same ↦ inl (same ∙ text)
-        | inr drew ↦ inr (drew.0, rises_twice 0 before 1 behind (e.redraws old) (e.redraws mid) (e.redraws new) redraws drew.1)
-      ]
-
-module _ {X T : Type 0} (e : Ghosts X) where
-  -- what fails behind a step that keeps the frame fails from before it
-  pub fails_then : (r : Result T ReadlineError) (old mid new : X) → Frame e old mid → Frame e mid new
-      → FailsOnlyIf r (PartyFailed e mid new) → FailsOnlyIf r (PartyFailed e old new)
-  fails_then (Ok x) old mid new first second fails = record { io = fails.io; faults = fails.faults }
-  fails_then (Err er) old mid new first second fails = record {
+  -- what fails behind a step that keeps the frame and counts no failure fails from before it
+  pub fails_then : {T : Type 0} (r : Result T ReadlineError) (old mid new : X) → Frame e old mid → Frame e mid new → e.failures mid ≡ e.failures old
+      → FailsByParty e r mid new → FailsByParty e r old new
+  fails_then (Ok x) old mid new first second none fails = record { io = tt; faults = tt; quiet = fails.quiet ∙ none }
+  fails_then (Err er) old mid new first second none fails = record {
     io = λ i sure. rose_later _ _ _ first.failures second.failures (fails.io i (first.sure ∙ sure));
     faults = fails.faults;
+    quiet = λ no. fails.quiet no ∙ none;
   }
 
-  -- what does with fewer redraws does with more
-  pub does_more : (r : Result T ReadlineError) (old new : X) (left : Draft) (less more : ℕ) → less ≤ more
-      → Does e r old new left less → Does e r old new left more
-  does_more (Ok x) old new left less more within does = record {
-    draft = does.draft;
-    start = does.start;
-    keeps = does.keeps;
-    change = change_more e old new less more within does.change;
-    redraws = rises_more 0 less more (e.redraws old) (e.redraws new) within does.redraws;
-    frame = does.frame;
-    fails = does.fails;
-  }
-  does_more (Err er) old new left less more within does =
-      record { draft = tt; start = tt; keeps = tt; change = tt; redraws = tt; frame = does.frame; fails = does.fails }
-
-  pub does_twice : (r : Result T ReadlineError) (old new : X) (left : Draft) → Does e r old new left 1 → Does e r old new left 2
-  does_twice r old new left does = does_more r old new left 1 2 (omega arith) does
-
-  pub draws_twice : (r : Result T ReadlineError) (old new : X) (left : Draft) → DrawsEdit e r old new left → Does e r old new left 2
-  draws_twice r old new left draws = does_twice r old new left draws.does
-
-  pub draws_if_twice : (reported : Bool) (r : Result T ReadlineError) (old new : X) (left : Draft) → DrawsEditIf e reported r old new left → Does e r old new left 2
-  draws_if_twice reported r old new left draws = does_twice r old new left draws.does
-
-  -- what is done behind another step is done with both's redraws
-  pub does_then : (r : Result T ReadlineError) (old mid new : X) (left : Draft) (before behind : ℕ)
-      → (e.draft mid).line.text ≡ (e.draft old).line.text
-      → start_text (e.draft mid) ≡ start_text (e.draft old) → KeepsDrawn e old mid → Redraws e 0 before old mid → Frame e old mid
-      → Does e r mid new left behind → Does e r old new left (before + behind)
-  does_then (Ok x) old mid new left before behind text start keeps redraws frame does = record {
-    draft = does.draft;
-    start = does.start ∙ start;
-    keeps = keeps_then e old mid new keeps does.keeps;
-    change = change_then e old mid new before behind text redraws does.change;
-    redraws = rises_twice 0 before 0 behind (e.redraws old) (e.redraws mid) (e.redraws new) redraws does.redraws;
-    frame = frame_then e old mid new frame does.frame;
-    fails = fails_then (Ok x) old mid new frame does.frame does.fails;
-  }
-  does_then (Err er) old mid new left before behind text start keeps redraws frame does = record {
+  -- an edit that is drawn with its hint, behind a step that took the hint away
+  pub typed_behind : {T : Type 0} (r : Result T ReadlineError) (old mid new : X) (drawn : Bool) (made : Environment → Draft → Draft) (given : Draft)
+      → e.draft mid ≡ given → given.line.text ≡ (e.draft old).line.text → start_text (e.draft mid) ≡ start_text (e.draft old)
+      → Drew e 1 (if drawn then with_text None ForcedRefresh else nothing) old mid → Frame e old mid → e.failures mid ≡ e.failures old
+      → Does e r mid new (made (e.environment mid) (e.draft mid)) with_hint 1 → Does e r old new (made (e.environment old) given) with_hint 2
+  typed_behind (Err er) old mid new drawn made given draft text start drew frame none does = record {
     draft = tt;
     start = tt;
+    drew = tt;
     keeps = tt;
     change = tt;
-    redraws = tt;
     frame = frame_then e old mid new frame does.frame;
-    fails = fails_then (Err er) old mid new frame does.frame does.fails;
+    fails = fails_then (Err er) old mid new frame does.frame none does.fails;
   }
-
-  -- the same of what is made of the environment and the draft
-  pub does_behind : (r : Result T ReadlineError) (old mid new : X) (made : Environment → Draft → Draft) (given : Draft) (before behind : ℕ)
-      → e.draft mid ≡ given → given.line.text ≡ (e.draft old).line.text
-      → start_text (e.draft mid) ≡ start_text (e.draft old) → KeepsDrawn e old mid → Redraws e 0 before old mid → Frame e old mid
-      → Does e r mid new (made (e.environment mid) (e.draft mid)) behind → Does e r old new (made (e.environment old) given) (before + behind)
-  does_behind r old mid new made given before behind draft text start keeps redraws frame does =
-      let P : Draft → Type 0 = λ d. Does e r old new (made (e.environment old) d) (before + behind) in
-      let Q : Environment → Type 0 = λ w. Does e r old new (made w (e.draft mid)) (before + behind) in
-      subst P draft (subst Q frame.environment (does_then r old mid new (made (e.environment mid) (e.draft mid)) before behind
-      (ap (λ (d : Draft). d.line.text) draft ∙ text) start keeps redraws frame does))
+  typed_behind (Ok x) old mid new drawn made given draft text start drew frame none does =
+      let line : DrewLine e 2 (hint_shown (e.draft new)) Other old new =
+      line_then e old mid new frame (perhaps_lit drawn 1 None ForcedRefresh old mid drew) 1 1 _ Other (perhaps_redraws drawn 1 None ForcedRefresh old mid drew) does.drew in
+      record {
+        draft = does.draft ∙ ap (λ w. made w (e.draft mid)) frame.environment ∙ ap (λ d. made (e.environment old) d) draft;
+        start = does.start ∙ start;
+        drew = line;
+        keeps = record { right = λ was. line.right; line = λ was. hint_trails e new line.shows };
+        change = inr (line.shows, line.redraws);
+        frame = frame_then e old mid new frame does.frame;
+        fails = fails_then (Ok x) old mid new frame does.frame none does.fails;
+      }
 
   -- a refresh that keeps the text is an edit
-  pub does_refresh : (r : Result T ReadlineError) (old new : X) (left : Draft) (kind : CmdKind)
+  pub does_refresh : {T : Type 0} (r : Result T ReadlineError) (old new : X) (left : Draft)
       → start_text left ≡ start_text (e.draft old)
-      → Refreshes e r old new left → OnOk r (Drew e old new (hint_shown (e.draft new)) kind)
-      → Does e r old new left 2
-  does_refresh (Ok x) old new left kind start refreshed drew = record {
+      → Refreshes e r old new left with_hint → Does e r old new left with_hint 1
+  does_refresh (Ok x) old new left start refreshed = record {
     draft = refreshed.draft;
     start = ap start_text refreshed.draft ∙ start;
-    keeps = record { right = λ was. drew.right; line = λ was. hint_trails e new drew.shows };
-    change = inr (drew.shows, rises_up_to 1 1 2 (e.redraws old) (e.redraws new) (omega arith) drew.redraws);
-    redraws = rises_more 1 1 2 (e.redraws old) (e.redraws new) (omega arith) drew.redraws;
+    drew = refreshed.drew;
+    keeps = record { right = λ was. refreshed.drew.right; line = λ was. hint_trails e new refreshed.drew.shows };
+    change = inr (refreshed.drew.shows, refreshed.drew.redraws);
     frame = refreshed.frame;
     fails = refreshed.fails;
   }
-  does_refresh (Err er) old new left kind start refreshed drew =
-      record { draft = tt; start = tt; keeps = tt; change = tt; redraws = tt; frame = refreshed.frame; fails = refreshed.fails }
+  does_refresh (Err er) old new left start refreshed =
+      record { draft = tt; start = tt; drew = tt; keeps = tt; change = tt; frame = refreshed.frame; fails = refreshed.fails }
+
+module _ {X : Type 0} (e : Ghosts X) (old mid new : X) (frame : Frame e old mid) where
+  -- without colors a line that may have been drawn leaves the last answer of `highlight_char`
+  found_lit : (found : Bool) → Drew e 1 (drawn_if found) old mid → (e.display old).surface.colors ≡ false → (e.display mid).lit ≡ (e.display old).lit
+  found_lit true drew none = drew.lit ∙ colorless e (e.environment old) (e.display old) (e.draft mid).line Other none
+  found_lit false drew none = ap (λ (d : Display). d.lit) drew.display
+
+  found_redraws : (found : Bool) → Drew e 1 (drawn_if found) old mid → Redraws e 0 1 old mid
+  found_redraws true drew = rises_more 1 1 1 (e.redraws old) (e.redraws mid) (omega arith) drew.redraws
+  found_redraws false drew = λ below. (omega (arith, drew.redraws), omega (arith, drew.redraws))
+
+  -- a line that may have been drawn, and then may have been again
+  twice_drawn : (found empty : Bool) → (empty ≡ true → ((e.draft new).line ≡ (e.draft mid).line) × ((e.draft new).hint ≡ (e.draft mid).hint))
+      → Drew e 1 (drawn_if found) old mid → Drew e 1 (drawn_if (not empty)) mid new → Drew e 2 (drawn_if (found || not empty)) old new
+  twice_drawn true true stays first second =
+      let s = stays refl in
+      subst (λ (h : _). DrewLine e 2 (option_map (λ s. s.display) h) Other old new) (sym s.1)
+      (line_kept e old mid new (hint_shown (e.draft mid)) Other second s.0 first)
+  twice_drawn false true stays first second = record { display = second.display ∙ first.display; redraws = second.redraws ∙ first.redraws }
+  twice_drawn true false stays first second = line_then e old mid new frame (found_lit true first) 1 1 (hint_shown (e.draft new)) Other (found_redraws true first) second
+  twice_drawn false false stays first second = line_then e old mid new frame (found_lit false first) 1 1 (hint_shown (e.draft new)) Other (found_redraws false first) second
+
+  twice_changed : (drawn : Bool) → Drew e 2 (drawn_if drawn) old new → (drawn ≡ false → (e.draft new).line.text ≡ (e.draft old).line.text) → ShowsChange e 2 old new
+  twice_changed true drew same = inr (drew.shows, drew.redraws)
+  twice_changed false drew same = inl (same refl)
+
+-- no text leaves the draft as it is
+none_put : (environment : Environment) (text : List ℕ) (draft : Draft) (empty : Bool) → (length text == 0) ≡ empty → empty ≡ true → text_inserted environment text draft ≡ draft
+none_put environment text draft empty is none =
+    ap (λ b. cond b draft (after_edit environment true (edits.with_text text (edited_of draft)) draft)) (is ∙ none)
+
+-- what is not killed leaves the draft as it is
+none_killed : (environment : Environment) (movement : Movement) (editor : Editor) (range : Option (ℕ × ℕ)) → is_some range ≡ false → (killed_by environment movement editor range).draft ≡ editor.draft
+none_killed environment movement editor None none = refl
+none_killed environment movement editor (Some range) none = absurd (cc)
+
+both_none : (found empty : Bool) → (found || not empty) ≡ false → (found ≡ false) × (empty ≡ true)
+both_none true empty none = absurd (cc)
+both_none false true none = (refl, refl)
+both_none false false none = absurd (cc)
+
+-- a kill, and then a text in its place
+pub replaced : {X T U : Type 0} (e : Ghosts X) (x : T) (r : Result U ReadlineError) (old mid new : X) (kills kills' : Ring) (movement : Movement) (range : Option (ℕ × ℕ)) (text : List ℕ)
+    → DoesWithKills e (Ok x) old kills mid kills' (killed_by (e.environment old) movement (editor_of e old kills) range) (drawn_if (is_some range)) 1
+    → Does e r mid new (text_inserted (e.environment mid) text (e.draft mid)) (drawn_if (not (length text == 0))) 1
+    → DoesWithKills e r old kills new kills'
+    (with_draft (killed_by (e.environment old) movement (editor_of e old kills) range) (text_inserted (e.environment old) text (killed_by (e.environment old) movement (editor_of e old kills) range).draft))
+    (drawn_if (is_some range || not (length text == 0))) 2
+replaced e x (Err f) old mid new kills kills' movement range text killed put = record {
+  does = record {
+    draft = tt;
+    start = tt;
+    drew = tt;
+    keeps = tt;
+    change = tt;
+    frame = frame_then e old mid new killed.does.frame put.frame;
+    fails = fails_then e (Err f) old mid new killed.does.frame put.frame killed.does.fails.quiet put.fails;
+  };
+  kills_left = tt;
+}
+replaced e x (Ok y) old mid new kills kills' movement range text killed put =
+    let stays : ((length text == 0) ≡ true → ((e.draft new).line ≡ (e.draft mid).line) × ((e.draft new).hint ≡ (e.draft mid).hint)) =
+    λ none. let same = put.draft ∙ none_put (e.environment mid) text (e.draft mid) (length text == 0) refl none in
+    (ap (λ (d : Draft). d.line) same, ap (λ (d : Draft). d.hint) same) in
+    let drew : Drew e 2 (drawn_if (is_some range || not (length text == 0))) old new =
+    twice_drawn e old mid new killed.does.frame (is_some range) (length text == 0) stays killed.does.drew put.drew in
+    record {
+      does = record {
+        draft = put.draft ∙ ap (λ w. text_inserted w text (e.draft mid)) killed.does.frame.environment ∙ ap (λ d. text_inserted (e.environment old) text d) killed.does.draft;
+        start = put.start ∙ killed.does.start;
+        drew = drew;
+        keeps = keeps_then e old mid new killed.does.keeps put.keeps;
+        change = twice_changed e old mid new killed.does.frame (is_some range || not (length text == 0)) drew (λ none.
+            let n = both_none (is_some range) (length text == 0) none in
+            ap (λ (l : Line). l.text) (stays n.1).0 ∙ ap (λ (d : Draft). d.line.text) (killed.does.draft ∙ none_killed (e.environment old) movement (editor_of e old kills) range n.0));
+        frame = frame_then e old mid new killed.does.frame put.frame;
+        fails = fails_then e (Ok y) old mid new killed.does.frame put.frame killed.does.fails.quiet put.fails;
+      };
+      kills_left = killed.kills_left;
+    }
+
+-- the same of an equal text
+pub replaced_as : {X T : Type 0} (e : Ghosts X) (r : Result T ReadlineError) (old new : X) (kills kills' : Ring) (movement : Movement) (found : Bool) (put put' : Option (List ℕ)) → put ≡ put'
+    → DoesWithKills e r old kills new kills' (replaced_by (e.environment old) movement put (editor_of e old kills)) (drawn_if (found || has_text put)) 2
+    → DoesWithKills e r old kills new kills' (replaced_by (e.environment old) movement put' (editor_of e old kills)) (drawn_if (found || has_text put')) 2
+replaced_as e r old new kills kills' movement found put put' same done =
+    subst (λ p. DoesWithKills e r old kills new kills' (replaced_by (e.environment old) movement p (editor_of e old kills)) (drawn_if (found || has_text p)) 2) same done
+
+-- what is killed, and nothing comes in its place
+pub only_killed : {X T : Type 0} (e : Ghosts X) (x : T) (old new : X) (kills kills' : Ring) (movement : Movement) (range : Option (ℕ × ℕ))
+    → DoesWithKills e (Ok x) old kills new kills' (killed_by (e.environment old) movement (editor_of e old kills) range) (drawn_if (is_some range)) 1
+    → DoesWithKills e (Ok x) old kills new kills' (killed_by (e.environment old) movement (editor_of e old kills) range) (drawn_if (is_some range || false)) 2
+only_killed e x old new kills kills' movement range killed = record {
+  does = record {
+    draft = killed.does.draft;
+    start = killed.does.start;
+    drew = twice_drawn e old new new killed.does.frame (is_some range) true (λ none. (refl, refl)) killed.does.drew (record { display = refl; redraws = refl });
+    keeps = killed.does.keeps;
+    change = change_more e old new 1 2 (omega arith) killed.does.change;
+    frame = killed.does.frame;
+    fails = killed.does.fails;
+  };
+  kills_left = killed.kills_left;
+}
+
+-- a text that takes the place of a yanked one
+pub popped_by : {X T : Type 0} (e : Ghosts X) (r : Result T ReadlineError) (old new : X) (kills kills' : Ring) (popped : Option (ℕ × List ℕ)) (size : ℕ) (text : List ℕ)
+    → Some (size, text) ≡ popped → kills' ≡ after_yank_pop kills
+    → Does e r old new (popped_in (e.environment old) size text (e.draft old)) (edit_drawn (pops_text (e.draft old).line size text)) 1
+    → DoesWithKills e r old kills new kills' (kill_popped (e.environment old) popped (editor_of e old kills)) (pop_drawn (e.draft old).line popped) 1
+popped_by e r old new kills kills' popped size text is ring does =
+    subst (λ p. DoesWithKills e r old kills new kills' (kill_popped (e.environment old) p (editor_of e old kills)) (pop_drawn (e.draft old).line p) 1) is
+    (record { does = does; kills_left = always r ring })
+
+module _ {X : Type 0} (e : Ghosts X) (old new : X) (input : Input) (indent : ℕ) (kills kills' : Ring) (command : Command) where
+  -- a command that was executed
+  pub executed_ok : (status : Status) → Executed e old input indent kills command new kills' (answer_of status) → Frame e old new → e.failures new ≡ e.failures old
+      → Executes e (Ok status) old input indent kills command new kills'
+  executed_ok status done frame none = record { comes = done; frame = frame; io = tt; quiet = none }
+
+  -- one that ended the input or interrupted
+  pub executed_at : (f : ReadlineError) → is_io f ≡ false → Executed e old input indent kills command new kills' (answer_at f) → Frame e old new → e.failures new ≡ e.failures old
+      → Executes e (Err f) old input indent kills command new kills'
+  executed_at f other done frame none = record { comes = λ fault. done; frame = frame; io = λ is. absurd (cc); quiet = λ is. none }
+
+  -- one that went wrong
+  pub executed_wrong : {T : Type 0} (f : ReadlineError) → FailsByParty {T = T} e (Err f) old new → Frame e old new → Executes e (Err f) old input indent kills command new kills'
+  executed_wrong f fails frame =
+      record { comes = λ no. absurd (let is = fails.faults in cc); frame = frame; io = fails.io; quiet = fails.quiet }
+
+  -- one that proceeds
+  pub proceeds_ok : {T : Type 0} (x : T) (left : Editor) (drawing : Drawing)
+      → step (ruler_of (e.display old) indent) (e.environment old) input (editor_of e old kills) command ≡ proceeding left
+      → drawing_of (e.display old) (e.environment old) (editor_of e old kills) command ≡ drawing
+      → DoesWithKills e (Ok x) old kills new kills' left drawing (most_drawn command)
+      → Executes e (Ok Proceed) old input indent kills command new kills'
+  proceeds_ok x left drawing steps draws done = executed_ok Proceed (record {
+    steps = record {
+      editor = editor_is _ _ _ _ done.does.draft done.kills_left ∙ sym (ap (λ (s : Step). s.editor) steps);
+      answered = ap (λ (s : Step). s.answer) steps;
+    };
+    drew = subst (λ d. Drew e (most_drawn command) d old new) (sym draws) done.does.drew;
+    drawn = done.does.keeps;
+    change = change_more e old new (most_drawn command) 3 (few_drawn command) done.does.change;
+    start = done.does.start;
+  }) done.does.frame done.does.fails.quiet
+
+  pub proceeds_wrong : {T : Type 0} (f : ReadlineError) (left : Editor) (drawing : Drawing)
+      → DoesWithKills e {T = T} (Err f) old kills new kills' left drawing (most_drawn command)
+      → Executes e (Err f) old input indent kills command new kills'
+  proceeds_wrong f left drawing done = executed_wrong f done.does.fails done.does.frame
+
+  -- an edit that proceeds
+  pub edits_ok : {T : Type 0} (x : T) → only_edits command ≡ true → kills' ≡ kills
+      → Does e (Ok x) old new (edited_by (ruler_of (e.display old) indent) (e.environment old) input (e.draft old) command)
+      (edited_drawn (e.display old) (e.environment old) (e.draft old) command) (most_drawn command)
+      → Executes e (Ok Proceed) old input indent kills command new kills'
+  edits_ok x only same does =
+      proceeds_ok x _ _ (edit_steps (ruler_of (e.display old) indent) (e.environment old) input (editor_of e old kills) command only)
+      (edit_draws (e.display old) (e.environment old) (editor_of e old kills) command only) (record { does = does; kills_left = same })

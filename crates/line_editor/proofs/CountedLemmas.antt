@@ -1,24 +1,23 @@
 -- Facts on counts that are read.
-use Rattle.std.proofs.Common.{◌≡◌, ◌+◌, ◌-◌, ◌≤◌, List, [], ◌∷◌, ◌++◌, append_assoc, map, length, true, false, Ok, Err, inl, inr, sym, ◌∙◌, ap, arith}
+use Rattle.std.proofs.Common.{◌≡◌, ℕ, ◌+◌, ◌-◌, ◌≤◌, List, [], ◌∷◌, ◌++◌, append_assoc, map, length, true, false, Ok, Err, inl, inr, refl, sym, ◌∙◌, ap, arith}
 use Rattle.std.specs.Prelude.{◌&&◌}
 use Rattle.std.specs.List.{list_all}
 use Rattle.std.proofs.lemmas.List.{append-nil, length-append, length-map, map-append}
 use Rattle.std.proofs.lemmas.List.Folds.{list_all-append}
 use Rattle.line_config.specs.declared.config.EditMode.{EditMode}
 use Rattle.line_config.specs.declared.error.ReadlineError.{ReadlineError}
-use Rattle.line_config.specs.declared.error.ReadlineError.TheVariants.{Eof}
 use Rattle.line_parts.specs.Environment.{Environment}
-use Rattle.line_parts.specs.declared.highlight.CmdKind.TheVariants.{Other}
 use Rattle.line_keys.specs.Count.{IsCountOf, continues_count, count_of}
-use Rattle.line_keys.specs.Draft.{Draft, KeepsText, hint_shown, hinted}
-use Rattle.line_keys.specs.EditorState.{Drew, Frame, Redraws, Refreshes}
+use Rattle.line_keys.specs.Draft.{Draft, KeepsText, hinted}
+use Rattle.line_keys.specs.Drawing.{Refreshes, with_hint}
+use Rattle.line_keys.specs.EditorState.{Frame, Redraws}
 use Rattle.line_keys.specs.Item.{Item, key}
 use Rattle.line_keys.specs.declared.count.Count.{Count}
 use Rattle.line_keys.specs.declared.count.TypedCount.{TypedCount}
 use Rattle.line_keys.specs.declared.editor_state.EditorState as editors
 use Rattle.line_keys.specs.declared.keys.KeyEvent.{KeyEvent}
 use Rattle.line_keys.specs.declared.tty.RawReader as readers
-use Rattle.line_editor.specs.Reading.{CutInCount, LeftByCut, ReadsCount, ReadsUnderCount}
+use Rattle.line_editor.specs.Reading.{LeftByCut, ReadsCount, ReadsUnderCount}
 use Rattle.line_editor.proofs.CountLemmas.{rises_twice}
 use Rattle.line_editor.proofs.DrawnLemmas.{frame_then}
 
@@ -36,8 +35,23 @@ keeps_by environment draft left is = record {
   changes = ap (λ (d : Draft). d.changes) is;
 }
 
+-- all but the hint stays, over two steps
+keeps_twice : (environment : Environment) (draft mid left : Draft) → LeftByCut environment draft mid → KeepsText mid left → KeepsText draft left
+keeps_twice environment draft mid left (inl is) keeps = record {
+  line = keeps.line ∙ ap (λ (d : Draft). d.line) is;
+  saved = keeps.saved ∙ ap (λ (d : Draft). d.saved) is;
+  index = keeps.index ∙ ap (λ (d : Draft). d.index) is;
+  changes = keeps.changes ∙ ap (λ (d : Draft). d.changes) is;
+}
+keeps_twice environment draft mid left (inr is) keeps = record {
+  line = keeps.line ∙ ap (λ (d : Draft). d.line) is;
+  saved = keeps.saved ∙ ap (λ (d : Draft). d.saved) is;
+  index = keeps.index ∙ ap (λ (d : Draft). d.index) is;
+  changes = keeps.changes ∙ ap (λ (d : Draft). d.changes) is;
+}
+
 module _ {X Y : Type 0} (e : editors.Ghosts X) (r : readers.Ghosts Y) (start : X) (reader : Y) (style : EditMode) (first : KeyEvent) where
-  -- a count is being read: its keys so far are read, each with one full redraw
+  -- a count is being read: its keys so far are read, each with one full redraw, and no failure was counted
   pub record Counting (typed : TypedCount) (now : X) (reader' : Y) : Type 0 where
     pub more : List KeyEvent
     pub cut : r.rest reader ≡ map key more ++ r.rest reader'
@@ -46,35 +60,70 @@ module _ {X Y : Type 0} (e : editors.Ghosts X) (r : readers.Ghosts Y) (start : X
     pub left : LeftByCut (e.environment start) (e.draft start) (e.draft now)
     pub frame : Frame e start now
     pub own : r.own_binding reader' ≡ r.own_binding reader
-    pub counts : r.failures reader ≤ r.failures reader'
-    pub redraws : Redraws e 0 (length more) start now
+    pub unread : r.failures reader' ≡ r.failures reader
+    pub undrawn : e.failures now ≡ e.failures start
+    pub redraws : Redraws e (length more) (length more) start now
 
-  -- no item was left where one more was to be read
-  pub cut_in_count : (typed : TypedCount) (now : X) (reader' : Y) → Counting typed now reader' → (f : ReadlineError) (next : X) (reader'' : Y)
-      → ReadsUnderCount e r typed (Err f) now reader' next reader'' → f ≡ Eof → CutInCount e r style first reader next reader''
-  cut_in_count typed now reader' c f next reader'' read is =
-      let dry = read.eof (ap Err is) in
-      record {
-        inside = record {
-          more = c.more;
-          cut = c.cut ∙ ap (λ t. map key c.more ++ t) dry.before ∙ append-nil (map key c.more);
-          continue = c.continue;
-          empty = dry.behind;
-        };
-        shows = read.shows_at_eof (first ∷ c.more) c.counted (ap Err is);
-      }
+  -- a count begins with its first key
+  pub count_begins : (typed : TypedCount) → IsCountOf typed (first ∷ []) → Counting typed start reader
+  count_begins typed counted = record {
+    more = [];
+    cut = refl;
+    continue = refl;
+    counted = counted;
+    left = inl refl;
+    frame = record { environment = refl; loan = refl; surface = refl; prompt_end = refl; sure = refl; failures = omega arith };
+    own = refl;
+    unread = refl;
+    undrawn = refl;
+    redraws = λ below. (omega arith, omega arith);
+  }
 
-  pub drawn_in_count : (typed : TypedCount) (now : X) (reader' : Y) → Counting typed now reader' → (f : ReadlineError) (next : X) (reader'' : Y)
-      → ReadsUnderCount e r typed (Err f) now reader' next reader'' → f ≡ Eof
-      → Redraws e 0 (1 + (length (r.rest reader) - length (r.rest reader''))) start next
-  drawn_in_count typed now reader' c f next reader'' read is =
-      let dry = read.eof (ap Err is) in
+  -- reading goes wrong, or no item was left where one more was to be read
+  pub count_fails : (typed : TypedCount) (now : X) (reader' : Y) → Counting typed now reader' → (f : ReadlineError) (next : X) (reader'' : Y)
+      → ReadsUnderCount e r typed (Err f) now reader' next reader'' → ReadsCount e r style first (Err f) start reader next reader''
+  count_fails typed now reader' c f next reader'' read =
       let size : length (r.rest reader) ≡ length c.more + length (r.rest reader') =
       ap length c.cut ∙ length-append (map key c.more) (r.rest reader') ∙ ap (λ n. n + length (r.rest reader')) (length-map c.more key) in
-      let before : length (r.rest reader') ≡ 0 = ap length dry.before in
-      let behind : length (r.rest reader'') ≡ 0 = ap length dry.behind in
-      let drawn = rises_twice 0 (length c.more) 0 1 (e.redraws start) (e.redraws now) (e.redraws next) c.redraws (read.redraws_at_eof (ap Err is)) in
-      λ below. let s = drawn (omega (arith, below, size, before, behind)) in (s.0, omega (arith, s.1, size, before, behind))
+      record {
+        read = λ no.
+            let dry = read.took no in (
+              dry.0,
+              record {
+                inside = record {
+                  more = c.more;
+                  cut = c.cut ∙ ap (λ t. map key c.more ++ t) dry.1.before ∙ append-nil (map key c.more);
+                  continue = c.continue;
+                  empty = dry.1.behind;
+                };
+                shows = read.shows (first ∷ c.more) c.counted no;
+              },
+            );
+        draft = λ no. read.draft no ∙ asked_again (e.environment start) (e.environment now) (e.draft start) (e.draft now) c.frame.environment c.left;
+        text = keeps_twice (e.environment start) (e.draft start) (e.draft now) (e.draft next) c.left read.text;
+        redraws = λ no.
+            let dry = (read.took no).1 in
+            let before : length (r.rest reader') ≡ 0 = ap length dry.before in
+            let behind : length (r.rest reader'') ≡ 0 = ap length dry.behind in
+            let drawn = rises_twice (length c.more) (length c.more) 1 1 (e.redraws start) (e.redraws now) (e.redraws next) c.redraws (read.redraws no) in
+            λ below.
+            let s = drawn (omega (arith, below, size, before, behind)) in
+            (omega (arith, s.0, size, before, behind), omega (arith, s.1, size, before, behind));
+        shows = tt;
+        right = tt;
+        keeps = record {
+          frame = frame_then e start now next c.frame read.keeps.frame;
+          own = read.keeps.own ∙ c.own;
+          counts = let n = c.unread in omega (arith, n, read.keeps.counts);
+        };
+        fails = record {
+          io = λ is sure below other.
+              let m = c.unread in let n = c.undrawn in
+              let rose = read.fails.io is (c.frame.sure ∙ sure) (omega (arith, below, m)) (omega (arith, other, n)) in
+              omega (arith, rose, m, n);
+          quiet = λ no. let q = read.fails.quiet no in (q.0 ∙ c.unread, q.1 ∙ c.undrawn);
+        };
+      }
 
   module _ (typed : TypedCount) (now : X) (reader' : Y) (c : Counting typed now reader') (k : KeyEvent) (next : X) (reader'' : Y) (read : ReadsUnderCount e r typed (Ok k) now reader' next reader'') where
     -- one more key was read
@@ -84,8 +133,8 @@ module _ {X Y : Type 0} (e : editors.Ghosts X) (r : readers.Ghosts Y) (start : X
         c.cut ∙ ap f read.took ∙ sym (append_assoc (map key c.more) (key k ∷ []) (r.rest reader''))
         ∙ ap (λ t. t ++ r.rest reader'') (sym (map-append key c.more (k ∷ [])))
 
-    drawn_on : Redraws e 0 (length c.more + 1) start next
-    drawn_on = rises_twice 0 (length c.more) 0 1 (e.redraws start) (e.redraws now) (e.redraws next) c.redraws read.redraws
+    drawn_on : Redraws e (length c.more + 1) (length c.more + 1) start next
+    drawn_on = rises_twice (length c.more) (length c.more) 1 1 (e.redraws start) (e.redraws now) (e.redraws next) c.redraws read.redraws
 
     -- it goes on with the count
     pub counts_on : (typed' : TypedCount) → continues_count style k ≡ true
@@ -99,23 +148,24 @@ module _ {X Y : Type 0} (e : editors.Ghosts X) (r : readers.Ghosts Y) (start : X
           ∙ ap (λ b. b && true) continues;
       counted = push (first ∷ c.more) c.counted;
       left = inr (read.draft ∙ asked_again (e.environment start) (e.environment now) (e.draft start) (e.draft now) c.frame.environment c.left);
-      frame = frame_then e start now next c.frame read.frame;
-      own = read.own ∙ c.own;
-      counts = omega (arith, c.counts, read.counts);
+      frame = frame_then e start now next c.frame read.keeps.frame;
+      own = read.keeps.own ∙ c.own;
+      unread = read.fails.quiet.0 ∙ c.unread;
+      undrawn = read.fails.quiet.1 ∙ c.undrawn;
       redraws =
           let size = length-append c.more (k ∷ []) in
-          λ below. let s = drawn_on (omega (arith, below, size)) in (s.0, omega (arith, s.1, size));
+          λ below. let s = drawn_on (omega (arith, below, size)) in (omega (arith, s.0, size), omega (arith, s.1, size));
     }
 
     -- it ends the count, and the line is drawn again
     pub count_ends : (count : Count) (last : X) → continues_count style k ≡ false
         → ((keys : List KeyEvent) → IsCountOf typed keys → count ≡ count_of keys)
-        → Refreshes {T = Unit {0}} e (Ok tt) next last (hinted (e.environment next) (e.draft next)) → Drew e next last (hint_shown (e.draft last)) Other
+        → Refreshes {T = Unit {0}} e (Ok tt) next last (hinted (e.environment next) (e.draft next)) with_hint
         → ReadsCount e r style first (Ok (count, k)) start reader last reader''
-    count_ends count last ends counted refreshed drew =
+    count_ends count last ends counted refreshed =
         let once : e.draft next ≡ hinted (e.environment start) (e.draft start) =
         read.draft ∙ asked_again (e.environment start) (e.environment now) (e.draft start) (e.draft now) c.frame.environment c.left in
-        let frame = frame_then e start now next c.frame read.frame in
+        let frame = frame_then e start now next c.frame read.keeps.frame in
         let draft : e.draft last ≡ hinted (e.environment start) (e.draft start) =
         refreshed.draft ∙ asked_again (e.environment start) (e.environment next) (e.draft start) (e.draft next) frame.environment (inr once) in
         let size : length (r.rest reader) ≡ length c.more + length (key k ∷ r.rest reader'') =
@@ -129,21 +179,45 @@ module _ {X Y : Type 0} (e : editors.Ghosts X) (r : readers.Ghosts Y) (start : X
             ends = ends;
             counted = counted (first ∷ c.more) c.counted;
           };
-          eof = λ no. absurd (cc);
           draft = draft;
-          draft_at_eof = λ no. absurd (cc);
           text = keeps_by (e.environment start) (e.draft start) (e.draft last) draft;
-          shows = drew.shows;
-          right = drew.right;
           redraws =
               λ below.
               let s = drawn_on (omega (arith, below, size)) in
-              let t = drew.redraws (omega (arith, below, size, s.1)) in
-              (omega (arith, s.0, t.0), omega (arith, s.1, t.1, size));
-          redraws_at_eof = λ no. absurd (cc);
-          frame = frame_then e start next last frame refreshed.frame;
-          own = read.own ∙ c.own;
-          counts = omega (arith, c.counts, read.counts);
-          not_interrupted = λ no. absurd (cc);
-          io = tt;
+              let t = refreshed.drew.redraws (omega (arith, below, size, s.1)) in
+              (omega (arith, s.0, t.0, size), omega (arith, s.1, t.1, size));
+          shows = refreshed.drew.shows;
+          right = refreshed.drew.right;
+          keeps = record {
+            frame = frame_then e start next last frame refreshed.frame;
+            own = read.keeps.own ∙ c.own;
+            counts = let n = c.unread in omega (arith, n, read.keeps.counts);
+          };
+          fails = record { io = tt; quiet = (read.fails.quiet.0 ∙ c.unread, refreshed.fails.quiet ∙ read.fails.quiet.1 ∙ c.undrawn) };
         }
+
+    -- drawing it again goes wrong
+    pub redraw_fails : (f : ReadlineError) (last : X)
+        → Refreshes {T = Unit {0}} e (Err f) next last (hinted (e.environment next) (e.draft next)) with_hint
+        → ReadsCount e r style first (Err f) start reader last reader''
+    redraw_fails f last refreshed = record {
+      read = λ no. absurd (let is = refreshed.fails.faults in cc);
+      draft = λ no. absurd (let is = refreshed.fails.faults in cc);
+      text = keeps_twice (e.environment start) (e.draft start) (e.draft next) (e.draft last)
+          (inr (read.draft ∙ asked_again (e.environment start) (e.environment now) (e.draft start) (e.draft now) c.frame.environment c.left)) refreshed.text;
+      redraws = λ no. absurd (let is = refreshed.fails.faults in cc);
+      shows = tt;
+      right = tt;
+      keeps = record {
+        frame = frame_then e start next last (frame_then e start now next c.frame read.keeps.frame) refreshed.frame;
+        own = read.keeps.own ∙ c.own;
+        counts = let n = c.unread in omega (arith, n, read.keeps.counts);
+      };
+      fails = record {
+        io = λ is sure below other.
+            let m = c.unread in let n = c.undrawn in let q = read.fails.quiet in
+            let rose = refreshed.fails.io is (read.keeps.frame.sure ∙ c.frame.sure ∙ sure) (omega (arith, other, n, q.1)) in
+            omega (arith, rose, m, n, q.0, q.1);
+        quiet = λ no. let q = read.fails.quiet in (q.0 ∙ c.unread, refreshed.fails.quiet no ∙ q.1 ∙ c.undrawn);
+      };
+    }

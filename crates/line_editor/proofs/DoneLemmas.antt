@@ -2,23 +2,25 @@
 use Rattle.std.proofs.Common.{◌≡◌, inl, inr, ℕ, Bool, true, false, List, Option, Some, None, is_some, Result, Ok, Err, refl, sym, ◌∙◌, ap, subst, arith}
 use Rattle.std.specs.Prelude.{if◌then◌else◌}
 use Rattle.line_config.specs.declared.error.ReadlineError.{ReadlineError}
+use Rattle.line_buffer.specs.Kill.{ring_with_killed}
+use Rattle.line_buffer.specs.KillRing.{Ring}
 use Rattle.line_buffer.specs.Line.{Line}
+use Rattle.line_buffer.specs.Undo.{first_text}
+use Rattle.line_buffer.specs.declared.keymap.Movement.{Movement}
 use Rattle.line_keys.specs.Display.{Display, HasCursorAt, IsRight, lit_after}
 use Rattle.line_keys.specs.Draft.{Draft, hinted, hint_shown, start_text}
-use Rattle.line_keys.specs.EditorState.{Does, DrawsEdit, DrawsEditIf, Drew, FailsOnlyIf, PartyFailed, ShowsEdit, Undrawn}
+use Rattle.line_keys.specs.Drawing.{Does, Drawing, Drew, DrewCursor, DrewLine, DrewNothing, ShowsEdit, Undrawn, behind_prompt, cursor, cursor_over, cursor_to_end, drawn_if, edit_drawn, nothing, with_hint, with_text}
+use Rattle.line_keys.specs.EditorState.{FailsByParty, FailsByRenderer}
+use Rattle.line_keys.specs.ShownLine.{KeepsDrawn}
 use Rattle.line_keys.specs.declared.editor_state.EditorState.{Ghosts}
 use Rattle.line_parts.specs.Environment.{Environment}
 use Rattle.line_parts.specs.declared.highlight.CmdKind.{CmdKind}
 use Rattle.line_parts.specs.declared.highlight.CmdKind.TheVariants.{MoveCursor, Other}
-use Rattle.line_buffer.specs.Undo.{first_text}
 use Rattle.line_state.specs.Edited.{Edited, without_range}
-use Rattle.line_buffer.specs.Kill.{ring_with_killed}
-use Rattle.line_buffer.specs.KillRing.{Ring}
-use Rattle.line_buffer.specs.declared.keymap.Movement.{Movement}
 use Rattle.line_editor.specs.Editor.{edited_of, with_edited}
 use Rattle.line_editor.specs.Edits.{after_edit, killed_by}
 use Rattle.line_editor.specs.Runs.{DoesWithKills, editor_of}
-use Rattle.line_editor.proofs.DrawnLemmas.{frame_then, hint_trails, keeps_move, line_stays}
+use Rattle.line_editor.proofs.DrawnLemmas.{drawn_stays, frame_then, hint_trails, keeps_move, keeps_then, line_stays}
 
 -- what leaves all but the draft draws nothing
 pub nothing_drawn : {X : Type 0} (e : Ghosts X) (old new : X)
@@ -38,10 +40,18 @@ nothing_drawn e old new environment loan display sure failures redraws = record 
   };
 }
 
+-- two steps that draw nothing are one
+pub undrawn_twice : {X : Type 0} (e : Ghosts X) (old mid new : X) → Undrawn e old mid → Undrawn e mid new → Undrawn e old new
+undrawn_twice e old mid new first second = record {
+  drew = record { display = second.drew.display ∙ first.drew.display; redraws = second.drew.redraws ∙ first.drew.redraws };
+  failures = second.failures ∙ first.failures;
+  frame = frame_then e old mid new first.frame second.frame;
+}
+
 module _ {X : Type 0} (e : Ghosts X) (old mid new : X) (undrawn : Undrawn e old mid) where
   -- a full redraw behind a step that draws nothing is one from before it
-  pub drew_after : (trailing : Option (List ℕ)) (kind : CmdKind) → Drew e mid new trailing kind → Drew e old new trailing kind
-  drew_after trailing kind drew =
+  pub line_after : (most : ℕ) (trailing : Option (List ℕ)) (kind : CmdKind) → DrewLine e most trailing kind mid new → DrewLine e most trailing kind old new
+  line_after most trailing kind drew =
       let P : Environment → Type 0 = λ w. (e.display new).lit ≡ lit_after w (e.display old) (e.draft new).line kind in
       let Q : Display → Type 0 = λ d. (e.display new).lit ≡ lit_after (e.environment mid) d (e.draft new).line kind in
       record {
@@ -52,82 +62,76 @@ module _ {X : Type 0} (e : Ghosts X) (old mid new : X) (undrawn : Undrawn e old 
             let s = drew.redraws (omega (arith, below, n)) in (omega (arith, s.0, n), omega (arith, s.1, n));
       }
 
+  nothing_after : DrewNothing e mid new → DrewNothing e old new
+  nothing_after drew = record { display = drew.display ∙ undrawn.drew.display; redraws = drew.redraws ∙ undrawn.drew.redraws }
+
+  pub cursor_after : (kind : CmdKind) → DrewCursor e kind mid new → DrewCursor e kind old new
+  cursor_after kind drew =
+      let P : Display → Type 0 = λ d. HasCursorAt d (e.draft new).line in
+      record {
+        drew = elim drew.drew [
+          | inl d ↦ inl (line_after 1 None kind d)
+          | inr n ↦ inr (nothing_after n)
+        ];
+        still = λ at. nothing_after (drew.still (subst P (sym undrawn.drew.display) at));
+      }
+
+  -- so is each drawing of an edit
+  pub edit_after : (reported : Bool) → Drew e 1 (edit_drawn reported) mid new → Drew e 1 (edit_drawn reported) old new
+  edit_after true drew = line_after 1 (hint_shown (e.draft new)) Other drew
+  edit_after false drew = cursor_after MoveCursor drew
+
   -- failures behind such a step are failures from before it
-  pub fails_after : {T : Type 0} (r : Result T ReadlineError) → FailsOnlyIf r (PartyFailed e mid new) → FailsOnlyIf r (PartyFailed e old new)
-  fails_after (Ok x) fails = record { io = fails.io; faults = fails.faults }
+  pub fails_after : {T : Type 0} (r : Result T ReadlineError) → FailsByParty e r mid new → FailsByParty e r old new
+  fails_after (Ok x) fails = record { io = tt; faults = tt; quiet = fails.quiet ∙ undrawn.failures }
   fails_after (Err er) fails = record {
     io = λ i sure below. let n = undrawn.failures in
         let more = fails.io i (undrawn.frame.sure ∙ sure) (omega (arith, below, n)) in omega (arith, more, n);
     faults = fails.faults;
+    quiet = λ no. fails.quiet no ∙ undrawn.failures;
   }
 
   module _ (made : Draft) (draft : e.draft mid ≡ made) (first : start_text made ≡ start_text (e.draft old)) (hint : made.hint ≡ (e.draft old).hint) where
     -- an edit that was reported
-    done_reported : {T : Type 0} (r : Result T ReadlineError) → ShowsEdit e true r mid new
-        → DrawsEditIf e true r old new (hinted (e.environment old) made)
-    done_reported (Err er) shows = record {
-      does = record { draft = tt; start = tt; keeps = tt; change = tt; redraws = tt; frame = frame_then e old mid new undrawn.frame shows.frame; fails = fails_after (Err er) shows.fails };
-      drew = tt;
-      still = λ no at. tt;
-    }
+    pub done_reported : {T : Type 0} (r : Result T ReadlineError) → ShowsEdit e true r mid new
+        → Does e r old new (hinted (e.environment old) made) with_hint 1
+    done_reported (Err er) shows =
+        record { draft = tt; start = tt; drew = tt; keeps = tt; change = tt; frame = frame_then e old mid new undrawn.frame shows.frame; fails = fails_after (Err er) shows.fails }
     done_reported (Ok x) shows =
         let asked : e.draft new ≡ hinted (e.environment old) made =
         shows.draft ∙ ap (λ w. hinted w (e.draft mid)) undrawn.frame.environment ∙ ap (λ d. hinted (e.environment old) d) draft in
-        let drew : Drew e old new (hint_shown (e.draft new)) Other = drew_after (hint_shown (e.draft new)) Other (shows.reported refl) in
+        let drew : DrewLine e 1 (hint_shown (e.draft new)) Other old new = line_after 1 (hint_shown (e.draft new)) Other shows.drew in
         record {
-          does = record {
-            draft = asked;
-            start = ap start_text asked ∙ first;
-            keeps = record { right = λ was. drew.right; line = λ was. hint_trails e new drew.shows };
-            change = inr (drew.shows, drew.redraws);
-            redraws = λ below. let s = drew.redraws below in (omega (arith, s.0), s.1);
-            frame = frame_then e old mid new undrawn.frame shows.frame;
-            fails = fails_after (Ok x) shows.fails;
-          };
+          draft = asked;
+          start = ap start_text asked ∙ first;
           drew = drew;
-          still = λ no at. absurd (cc);
+          keeps = record { right = λ was. drew.right; line = λ was. hint_trails e new drew.shows };
+          change = inr (drew.shows, drew.redraws);
+          frame = frame_then e old mid new undrawn.frame shows.frame;
+          fails = fails_after (Ok x) shows.fails;
         }
 
     -- an edit that was not reported: at most the cursor moved
     done_unreported : {T : Type 0} (r : Result T ReadlineError) → made.line.text ≡ (e.draft old).line.text → ShowsEdit e false r mid new
-        → DrawsEditIf e false r old new made
-    done_unreported (Err er) text shows = record {
-      does = record { draft = tt; start = tt; keeps = tt; change = tt; redraws = tt; frame = frame_then e old mid new undrawn.frame shows.frame; fails = fails_after (Err er) shows.fails };
-      drew = tt;
-      still = λ no at. tt;
-    }
+        → Does e r old new made (cursor MoveCursor) 1
+    done_unreported (Err er) text shows =
+        record { draft = tt; start = tt; drew = tt; keeps = tt; change = tt; frame = frame_then e old mid new undrawn.frame shows.frame; fails = fails_after (Err er) shows.fails }
     done_unreported (Ok x) text shows =
         let same : (e.draft mid).line.text ≡ (e.draft old).line.text = ap (λ (d : Draft). d.line.text) draft ∙ text in
-        let n = undrawn.drew.redraws in
         record {
-          does = record {
-            draft = shows.draft ∙ draft;
-            start = ap start_text (shows.draft ∙ draft) ∙ first;
-            keeps = keeps_move e old mid new same (ap (λ (d : Draft). d.hint) draft ∙ hint) undrawn.drew.display n undrawn.frame.environment
-                shows.draft shows.frame.environment shows.right (shows.moved refl);
-            change = inl (ap (λ (d : Draft). d.line.text) (shows.draft ∙ draft) ∙ text);
-            redraws = elim (shows.moved refl) [
-              | inl d ↦ λ below. let s = d.redraws (omega (arith, below, n)) in (omega (arith, s.0, n), omega (arith, s.1, n))
-              | inr d ↦ λ below. (omega (arith, d.0.redraws, n), omega (arith, d.0.redraws, n))
-            ];
-            frame = frame_then e old mid new undrawn.frame shows.frame;
-            fails = fails_after (Ok x) shows.fails;
-          };
-          drew = elim (shows.moved refl) [
-            | inl d ↦ inl (drew_after None MoveCursor d)
-            | inr d ↦ inr (record { display = d.0.display ∙ undrawn.drew.display; redraws = d.0.redraws ∙ n })
-          ];
-          still = λ no at.
-              let P : Display → Type 0 = λ d. HasCursorAt d made.line in
-              let Q : Line → Type 0 = λ l. HasCursorAt (e.display mid) l in
-              let there = subst Q (sym (ap (λ (d : Draft). d.line) draft)) (subst P (sym undrawn.drew.display) at) in
-              let d = shows.still refl there in
-              record { display = d.display ∙ undrawn.drew.display; redraws = d.redraws ∙ n };
+          draft = shows.draft ∙ draft;
+          start = ap start_text (shows.draft ∙ draft) ∙ first;
+          drew = cursor_after MoveCursor shows.drew;
+          keeps = keeps_move e old mid new MoveCursor same (ap (λ (d : Draft). d.hint) draft ∙ hint) undrawn.drew.display undrawn.drew.redraws undrawn.frame.environment
+              shows.draft shows.frame.environment shows.right shows.drew shows.placed;
+          change = inl (ap (λ (d : Draft). d.line.text) (shows.draft ∙ draft) ∙ text);
+          frame = frame_then e old mid new undrawn.frame shows.frame;
+          fails = fails_after (Ok x) shows.fails;
         }
 
     done_either : {T : Type 0} (r : Result T ReadlineError) (reported : Bool)
         → (reported ≡ false → made.line.text ≡ (e.draft old).line.text) → ShowsEdit e reported r mid new
-        → DrawsEditIf e reported r old new (if reported then hinted (e.environment old) made else made)
+        → Does e r old new (if reported then hinted (e.environment old) made else made) (edit_drawn reported) 1
     done_either r true text shows = done_reported r shows
     done_either r false text shows = done_unreported r (text refl) shows
 
@@ -138,10 +142,10 @@ pub edit_done : {X T : Type 0} (e : Ghosts X) (r : Result T ReadlineError) (old 
     → reported ≡ rep
     → (reported ≡ false → made.line.text ≡ (e.draft old).line.text)
     → ShowsEdit e reported r mid new
-    → DrawsEditIf e rep r old new (if rep then hinted (e.environment old) left else left)
+    → Does e r old new (if rep then hinted (e.environment old) left else left) (edit_drawn rep) 1
 edit_done e r old mid new made left reported rep undrawn draft same first hint answer text shows =
-    let P : Draft → Type 0 = λ d. DrawsEditIf e rep r old new (if rep then hinted (e.environment old) d else d) in
-    let Q : Bool → Type 0 = λ b. DrawsEditIf e b r old new (if b then hinted (e.environment old) made else made) in
+    let P : Draft → Type 0 = λ d. Does e r old new (if rep then hinted (e.environment old) d else d) (edit_drawn rep) 1 in
+    let Q : Bool → Type 0 = λ b. Does e r old new (if b then hinted (e.environment old) made else made) (edit_drawn b) 1 in
     subst P same (subst Q answer (done_either e old mid new undrawn made draft first hint r reported text shows))
 
 -- an edit that is always reported
@@ -149,11 +153,10 @@ pub edit_reported : {X T : Type 0} (e : Ghosts X) (r : Result T ReadlineError) (
     → Undrawn e old mid → e.draft mid ≡ made → made ≡ left
     → start_text made ≡ start_text (e.draft old) → made.hint ≡ (e.draft old).hint
     → ShowsEdit e true r mid new
-    → DrawsEdit e r old new (hinted (e.environment old) left)
+    → Does e r old new (hinted (e.environment old) left) with_hint 1
 edit_reported e r old mid new made left undrawn draft same first hint shows =
-    let P : Draft → Type 0 = λ d. DrawsEditIf e true r old new (hinted (e.environment old) d) in
-    let done = subst P same (done_reported e old mid new undrawn made draft first hint r shows) in
-    record { does = done.does; drew = done.drew }
+    let P : Draft → Type 0 = λ d. Does e r old new (hinted (e.environment old) d) with_hint 1 in
+    subst P same (done_reported e old mid new undrawn made draft first hint r shows)
 
 -- the same of an edit of the line with its changes
 pub line_done : {X T : Type 0} (e : Ghosts X) (r : Result T ReadlineError) (old mid new : X) (edited left : Edited) (reported rep : Bool)
@@ -162,7 +165,7 @@ pub line_done : {X T : Type 0} (e : Ghosts X) (r : Result T ReadlineError) (old 
     → reported ≡ rep
     → (reported ≡ false → edited.line.text ≡ (e.draft old).line.text)
     → ShowsEdit e reported r mid new
-    → DrawsEditIf e rep r old new (after_edit (e.environment old) rep left (e.draft old))
+    → Does e r old new (after_edit (e.environment old) rep left (e.draft old)) (edit_drawn rep) 1
 line_done e r old mid new edited left reported rep undrawn draft same first answer text shows =
     edit_done e r old mid new (with_edited (e.draft old) edited) (with_edited (e.draft old) left) reported rep undrawn draft
     (ap (λ x. with_edited (e.draft old) x) same) first refl answer text shows
@@ -171,36 +174,76 @@ pub line_reported : {X T : Type 0} (e : Ghosts X) (r : Result T ReadlineError) (
     → Undrawn e old mid → e.draft mid ≡ with_edited (e.draft old) edited → edited ≡ left
     → first_text edited.changes edited.line ≡ start_text (e.draft old)
     → ShowsEdit e true r mid new
-    → DrawsEdit e r old new (after_edit (e.environment old) true left (e.draft old))
+    → Does e r old new (after_edit (e.environment old) true left (e.draft old)) with_hint 1
 line_reported e r old mid new edited left undrawn draft same first shows =
     edit_reported e r old mid new (with_edited (e.draft old) edited) (with_edited (e.draft old) left) undrawn draft
     (ap (λ x. with_edited (e.draft old) x) same) first refl shows
 
 -- where nothing happens, all stays
 pub does_nothing : {X T : Type 0} (e : Ghosts X) (x : T) (old new : X) (most : ℕ) → Undrawn e old new → e.draft new ≡ e.draft old
-    → Does {T = T} e (Ok x) old new (e.draft old) most
-does_nothing e x old new most undrawn same =
-    let P : Draft → Type 0 = λ d. IsRight (e.display new) d.line in
-    let Q : Display → Type 0 = λ d. IsRight d (e.draft old).line in
+    → Does {T = T} e (Ok x) old new (e.draft old) nothing most
+does_nothing e x old new most undrawn same = record {
+  draft = same;
+  start = ap start_text same;
+  drew = undrawn.drew;
+  keeps = drawn_stays e old new undrawn.frame.environment undrawn.drew (ap (λ (d : Draft). d.line) same) (ap (λ (d : Draft). d.hint) same);
+  change = inl (ap (λ (d : Draft). d.line.text) same);
+  frame = undrawn.frame;
+  fails = record { io = tt; faults = tt; quiet = undrawn.failures };
+}
+
+-- what is done behind a step that draws nothing and leaves the line and its hint is done from before it
+pub does_after : {X T : Type 0} (e : Ghosts X) (r : Result T ReadlineError) (old mid new : X) (left left' : Draft) (reported : Bool)
+    → Undrawn e old mid → (e.draft mid).line ≡ (e.draft old).line → (e.draft mid).hint ≡ (e.draft old).hint
+    → start_text (e.draft mid) ≡ start_text (e.draft old) → left ≡ left'
+    → Does e r mid new left (drawn_if reported) 1 → Does e r old new left' (drawn_if reported) 1
+does_after e (Err er) old mid new left left' reported undrawn line hint first same does = record {
+  draft = tt;
+  start = tt;
+  drew = tt;
+  keeps = tt;
+  change = tt;
+  frame = frame_then e old mid new undrawn.frame does.frame;
+  fails = fails_after e old mid new undrawn (Err er) does.fails;
+}
+does_after e (Ok x) old mid new left left' reported undrawn line hint first same does =
+    let n = undrawn.drew.redraws in
     record {
-      draft = same;
-      start = ap start_text same;
-      keeps = record {
-        right = λ was. subst P (sym same) (subst Q (sym undrawn.drew.display) was);
-        line = line_stays e old new undrawn.frame.environment (ap (λ (d : Draft). d.line.text) same) (ap (λ (d : Draft). d.hint) same)
-            undrawn.drew (ap (λ (d : Draft). d.line) same);
-      };
-      change = inl (ap (λ (d : Draft). d.line.text) same);
-      redraws = λ below. (omega (arith, undrawn.drew.redraws), omega (arith, undrawn.drew.redraws));
-      frame = undrawn.frame;
-      fails = record { io = tt; faults = tt };
+      draft = does.draft ∙ same;
+      start = does.start ∙ first;
+      drew = drawn_after reported does.drew;
+      keeps = keeps_then e old mid new (drawn_stays e old mid undrawn.frame.environment undrawn.drew line hint) does.keeps;
+      change = elim does.change [
+        | inl stays ↦ inl (stays ∙ ap (λ (l : Line). l.text) line)
+        | inr drew ↦
+            inr (drew.0, λ below. let s = drew.1 (omega (arith, below, n)) in (omega (arith, s.0, n), omega (arith, s.1, n)))
+      ];
+      frame = frame_then e old mid new undrawn.frame does.frame;
+      fails = fails_after e old mid new undrawn (Ok x) does.fails;
     }
+  where
+    drawn_after : (b : Bool) → Drew e 1 (drawn_if b) mid new → Drew e 1 (drawn_if b) old new
+    drawn_after true drew = line_after e old mid new undrawn 1 (hint_shown (e.draft new)) Other drew
+    drawn_after false drew = nothing_after e old mid new undrawn drew
 
 -- a kill that finds no text
 pub kills_nothing : {X T : Type 0} (e : Ghosts X) (x : T) (old new : X) (kills kills' : Ring) (movement : Movement) (range : Option (ℕ × ℕ)) (edited : Edited)
     → is_some range ≡ false → Undrawn e old new → e.draft new ≡ with_edited (e.draft old) edited
     → edited ≡ without_range range (edited_of (e.draft old)) → kills' ≡ ring_with_killed (e.draft old).line movement range kills
-    → DoesWithKills e {T = T} (Ok x) old kills new kills' (killed_by (e.environment old) movement (editor_of e old kills) range) 1
+    → DoesWithKills e {T = T} (Ok x) old kills new kills' (killed_by (e.environment old) movement (editor_of e old kills) range) (drawn_if (is_some range)) 1
 kills_nothing e x old new kills kills' movement (Some range) edited found undrawn draft same ring = absurd (cc)
 kills_nothing e x old new kills kills' movement None edited found undrawn draft same ring =
     record { does = does_nothing e x old new 1 undrawn (draft ∙ ap (λ y. with_edited (e.draft old) y) same); kills_left = ring }
+
+-- a kill that is shown
+pub kill_done : {X T : Type 0} (e : Ghosts X) (r : Result T ReadlineError) (old mid new : X) (kills kills' : Ring) (movement : Movement) (range : Option (ℕ × ℕ)) (edited : Edited)
+    → is_some range ≡ true → Undrawn e old mid → e.draft mid ≡ with_edited (e.draft old) edited
+    → edited ≡ without_range range (edited_of (e.draft old)) → first_text edited.changes edited.line ≡ start_text (e.draft old)
+    → kills' ≡ ring_with_killed (e.draft old).line movement range kills
+    → ShowsEdit e true r mid new
+    → DoesWithKills e r old kills new kills' (killed_by (e.environment old) movement (editor_of e old kills) range) (drawn_if (is_some range)) 1
+kill_done e r old mid new kills kills' movement None edited found undrawn draft same first ring shows = absurd (cc)
+kill_done e (Ok x) old mid new kills kills' movement (Some range) edited found undrawn draft same first ring shows =
+    record { does = line_reported e (Ok x) old mid new edited (without_range (Some range) (edited_of (e.draft old))) undrawn draft same first shows; kills_left = ring }
+kill_done e (Err er) old mid new kills kills' movement (Some range) edited found undrawn draft same first ring shows =
+    record { does = line_reported e (Err er) old mid new edited (without_range (Some range) (edited_of (e.draft old))) undrawn draft same first shows; kills_left = tt }

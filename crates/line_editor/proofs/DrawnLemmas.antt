@@ -3,11 +3,13 @@ use Rattle.std.proofs.Common.{◌≡◌, ◌⊎◌, inl, inr, ℕ, List, Option,
 use Rattle.line_buffer.specs.Line.{Line}
 use Rattle.line_keys.specs.Display.{Display, HasCursorAt, ShowsInFull, IsRight, ShowsText, shown_end}
 use Rattle.line_keys.specs.Draft.{Draft, hint_shown}
-use Rattle.line_keys.specs.EditorState.{Shows, ShowsLine, ShowsNoHint, Drew, DrewNothing, Frame, HasCursorDrawn, IsInPlace, KeepsDrawn, MayTrail}
+use Rattle.line_keys.specs.Drawing.{DrewCursor, DrewNothing}
+use Rattle.line_keys.specs.EditorState.{Shows, Frame, HasCursorDrawn, IsInPlace}
+use Rattle.line_keys.specs.ShownLine.{KeepsDrawn, LosesHint, MayTrail, ShowsLine, ShowsNoHint}
 use Rattle.line_keys.specs.declared.editor_state.EditorState.{Ghosts}
 use Rattle.line_parts.specs.Environment.{Environment, verdict_on}
 use Rattle.line_parts.specs.Verdict.{Verdict, message_of}
-use Rattle.line_parts.specs.declared.highlight.CmdKind.TheVariants.{MoveCursor}
+use Rattle.line_parts.specs.declared.highlight.CmdKind.{CmdKind}
 
 -- a line that was drawn with its hint is shown
 pub hint_trails : {X : Type 0} (e : Ghosts X) (editor : X) → Shows e editor (hint_shown (e.draft editor)) → ShowsLine e editor
@@ -103,43 +105,44 @@ module _ {X : Type 0} (e : Ghosts X) (old new : X) (same : e.environment new ≡
       }
 
 -- a cursor that is moved in the line, and then drawn there, keeps what is drawn good
-pub keeps_move : {X : Type 0} (e : Ghosts X) (old middle new : X)
+pub keeps_move : {X : Type 0} (e : Ghosts X) (old middle new : X) (kind : CmdKind)
     → (e.draft middle).line.text ≡ (e.draft old).line.text → (e.draft middle).hint ≡ (e.draft old).hint
     → e.display middle ≡ e.display old → e.redraws middle ≡ e.redraws old → e.environment middle ≡ e.environment old
     → e.draft new ≡ e.draft middle → e.environment new ≡ e.environment middle
     → (ShowsText (e.display middle) (e.draft middle).line.text → IsRight (e.display new) (e.draft middle).line)
-    → (Drew e middle new None MoveCursor ⊎ (DrewNothing e middle new × HasCursorDrawn e middle))
+    → DrewCursor e kind middle new → HasCursorDrawn e new
     → KeepsDrawn e old new
-keeps_move e old middle new text hint same count environment draft' environment' right drew =
+keeps_move e old middle new kind text hint same count environment draft' environment' right drew placed =
     let P : Draft → Type 0 = λ d. IsRight (e.display new) d.line in
     let Q : Display → Type 0 = λ d. ShowsText d (e.draft old).line.text in
     let R : List ℕ → Type 0 = λ t. ShowsText (e.display middle) t in
-    let S : Draft → Type 0 = λ d. HasCursorAt (e.display new) d.line in
-    let T : Display → Type 0 = λ d. HasCursorAt d (e.draft middle).line in
     record {
       right = λ was_right. subst P (sym draft') (right (subst R (sym text) (subst Q (sym same) was_right.drawn)));
       line =
           λ shown.
-          elim drew [
+          elim drew.drew [
             | inl d ↦ nothing_trails e new d.shows
             | inr n ↦
                 line_moved e old new (environment' ∙ environment) (ap (λ (d : Draft). d.line.text) draft' ∙ text)
                 (ap (λ (d : Draft). d.hint) draft' ∙ hint)
-                (record { display = n.0.display ∙ same; redraws = n.0.redraws ∙ count })
-                (subst S (sym draft') (subst T (sym n.0.display) n.1)) shown
+                (record { display = n.display ∙ same; redraws = n.redraws ∙ count }) placed shown
           ];
     }
 
--- where the kept cursor is that of the line that came, nothing is drawn
-pub still_move : {X : Type 0} (e : Ghosts X) (old middle new : X) (line : Line)
-    → (HasCursorDrawn e middle → DrewNothing e middle new)
-    → e.display middle ≡ e.display old → e.redraws middle ≡ e.redraws old → (e.draft middle).line ≡ line
-    → HasCursorAt (e.display old) line → DrewNothing e old new
-still_move e old middle new line still same count moved at =
-    let P : Display → Type 0 = λ d. HasCursorAt d line in
-    let Q : Line → Type 0 = λ l. HasCursorAt (e.display middle) l in
-    let n = still (subst Q (sym moved) (subst P (sym same) at)) in
-    record { display = n.display ∙ same; redraws = n.redraws ∙ count }
+-- where the hint is taken away, what is drawn stays good
+pub hint_lost : {X : Type 0} (e : Ghosts X) (old new : X) → LosesHint e old new → KeepsDrawn e old new
+hint_lost e old new loses = record { right = loses.right; line = λ shown. no_hint_line e new (loses.no_hint shown) }
+
+-- what is drawn stays good where nothing of it and nothing of the line and its hint changes
+pub drawn_stays : {X : Type 0} (e : Ghosts X) (old new : X) → e.environment new ≡ e.environment old → DrewNothing e old new
+    → (e.draft new).line ≡ (e.draft old).line → (e.draft new).hint ≡ (e.draft old).hint → KeepsDrawn e old new
+drawn_stays e old new same drew line hint = record {
+  right = λ was.
+      let P : Display → Type 0 = λ d. IsRight d (e.draft old).line in
+      let Q : Line → Type 0 = λ l. IsRight (e.display new) l in
+      subst Q (sym line) (subst P (sym drew.display) was);
+  line = line_stays e old new same (ap (λ (l : Line). l.text) line) hint drew line;
+}
 
 -- what stays twice stays
 pub frame_then : {X : Type 0} (e : Ghosts X) (old middle new : X) → Frame e old middle → Frame e middle new → Frame e old new

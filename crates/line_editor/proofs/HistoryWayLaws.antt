@@ -15,7 +15,9 @@ use Rattle.line_state.specs.Edited.{Edited, with_text, yanked_at}
 use Rattle.line_keys.specs.Command.{Command, accept_line, accept_or_insert_line, beginning_of_history, capitalize_word, complete_hint, downcase_word, end_of_history, history_search_backward, history_search_forward, insert, kill, line_down_or_next_history, line_up_or_previous_history, next_history, overwrite, previous_history, replace, replace_char, transpose_chars, transpose_words, undo, upcase_word, yank, yank_pop}
 use Rattle.line_keys.specs.Draft.{Draft, in_group, out_of_group, unhinted}
 use Rattle.line_keys.specs.declared.command.Anchor.{Anchor}
-use Rattle.line_editor.specs.Accept.{accepted_as, unhinted_by, validated}
+use Rattle.line_editor.specs.Accept.{replied, reply_to, unhinted_by, validated}
+use Rattle.line_editor.specs.declared.command.Reply.{Reply}
+use Rattle.line_editor.specs.declared.command.Reply.TheVariants as reply
 use Rattle.line_editor.specs.Editor.{Editor, Ruler, edited_of, measuring}
 use Rattle.line_editor.specs.Edits.{after_edit, completed, cursor_moved, kill_popped, kill_yanked, killed_by, perhaps_inserted, replaced_by, typed_in}
 use Rattle.line_editor.specs.HistoryMoves.{come_back, first_shown, is_at_end, line_shown, next_shown, previous_shown, saved_at_end}
@@ -101,12 +103,10 @@ left_validated : (environment : Environment) (draft : Draft) → Stays draft (va
 left_validated environment draft =
     then_stays draft (unhinted draft) (validated environment (unhinted draft)) (record { saved = refl; index = refl }) (validated_stays environment (unhinted draft))
 
-accepted_stays : (verdict : Verdict) (may : Bool) (old left longer : Draft) → Stays old left → Stays old longer → Stays old (accepted_as verdict may left longer).0
-accepted_stays (valid message) true old left longer stay edited = stay
-accepted_stays (valid message) false old left longer stay edited = edited
-accepted_stays (invalid (Some message)) may old left longer stay edited = stay
-accepted_stays (invalid None) may old left longer stay edited = edited
-accepted_stays incomplete may old left longer stay edited = edited
+accepted_stays : (r : Reply) (old left longer : Draft) → Stays old left → Stays old longer → Stays old (replied r left longer).0
+accepted_stays reply.Submits old left longer stay edited = stay
+accepted_stays reply.Stays old left longer stay edited = stay
+accepted_stays reply.GoesOn old left longer stay edited = edited
 
 -- ---- the moves in the history
 
@@ -188,7 +188,7 @@ step_way ruler environment input draft kills (accept_or_insert_line in_the_middl
     let left : Draft = validated environment (unhinted draft) in
     let stay : Stays draft left = left_validated environment draft in
     let typed : Stays draft (typed_in environment 1 10 left) = then_stays draft left (typed_in environment 1 10 left) stay (record { saved = refl; index = refl }) in
-    stays (accepted_stays (verdict_on environment draft.line.text) (in_the_middle || ends_in_white_space draft.line) draft left (typed_in environment 1 10 left) stay typed)
+    stays (accepted_stays (reply_to (verdict_on environment draft.line.text) (in_the_middle || ends_in_white_space draft.line)) draft left (typed_in environment 1 10 left) stay typed)
 step_way ruler environment input draft kills complete_hint none within = stays (completed_stays environment draft.hint draft)
 step_way ruler environment input draft kills (insert n text) none within = stays (search edit_stays)
 step_way ruler environment input draft kills (replace_char n c) none within = stays (search edit_stays)

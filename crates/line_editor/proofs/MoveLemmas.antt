@@ -1,20 +1,24 @@
 -- Facts on a cursor that is moved.
-use Rattle.std.proofs.Common.{◌≡◌, ◌⊎◌, inl, inr, ℕ, Bool, false, List, [], ◌∷◌, Option, Some, None, is_some, Result, Ok, Err, refl, sym, ap, subst, ◌∙◌, arith}
+use Rattle.std.proofs.Common.{◌≡◌, ℕ, Bool, true, false, inl, inr, List, [], ◌∷◌, Option, Some, None, is_some, Result, Ok, Err, refl, sym, ap, subst, ◌∙◌}
 use Rattle.std.specs.Prelude.{if◌then◌else◌}
 use Rattle.line_buffer.specs.Changes.{Entry}
-use Rattle.line_buffer.specs.Line.{Line, moved_to}
+use Rattle.line_buffer.specs.Line.{Line, after, moved_to}
 use Rattle.line_buffer.specs.Undo.{all_taken_back, first_text, taken_back, text_before}
+use Rattle.line_buffer.specs.Word.{word_on}
+use Rattle.line_buffer.specs.declared.keymap.At.TheVariants.{Start}
+use Rattle.line_buffer.specs.declared.keymap.Word.TheVariants.{Big}
 use Rattle.line_config.specs.declared.error.ReadlineError.{ReadlineError}
-use Rattle.line_keys.specs.Display.{Display, IsRight, ShowsText}
 use Rattle.line_keys.specs.Draft.{Draft, start_text}
-use Rattle.line_keys.specs.EditorState.{Does, Drew, DrewNothing, Frame, HasCursorDrawn, KeepsDrawn, MovesTo, Undrawn}
+use Rattle.line_keys.specs.Drawing.{Does, Drawing, DrawsCursor, DrewCursor, MovesTo, Undrawn, cursor_over, drawn_if}
 use Rattle.line_keys.specs.declared.editor_state.EditorState.{Ghosts}
 use Rattle.line_parts.specs.Environment.{Environment}
 use Rattle.line_parts.specs.declared.highlight.CmdKind.TheVariants.{MoveCursor}
+use Rattle.line_parts.specs.History.{begins_blank}
 use Rattle.line_state.specs.Edited.{Edited, with_place}
+use Rattle.line_state.specs.Moves.{to_first_print}
 use Rattle.line_editor.specs.Editor.{edited_of, with_edited}
-use Rattle.line_editor.proofs.DoneLemmas.{drew_after, fails_after}
-use Rattle.line_editor.proofs.DrawnLemmas.{frame_then, keeps_move, keeps_then, line_stays, still_move}
+use Rattle.line_editor.proofs.DoneLemmas.{cursor_after, does_after}
+use Rattle.line_editor.proofs.DrawnLemmas.{frame_then, keeps_move, keeps_then}
 use Rattle.line_editor.proofs.EditLemmas.{moved_text}
 
 -- what all changes taken back give is a matter of the text, and not of the cursor
@@ -34,86 +38,101 @@ stays_there line None missing = refl
 stays_there line (Some place) missing = absurd (cc)
 
 -- a cursor that went to a place, and then was drawn there
-pub move_drawn : {X T : Type 0} (e : Ghosts X) (x : T) (old middle new : X) (edited : Edited) (place : Option ℕ)
-    → Frame e middle new → Undrawn e old middle
+pub move_drawn : {X T U : Type 0} (e : Ghosts X) (x : T) (y : U) (old middle new : X) (edited : Edited) (place : Option ℕ)
+    → Undrawn e old middle
     → e.draft middle ≡ with_edited (e.draft old) edited → edited ≡ with_place place (edited_of (e.draft old))
-    → e.draft new ≡ e.draft middle
-    → (ShowsText (e.display middle) (e.draft middle).line.text → IsRight (e.display new) (e.draft middle).line)
-    → (Drew e middle new None MoveCursor ⊎ (DrewNothing e middle new × HasCursorDrawn e middle))
-    → (HasCursorDrawn e middle → DrewNothing e middle new)
+    → DrawsCursor e (Ok y) middle new MoveCursor
     → MovesTo e (Ok x) old new MoveCursor (moved_to (e.draft old).line place)
-move_drawn e x old middle new edited place frame undrawn draft is draft' right drew still =
+move_drawn e x y old middle new edited place undrawn draft is draws =
     let made : e.draft middle ≡ record (e.draft old) { line = moved_to (e.draft old).line place } =
     draft ∙ ap (λ x. with_edited (e.draft old) x) is in
     let moved : (e.draft middle).line ≡ moved_to (e.draft old).line place = ap (λ (d : Draft). d.line) made in
     let text' = ap (λ (l : Line). l.text) moved ∙ moved_text (e.draft old).line place in
     record {
-      draft = draft' ∙ made;
-      text = ap (λ (d : Draft). d.line.text) draft' ∙ text';
-      start = ap start_text (draft' ∙ draft) ∙ first_placed (edited_of (e.draft old)) edited place is;
-      keeps = keeps_move e old middle new text' (ap (λ (d : Draft). d.hint) made) undrawn.drew.display
-          undrawn.drew.redraws undrawn.frame.environment draft' frame.environment right drew;
-      drew = elim drew [
-        | inl d ↦ inl (drew_after e old middle new undrawn None MoveCursor d)
-        | inr n ↦ inr (record { display = n.0.display ∙ undrawn.drew.display; redraws = n.0.redraws ∙ undrawn.drew.redraws })
-      ];
-      still = λ at. still_move e old middle new (moved_to (e.draft old).line place) still undrawn.drew.display undrawn.drew.redraws moved at;
-      frame = frame_then e old middle new undrawn.frame frame;
-      fails = record { io = tt; faults = tt };
-    }
-
--- what is drawn stays good where nothing of it and nothing of the draft changes
-drawn_stays : {X : Type 0} (e : Ghosts X) (old new : X) → Undrawn e old new → e.draft new ≡ e.draft old → KeepsDrawn e old new
-drawn_stays e old new undrawn draft =
-    let P : Display → Type 0 = λ d. IsRight d (e.draft old).line in
-    let Q : Draft → Type 0 = λ d. IsRight (e.display new) d.line in
-    record {
-      right = λ was. subst Q (sym draft) (subst P (sym undrawn.drew.display) was);
-      line =
-          λ shown.
-          line_stays e old new undrawn.frame.environment (ap (λ (d : Draft). d.line.text) draft) (ap (λ (d : Draft). d.hint) draft) undrawn.drew
-          (ap (λ (d : Draft). d.line) draft) shown;
-    }
-
--- what is done behind a step that leaves draft and display is done from before it
-does_after : {X T : Type 0} (e : Ghosts X) (r : Result T ReadlineError) (old mid new : X) (left : Environment → Draft → Draft) (most : ℕ)
-    → Undrawn e old mid → e.draft mid ≡ e.draft old
-    → Does e r mid new (left (e.environment mid) (e.draft mid)) most
-    → Does e r old new (left (e.environment old) (e.draft old)) most
-does_after e (Err er) old mid new left most undrawn draft does = record {
-  draft = tt;
-  start = tt;
-  keeps = tt;
-  change = tt;
-  redraws = tt;
-  frame = frame_then e old mid new undrawn.frame does.frame;
-  fails = fails_after e old mid new undrawn (Err er) does.fails;
-}
-does_after e (Ok x) old mid new left most undrawn draft does =
-    let n = undrawn.drew.redraws in
-    record {
-      draft = does.draft ∙ ap (λ w. left w (e.draft mid)) undrawn.frame.environment ∙ ap (λ d. left (e.environment old) d) draft;
-      start = does.start ∙ ap start_text draft;
-      keeps = keeps_then e old mid new (drawn_stays e old mid undrawn draft) does.keeps;
-      change = elim does.change [
-        | inl same ↦ inl (same ∙ ap (λ (d : Draft). d.line.text) draft)
-        | inr drew ↦
-            inr (drew.0, λ below. let s = drew.1 (omega (arith, below, n)) in (omega (arith, s.0, n), omega (arith, s.1, n)))
-      ];
-      redraws = λ below. let s = does.redraws (omega (arith, below, n)) in (omega (arith, s.0, n), omega (arith, s.1, n));
-      frame = frame_then e old mid new undrawn.frame does.frame;
-      fails = fails_after e old mid new undrawn (Ok x) does.fails;
+      draft = draws.draft ∙ made;
+      text = ap (λ (d : Draft). d.line.text) draws.draft ∙ text';
+      start = ap start_text (draws.draft ∙ draft) ∙ first_placed (edited_of (e.draft old)) edited place is;
+      drew = cursor_after e old middle new undrawn MoveCursor draws.drew;
+      keeps = keeps_move e old middle new MoveCursor text' (ap (λ (d : Draft). d.hint) made) undrawn.drew.display
+          undrawn.drew.redraws undrawn.frame.environment draws.draft draws.frame.environment draws.right draws.drew draws.placed;
+      frame = frame_then e old middle new undrawn.frame draws.frame;
+      fails = record { io = tt; faults = tt; quiet = draws.fails.quiet ∙ undrawn.failures };
     }
 
 -- where the cursor has no place to go to, what is done instead is done from before
 pub else_done : {X T : Type 0} (e : Ghosts X) (r : Result T ReadlineError) (old mid new : X) (found : Bool) (place : Option ℕ) (moved : Draft)
-    (left : Environment → Draft → Draft) (most : ℕ)
+    (left : Environment → Draft → Draft) (there : Drawing) (reported : Environment → Draft → Bool)
     → found ≡ is_some place → found ≡ false → Undrawn e old mid
     → e.draft mid ≡ record (e.draft old) { line = moved_to (e.draft old).line place }
-    → Does e r mid new (left (e.environment mid) (e.draft mid)) most
-    → Does e r old new (if is_some place then moved else left (e.environment old) (e.draft old)) most
-else_done e r old mid new found place moved left most answer missing undrawn draft does =
-    let P : Bool → Type 0 = λ b. Does e r old new (if b then moved else left (e.environment old) (e.draft old)) most in
+    → Does e r mid new (left (e.environment mid) (e.draft mid)) (drawn_if (reported (e.environment mid) (e.draft mid))) 1
+    → Does e r old new (if is_some place then moved else left (e.environment old) (e.draft old))
+    (if is_some place then there else drawn_if (reported (e.environment old) (e.draft old))) 1
+else_done e r old mid new found place moved left there reported answer missing undrawn draft does =
+    let P : Bool → Type 0 = λ b. Does e r old new (if b then moved else left (e.environment old) (e.draft old))
+    (if b then there else drawn_if (reported (e.environment old) (e.draft old))) 1 in
     let none : is_some place ≡ false = sym answer ∙ missing in
+    let same : e.draft mid ≡ e.draft old = draft ∙ ap (λ l. record (e.draft old) { line = l }) (stays_there (e.draft old).line place none) in
+    let Q : Environment → Type 0 = λ w. Does e r mid new (left (e.environment mid) (e.draft mid)) (drawn_if (reported w (e.draft mid))) 1 in
+    let R : Draft → Type 0 = λ d. Does e r mid new (left (e.environment mid) (e.draft mid)) (drawn_if (reported (e.environment old) d)) 1 in
     subst P (sym none)
-    (does_after e r old mid new left most undrawn (draft ∙ ap (λ l. record (e.draft old) { line = l }) (stays_there (e.draft old).line place none)) does)
+    (does_after e r old mid new _ _ (reported (e.environment old) (e.draft old)) undrawn (ap (λ (d : Draft). d.line) same) (ap (λ (d : Draft). d.hint) same)
+    (ap start_text same)
+    (ap (λ w. left w (e.draft mid)) undrawn.frame.environment ∙ ap (λ d. left (e.environment old) d) same)
+    (subst R same (subst Q undrawn.frame.environment does)))
+
+-- the cursor stays, and nothing is drawn
+pub cursor_stays : {X : Type 0} (e : Ghosts X) (editor : X) → DrewCursor e MoveCursor editor editor
+cursor_stays e editor = record {
+  drew = inr (record { display = refl; redraws = refl });
+  still = λ at. record { display = refl; redraws = refl };
+}
+
+abbrev on_line : Line → Draft → Draft
+on_line line draft = record draft { line = line }
+
+-- a move by way of another place
+module _ {X T : Type 0} (e : Ghosts X) (x : T) (old mid : X) (way : Line) (first : MovesTo e (Ok x) old mid MoveCursor way) where
+  pub moves_over : {U V : Type 0} (y : U) (z : V) (new : X) (line : Line) → MovesTo e (Ok y) mid new MoveCursor line
+      → Does e (Ok z) old new (record (e.draft old) { line = line }) (cursor_over way) 1
+  moves_over y z new line second = record {
+    draft = second.draft ∙ ap (λ (d : Draft). on_line line d) first.draft;
+    start = second.start ∙ first.start;
+    drew = record { way = mid; on_way = ap (λ (d : Draft). d.line) first.draft; frame = first.frame; first = first.drew; second = second.drew };
+    keeps = keeps_then e old mid new first.keeps second.keeps;
+    change = inl (second.text ∙ first.text);
+    frame = frame_then e old mid new first.frame second.frame;
+    fails = record { io = tt; faults = tt; quiet = second.fails.quiet ∙ first.fails.quiet };
+  }
+
+  pub moves_there : {V : Type 0} (z : V) → Does e (Ok z) old mid (record (e.draft old) { line = way }) (cursor_over way) 1
+  moves_there z = record {
+    draft = first.draft;
+    start = first.start;
+    drew = record { way = mid; on_way = ap (λ (d : Draft). d.line) first.draft; frame = first.frame; first = first.drew; second = cursor_stays e mid };
+    keeps = first.keeps;
+    change = inl first.text;
+    frame = first.frame;
+    fails = record { io = tt; faults = tt; quiet = first.fails.quiet };
+  }
+
+-- to the first character that is no white space: on from the start of the line where white space stands there
+pub first_print_on : {X T U V : Type 0} (e : Ghosts X) (x : T) (y : U) (z : V) (old mid new : X) (way : Line) → MovesTo e (Ok x) old mid MoveCursor way
+    → true ≡ begins_blank (after (e.draft mid).line)
+    → MovesTo e (Ok y) mid new MoveCursor (moved_to (e.draft mid).line (word_on Start Big (e.draft mid).line 1))
+    → Does e (Ok z) old new (record (e.draft old) { line = to_first_print way }) (cursor_over way) 1
+first_print_on e x y z old mid new way first blank second =
+    let is : (e.draft mid).line ≡ way = ap (λ (d : Draft). d.line) first.draft in
+    let there : begins_blank (after way) ≡ true = sym (blank ∙ ap (λ l. begins_blank (after l)) is) in
+    let goes : MovesTo e (Ok y) mid new MoveCursor (moved_to way (word_on Start Big way 1)) =
+    subst (λ l. MovesTo e (Ok y) mid new MoveCursor (moved_to l (word_on Start Big l 1))) is second in
+    subst (λ b. Does e (Ok z) old new (on_line (if b then moved_to way (word_on Start Big way 1) else way) (e.draft old)) (cursor_over way) 1) (sym there)
+    (moves_over e x old mid way first y z new _ goes)
+
+pub first_print_there : {X T V : Type 0} (e : Ghosts X) (x : T) (z : V) (old mid : X) (way : Line) → MovesTo e (Ok x) old mid MoveCursor way
+    → false ≡ begins_blank (after (e.draft mid).line)
+    → Does e (Ok z) old mid (record (e.draft old) { line = to_first_print way }) (cursor_over way) 1
+first_print_there e x z old mid way first print =
+    let is : (e.draft mid).line ≡ way = ap (λ (d : Draft). d.line) first.draft in
+    let there : begins_blank (after way) ≡ false = sym (print ∙ ap (λ l. begins_blank (after l)) is) in
+    subst (λ b. Does e (Ok z) old mid (on_line (if b then moved_to way (word_on Start Big way 1) else way) (e.draft old)) (cursor_over way) 1) (sym there)
+    (moves_there e x old mid way first z)

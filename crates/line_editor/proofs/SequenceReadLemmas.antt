@@ -20,7 +20,7 @@ module _ {Y : Type 0} (r : readers.Ghosts Y) (s : Sequences) (first : KeyEvent) 
     pub leads : s.leads (first ∷ more) ≡ true
     pub unanswered : sequence_command s first more ≡ None
     pub own : r.own_binding now ≡ r.own_binding reader
-    pub counts : r.failures reader ≤ r.failures now
+    pub quiet : r.failures now ≡ r.failures reader
     pub fewer : length (r.rest now) ≤ length (r.rest reader)
 
   pub begins_in : true ≡ s.leads (first ∷ []) → InSequence (first ∷ []) reader
@@ -32,7 +32,7 @@ module _ {Y : Type 0} (r : readers.Ghosts Y) (s : Sequences) (first : KeyEvent) 
     leads = sym leads;
     unanswered = refl;
     own = refl;
-    counts = omega arith;
+    quiet = refl;
     fewer = omega arith;
   }
 
@@ -87,9 +87,9 @@ module _ {Y : Type 0} (r : readers.Ghosts Y) (s : Sequences) (first : KeyEvent) 
     }
 
     -- they have none, and lead on
-    pub leads_further : (own : r.own_binding next ≡ r.own_binding now) → r.failures now ≤ r.failures next
+    pub leads_further : (own : r.own_binding next ≡ r.own_binding now) → r.failures next ≡ r.failures now
         → None ≡ s.command (typed ++ (k ∷ [])) → true ≡ s.leads (typed ++ (k ∷ [])) → InSequence (typed ++ (k ∷ [])) next
-    leads_further own counts is leads = record {
+    leads_further own quiet is leads = record {
       more = further;
       is = typed_further;
       cut = cut_further;
@@ -97,7 +97,7 @@ module _ {Y : Type 0} (r : readers.Ghosts Y) (s : Sequences) (first : KeyEvent) 
       leads = ap s.leads (sym typed_further) ∙ sym leads;
       unanswered = none_further is;
       own = own ∙ i.own;
-      counts = omega (arith, counts, i.counts);
+      quiet = quiet ∙ i.quiet;
       fewer = omega (arith, fewer_further, i.fewer);
     }
 

@@ -17,28 +17,29 @@ use Rattle.line_editor.specs.Runs.{editor_of}
 use Rattle.line_editor.proofs.RunLaws.{runs-fit}
 
 -- a run is one from what is the same
-run-from : (keymap keymap' : Keymap) (ruler ruler' : Ruler) (environment environment' : Environment) (draft draft' : Draft) (kills : Ring) (input input' : Input) (items items' : List Item)
+run-from : (keymap keymap' : Keymap) (ruler ruler' : Ruler) (environment environment' : Environment) (draft draft' : Draft) (kills kills' : Ring) (input input' : Input) (items items' : List Item)
     → {last : Editor} {i : Input} {end : _}
-    → keymap ≡ keymap' → ruler ≡ ruler' → environment ≡ environment' → draft ≡ draft' → input ≡ input' → items ≡ items'
-    → Run keymap' ruler' environment' (record { draft = hinted environment' draft'; kills = kills }) input' items' last i end
+    → keymap ≡ keymap' → ruler ≡ ruler' → environment ≡ environment' → draft ≡ draft' → kills ≡ kills' → input ≡ input' → items ≡ items'
+    → Run keymap' ruler' environment' (record { draft = hinted environment' draft'; kills = kills' }) input' items' last i end
     → Run keymap ruler environment (record { draft = hinted environment draft; kills = kills }) input items last i end
-run-from keymap keymap' ruler ruler' environment environment' draft draft' kills input input' items items' {last} {i} {end} k r w d n t run =
-    let P : Keymap → Type 0 = λ x. Run x ruler' environment' (record { draft = hinted environment' draft'; kills = kills }) input' items' last i end in
-    let Q : Ruler → Type 0 = λ x. Run keymap x environment' (record { draft = hinted environment' draft'; kills = kills }) input' items' last i end in
-    let R : Environment → Type 0 = λ x. Run keymap ruler x (record { draft = hinted x draft'; kills = kills }) input' items' last i end in
-    let S : Draft → Type 0 = λ x. Run keymap ruler environment (record { draft = hinted environment x; kills = kills }) input' items' last i end in
+run-from keymap keymap' ruler ruler' environment environment' draft draft' kills kills' input input' items items' {last} {i} {end} k r w d n p t run =
+    let P : Keymap → Type 0 = λ x. Run x ruler' environment' (record { draft = hinted environment' draft'; kills = kills' }) input' items' last i end in
+    let Q : Ruler → Type 0 = λ x. Run keymap x environment' (record { draft = hinted environment' draft'; kills = kills' }) input' items' last i end in
+    let R : Environment → Type 0 = λ x. Run keymap ruler x (record { draft = hinted x draft'; kills = kills' }) input' items' last i end in
+    let S : Draft → Type 0 = λ x. Run keymap ruler environment (record { draft = hinted environment x; kills = kills' }) input' items' last i end in
+    let V : Ring → Type 0 = λ x. Run keymap ruler environment (record { draft = hinted environment draft; kills = x }) input' items' last i end in
     let T : Input → Type 0 = λ x. Run keymap ruler environment (record { draft = hinted environment draft; kills = kills }) x items' last i end in
     let U : List Item → Type 0 = λ x. Run keymap ruler environment (record { draft = hinted environment draft; kills = kills }) input x last i end in
-    subst U (sym t) (subst T (sym n) (subst S (sym d) (subst R (sym w) (subst Q (sym r) (subst P (sym k) run)))))
+    subst U (sym t) (subst T (sym p) (subst V (sym n) (subst S (sym d) (subst R (sym w) (subst Q (sym r) (subst P (sym k) run))))))
 
 -- runs that start alike leave the same
 pub two-renderers : {X Y X' Y' : Type 0} (e : editors.Ghosts X) (r : readers.Ghosts Y) (e' : editors.Ghosts X') (r' : readers.Ghosts Y') → TwoRenderers e r e' r'
-two-renderers e r e' r' state last state' last' keys i keys' i' reader reader' indent kills k k' end end' alike run run' =
-    let f : ℕ → Ruler = λ n. record { prompt_column = n; cluster_mode = (e.display state).surface.mode; indent_size = indent } in
-    let h : GraphemeClusterMode → Ruler = λ m. record { prompt_column = (e'.display state').prompt_end.col; cluster_mode = m; indent_size = indent } in
-    let ruler : own_ruler (e.display state) indent ≡ own_ruler (e'.display state') indent =
+two-renderers e r e' r' indent one one' other other' end end' alike run run' =
+    let f : ℕ → Ruler = λ n. record { prompt_column = n; cluster_mode = (e.display one.state).surface.mode; indent_size = indent } in
+    let h : GraphemeClusterMode → Ruler = λ m. record { prompt_column = (e'.display other.state).prompt_end.col; cluster_mode = m; indent_size = indent } in
+    let ruler : own_ruler (e.display one.state) indent ≡ own_ruler (e'.display other.state) indent =
     ap f (ap (λ (p : Position). p.col) alike.prompt_end) ∙ ap h alike.mode in
-    runs-fit (keymap_of keys (r.own_binding reader)) (own_ruler (e.display state) indent) (e.environment state)
-    (record { draft = hinted (e.environment state) (e.draft state); kills = kills }) (editor_of e last k) (editor_of e' last' k')
-    keys.input i.input i'.input (r.rest reader) end end' run
-    (run-from _ _ _ _ _ _ (e.draft state) (e'.draft state') kills _ _ _ _ alike.keymap ruler alike.environment alike.draft alike.input_value alike.items run')
+    runs-fit (keymap_of one.keys (r.own_binding one.reader)) (own_ruler (e.display one.state) indent) (e.environment one.state)
+    (record { draft = hinted (e.environment one.state) (e.draft one.state); kills = one.kills }) (editor_of e one'.state one'.kills) (editor_of e' other'.state other'.kills)
+    one.keys.input one'.keys.input other'.keys.input (r.rest one.reader) end end' run
+    (run-from _ _ _ _ _ _ (e.draft one.state) (e'.draft other.state) one.kills other.kills _ _ _ _ alike.keymap ruler alike.environment alike.draft alike.kills alike.input_value alike.items run')

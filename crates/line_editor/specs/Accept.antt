@@ -8,6 +8,8 @@ use Rattle.line_parts.specs.Environment.{Environment, verdict_on}
 use Rattle.line_parts.specs.Verdict.{Verdict, incomplete, invalid, valid}
 use Rattle.line_editor.specs.Editor.{Answer, ended, proceeds, submitted}
 use Rattle.line_editor.specs.Edits.{typed_in}
+use Rattle.line_editor.specs.declared.command.Reply.{Reply}
+use Rattle.line_editor.specs.declared.command.Reply.TheVariants.{GoesOn, Stays, Submits}
 
 -- a verdict other than that the line goes on takes the hint away
 abbrev pub unhinted_by : Verdict → Draft → Draft
@@ -21,17 +23,22 @@ validated environment draft =
     then unhinted_by (verdict_on environment draft.line.text) (out_of_group (in_group draft))
     else draft
 
--- a valid line is submitted where it may be; a refusal with a message leaves it; else a newline comes
-abbrev pub accepted_as : Verdict → Bool → Draft → Draft → Draft × Answer
-accepted_as (valid message) may left longer = if may then (left, submitted) else (longer, proceeds)
-accepted_as (invalid (Some message)) may left longer = (left, proceeds)
-accepted_as (invalid None) may left longer = (longer, proceeds)
-accepted_as incomplete may left longer = (longer, proceeds)
+-- what becomes of a line: a valid one is submitted where it may be, a refusal with a message leaves it, and else a newline comes
+abbrev pub reply_to : Verdict → Bool → Reply
+reply_to (valid message) may = if may then Submits else GoesOn
+reply_to (invalid (Some message)) may = Stays
+reply_to (invalid None) may = GoesOn
+reply_to incomplete may = GoesOn
+
+abbrev pub replied : Reply → Draft → Draft → Draft × Answer
+replied Submits left longer = (left, submitted)
+replied Stays left longer = (left, proceeds)
+replied GoesOn left longer = (longer, proceeds)
 
 -- a line is accepted by its verdict: with the cursor at the end of input, or anywhere where that is allowed
 abbrev pub accepted : Environment → Bool → Draft → Draft × Answer
 accepted environment in_the_middle draft =
-    accepted_as (verdict_on environment draft.line.text) (in_the_middle || ends_in_white_space draft.line)
+    replied (reply_to (verdict_on environment draft.line.text) (in_the_middle || ends_in_white_space draft.line))
     (validated environment draft) (typed_in environment 1 10 (validated environment draft))
 
 -- the end of the input ends the run on an empty line; another one is submitted by Vi alone

@@ -11,14 +11,13 @@ use Rattle.line_parts.specs.Environment.{Environment}
 use Rattle.line_editor.specs.Event.{Chord, same_chord}
 use Rattle.line_editor.specs.HistoryMoves.{is_at_end}
 use Rattle.line_editor.specs.Input.{Input}
-use Rattle.line_editor.specs.Keymap.{KeyState, Keymap, keymap_of}
+use Rattle.line_editor.specs.Keymap.{Keymap, keymap_of}
 use Rattle.line_editor.specs.Phrase.{Phrase}
 use Rattle.line_editor.specs.Reading.{LeftByCut}
 use Rattle.line_editor.specs.Run.{End, Run, Turn, Turns, commands_in, keys_in, ready, stopped, unread}
-use Rattle.line_editor.specs.Runs.{RunsTo, editor_of}
+use Rattle.line_editor.specs.Runs.{RunsTo, Session, editor_of}
 use Rattle.line_editor.specs.Step.{step}
 use Rattle.line_editor.specs.Editor.{Editor, Answer, Ruler}
-use Rattle.line_buffer.specs.KillRing.{Ring}
 
 -- the test of two events tells whether they are equal
 abbrev pub ComparesEvents : Type 0
@@ -120,20 +119,21 @@ ComingBack = (ruler : Ruler) (environment : Environment) (editor : Editor) (firs
 
 module _ {X Y X' Y' : Type 0} (e : editors.Ghosts X) (r : readers.Ghosts Y) (e' : editors.Ghosts X') (r' : readers.Ghosts Y') where
   -- two programs start alike, over two renderers and two readers: the prompts end alike and clusters are counted alike, and what is
-  -- asked, edited, remembered and read is the same; columns and colors may be others
-  pub record StartsAlike (state : X) (keys : KeyState) (reader : Y) (state' : X') (keys' : KeyState) (reader' : Y') : Type 0 where
-    pub prompt_end : (e.display state).prompt_end ≡ (e'.display state').prompt_end
-    pub mode : (e.display state).surface.mode ≡ (e'.display state').surface.mode
-    pub environment : e.environment state ≡ e'.environment state'
-    pub draft : e.draft state ≡ e'.draft state'
-    pub input_value : keys.input ≡ keys'.input
-    pub keymap : keymap_of keys (r.own_binding reader) ≡ keymap_of keys' (r'.own_binding reader')
-    pub items : r.rest reader ≡ r'.rest reader'
+  -- asked, edited, remembered, killed and read is the same; columns and colors may be others
+  pub record StartsAlike (one : Session X Y) (other : Session X' Y') : Type 0 where
+    pub prompt_end : (e.display one.state).prompt_end ≡ (e'.display other.state).prompt_end
+    pub mode : (e.display one.state).surface.mode ≡ (e'.display other.state).surface.mode
+    pub environment : e.environment one.state ≡ e'.environment other.state
+    pub draft : e.draft one.state ≡ e'.draft other.state
+    pub input_value : one.keys.input ≡ other.keys.input
+    pub keymap : keymap_of one.keys (r.own_binding one.reader) ≡ keymap_of other.keys (r'.own_binding other.reader)
+    pub items : r.rest one.reader ≡ r'.rest other.reader
+    pub kills : one.kills ≡ other.kills
 
-  -- two such runs leave the same, by the same kill ring and indent
+  -- two such runs leave the same, by the same indent
   abbrev pub TwoRenderers : Type 0
-  TwoRenderers = (state last : X) (state' last' : X') (keys i keys' i' : KeyState) (reader : Y) (reader' : Y') (indent : ℕ) (kills k k' : Ring) (end end' : End)
-      → StartsAlike state keys reader state' keys' reader'
-      → RunsTo e r state keys indent reader kills last i k end
-      → RunsTo e' r' state' keys' indent reader' kills last' i' k' end'
-      → SameEnd (editor_of e last k) (editor_of e' last' k') i.input i'.input end end'
+  TwoRenderers = (indent : ℕ) (one one' : Session X Y) (other other' : Session X' Y') (end end' : End)
+      → StartsAlike one other
+      → RunsTo e r indent one one' end
+      → RunsTo e' r' indent other other' end'
+      → SameEnd (editor_of e one'.state one'.kills) (editor_of e' other'.state other'.kills) one'.keys.input other'.keys.input end end'

@@ -15,6 +15,7 @@ pub mod Phrase
 pub mod Sequence
 pub mod Verdict
 pub mod Run
+pub mod Drawings
 pub mod Runs
 pub mod Status
 pub mod Step

@@ -1,7 +1,8 @@
 -- Reading a command from the items that a reader has left.
-use Rattle.std.specs.Prelude.{◌≡◌, ◌≢◌, ◌⊎◌, ℕ, ◌+◌, ◌-◌, ◌<◌, ◌≤◌, ◌++◌, [], ◌∷◌, true, false, List, length, map, Option, Some, None, slice_get, Result, IfOk, OnOk, OnErr, IsErrOf}
+use Rattle.std.specs.Prelude.{◌≡◌, ◌≢◌, ◌⊎◌, ℕ, ◌+◌, ◌-◌, ◌<◌, ◌≤◌, ◌++◌, [], ◌∷◌, true, false, List, length, map, Option, Some, None, slice_get, Result, Ok, Err, OnOk, OnErr, IsErrOf}
 use Rattle.std.specs.List.{list_all}
-use Rattle.line_config.specs.Error.{IoOnlyIf, Rose, max_count}
+use Rattle.line_config.specs.Error.{IoOnlyIf, Rose, UnlessFault, is_fault, max_count}
+use Rattle.line_config.specs.Failures.{UnlessIo}
 use Rattle.line_config.specs.declared.config.EditMode.{EditMode}
 use Rattle.line_config.specs.declared.error.ReadlineError.{ReadlineError}
 use Rattle.line_config.specs.declared.error.ReadlineError.TheVariants.{Eof, Interrupted}
@@ -9,12 +10,14 @@ use Rattle.line_parts.specs.Environment.{Environment}
 use Rattle.line_keys.specs.Command.{Command, command_of}
 use Rattle.line_keys.specs.Count.{IsCountOf, continues_count, count_of, count_prompt}
 use Rattle.line_keys.specs.Display.{Display, ShowsInFull, corner}
-use Rattle.line_keys.specs.Draft.{Draft, KeepsText, hint_shown, hinted, start_text}
-use Rattle.line_keys.specs.EditorState.{DrewNothing, Frame, HasRightLayout, IsInPlace, KeepsDrawn, Redraws, Shows}
+use Rattle.line_keys.specs.Draft.{Draft, KeepsLine, KeepsText, hint_shown, hinted, start_text}
+use Rattle.line_keys.specs.Drawing.{DrewNothing}
+use Rattle.line_keys.specs.EditorState.{Frame, HasRightLayout, IsInPlace, Redraws, Shows}
+use Rattle.line_keys.specs.ShownLine.{KeepsDrawn}
+use Rattle.line_keys.specs.declared.command.Cmd.{Cmd}
 use Rattle.line_keys.specs.Item.{Item, key}
 use Rattle.line_keys.specs.declared.editor_state.EditorState as editors
 use Rattle.line_keys.specs.declared.tty.RawReader as readers
-use Rattle.line_config.specs.Error.{UnlessFault}
 use Rattle.line_editor.specs.Editor.{Ruler, own_ruler, ruler_of}
 use Rattle.line_keys.specs.Table.{Meaning}
 use Rattle.line_keys.specs.declared.count.Count.{Count}
@@ -39,6 +42,7 @@ module _ {Y : Type 0} (r : readers.Ghosts Y) where
     pub fewer : length (r.rest reader') ≤ length (r.rest reader)
     pub not_interrupted : IsErrOf result Interrupted → ⊥
     pub io : IoOnlyIf result (all_sure bindings ≡ true → Rose (r.failures reader) (r.failures reader'))
+    pub quiet : UnlessIo result (r.failures reader' ≡ r.failures reader)
 
   -- the keys that were read behind a first one are answered with a command
   pub record IsAnswered (reader reader' : Y) (sequences : Sequences) (first : KeyEvent) (command : Command) : Type 0 where
@@ -117,103 +121,126 @@ ruler_behind (_ ∷ _) display indent_size = own_ruler display indent_size
 abbrev pub LeftByCut : Environment → Draft → Draft → Type 0
 LeftByCut environment draft draft' = (draft' ≡ draft) ⊎ (draft' ≡ hinted environment draft)
 
-module _ {X Y : Type 0} (e : editors.Ghosts X) (r : readers.Ghosts Y) where
-  -- what was read is one phrase, and nothing past it: where a count was typed, the line is drawn again behind its own prompt, and
-  -- else nothing is drawn
-  pub record ReadsPhrase (editor : X) (keys : KeyState) (reader : Y) (editor' : X) (reader' : Y) (command : Command) (draft : Draft) (keys' : KeyState) : Type 0 where
-    pub items : List Item
-    pub cut : r.rest reader ≡ items ++ r.rest reader'
-    pub phrase : Phrase (keymap_of keys (r.own_binding reader)) (e.environment editor) (e.draft editor) keys.input items command draft keys'.input
-    pub right : phrase.typed ≢ [] → HasRightLayout e editor'
-    pub undrawn : phrase.typed ≡ [] → DrewNothing e editor editor'
-    pub measured : (indent : ℕ) → ruler_of (e.display editor') indent ≡ ruler_behind phrase.typed (e.display editor) indent
+-- what holds of a value that was read, or else where the items ran out; no interrupt comes
+abbrev pub OnRead : {T : Type 0} → Result T ReadlineError → (T → Type 0) → Type 0 → Type 0
+OnRead (Ok value) Read Dry = Read value
+OnRead (Err error) Read Dry = is_fault error ≡ false → (error ≡ Eof) × Dry
 
+module _ {X : Type 0} (e : editors.Ghosts X) where
   -- the line is shown behind the prompt of a count, with its hint
   abbrev pub ShowsCount : List KeyEvent → X → Type 0
   ShowsCount keys editor =
       ShowsInFull (e.display editor) ((e.display editor).surface.measure (count_prompt keys) corner)
       (e.draft editor).line (hint_shown (e.draft editor))
 
-  -- the items end before a phrase or inside of one: all are read, and of the draft at most the hint changes; where they write no
-  -- count, nothing does, and nothing is drawn; the keys of a count are among those that were read, and where the items end with
-  -- them it is shown, and behind it the layout is right
+  -- the line was drawn behind the own prompt with its hint, and so often in all
+  pub record DrewAgain (times : ℕ) (old new : X) : Type 0 where
+    pub shows : Shows e new (hint_shown (e.draft new))
+    pub right : HasRightLayout e new
+    pub redraws : Redraws e times times old new
+
+  -- what is drawn of a count: nothing where none is typed; else the line once for each of its keys, and then behind the own prompt
+  abbrev pub DrewCount : List KeyEvent → X → X → Type 0
+  DrewCount [] old new = DrewNothing e old new
+  DrewCount (first ∷ more) old new = DrewAgain (length (first ∷ more) + 1) old new
+
+  -- what is drawn of a phrase that was cut short behind these items: where they end with the keys of a count, the count alone
+  pub record DrewCut (typed : List KeyEvent) (items : List Item) (old new : X) : Type 0 where
+    pub counting : typed ≢ [] → items ≡ map key typed → ShowsCount typed new × Redraws e (length typed) (length typed) old new
+    pub counted : (typed ≡ []) ⊎ (items ≢ map key typed) → DrewCount typed old new
+
+module _ {X Y : Type 0} (e : editors.Ghosts X) (r : readers.Ghosts Y) where
+  -- what was read is one phrase, and nothing past it; and what was drawn of its count
+  pub record ReadsPhrase (editor : X) (keys : KeyState) (reader : Y) (editor' : X) (reader' : Y) (command : Command) (draft : Draft) (keys' : KeyState) : Type 0 where
+    pub items : List Item
+    pub cut : r.rest reader ≡ items ++ r.rest reader'
+    pub phrase : Phrase (keymap_of keys (r.own_binding reader)) (e.environment editor) (e.draft editor) keys.input items command draft keys'.input
+    pub drew : DrewCount e phrase.typed editor editor'
+    pub measured : (indent : ℕ) → ruler_of (e.display editor') indent ≡ ruler_behind phrase.typed (e.display editor) indent
+
+  -- the items end before a phrase or inside of one: all are read, and of the draft at most the hint changes, where they write a
+  -- count; the keys of the count are among those that were read
   pub record OutOfItems (editor : X) (keys : KeyState) (reader : Y) (editor' : X) (reader' : Y) : Type 0 where
     pub begins : IsBeginning (keymap_of keys (r.own_binding reader)) (e.environment editor) (e.draft editor) keys.input (r.rest reader)
     pub empty : r.rest reader' ≡ []
     pub draft : LeftByCut (e.environment editor) (e.draft editor) (e.draft editor')
-    pub undrawn : begins.phrase.typed ≡ [] → (e.draft editor' ≡ e.draft editor) × DrewNothing e editor editor'
+    pub uncounted : begins.phrase.typed ≡ [] → e.draft editor' ≡ e.draft editor
     pub within : length begins.phrase.typed ≤ length (r.rest reader)
-    pub counting : begins.phrase.typed ≢ [] → r.rest reader ≡ map key begins.phrase.typed → ShowsCount begins.phrase.typed editor'
-    pub counted : begins.phrase.typed ≢ [] → r.rest reader ≢ map key begins.phrase.typed → HasRightLayout e editor'
+    pub drew : DrewCut e begins.phrase.typed (r.rest reader) editor editor'
 
-  -- an error of input or output comes only where the reader or the renderer failed, or a party or a handler is not sure
+  -- how a call may fail that reads and draws: where the parties are sure, an error of input or output comes only where the reader or
+  -- the renderer failed; without such an error no failure is counted
+  pub record Fails {T : Type 0} (sure : Type 0) (result : Result T ReadlineError) (editor : X) (reader : Y) (editor' : X) (reader' : Y) : Type 0 where
+    pub io : IoOnlyIf result (sure → EitherRose (r.failures reader) (e.failures editor) (r.failures reader') (e.failures editor'))
+    pub quiet : UnlessIo result ((r.failures reader' ≡ r.failures reader) × (e.failures editor' ≡ e.failures editor))
+
+  -- the parties are sure, and the handlers of the bindings
+  abbrev pub AreSure : X → KeyState → Type 0
+  AreSure editor keys = (e.sure editor ≡ true) × (all_sure keys.bound ≡ true)
+
   abbrev pub FailsByReading : {T : Type 0} → Result T ReadlineError → X → KeyState → Y → X → Y → Type 0
-  FailsByReading result editor keys reader editor' reader' =
-      IoOnlyIf result (e.sure editor ≡ true → all_sure keys.bound ≡ true
-      → EitherRose (r.failures reader) (e.failures editor) (r.failures reader') (e.failures editor'))
+  FailsByReading result editor keys reader editor' reader' = Fails (AreSure editor keys) result editor reader editor' reader'
 
-  -- a step in reading a count: the count is shown and a key is read
-  pub record ReadsUnderCount (typed : TypedCount) (result : Result KeyEvent ReadlineError) (editor : X) (reader : Y) (editor' : X) (reader' : Y) : Type 0 where
-    pub took : IfOk result (λ k. r.rest reader ≡ key k ∷ r.rest reader')
-    pub eof : IsErrOf result Eof → IsDry r reader reader'
-    pub draft : OnOk result (e.draft editor' ≡ hinted (e.environment editor) (e.draft editor))
-    pub draft_at_eof : IsErrOf result Eof → e.draft editor' ≡ hinted (e.environment editor) (e.draft editor)
-    pub text : KeepsText (e.draft editor) (e.draft editor')
-    pub shows : (keys : List KeyEvent) → IsCountOf typed keys → OnOk result (ShowsCount keys editor')
-    pub shows_at_eof : (keys : List KeyEvent) → IsCountOf typed keys → IsErrOf result Eof → ShowsCount keys editor'
-    pub redraws : OnOk result (Redraws e 0 1 editor editor')
-    pub redraws_at_eof : IsErrOf result Eof → Redraws e 0 1 editor editor'
+  -- what stays of the editor and of the reader's own bindings
+  pub record KeepsBoth (editor : X) (reader : Y) (editor' : X) (reader' : Y) : Type 0 where
     pub frame : Frame e editor editor'
     pub own : r.own_binding reader' ≡ r.own_binding reader
     pub counts : r.failures reader ≤ r.failures reader'
-    pub not_interrupted : IsErrOf result Interrupted → ⊥
-    pub io : IoOnlyIf result (e.sure editor ≡ true
-        → EitherRose (r.failures reader) (e.failures editor) (r.failures reader') (e.failures editor'))
+
+  -- a step in reading a count: the count is shown, once, and a key is read
+  pub record ReadsUnderCount (typed : TypedCount) (result : Result KeyEvent ReadlineError) (editor : X) (reader : Y) (editor' : X) (reader' : Y) : Type 0 where
+    pub took : OnRead result (λ k. r.rest reader ≡ key k ∷ r.rest reader') (IsDry r reader reader')
+    pub draft : UnlessFault result (e.draft editor' ≡ hinted (e.environment editor) (e.draft editor))
+    pub text : KeepsText (e.draft editor) (e.draft editor')
+    pub shows : (keys : List KeyEvent) → IsCountOf typed keys → UnlessFault result (ShowsCount e keys editor')
+    pub redraws : UnlessFault result (Redraws e 1 1 editor editor')
+    pub keeps : KeepsBoth editor reader editor' reader'
+    pub fails : Fails (e.sure editor ≡ true) result editor reader editor' reader'
 
   -- the items ended in a count that began with a key, and it is shown
   pub record CutInCount (style : EditMode) (first : KeyEvent) (reader : Y) (editor' : X) (reader' : Y) : Type 0 where
     pub inside : InsideCount r style reader reader'
-    pub shows : ShowsCount (first ∷ inside.more) editor'
+    pub shows : ShowsCount e (first ∷ inside.more) editor'
 
-  -- the rest of a count that began with a key was read, and the key that ends it; the line is drawn again with its hint
+  -- the rest of a count that began with a key was read, and the key that ends it; the line is drawn once for each key of the count,
+  -- and at last again with its hint
   pub record ReadsCount (style : EditMode) (first : KeyEvent) (result : Result (Count × KeyEvent) ReadlineError) (editor : X) (reader : Y) (editor' : X) (reader' : Y) : Type 0 where
-    pub read : IfOk result (λ ended. EndsCount r style first reader reader' ended.0 ended.1)
-    pub eof : IsErrOf result Eof → CutInCount style first reader editor' reader'
-    pub draft : OnOk result (e.draft editor' ≡ hinted (e.environment editor) (e.draft editor))
-    pub draft_at_eof : IsErrOf result Eof → e.draft editor' ≡ hinted (e.environment editor) (e.draft editor)
+    pub read : OnRead result (λ ended. EndsCount r style first reader reader' ended.0 ended.1) (CutInCount style first reader editor' reader')
+    pub draft : UnlessFault result (e.draft editor' ≡ hinted (e.environment editor) (e.draft editor))
     pub text : KeepsText (e.draft editor) (e.draft editor')
+    pub redraws : UnlessFault result (Redraws e (1 + (length (r.rest reader) - length (r.rest reader'))) (1 + (length (r.rest reader) - length (r.rest reader'))) editor editor')
     pub shows : OnOk result (Shows e editor' (hint_shown (e.draft editor')))
     pub right : OnOk result (HasRightLayout e editor')
-    pub redraws : OnOk result (Redraws e 0 (1 + (length (r.rest reader) - length (r.rest reader'))) editor editor')
-    pub redraws_at_eof : IsErrOf result Eof → Redraws e 0 (1 + (length (r.rest reader) - length (r.rest reader'))) editor editor'
-    pub frame : Frame e editor editor'
-    pub own : r.own_binding reader' ≡ r.own_binding reader
-    pub counts : r.failures reader ≤ r.failures reader'
-    pub not_interrupted : IsErrOf result Interrupted → ⊥
-    pub io : IoOnlyIf result (e.sure editor ≡ true
-        → EitherRose (r.failures reader) (e.failures editor) (r.failures reader') (e.failures editor'))
+    pub keeps : KeepsBoth editor reader editor' reader'
+    pub fails : Fails (e.sure editor ≡ true) result editor reader editor' reader'
 
   -- what stays of the editor, the reader and the bindings while commands are read and executed
   pub record KeepsReading (editor : X) (keys : KeyState) (reader : Y) (editor' : X) (keys' : KeyState) (reader' : Y) : Type 0 where
-    pub frame : Frame e editor editor'
-    pub own : r.own_binding reader' ≡ r.own_binding reader
+    pub both : KeepsBoth editor reader editor' reader'
     pub bound : keys'.bound ≡ keys.bound
-    pub counts : r.failures reader ≤ r.failures reader'
 
   -- at most one full redraw for each item read
   abbrev pub RedrawsItems : X → Y → X → Y → Type 0
   RedrawsItems editor reader editor' reader' =
       Redraws e 0 (length (r.rest reader) - length (r.rest reader')) editor editor'
 
-  -- what else a call leaves that reads one command: after an error the input value, and else what is drawn
-  pub record ReadsOn {T : Type 0} (result : Result T ReadlineError) (editor : X) (keys : KeyState) (reader : Y) (editor' : X) (keys' : KeyState) (reader' : Y) : Type 0 where
-    pub keeps : KeepsReading editor keys reader editor' keys' reader'
+  -- a command was read: its phrase, with the group begun that the command asks for; what is drawn stays good
+  pub record HasRead (begun : Command → Draft → Draft) (command : Command) (editor : X) (keys : KeyState) (reader : Y) (editor' : X) (keys' : KeyState) (reader' : Y) : Type 0 where
+    pub draft : Draft
+    pub phrase : ReadsPhrase editor keys reader editor' reader' command draft keys'
+    pub begun_there : e.draft editor' ≡ begun command draft
+    pub fewer : length (r.rest reader') < length (r.rest reader)
+    pub drawn : KeepsDrawn e editor editor'
+    pub in_place : IsInPlace e editor → IsInPlace e editor'
+
+  -- what a call leaves that reads one command: it was read, or the items ran out; where none was left nothing changes; after an
+  -- error the input value stays
+  pub record ReadsCommand (begun : Command → Draft → Draft) (result : Result Cmd ReadlineError) (editor : X) (keys : KeyState) (reader : Y) (editor' : X) (keys' : KeyState) (reader' : Y) : Type 0 where
+    pub read : OnRead result (λ c. HasRead begun (command_of c) editor keys reader editor' keys' reader') (OutOfItems editor keys reader editor' reader')
+    pub dry : r.rest reader ≡ [] → (e.draft editor' ≡ e.draft editor) × DrewNothing e editor editor'
+    pub line : KeepsLine (e.draft editor) (e.draft editor')
     pub remembers : OnErr result (keys'.input ≡ keys.input)
-    pub reads : OnOk result (length (r.rest reader') < length (r.rest reader))
-    pub drawn : OnOk result (KeepsDrawn e editor editor')
     pub start : UnlessFault result (start_text (e.draft editor') ≡ start_text (e.draft editor))
-    pub in_place : IsInPlace e editor → OnOk result (IsInPlace e editor')
-    pub redraws : OnOk result (RedrawsItems editor reader editor' reader')
-    pub redraws_at_eof : IsErrOf result Eof → RedrawsItems editor reader editor' reader'
-    pub not_interrupted : IsErrOf result Interrupted → ⊥
-    pub io : FailsByReading result editor keys reader editor' reader'
+    pub redraws : UnlessFault result (RedrawsItems editor reader editor' reader')
+    pub keeps : KeepsReading editor keys reader editor' keys' reader'
+    pub fails : FailsByReading result editor keys reader editor' reader'

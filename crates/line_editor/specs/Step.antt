@@ -1,11 +1,11 @@
 -- What a command does to the editor.
-use Rattle.std.specs.Prelude.{ℕ, Bool, true, false, if◌then◌else◌, is_some}
+use Rattle.std.specs.Prelude.{ℕ, true, false, if◌then◌else◌, is_some}
 use Rattle.line_buffer.specs.Kill.{killed_range}
 use Rattle.line_buffer.specs.KillRing.{yank_popped, yanked_text}
 use Rattle.line_buffer.specs.Lines.{down_by, up_by}
 use Rattle.line_buffer.specs.declared.keymap.Movement.TheVariants.{LineDown, LineUp}
 use Rattle.line_buffer.specs.declared.line_buffer.WordAction.TheVariants.{Capitalize, Lowercase, Uppercase}
-use Rattle.line_keys.specs.Command.{Command, abort, accept_line, accept_or_insert_line, beginning_of_history, capitalize_word, clear_screen, complete, complete_backward, complete_hint, dedent, downcase_word, end_of_file, end_of_history, forward_search_history, history_search_backward, history_search_forward, indent, insert, interrupt, kill, line_down_or_next_history, line_up_or_previous_history, move, newline, next_history, noop, overwrite, previous_history, quoted_insert, repaint, replace, replace_char, reverse_search_history, self_insert, suspend, transpose_chars, transpose_words, undo, unknown, upcase_word, vi_yank_to, yank, yank_pop}
+use Rattle.line_keys.specs.Command.{Command, accept_line, accept_or_insert_line, beginning_of_history, capitalize_word, clear_screen, complete_hint, dedent, downcase_word, end_of_file, end_of_history, history_search_backward, history_search_forward, indent, insert, interrupt, kill, line_down_or_next_history, line_up_or_previous_history, move, newline, next_history, overwrite, previous_history, repaint, replace, replace_char, self_insert, transpose_chars, transpose_words, undo, upcase_word, vi_yank_to, yank, yank_pop}
 use Rattle.line_keys.specs.Draft.{Draft, hinted, unhinted}
 use Rattle.line_keys.specs.declared.command.Anchor.TheVariants.{Before}
 use Rattle.line_parts.specs.Environment.{Environment}
@@ -55,25 +55,6 @@ edited_by ruler environment input draft complete_hint = completed environment dr
 edited_by ruler environment input draft clear_screen = hinted environment draft
 edited_by ruler environment input draft repaint = hinted environment draft
 edited_by ruler environment input draft _ = draft
-
--- the commands that are left to the program above: nothing happens
-abbrev pub is_left_above : Command → Bool
-is_left_above abort = true
-is_left_above complete = true
-is_left_above complete_backward = true
-is_left_above forward_search_history = true
-is_left_above noop = true
-is_left_above quoted_insert = true
-is_left_above reverse_search_history = true
-is_left_above suspend = true
-is_left_above unknown = true
-is_left_above _ = false
-
--- the commands that ask for the line's verdict
-abbrev pub asks_verdict : Command → Bool
-asks_verdict accept_line = true
-asks_verdict (accept_or_insert_line in_the_middle) = true
-asks_verdict _ = false
 
 -- what a command does: it kills or yanks, ends the run or may end it, or only edits
 abbrev pub step : Ruler → Environment → Input → Editor → Command → Step

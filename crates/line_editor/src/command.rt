@@ -1,16 +1,19 @@
 //! Commands, executed.
-ghost use Rattle.std.specs.Prelude.{◌≡◌, true, IfOk, OnOk, IsErrOf, is_some};
-ghost use Rattle.line_config.specs.Error.{IoOnlyIf, UnlessFault};
-ghost use Rattle.line_editor.specs.InputState.{input_of};
-ghost use Rattle.line_editor.specs.Runs.{DrawnAfter, Executes, LosesHint, ShowsMessage};
-ghost use Rattle.line_editor.specs.Status.{answer_of};
-ghost use Rattle.line_editor.specs.Accept.{accepted, answer_at_end, validated};
-ghost use Rattle.line_editor.specs.Editor.{ended, ruler_of};
+ghost use Rattle.std.specs.Prelude.{◌≡◌, ◌||◌, ℕ};
+ghost use Rattle.line_buffer.specs.KillRing.{Ring};
+ghost use Rattle.line_editor.specs.Accept.{reply_to};
+ghost use Rattle.line_editor.specs.Drawings.{edited_drawn, most_drawn};
+ghost use Rattle.line_editor.specs.Editor.{ruler_of};
 ghost use Rattle.line_editor.specs.Edits.{typed_in};
-ghost use Rattle.line_editor.specs.Step.{edited_by, is_left_above};
+ghost use Rattle.line_editor.specs.Input.{Input};
+ghost use Rattle.line_editor.specs.InputState.{input_of};
+ghost use Rattle.line_editor.specs.Runs.{Executes};
+ghost use Rattle.line_editor.specs.Step.{edited_by};
+ghost use Rattle.line_keys.specs.Command as commands;
 ghost use Rattle.line_keys.specs.Command.{command_of};
-ghost use Rattle.line_keys.specs.Draft.{start_text, unhinted};
-ghost use Rattle.line_keys.specs.EditorState.{Does, DrewNothing, FailsOnlyIf, Frame, PartyFailed, Redraws, ShowsChange};
+ghost use Rattle.line_keys.specs.Draft.{unhinted};
+ghost use Rattle.line_keys.specs.Drawing.{Does, with_hint};
+ghost use Rattle.line_parts.specs.Verdict.{verdict_of};
 
 use crate::edit::State;
 use crate::keymap::InputState;
@@ -40,7 +43,6 @@ pub enum Status {
 /// `Eof` for the end of the input on an empty line alone, and `Interrupted` for an interrupt alone, with the drawn cursor at
 /// the end of what is shown. Another error is one of input or output, where the renderer or a party has failed, or that
 /// memory ran out; then the line is text with its cursor on a boundary, and the changes tell of it.
-#[tactic(auto, using(crate::proofs::CountLemmas::rises_one_three, crate::proofs::CountLemmas::rises_once_three, crate::proofs::CountLemmas::rises_drop_insert, crate::proofs::CountLemmas::stays_rises, crate::proofs::DrawnLemmas::hint_trails))]
 pub fn execute<'out, 'prompt, W: Renderer, H: Helper, P: Prompt, S: History>(
     cmd: Cmd,
     state: &mut State<'out, 'prompt, W, H, P, S>,
@@ -54,17 +56,11 @@ pub fn execute<'out, 'prompt, W: Renderer, H: Helper, P: Prompt, S: History>(
 {
     match cmd {
         Cmd::EndOfFile => return state.end_of_file(input_state),
-        Cmd::AcceptLine => {
-            state.accept_line()?;
-            return Ok(Status::Submit);
-        }
+        Cmd::AcceptLine => return state.accept_line(),
         Cmd::AcceptOrInsertLine {
             accept_in_the_middle,
         } => return state.accept_or_insert_line(accept_in_the_middle),
-        Cmd::Interrupt => {
-            state.move_cursor_to_end()?;
-            return Err(ReadlineError::Interrupted);
-        }
+        Cmd::Interrupt => return state.interrupt(),
         Cmd::Kill(movement) => {
             state.edit_kill(&movement, kill_ring)?;
             return Ok(Status::Proceed);
@@ -100,14 +96,14 @@ impl<'out, 'prompt, W: Renderer, H: Helper, P: Prompt, S: History> State<
     P,
     S,
 > {
-    #[tactic(auto, using(crate::proofs::CommandLemmas::draws_twice, crate::proofs::CommandLemmas::draws_if_twice, crate::proofs::CommandLemmas::does_twice))]
     // Does what a command says that neither ends the run nor looks at the kill ring.
     fn edit_by(&mut self, cmd: Cmd, input_state: &InputState<'_>, indent_size: u8) -> Result<()>
-        ensures does { let e = ⟦<Self as EditorState>⟧ in Does e result self.old self.new
-            (edited_by (ruler_of (e.display self.old) indent_size) (e.environment self.old)
-            (input_of input_state.now) (e.draft self.old) (command_of cmd)) 2 }
-        ensures quiet { is_left_above (command_of cmd) ≡ true
-            → OnOk result (DrewNothing ⟦<Self as EditorState>⟧ self.old self.new) }
+        ensures { let e = ⟦<Self as EditorState>⟧ in
+            let w = e.environment self.old in let d = e.draft self.old in
+            Does e result self.old self.new
+            (edited_by (ruler_of (e.display self.old) indent_size) w (input_of input_state.now) d
+            (command_of cmd))
+            (edited_drawn (e.display self.old) w d (command_of cmd)) (most_drawn (command_of cmd)) }
     {
         match cmd {
             Cmd::SelfInsert(n, c) => self.edit_insert(c, n),
@@ -135,14 +131,31 @@ impl<'out, 'prompt, W: Renderer, H: Helper, P: Prompt, S: History> State<
             Cmd::CompleteHint => self.complete_hint(),
             Cmd::ClearScreen => self.clear_and_redraw(),
             Cmd::Repaint => self.refresh_line(),
-            _ => Ok(()),
+            Cmd::Abort
+            | Cmd::AcceptLine
+            | Cmd::AcceptOrInsertLine { .. }
+            | Cmd::Complete
+            | Cmd::CompleteBackward
+            | Cmd::EndOfFile
+            | Cmd::ForwardSearchHistory
+            | Cmd::Interrupt
+            | Cmd::Kill(_)
+            | Cmd::Noop
+            | Cmd::QuotedInsert
+            | Cmd::Replace(_, _)
+            | Cmd::ReverseSearchHistory
+            | Cmd::Suspend
+            | Cmd::Unknown
+            | Cmd::ViYankTo(_)
+            | Cmd::Yank(_, _)
+            | Cmd::YankPop => Ok(()),
         }
     }
 
     // Takes the hint away, and puts a newline at the cursor.
     fn type_newline(&mut self) -> Result<()>
         ensures { let e = ⟦<Self as EditorState>⟧ in Does e result self.old self.new
-            (typed_in (e.environment self.old) 1 10 (unhinted (e.draft self.old))) 2 }
+            (typed_in (e.environment self.old) 1 10 (unhinted (e.draft self.old))) with_hint 2 }
     {
         self.drop_hint()?;
         self.edit_insert('\n', 1)
@@ -150,26 +163,9 @@ impl<'out, 'prompt, W: Renderer, H: Helper, P: Prompt, S: History> State<
 
     // Ends the input on an empty line; submits another one in the Vi style.
     fn end_of_file(&mut self, input_state: &InputState<'_>) -> Result<Status>
-        ensures draft { let d = ⟦<Self as EditorState>⟧.draft in
-            OnOk result (d self.new ≡ unhinted (d self.old)) }
-        ensures answer { let text = (⟦<Self as EditorState>⟧.draft self.old).line.text in
-            IfOk result (λ status.
-            answer_at_end (input_of input_state.now).style text ≡ answer_of status) }
-        ensures eof { let d = ⟦<Self as EditorState>⟧.draft in IsErrOf result ReadlineError.Eof
-            → (d self.new ≡ unhinted (d self.old))
-            × (answer_at_end (input_of input_state.now).style (d self.old).line.text ≡ ended) }
-        ensures start { let d = ⟦<Self as EditorState>⟧.draft in
-            UnlessFault result (start_text (d self.new) ≡ start_text (d self.old)) }
-        ensures drawn { OnOk result (LosesHint ⟦<Self as EditorState>⟧ self.old self.new) }
-        ensures drawn_at_eof { IsErrOf result ReadlineError.Eof
-            → LosesHint ⟦<Self as EditorState>⟧ self.old self.new }
-        ensures redraws { OnOk result (Redraws ⟦<Self as EditorState>⟧ 0 1 self.old self.new) }
-        ensures redraws_at_eof { IsErrOf result ReadlineError.Eof
-            → Redraws ⟦<Self as EditorState>⟧ 0 1 self.old self.new }
-        ensures not_interrupted { IsErrOf result ReadlineError.Interrupted → ⊥ }
-        ensures frame { Frame ⟦<Self as EditorState>⟧ self.old self.new }
-        ensures io { let e = ⟦<Self as EditorState>⟧ in
-            IoOnlyIf result (PartyFailed e self.old self.new) }
+        ensures { let e = ⟦<Self as EditorState>⟧ in (indent : ℕ) → (kills : Ring)
+            → Executes e result self.old (input_of input_state.now) indent kills
+            commands.end_of_file self.new kills }
     {
         self.drop_hint()?;
         if self.line().is_empty() {
@@ -182,53 +178,62 @@ impl<'out, 'prompt, W: Renderer, H: Helper, P: Prompt, S: History> State<
         }
     }
 
-    #[tactic(auto, using(crate::proofs::CountLemmas::rises_two_three))]
-    // Validates the line, which is then submitted whatever is said of it.
-    fn accept_line(&mut self) -> Result<()>
-        ensures draft { let e = ⟦<Self as EditorState>⟧ in OnOk result
-            (e.draft self.new ≡ validated (e.environment self.old) (unhinted (e.draft self.old))) }
-        ensures start { let d = ⟦<Self as EditorState>⟧.draft in
-            OnOk result (start_text (d self.new) ≡ start_text (d self.old)) }
-        ensures drawn { OnOk result (LosesHint ⟦<Self as EditorState>⟧ self.old self.new) }
-        ensures change { OnOk result (ShowsChange ⟦<Self as EditorState>⟧ 3 self.old self.new) }
-        ensures message { OnOk result (ShowsMessage ⟦<Self as EditorState>⟧ self.old self.new) }
-        ensures redraws { OnOk result (Redraws ⟦<Self as EditorState>⟧ 0 3 self.old self.new) }
-        ensures frame { Frame ⟦<Self as EditorState>⟧ self.old self.new }
-        ensures fails { let e = ⟦<Self as EditorState>⟧ in
-            FailsOnlyIf result (PartyFailed e self.old self.new) }
+    // Takes the drawn cursor to the end of what is shown, and interrupts.
+    fn interrupt(&mut self) -> Result<Status>
+        ensures { let e = ⟦<Self as EditorState>⟧ in (input : Input) → (indent : ℕ) → (kills : Ring)
+            → Executes e result self.old input indent kills commands.interrupt self.new kills }
+    {
+        self.move_cursor_to_end()?;
+        Err(ReadlineError::Interrupted)
+    }
+
+    // Validates the line, and submits it whatever is said of it.
+    fn accept_line(&mut self) -> Result<Status>
+        ensures { let e = ⟦<Self as EditorState>⟧ in (input : Input) → (indent : ℕ) → (kills : Ring)
+            → Executes e result self.old input indent kills commands.accept_line self.new kills }
     {
         self.drop_hint()?;
         let _ = self.validate()?;
-        Ok(())
+        Ok(Status::Submit)
     }
 
-    #[tactic(auto, using(crate::proofs::DrawnLemmas::no_hint_line, crate::proofs::CountLemmas::rises_two_three, crate::proofs::CountLemmas::rises_three))]
     // Submits a valid line, and gives another one a newline unless a message says why it is refused.
     fn accept_or_insert_line(&mut self, accept_in_the_middle: bool) -> Result<Status>
-        ensures left { let e = ⟦<Self as EditorState>⟧ in IfOk result (λ status.
-            (e.draft self.new, answer_of status) ≡ accepted (e.environment self.old)
-            accept_in_the_middle (unhinted (e.draft self.old))) }
-        ensures start { let d = ⟦<Self as EditorState>⟧.draft in
-            OnOk result (start_text (d self.new) ≡ start_text (d self.old)) }
-        ensures drawn { let e = ⟦<Self as EditorState>⟧ in IfOk result (λ status.
-            DrawnAfter e (answer_of status) self.old self.new) }
-        ensures change { OnOk result (ShowsChange ⟦<Self as EditorState>⟧ 3 self.old self.new) }
-        ensures message { OnOk result (ShowsMessage ⟦<Self as EditorState>⟧ self.old self.new) }
-        ensures redraws { OnOk result (Redraws ⟦<Self as EditorState>⟧ 0 3 self.old self.new) }
-        ensures frame { Frame ⟦<Self as EditorState>⟧ self.old self.new }
-        ensures fails { let e = ⟦<Self as EditorState>⟧ in
-            FailsOnlyIf result (PartyFailed e self.old self.new) }
+        ensures { let e = ⟦<Self as EditorState>⟧ in (input : Input) → (indent : ℕ) → (kills : Ring)
+            → Executes e result self.old input indent kills
+            (commands.accept_or_insert_line accept_in_the_middle) self.new kills }
     {
         self.drop_hint()?;
-        match self.validate()? {
-            ValidationResult::Valid(_) if accept_in_the_middle || self.is_end_of_input() => {
-                Ok(Status::Submit)
-            }
-            ValidationResult::Invalid(Some(_)) => Ok(Status::Proceed),
-            _ => {
+        let verdict = self.validate()?;
+        match reply_for(&verdict, accept_in_the_middle, self.is_end_of_input()) {
+            Reply::Submits => Ok(Status::Submit),
+            Reply::Stays => Ok(Status::Proceed),
+            Reply::GoesOn => {
                 self.edit_insert('\n', 1)?;
                 Ok(Status::Proceed)
             }
         }
+    }
+}
+
+// What becomes of a line that was validated.
+enum Reply {
+    // It is submitted.
+    Submits,
+    // It stays as it is.
+    Stays,
+    // It is given a newline.
+    GoesOn,
+}
+
+// Returns what becomes of a line by its verdict. A valid one is submitted in the middle, where that is allowed, or at the end
+// of the input.
+fn reply_for(verdict: &ValidationResult, in_the_middle: bool, at_end: bool) -> Reply
+    ensures { result ≡ reply_to (verdict_of verdict.now) (in_the_middle || at_end) }
+{
+    match verdict {
+        ValidationResult::Valid(_) if in_the_middle || at_end => Reply::Submits,
+        ValidationResult::Invalid(Some(_)) => Reply::Stays,
+        _ => Reply::GoesOn,
     }
 }

@@ -5,7 +5,8 @@ ghost use Rattle.line_config.specs.Error.{MemoryOnly};
 ghost use Rattle.line_editor.specs.Info.{shown_info};
 ghost use Rattle.line_keys.specs.Display.{IsRight, ShowsText, lit_after, undrawn};
 ghost use Rattle.line_keys.specs.Draft.{empty_draft, hinted, KeepsText};
-ghost use Rattle.line_keys.specs.EditorState.{DrewNothing, FailsOnlyIf, Frame, PartyFailed, Redraws, RendererFailed, Shows, ShowsEdit, Undrawn};
+ghost use Rattle.line_keys.specs.Drawing.{DrewNothing, Paints, ShowsEdit, Undrawn};
+ghost use Rattle.line_keys.specs.EditorState.{FailsOnlyIf, Frame, Shows};
 ghost use Rattle.line_parts.specs.Environment.{Environment};
 ghost use Rattle.line_parts.specs.Helped.{hint_by, is_sure_by, lights_by, verdict_by};
 ghost use Rattle.line_parts.specs.Hint.{suggestion_of};
@@ -244,7 +245,8 @@ impl<'out, 'prompt, W: Renderer, H: Helper, P: Prompt, S: History> State<
         ensures text { let d = ⟦<Self as EditorState>⟧.draft in
             KeepsText (d self.old) (d self.new) }
         ensures undrawn { Undrawn ⟦<Self as EditorState>⟧ self.old self.new }
-        ensures fails { FailsOnlyIf result (⟦<Self as EditorState>⟧.sure self.old ≡ true → ⊥) }
+        ensures fails { let e = ⟦<Self as EditorState>⟧ in FailsOnlyIf result
+            (e.sure self.old ≡ true → ⊥) (e.failures self.old) (e.failures self.new) }
     {
         self.hint = self.parties.hint(self.alloc, self.edited.line())?;
         Ok(())
@@ -282,15 +284,9 @@ impl<'out, 'prompt, W: Renderer, H: Helper, P: Prompt, S: History> State<
 
     // Draws all again behind the own prompt, with an info behind the line.
     fn draw(&mut self, info: Info<'_>) -> Result<()>
-        ensures draft { let d = ⟦<Self as EditorState>⟧.draft in d self.new ≡ d self.old }
         ensures shown { OnOk result (Shows ⟦<Self as EditorState>⟧ self.new
             (shown_info info.entry (option_map H.Hint.display_text self.old.hint))) }
-        ensures lit { let d = ⟦<Self as EditorState>⟧.display in
-            (d self.new).lit ≡ (d self.old).lit }
-        ensures redraws { OnOk result (Redraws ⟦<Self as EditorState>⟧ 1 1 self.old self.new) }
-        ensures frame { Frame ⟦<Self as EditorState>⟧ self.old self.new }
-        ensures fails { let e = ⟦<Self as EditorState>⟧ in
-            FailsOnlyIf result (RendererFailed e self.old self.new) }
+        ensures paints { Paints ⟦<Self as EditorState>⟧ true result self.old self.new }
     {
         let colors = self.view.colors_enabled();
         self.view.refresh_line(

@@ -1,5 +1,5 @@
 //! Reads keys, and gives the commands that they stand for.
-ghost use Rattle.std.specs.Prelude.{◌≡◌, ◌↔◌, List, [], Option, false, option_map, IfOk, IsErrOf, IsTrue};
+ghost use Rattle.std.specs.Prelude.{◌≡◌, ◌↔◌, Option, false, option_map, IfOk, IsTrue};
 ghost use Rattle.line_config.specs.Error.{FaultsOnly, IoOnlyIf};
 ghost use Rattle.line_editor.specs.Asked.{Asked};
 ghost use Rattle.line_editor.specs.Binding.{all_sure, bound_of, handled};
@@ -9,11 +9,10 @@ ghost use Rattle.line_editor.specs.Input.{first_input, is_vi_command};
 ghost use Rattle.line_editor.specs.InputState.{input_of, keys_of};
 ghost use Rattle.line_editor.specs.Moment.{moment_in, moment_of};
 ghost use Rattle.line_editor.specs.Phrase.{moves_by, search_to};
-ghost use Rattle.line_editor.specs.Reading.{EndsBehind, EndsInSequence, EndsInTail, FindsSequence, OutOfItems, ReadsBehind, ReadsCount, ReadsOn, ReadsPhrase, ReadsTail, ReadsUnderCount, TakesItems};
+ghost use Rattle.line_editor.specs.Reading.{EndsBehind, EndsInSequence, EndsInTail, FindsSequence, OnRead, ReadsBehind, ReadsCommand, ReadsCount, ReadsTail, ReadsUnderCount, TakesItems};
 ghost use Rattle.line_editor.specs.Sequence.{sequences_of};
 ghost use Rattle.line_keys.specs.Command.{Command, command_of};
 ghost use Rattle.line_keys.specs.Draft.{KeepsText};
-ghost use Rattle.line_keys.specs.EditorState.{DrewNothing};
 ghost use Rattle.line_keys.specs.Row.{meaning_of, search_for};
 ghost use Rattle.line_keys.specs.declared.keys.KeyEvent.{KeyEvent};
 
@@ -88,21 +87,11 @@ impl<'b> InputState<'b> {
         wrt: &mut W,
         single_esc_abort: bool,
     ) -> Result<Cmd>
-        ensures phrase { let k =
+        ensures reads { let k =
             keys_of ⟦<dyn ConditionalEventHandler as ConditionalEventHandler>⟧ in
-            IfOk result (λ c. ReadsPhrase W.EditorState R.RawReader wrt.old (k self.old) rdr.old
-            wrt.new rdr.new (command_of c) (W.draft wrt.new) (k self.new)) }
-        ensures eof { let k = keys_of ⟦<dyn ConditionalEventHandler as ConditionalEventHandler>⟧ in
-            IsErrOf result ReadlineError.Eof → OutOfItems W.EditorState R.RawReader
-            wrt.old (k self.old) rdr.old wrt.new rdr.new }
-        // Where nothing was left to read, nothing changes.
-        ensures dry { R.rest rdr.old ≡ []
-            → (W.draft wrt.new ≡ W.draft wrt.old) × DrewNothing W.EditorState wrt.old wrt.new }
-        ensures text { KeepsText (W.draft wrt.old) (W.draft wrt.new) }
-        ensures reading { let k =
-            keys_of ⟦<dyn ConditionalEventHandler as ConditionalEventHandler>⟧ in
-            ReadsOn W.EditorState R.RawReader result
+            ReadsCommand W.EditorState R.RawReader (λ command draft. draft) result
             wrt.old (k self.old) rdr.old wrt.new (k self.new) rdr.new }
+        ensures text { KeepsText (W.draft wrt.old) (W.draft wrt.new) }
     {
         let key = rdr.next_key(single_esc_abort && self.is_emacs_mode())?;
         if !begins_count(self.mode, self.input_mode, key) {
@@ -158,14 +147,12 @@ impl<'b> InputState<'b> {
         typed: Option<Count>,
     ) -> Result<Cmd>
         ensures reads { let k =
-            keys_of ⟦<dyn ConditionalEventHandler as ConditionalEventHandler>⟧ in
-            IfOk result (λ c. ReadsBehind R.RawReader rdr.old rdr.new
-            (keymap_of (k self.now) (R.own_binding rdr.old)) (W.draft wrt.now) (input_of self.now)
-            typed key (command_of c)) }
-        ensures eof { let k = keys_of ⟦<dyn ConditionalEventHandler as ConditionalEventHandler>⟧ in
-            IsErrOf result ReadlineError.Eof → EndsBehind R.RawReader rdr.old rdr.new
-            (keymap_of (k self.now) (R.own_binding rdr.old)) (W.draft wrt.now) (input_of self.now)
-            typed key }
+            keys_of ⟦<dyn ConditionalEventHandler as ConditionalEventHandler>⟧ self.now in
+            let keymap = keymap_of k (R.own_binding rdr.old) in
+            let draft = W.draft wrt.now in OnRead result
+            (λ c. ReadsBehind R.RawReader rdr.old rdr.new keymap draft k.input typed key
+            (command_of c))
+            (EndsBehind R.RawReader rdr.old rdr.new keymap draft k.input typed key) }
         ensures items { let k =
             keys_of ⟦<dyn ConditionalEventHandler as ConditionalEventHandler>⟧ in
             TakesItems R.RawReader (k self.now).bound result rdr.old rdr.new }
@@ -190,16 +177,12 @@ impl<'b> InputState<'b> {
         count: Count,
         meaning: Meaning,
     ) -> Result<Cmd>
-        ensures reads { let g = ⟦<dyn ConditionalEventHandler as ConditionalEventHandler>⟧ in
-            let bound = (keys_of g self.now).bound in IfOk result (λ c.
-            ReadsTail R.RawReader rdr.old rdr.new
-            (sequences_of bound (W.draft wrt.now) (input_of self.now) count)
-            key (meaning_of meaning) (command_of c)) }
-        ensures eof { let g = ⟦<dyn ConditionalEventHandler as ConditionalEventHandler>⟧ in
-            let bound = (keys_of g self.now).bound in IsErrOf result ReadlineError.Eof →
-            EndsInTail R.RawReader rdr.old rdr.new
-            (sequences_of bound (W.draft wrt.now) (input_of self.now) count)
-            key (meaning_of meaning) }
+        ensures reads { let k =
+            keys_of ⟦<dyn ConditionalEventHandler as ConditionalEventHandler>⟧ self.now in
+            let by = sequences_of k.bound (W.draft wrt.now) k.input count in
+            let meaning = meaning_of meaning in OnRead result
+            (λ c. ReadsTail R.RawReader rdr.old rdr.new by key meaning (command_of c))
+            (EndsInTail R.RawReader rdr.old rdr.new by key meaning) }
         ensures items { let k =
             keys_of ⟦<dyn ConditionalEventHandler as ConditionalEventHandler>⟧ in
             TakesItems R.RawReader (k self.now).bound result rdr.old rdr.new }
@@ -230,14 +213,11 @@ impl<'b> InputState<'b> {
         first: KeyEvent,
         count: Count,
     ) -> Result<Sequence>
-        ensures reads { let g = ⟦<dyn ConditionalEventHandler as ConditionalEventHandler>⟧ in
-            let bound = (keys_of g self.now).bound in IfOk result (λ found.
-            FindsSequence R.RawReader rdr.old rdr.new
-            (sequences_of bound (W.draft wrt.now) (input_of self.now) count) first found) }
-        ensures eof { let g = ⟦<dyn ConditionalEventHandler as ConditionalEventHandler>⟧ in
-            let bound = (keys_of g self.now).bound in IsErrOf result ReadlineError.Eof →
-            EndsInSequence R.RawReader rdr.old rdr.new
-            (sequences_of bound (W.draft wrt.now) (input_of self.now) count) first }
+        ensures reads { let k =
+            keys_of ⟦<dyn ConditionalEventHandler as ConditionalEventHandler>⟧ self.now in
+            let by = sequences_of k.bound (W.draft wrt.now) k.input count in OnRead result
+            (λ found. FindsSequence R.RawReader rdr.old rdr.new by first found)
+            (EndsInSequence R.RawReader rdr.old rdr.new by first) }
         ensures items { let k =
             keys_of ⟦<dyn ConditionalEventHandler as ConditionalEventHandler>⟧ in
             TakesItems R.RawReader (k self.now).bound result rdr.old rdr.new }

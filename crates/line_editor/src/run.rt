@@ -1,10 +1,8 @@
 //! Reads commands and executes them, until the line is submitted or the input ends.
-ghost use Rattle.std.specs.Prelude.{◌≡◌, ◌≢◌, ◌<◌, ◌⊎◌, length, IfOk, OnOk, IsErrOf};
-ghost use Rattle.line_config.specs.Error.{FaultsOnly};
+ghost use Rattle.std.specs.Prelude.{◌≡◌};
 ghost use Rattle.line_editor.specs.InputState.{keys_of};
-ghost use Rattle.line_editor.specs.Reading.{FailsByReading, KeepsReading};
 ghost use Rattle.line_editor.specs.Run.{kills_before};
-ghost use Rattle.line_editor.specs.Runs.{RunsDry, RunsToEnd, RunsToInterrupt, RunsToSubmit, AdvancesTo};
+ghost use Rattle.line_editor.specs.Runs.{Advances, Runs, session};
 ghost use Rattle.line_keys.specs.Command.{command_of};
 
 use crate::binding::ConditionalEventHandler;
@@ -61,21 +59,11 @@ pub fn advance<'out, 'prompt, W: Renderer, H: Helper, P: Prompt, S: History>(
     kill_ring: &mut KillRing,
     config: &Config,
 ) -> Result<Turned>
-    ensures turned { let k = keys_of ⟦<dyn ConditionalEventHandler as ConditionalEventHandler>⟧ in
-        let e = ⟦<State<'out, 'prompt, W, H, P, S> as EditorState>⟧ in
-        IfOk result (λ turned. AdvancesTo e W.Reader.RawReader turned
-        state.old (k input_state.old) config.now.indent_size rdr.old kill_ring.old
-        state.new (k input_state.new) rdr.new kill_ring.new) }
-    ensures reads { IfOk result (λ turned. turned ≢ Turned.NeedsMore
-        → length (W.Reader.rest rdr.new) < length (W.Reader.rest rdr.old)) }
-    ensures keeps { let k = keys_of ⟦<dyn ConditionalEventHandler as ConditionalEventHandler>⟧ in
-        KeepsReading ⟦<State<'out, 'prompt, W, H, P, S> as EditorState>⟧
-        W.Reader.RawReader state.old (k input_state.old) rdr.old
-        state.new (k input_state.new) rdr.new }
-    ensures io { let k = keys_of ⟦<dyn ConditionalEventHandler as ConditionalEventHandler>⟧ in
-        FailsByReading ⟦<State<'out, 'prompt, W, H, P, S> as EditorState>⟧
-        W.Reader.RawReader result state.old (k input_state.old) rdr.old state.new rdr.new }
-    ensures faults { FaultsOnly result }
+    ensures { let k = keys_of ⟦<dyn ConditionalEventHandler as ConditionalEventHandler>⟧ in
+        Advances ⟦<State<'out, 'prompt, W, H, P, S> as EditorState>⟧ W.Reader.RawReader
+        config.now.indent_size result
+        (session state.old (k input_state.old) rdr.old kill_ring.old)
+        (session state.new (k input_state.new) rdr.new kill_ring.new) }
 {
     let command = match state.next_cmd(input_state, rdr, false) {
         Ok(command) => command,
@@ -107,33 +95,11 @@ pub fn run<'out, 'prompt, W: Renderer, H: Helper, P: Prompt, S: History>(
     kill_ring: &mut KillRing,
     config: &Config,
 ) -> Result<()>
-    ensures submitted { let k =
-        keys_of ⟦<dyn ConditionalEventHandler as ConditionalEventHandler>⟧ in
-        let e = ⟦<State<'out, 'prompt, W, H, P, S> as EditorState>⟧ in
-        OnOk result (RunsToSubmit e W.Reader.RawReader
-        state.old (k input_state.old) config.now.indent_size rdr.old kill_ring.old
-        state.new (k input_state.new) rdr.new kill_ring.new) }
-    ensures eof { let k = keys_of ⟦<dyn ConditionalEventHandler as ConditionalEventHandler>⟧ in
-        let e = ⟦<State<'out, 'prompt, W, H, P, S> as EditorState>⟧ in
-        IsErrOf result ReadlineError.Eof → RunsToEnd e W.Reader.RawReader
-        state.old (k input_state.old) config.now.indent_size rdr.old kill_ring.old
-        state.new (k input_state.new) rdr.new kill_ring.new
-        ⊎ RunsDry e W.Reader.RawReader
-        state.old (k input_state.old) config.now.indent_size rdr.old kill_ring.old
-        state.new (k input_state.new) rdr.new kill_ring.new }
-    ensures interrupted { let k =
-        keys_of ⟦<dyn ConditionalEventHandler as ConditionalEventHandler>⟧ in
-        let e = ⟦<State<'out, 'prompt, W, H, P, S> as EditorState>⟧ in
-        IsErrOf result ReadlineError.Interrupted → RunsToInterrupt e W.Reader.RawReader
-        state.old (k input_state.old) config.now.indent_size rdr.old kill_ring.old
-        state.new (k input_state.new) rdr.new kill_ring.new }
-    ensures keeps { let k = keys_of ⟦<dyn ConditionalEventHandler as ConditionalEventHandler>⟧ in
-        KeepsReading ⟦<State<'out, 'prompt, W, H, P, S> as EditorState>⟧
-        W.Reader.RawReader state.old (k input_state.old) rdr.old
-        state.new (k input_state.new) rdr.new }
-    ensures io { let k = keys_of ⟦<dyn ConditionalEventHandler as ConditionalEventHandler>⟧ in
-        FailsByReading ⟦<State<'out, 'prompt, W, H, P, S> as EditorState>⟧
-        W.Reader.RawReader result state.old (k input_state.old) rdr.old state.new rdr.new }
+    ensures { let k = keys_of ⟦<dyn ConditionalEventHandler as ConditionalEventHandler>⟧ in
+        Runs ⟦<State<'out, 'prompt, W, H, P, S> as EditorState>⟧ W.Reader.RawReader
+        config.now.indent_size result
+        (session state.old (k input_state.old) rdr.old kill_ring.old)
+        (session state.new (k input_state.new) rdr.new kill_ring.new) }
 {
     state.refresh_line()?;
     'turns: loop {

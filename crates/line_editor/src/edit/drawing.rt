@@ -1,8 +1,9 @@
 //! Drawing again, and what is asked of the screen.
-ghost use Rattle.std.specs.Prelude.{◌≡◌, ◌&&◌, is_some, OnOk};
-ghost use Rattle.line_keys.specs.Display.{corner};
+ghost use Rattle.std.specs.Prelude.{◌≡◌, ◌&&◌, true, false, is_some, OnOk, OnErr};
 ghost use Rattle.line_keys.specs.Draft.{hint_shown, hinted};
-ghost use Rattle.line_keys.specs.EditorState.{DrawsEdit, FailsOnlyIf, Frame, Redraws, RendererFailed, Shows, ShowsByLayout, info_kept};
+ghost use Rattle.line_keys.specs.Drawing.{Does, Paints, with_hint};
+ghost use Rattle.line_keys.specs.EditorState.{Shows, ShowsByLayout, info_kept};
+ghost use Rattle.line_state.specs.Drawn.{cleared};
 
 use crate::edit::{Info, State, info_text};
 use line_config::{Prompt, Result};
@@ -36,7 +37,6 @@ impl<'out, 'prompt, W: Renderer, H: Helper, P: Prompt, S: History> State<
     /// Those of the renderer.
     #[tactic(auto, using(crate::proofs::EditLemmas::shown_hint))]
     pub fn repaint(&mut self, kind: RefreshKind) -> Result<()>
-        ensures draft { let d = ⟦<Self as EditorState>⟧.draft in d self.new ≡ d self.old }
         ensures shown { let e = ⟦<Self as EditorState>⟧ in kind ≡ RefreshKind.All
             → OnOk result (Shows e self.new (hint_shown (e.draft self.old))) }
         ensures by_layout { let e = ⟦<Self as EditorState>⟧ in
@@ -44,12 +44,7 @@ impl<'out, 'prompt, W: Renderer, H: Helper, P: Prompt, S: History> State<
             (Shows e self.new (info_kept (e.display self.old).layout (e.draft self.old))) }
         ensures kept { let e = ⟦<Self as EditorState>⟧ in kind ≡ RefreshKind.Min
             → OnOk result ((e.display self.new).layout ≡ (e.display self.old).layout) }
-        ensures lit { let d = ⟦<Self as EditorState>⟧.display in
-            (d self.new).lit ≡ (d self.old).lit }
-        ensures redraws { OnOk result (Redraws ⟦<Self as EditorState>⟧ 1 1 self.old self.new) }
-        ensures frame { Frame ⟦<Self as EditorState>⟧ self.old self.new }
-        ensures fails { let e = ⟦<Self as EditorState>⟧ in
-            FailsOnlyIf result (RendererFailed e self.old self.new) }
+        ensures paints { Paints ⟦<Self as EditorState>⟧ true result self.old self.new }
     {
         match kind {
             RefreshKind::All => self.draw(Info::Hint),
@@ -60,17 +55,11 @@ impl<'out, 'prompt, W: Renderer, H: Helper, P: Prompt, S: History> State<
     // Draws the kept layout again, with the hint where the layout has an info.
     #[tactic(auto, using(crate::proofs::EditLemmas::shown_hint))]
     fn draw_kept(&mut self) -> Result<()>
-        ensures draft { let d = ⟦<Self as EditorState>⟧.draft in d self.new ≡ d self.old }
         ensures shown { let e = ⟦<Self as EditorState>⟧ in ShowsByLayout e self.old → OnOk result
             (Shows e self.new (info_kept (e.display self.old).layout (e.draft self.old))) }
         ensures layout { let d = ⟦<Self as EditorState>⟧.display in
             (d self.new).layout ≡ (d self.old).layout }
-        ensures lit { let d = ⟦<Self as EditorState>⟧.display in
-            (d self.new).lit ≡ (d self.old).lit }
-        ensures redraws { OnOk result (Redraws ⟦<Self as EditorState>⟧ 1 1 self.old self.new) }
-        ensures frame { Frame ⟦<Self as EditorState>⟧ self.old self.new }
-        ensures fails { let e = ⟦<Self as EditorState>⟧ in
-            FailsOnlyIf result (RendererFailed e self.old self.new) }
+        ensures paints { Paints ⟦<Self as EditorState>⟧ true result self.old self.new }
     {
         let colors = self.view.colors_enabled();
         let info = if self.view.layout().has_info {
@@ -89,18 +78,13 @@ impl<'out, 'prompt, W: Renderer, H: Helper, P: Prompt, S: History> State<
     /// not said: `refresh_line` is to follow.
     ///
     /// # Errors
-    /// Those of the renderer.
+    /// Those of the renderer. Then the kept layout stays.
     pub fn clear_screen(&mut self) -> Result<()>
-        ensures draft { let d = ⟦<Self as EditorState>⟧.draft in d self.new ≡ d self.old }
-        ensures layout { let d = ⟦<Self as EditorState>⟧.display in OnOk result
-            ((d self.new).layout ≡ record (d self.old).layout { cursor = corner; end = corner }) }
-        ensures lit { let d = ⟦<Self as EditorState>⟧.display in
-            (d self.new).lit ≡ (d self.old).lit }
-        ensures redraws { let e = ⟦<Self as EditorState>⟧ in
-            e.redraws self.new ≡ e.redraws self.old }
-        ensures frame { Frame ⟦<Self as EditorState>⟧ self.old self.new }
-        ensures fails { let e = ⟦<Self as EditorState>⟧ in
-            FailsOnlyIf result (RendererFailed e self.old self.new) }
+        ensures layout { let d = ⟦<Self as EditorState>⟧.display in
+            OnOk result ((d self.new).layout ≡ cleared (d self.old).layout) }
+        ensures err { let d = ⟦<Self as EditorState>⟧.display in
+            OnErr result ((d self.new).layout ≡ (d self.old).layout) }
+        ensures paints { Paints ⟦<Self as EditorState>⟧ false result self.old self.new }
     {
         self.view.clear_screen()
     }
@@ -111,24 +95,17 @@ impl<'out, 'prompt, W: Renderer, H: Helper, P: Prompt, S: History> State<
     /// # Errors
     /// Those of the renderer.
     pub fn move_cursor_at_leftmost(&mut self, rdr: &mut W::Reader) -> Result<()>
-        ensures draft { let d = ⟦<Self as EditorState>⟧.draft in d self.new ≡ d self.old }
         ensures layout { let d = ⟦<Self as EditorState>⟧.display in
             (d self.new).layout ≡ (d self.old).layout }
-        ensures lit { let d = ⟦<Self as EditorState>⟧.display in
-            (d self.new).lit ≡ (d self.old).lit }
-        ensures redraws { let e = ⟦<Self as EditorState>⟧ in
-            e.redraws self.new ≡ e.redraws self.old }
-        ensures frame { Frame ⟦<Self as EditorState>⟧ self.old self.new }
-        ensures fails { let e = ⟦<Self as EditorState>⟧ in
-            FailsOnlyIf result (RendererFailed e self.old self.new) }
+        ensures paints { Paints ⟦<Self as EditorState>⟧ false result self.old self.new }
     {
         self.view.move_cursor_at_leftmost(rdr)
     }
 
     // Clears the screen and draws the line again, with the hint asked for.
     pub(crate) fn clear_and_redraw(&mut self) -> Result<()>
-        ensures { let e = ⟦<Self as EditorState>⟧ in DrawsEdit e result self.old self.new
-            (hinted (e.environment self.old) (e.draft self.old)) }
+        ensures { let e = ⟦<Self as EditorState>⟧ in Does e result self.old self.new
+            (hinted (e.environment self.old) (e.draft self.old)) with_hint 1 }
     {
         self.clear_screen()?;
         self.refresh_line()

@@ -4,7 +4,8 @@ ghost use Rattle.line_buffer.specs.Line.{with_cursor, end_of_line};
 ghost use Rattle.line_editor.specs.Editor.{edited_of, with_edited};
 ghost use Rattle.line_editor.specs.Edits.{completed, with_completion};
 ghost use Rattle.line_keys.specs.Draft.{start_text};
-ghost use Rattle.line_keys.specs.EditorState.{DrawsEditIf, DrewNothing, FailsOnlyIf, Frame, RendererFailed};
+ghost use Rattle.line_keys.specs.Drawing.{Does, DrewNothing, drawn_if};
+ghost use Rattle.line_keys.specs.EditorState.{FailsByRenderer, Frame};
 ghost use Rattle.line_parts.specs.Hint.{suggestion_of};
 
 use crate::edit::State;
@@ -36,8 +37,8 @@ impl<'out, 'prompt, W: Renderer, H: Helper, P: Prompt, S: History> State<
     // There is a beep where the hint completes nothing. Without a hint nothing happens.
     pub(crate) fn complete_hint(&mut self) -> Result<()>
         ensures { let e = ⟦<Self as EditorState>⟧ in
-            DrawsEditIf e (is_some (e.draft self.old).hint) result self.old self.new
-            (completed (e.environment self.old) (e.draft self.old).hint (e.draft self.old)) }
+            let d = e.draft self.old in Does e result self.old self.new
+            (completed (e.environment self.old) d.hint d) (drawn_if (is_some d.hint)) 1 }
     {
         if self.hint.is_none() {
             return Ok(());
@@ -56,8 +57,7 @@ impl<'out, 'prompt, W: Renderer, H: Helper, P: Prompt, S: History> State<
             (start_text (d self.new) ≡ start_text (d self.old)) }
         ensures drew { DrewNothing ⟦<Self as EditorState>⟧ self.old self.new }
         ensures frame { Frame ⟦<Self as EditorState>⟧ self.old self.new }
-        ensures fails { let e = ⟦<Self as EditorState>⟧ in
-            FailsOnlyIf result (RendererFailed e self.old self.new) }
+        ensures fails { FailsByRenderer ⟦<Self as EditorState>⟧ result self.old self.new }
     {
         self.edited.move_end();
         let Some(text) = completion_of(&self.hint) else {

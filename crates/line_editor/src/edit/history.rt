@@ -1,10 +1,10 @@
 //! Moves in the history.
-ghost use Rattle.std.specs.Prelude.{◌≡◌, ◌+◌, ◌≤◌, IsCharBoundary, if◌then◌else◌, not, is_some, length, OnOk, OnErr};
+ghost use Rattle.std.specs.Prelude.{◌≡◌, ◌+◌, ◌≤◌, IsCharBoundary, false, if◌then◌else◌, not, is_some, length, OnOk, OnErr};
 ghost use Rattle.line_buffer.specs.Line.{before};
 ghost use Rattle.line_config.specs.Error.{MemoryOnly};
 ghost use Rattle.line_editor.specs.HistoryMoves.{at_index, come_back, end_shown, first_shown, found_shown, line_shown, next_shown, previous_shown, restored, saved_at_end, search_of, searched, showing, way_ends};
 ghost use Rattle.line_keys.specs.Draft.{start_text};
-ghost use Rattle.line_keys.specs.EditorState.{DrawsEdit, DrawsEditIf, DrewNothing, FailsOnlyIf, Frame, RendererFailed, Undrawn};
+ghost use Rattle.line_keys.specs.Drawing.{Does, DrewNothing, Paints, Undrawn, drawn_if, with_hint};
 ghost use Rattle.line_parts.specs.History.{starting_with};
 ghost use Rattle.line_parts.specs.declared.history.SearchDirection.TheVariants.{Forward, Reverse};
 
@@ -63,12 +63,11 @@ impl<'out, 'prompt, W: Renderer, H: Helper, P: Prompt, S: History> State<
     /// # Errors
     /// Those of the parties and of the renderer, and that memory ran out.
     pub fn edit_history_next(&mut self, prev: bool) -> Result<()>
-        ensures { let e = ⟦<Self as EditorState>⟧ in DrawsEditIf e
-            (not (way_ends (e.environment self.old) (if prev then Reverse else Forward)
-            (e.draft self.old)))
-            result self.old self.new
-            (if prev then previous_shown (e.environment self.old) (e.draft self.old)
-            else next_shown (e.environment self.old) (e.draft self.old)) }
+        ensures { let e = ⟦<Self as EditorState>⟧ in
+            let w = e.environment self.old in let d = e.draft self.old in
+            Does e result self.old self.new
+            (if prev then previous_shown w d else next_shown w d)
+            (drawn_if (not (way_ends w (if prev then Reverse else Forward) d))) 1 }
     {
         if prev {
             return self.show_previous();
@@ -82,12 +81,11 @@ impl<'out, 'prompt, W: Renderer, H: Helper, P: Prompt, S: History> State<
     /// # Errors
     /// Those of the parties and of the renderer, and that memory ran out.
     pub fn edit_history(&mut self, first: bool) -> Result<()>
-        ensures { let e = ⟦<Self as EditorState>⟧ in DrawsEditIf e
-            (not (way_ends (e.environment self.old) (if first then Reverse else Forward)
-            (e.draft self.old)))
-            result self.old self.new
-            (if first then first_shown (e.environment self.old) (e.draft self.old)
-            else end_shown (e.environment self.old) (e.draft self.old)) }
+        ensures { let e = ⟦<Self as EditorState>⟧ in
+            let w = e.environment self.old in let d = e.draft self.old in
+            Does e result self.old self.new
+            (if first then first_shown w d else end_shown w d)
+            (drawn_if (not (way_ends w (if first then Reverse else Forward) d))) 1 }
     {
         if first {
             return self.show_first();
@@ -102,10 +100,10 @@ impl<'out, 'prompt, W: Renderer, H: Helper, P: Prompt, S: History> State<
     /// # Errors
     /// Those of the parties and of the renderer, and that memory ran out.
     pub fn edit_history_search(&mut self, dir: SearchDirection) -> Result<()>
-        ensures { let e = ⟦<Self as EditorState>⟧ in DrawsEditIf e
-            (is_some (search_of (e.environment self.old) dir (e.draft self.old)))
-            result self.old self.new
-            (searched (e.environment self.old) dir (e.draft self.old)) }
+        ensures { let e = ⟦<Self as EditorState>⟧ in
+            let w = e.environment self.old in let d = e.draft self.old in
+            Does e result self.old self.new
+            (searched w dir d) (drawn_if (is_some (search_of w dir d))) 1 }
     {
         let index = self.place();
         match dir {
@@ -127,10 +125,10 @@ impl<'out, 'prompt, W: Renderer, H: Helper, P: Prompt, S: History> State<
     // Shows the line of the history before this one, if there is one.
     #[tactic(auto, using(crate::proofs::HistoryMoveLemmas::way_stays, crate::proofs::HistoryMoveLemmas::way_goes))]
     fn show_previous(&mut self) -> Result<()>
-        ensures { let e = ⟦<Self as EditorState>⟧ in DrawsEditIf e
-            (not (way_ends (e.environment self.old) Reverse (e.draft self.old)))
-            result self.old self.new
-            (previous_shown (e.environment self.old) (e.draft self.old)) }
+        ensures { let e = ⟦<Self as EditorState>⟧ in
+            let w = e.environment self.old in let d = e.draft self.old in
+            Does e result self.old self.new (previous_shown w d)
+            (drawn_if (not (way_ends w Reverse d))) 1 }
     {
         let index = self.place();
         if index == 0 {
@@ -142,10 +140,10 @@ impl<'out, 'prompt, W: Renderer, H: Helper, P: Prompt, S: History> State<
     // Shows the line behind this one, if there is one: behind the history's last stands the one that is being written.
     #[tactic(auto, using(crate::proofs::HistoryMoveLemmas::way_stays, crate::proofs::HistoryMoveLemmas::way_goes))]
     fn show_next(&mut self) -> Result<()>
-        ensures { let e = ⟦<Self as EditorState>⟧ in DrawsEditIf e
-            (not (way_ends (e.environment self.old) Forward (e.draft self.old)))
-            result self.old self.new
-            (next_shown (e.environment self.old) (e.draft self.old)) }
+        ensures { let e = ⟦<Self as EditorState>⟧ in
+            let w = e.environment self.old in let d = e.draft self.old in
+            Does e result self.old self.new (next_shown w d)
+            (drawn_if (not (way_ends w Forward d))) 1 }
     {
         let index = self.place();
         let end = self.parties.history().len();
@@ -161,10 +159,10 @@ impl<'out, 'prompt, W: Renderer, H: Helper, P: Prompt, S: History> State<
     // Shows the first line of the history, if it is not shown already.
     #[tactic(auto, using(crate::proofs::HistoryMoveLemmas::way_stays, crate::proofs::HistoryMoveLemmas::way_goes))]
     fn show_first(&mut self) -> Result<()>
-        ensures { let e = ⟦<Self as EditorState>⟧ in DrawsEditIf e
-            (not (way_ends (e.environment self.old) Reverse (e.draft self.old)))
-            result self.old self.new
-            (first_shown (e.environment self.old) (e.draft self.old)) }
+        ensures { let e = ⟦<Self as EditorState>⟧ in
+            let w = e.environment self.old in let d = e.draft self.old in
+            Does e result self.old self.new (first_shown w d)
+            (drawn_if (not (way_ends w Reverse d))) 1 }
     {
         if self.place() == 0 {
             return Ok(());
@@ -175,10 +173,10 @@ impl<'out, 'prompt, W: Renderer, H: Helper, P: Prompt, S: History> State<
     // Comes back to the line that is being written, if it is not shown already.
     #[tactic(auto, using(crate::proofs::HistoryMoveLemmas::way_stays, crate::proofs::HistoryMoveLemmas::way_goes))]
     fn show_end(&mut self) -> Result<()>
-        ensures { let e = ⟦<Self as EditorState>⟧ in DrawsEditIf e
-            (not (way_ends (e.environment self.old) Forward (e.draft self.old)))
-            result self.old self.new
-            (end_shown (e.environment self.old) (e.draft self.old)) }
+        ensures { let e = ⟦<Self as EditorState>⟧ in
+            let w = e.environment self.old in let d = e.draft self.old in
+            Does e result self.old self.new (end_shown w d)
+            (drawn_if (not (way_ends w Forward d))) 1 }
     {
         if self.place() == self.parties.history().len() {
             return Ok(());
@@ -188,11 +186,8 @@ impl<'out, 'prompt, W: Renderer, H: Helper, P: Prompt, S: History> State<
 
     // Beeps. Nothing is drawn.
     pub(crate) fn beep(&mut self) -> Result<()>
-        ensures draft { let d = ⟦<Self as EditorState>⟧.draft in d self.new ≡ d self.old }
         ensures drew { DrewNothing ⟦<Self as EditorState>⟧ self.old self.new }
-        ensures frame { Frame ⟦<Self as EditorState>⟧ self.old self.new }
-        ensures fails { let e = ⟦<Self as EditorState>⟧ in
-            FailsOnlyIf result (RendererFailed e self.old self.new) }
+        ensures paints { Paints ⟦<Self as EditorState>⟧ false result self.old self.new }
     {
         self.view.beep()
     }
@@ -213,9 +208,9 @@ impl<'out, 'prompt, W: Renderer, H: Helper, P: Prompt, S: History> State<
     // Saves the line where it is the one that is being written, and shows the one of the history at an index.
     fn leave_for(&mut self, index: usize) -> Result<()>
         requires { index + 1 ≤ length (⟦<Self as EditorState>⟧.environment self.old).lines }
-        ensures { let e = ⟦<Self as EditorState>⟧ in DrawsEdit e result self.old self.new
-            (line_shown (e.environment self.old) index
-            (saved_at_end (e.environment self.old) (e.draft self.old))) }
+        ensures { let e = ⟦<Self as EditorState>⟧ in let w = e.environment self.old in
+            Does e result self.old self.new
+            (line_shown w index (saved_at_end w (e.draft self.old))) with_hint 1 }
     {
         self.save_at_end()?;
         self.show_line(index)
@@ -224,8 +219,8 @@ impl<'out, 'prompt, W: Renderer, H: Helper, P: Prompt, S: History> State<
     // Shows the line of the history at an index, with the cursor at its end.
     fn show_line(&mut self, index: usize) -> Result<()>
         requires { index + 1 ≤ length (⟦<Self as EditorState>⟧.environment self.old).lines }
-        ensures { let e = ⟦<Self as EditorState>⟧ in DrawsEdit e result self.old self.new
-            (line_shown (e.environment self.old) index (e.draft self.old)) }
+        ensures { let e = ⟦<Self as EditorState>⟧ in Does e result self.old self.new
+            (line_shown (e.environment self.old) index (e.draft self.old)) with_hint 1 }
     {
         let history = self.parties.history();
         let Some(found) = history.get(index, SearchDirection::Reverse)? else {
@@ -239,8 +234,9 @@ impl<'out, 'prompt, W: Renderer, H: Helper, P: Prompt, S: History> State<
     fn show_text(&mut self, text: &str, pos: usize, index: usize) -> Result<()>
         requires boundary { IsCharBoundary text.now pos }
         requires index { index ≤ length (⟦<Self as EditorState>⟧.environment self.old).lines }
-        ensures { let e = ⟦<Self as EditorState>⟧ in DrawsEdit e result self.old self.new
-            (showing (e.environment self.old) text.now pos (at_index index (e.draft self.old))) }
+        ensures { let e = ⟦<Self as EditorState>⟧ in let d = at_index index (e.draft self.old) in
+            Does e result self.old self.new
+            (showing (e.environment self.old) text.now pos d) with_hint 1 }
     {
         self.edited.update_in_group(text, pos)?;
         self.parties.set_history_index(index);
@@ -249,8 +245,8 @@ impl<'out, 'prompt, W: Renderer, H: Helper, P: Prompt, S: History> State<
 
     // Comes back to the line that is being written.
     fn come_back(&mut self) -> Result<()>
-        ensures { let e = ⟦<Self as EditorState>⟧ in DrawsEdit e result self.old self.new
-            (come_back (e.environment self.old) (e.draft self.old)) }
+        ensures { let e = ⟦<Self as EditorState>⟧ in Does e result self.old self.new
+            (come_back (e.environment self.old) (e.draft self.old)) with_hint 1 }
     {
         self.restore()?;
         let end = self.parties.history().len();
@@ -263,8 +259,9 @@ impl<'out, 'prompt, W: Renderer, H: Helper, P: Prompt, S: History> State<
         requires { index ≤ length (⟦<Self as EditorState>⟧.environment self.old).lines }
         ensures { let e = ⟦<Self as EditorState>⟧ in let d = e.draft self.old in
             let found = starting_with (e.environment self.old).lines (before d.line) index dir in
-            DrawsEditIf e (is_some found) result self.old self.new
-            (found_shown (e.environment self.old) found (at_index index d)) }
+            Does e result self.old self.new
+            (found_shown (e.environment self.old) found (at_index index d))
+            (drawn_if (is_some found)) 1 }
     {
         let line = self.edited.line();
         let before = &line.as_str()[..line.pos()];

@@ -3,7 +3,7 @@ ghost use Rattle.std.specs.Prelude.{◌≡◌, ◌==◌, ◌&&◌, not, is_some,
 ghost use Rattle.line_buffer.specs.Cluster.{place_on};
 ghost use Rattle.line_editor.specs.Edits.{char_replaced, overwritten, popped_in, text_inserted, typed_in, yanked_in};
 ghost use Rattle.line_editor.specs.InputState.{input_of};
-ghost use Rattle.line_keys.specs.EditorState.{DrawsEdit, DrawsEditIf};
+ghost use Rattle.line_keys.specs.Drawing.{Does, drawn_if, edit_drawn, with_hint};
 ghost use Rattle.line_state.specs.Edited.{pops_text};
 
 use crate::edit::State;
@@ -29,8 +29,8 @@ impl<'out, 'prompt, W: Renderer, H: Helper, P: Prompt, S: History> State<
     /// # Errors
     /// Those of the parties and of the renderer, and that memory ran out.
     pub fn edit_insert(&mut self, c: char, n: RepeatCount) -> Result<()>
-        ensures { let e = ⟦<Self as EditorState>⟧ in DrawsEdit e result self.old self.new
-            (typed_in (e.environment self.old) n c (e.draft self.old)) }
+        ensures { let e = ⟦<Self as EditorState>⟧ in Does e result self.old self.new
+            (typed_in (e.environment self.old) n c (e.draft self.old)) with_hint 1 }
     {
         self.edited.insert(c, n)?;
         self.show_edit(true)
@@ -42,8 +42,9 @@ impl<'out, 'prompt, W: Renderer, H: Helper, P: Prompt, S: History> State<
     /// Those of the parties and of the renderer, and that memory ran out.
     pub fn edit_insert_text(&mut self, text: &str) -> Result<()>
         ensures { let e = ⟦<Self as EditorState>⟧ in
-            DrawsEditIf e (not (length text.now == 0)) result self.old self.new
-            (text_inserted (e.environment self.old) text.now (e.draft self.old)) }
+            Does e result self.old self.new
+            (text_inserted (e.environment self.old) text.now (e.draft self.old))
+            (drawn_if (not (length text.now == 0))) 1 }
     {
         if text.is_empty() {
             return Ok(());
@@ -59,8 +60,9 @@ impl<'out, 'prompt, W: Renderer, H: Helper, P: Prompt, S: History> State<
     /// Those of the parties and of the renderer, and that memory ran out.
     pub fn edit_replace_char(&mut self, c: char, n: RepeatCount) -> Result<()>
         ensures { let e = ⟦<Self as EditorState>⟧ in
-            DrawsEditIf e (is_some (place_on (e.draft self.old).line n)) result self.old self.new
-            (char_replaced (e.environment self.old) n c (e.draft self.old)) }
+            Does e result self.old self.new
+            (char_replaced (e.environment self.old) n c (e.draft self.old))
+            (edit_drawn (is_some (place_on (e.draft self.old).line n))) 1 }
     {
         let replaced = self.edited.replace_char(c, n)?;
         self.show_edit(replaced)
@@ -72,8 +74,9 @@ impl<'out, 'prompt, W: Renderer, H: Helper, P: Prompt, S: History> State<
     /// Those of the parties and of the renderer, and that memory ran out.
     pub fn edit_overwrite_char(&mut self, c: char) -> Result<()>
         ensures { let e = ⟦<Self as EditorState>⟧ in
-            DrawsEditIf e (is_some (place_on (e.draft self.old).line 1)) result self.old self.new
-            (overwritten (e.environment self.old) c (e.draft self.old)) }
+            Does e result self.old self.new
+            (overwritten (e.environment self.old) c (e.draft self.old))
+            (edit_drawn (is_some (place_on (e.draft self.old).line 1))) 1 }
     {
         let replaced = self.edited.overwrite(c)?;
         self.show_edit(replaced)
@@ -93,9 +96,9 @@ impl<'out, 'prompt, W: Renderer, H: Helper, P: Prompt, S: History> State<
         n: RepeatCount,
     ) -> Result<()>
         ensures { let e = ⟦<Self as EditorState>⟧ in
-            DrawsEditIf e (not (length text.now == 0)) result self.old self.new
+            Does e result self.old self.new
             (yanked_in (e.environment self.old) (input_of input_state.now) anchor n text.now
-            (e.draft self.old)) }
+            (e.draft self.old)) (edit_drawn (not (length text.now == 0))) 1 }
     {
         let step_back = input_state.is_vi_cmd_mode();
         let yanked = self.edited.yank_at(anchor, text, n, step_back)?;
@@ -109,9 +112,9 @@ impl<'out, 'prompt, W: Renderer, H: Helper, P: Prompt, S: History> State<
     /// Those of the parties and of the renderer, and that memory ran out.
     pub fn edit_yank_pop(&mut self, yank_size: usize, text: &str) -> Result<()>
         ensures { let e = ⟦<Self as EditorState>⟧ in
-            DrawsEditIf e (pops_text (e.draft self.old).line yank_size text.now) result
-            self.old self.new
-            (popped_in (e.environment self.old) yank_size text.now (e.draft self.old)) }
+            Does e result self.old self.new
+            (popped_in (e.environment self.old) yank_size text.now (e.draft self.old))
+            (edit_drawn (pops_text (e.draft self.old).line yank_size text.now)) 1 }
     {
         let popped = self.edited.yank_pop(yank_size, text)?;
         self.show_edit(popped)

@@ -1,13 +1,12 @@
 //! What takes text out of the line, and what the kill ring gives back.
-ghost use Rattle.std.specs.Prelude.{◌≡◌, is_some, option_map, OnOk};
+ghost use Rattle.std.specs.Prelude.{◌||◌, is_some, option_map};
 ghost use Rattle.line_buffer.specs.Kill.{killed_range};
 ghost use Rattle.line_buffer.specs.KillRing.{yank_popped, yanked_text};
+ghost use Rattle.line_editor.specs.Drawings.{has_text, pop_drawn, yank_drawn};
 ghost use Rattle.line_editor.specs.Edits.{copied_to, kill_popped, kill_yanked, killed_by, replaced_by, text_of};
 ghost use Rattle.line_editor.specs.InputState.{input_of};
 ghost use Rattle.line_editor.specs.Runs.{DoesWithKills, editor_of};
-ghost use Rattle.line_keys.specs.Draft.{hint_shown};
-ghost use Rattle.line_keys.specs.EditorState.{DrewIf, DrewNothing};
-ghost use Rattle.line_parts.specs.declared.highlight.CmdKind.TheVariants.{Other};
+ghost use Rattle.line_keys.specs.Drawing.{drawn_if, nothing};
 
 use crate::edit::State;
 use crate::keymap::InputState;
@@ -33,28 +32,25 @@ impl<'out, 'prompt, W: Renderer, H: Helper, P: Prompt, S: History> State<
     /// Those of the parties and of the renderer, and that memory ran out. The line is text with its cursor on a boundary,
     /// and the changes tell of it.
     pub fn edit_kill(&mut self, movement: &Movement, kill_ring: &mut KillRing) -> Result<()>
-        ensures does { let e = ⟦<Self as EditorState>⟧ in
+        ensures { let e = ⟦<Self as EditorState>⟧ in
+            let range = killed_range (e.draft self.old).line movement.now in
             DoesWithKills e result self.old kill_ring.old self.new kill_ring.new
-            (killed_by (e.environment self.old) movement.now (editor_of e self.old kill_ring.old)
-            (killed_range (e.draft self.old).line movement.now)) 1 }
-        ensures drew { let e = ⟦<Self as EditorState>⟧ in OnOk result
-            (DrewIf e (is_some (killed_range (e.draft self.old).line movement.now))
-            self.old self.new (hint_shown (e.draft self.new)) Other) }
+            (killed_by (e.environment self.old) movement.now
+            (editor_of e self.old kill_ring.old) range) (drawn_if (is_some range)) 1 }
     {
         if self.edited.kill(movement, kill_ring)? {
-            self.show_edit(true)?;
+            return self.show_edit(true);
         }
         Ok(())
     }
 
     // Copies the text of a movement to the kill ring, if there is one.
     pub(crate) fn copy_to(&mut self, movement: &Movement, kill_ring: &mut KillRing) -> Result<()>
-        ensures does { let e = ⟦<Self as EditorState>⟧ in
+        ensures { let e = ⟦<Self as EditorState>⟧ in
             DoesWithKills e result self.old kill_ring.old self.new kill_ring.new
             (record (editor_of e self.old kill_ring.old) {
               kills = copied_to kill_ring.old (text_of (e.draft self.old).line movement.now);
-            }) 0 }
-        ensures drew { DrewNothing ⟦<Self as EditorState>⟧ self.old self.new }
+            }) nothing 1 }
     {
         if let Some(text) = self.edited.copy(movement)? {
             kill_ring.kill(&text, Mode::Append)?;
@@ -73,7 +69,8 @@ impl<'out, 'prompt, W: Renderer, H: Helper, P: Prompt, S: History> State<
         ensures { let e = ⟦<Self as EditorState>⟧ in
             DoesWithKills e result self.old kill_ring.old self.new kill_ring.new
             (kill_yanked (e.environment self.old) (input_of input_state.now) anchor n
-            (yanked_text kill_ring.old) (editor_of e self.old kill_ring.old)) 1 }
+            (yanked_text kill_ring.old) (editor_of e self.old kill_ring.old))
+            (yank_drawn (yanked_text kill_ring.old)) 1 }
     {
         if let Some(text) = kill_ring.yank() {
             self.edit_yank(input_state, text, anchor, n)?;
@@ -86,7 +83,8 @@ impl<'out, 'prompt, W: Renderer, H: Helper, P: Prompt, S: History> State<
         ensures { let e = ⟦<Self as EditorState>⟧ in
             DoesWithKills e result self.old kill_ring.old self.new kill_ring.new
             (kill_popped (e.environment self.old) (yank_popped kill_ring.old)
-            (editor_of e self.old kill_ring.old)) 1 }
+            (editor_of e self.old kill_ring.old))
+            (pop_drawn (e.draft self.old).line (yank_popped kill_ring.old)) 1 }
     {
         if let Some((size, text)) = kill_ring.yank_pop() {
             self.edit_yank_pop(size, text)?;
@@ -102,9 +100,12 @@ impl<'out, 'prompt, W: Renderer, H: Helper, P: Prompt, S: History> State<
         kill_ring: &mut KillRing,
     ) -> Result<()>
         ensures { let e = ⟦<Self as EditorState>⟧ in
+            let put = option_map (λ s. s.now) text.entry in
+            let range = killed_range (e.draft self.old).line movement.now in
             DoesWithKills e result self.old kill_ring.old self.new kill_ring.new
-            (replaced_by (e.environment self.old) movement.now (option_map (λ s. s.now) text.entry)
-            (editor_of e self.old kill_ring.old)) 2 }
+            (replaced_by (e.environment self.old) movement.now put
+            (editor_of e self.old kill_ring.old))
+            (drawn_if (is_some range || has_text put)) 2 }
     {
         self.edit_kill(movement, kill_ring)?;
         match text {

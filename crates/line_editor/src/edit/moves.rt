@@ -1,15 +1,18 @@
 //! Moves of the cursor.
-ghost use Rattle.std.specs.Prelude.{◌≡◌, ◌⊎◌, false, if◌then◌else◌, is_some, length, None, IfOk, OnOk};
+ghost use Rattle.std.specs.Prelude.{◌≡◌, false, if◌then◌else◌, not, is_some, length, IfOk, OnOk};
 ghost use Rattle.line_buffer.specs.Cluster.{place_on, place_back};
 ghost use Rattle.line_buffer.specs.Line.{moved_to, with_cursor, start_of_line, end_of_line};
 ghost use Rattle.line_buffer.specs.Lines.{down_by, up_by};
 ghost use Rattle.line_buffer.specs.Search.{search_place};
 ghost use Rattle.line_buffer.specs.Word.{word_back, word_on};
 ghost use Rattle.line_buffer.specs.declared.keymap.Movement.TheVariants.{LineDown, LineUp};
-ghost use Rattle.line_editor.specs.HistoryMoves.{next_shown, previous_shown};
-ghost use Rattle.line_keys.specs.Display.{GoesToShownEnd, ShowsText, IsRight};
-ghost use Rattle.line_keys.specs.EditorState.{Does, Drew, DrewNothing, HasShownEnd, FailsOnlyIf, Frame, HasCursorDrawn, MovesTo, RendererFailed, ShowsLine, Undrawn};
+ghost use Rattle.line_editor.specs.Drawings.{move_drawn};
+ghost use Rattle.line_editor.specs.HistoryMoves.{next_shown, previous_shown, way_ends};
+ghost use Rattle.line_keys.specs.Display.{GoesToShownEnd};
+ghost use Rattle.line_keys.specs.Drawing.{Does, DrawsCursor, MovesTo, Paints, Undrawn, cursor, drawn_if};
+ghost use Rattle.line_keys.specs.ShownLine.{HasShownEnd, ShowsLine};
 ghost use Rattle.line_parts.specs.declared.highlight.CmdKind.TheVariants.{MoveCursor};
+ghost use Rattle.line_parts.specs.declared.history.SearchDirection.TheVariants.{Forward, Reverse};
 ghost use Rattle.line_state.specs.Moves.{moved};
 
 use crate::edit::{Info, State};
@@ -33,18 +36,7 @@ impl<'out, 'prompt, W: Renderer, H: Helper, P: Prompt, S: History> State<
     /// # Errors
     /// Those of the renderer.
     pub fn move_cursor(&mut self, kind: CmdKind) -> Result<()>
-        ensures draft { let d = ⟦<Self as EditorState>⟧.draft in d self.new ≡ d self.old }
-        ensures right { let e = ⟦<Self as EditorState>⟧ in let line = (e.draft self.old).line in
-            OnOk result
-            (ShowsText (e.display self.old) line.text → IsRight (e.display self.new) line) }
-        ensures drew { let e = ⟦<Self as EditorState>⟧ in OnOk result
-            (Drew e self.old self.new None kind
-            ⊎ (DrewNothing e self.old self.new × HasCursorDrawn e self.old)) }
-        ensures still { let e = ⟦<Self as EditorState>⟧ in
-            HasCursorDrawn e self.old → OnOk result (DrewNothing e self.old self.new) }
-        ensures frame { Frame ⟦<Self as EditorState>⟧ self.old self.new }
-        ensures fails { let e = ⟦<Self as EditorState>⟧ in
-            FailsOnlyIf result (RendererFailed e self.old self.new) }
+        ensures { DrawsCursor ⟦<Self as EditorState>⟧ result self.old self.new kind }
     {
         if self.view.is_cursor_drawn(self.edited.line()) {
             return Ok(());
@@ -202,10 +194,10 @@ impl<'out, 'prompt, W: Renderer, H: Helper, P: Prompt, S: History> State<
 
     // Moves the cursor by a movement. To the first character of a line that is no white space it goes in two moves.
     pub(crate) fn move_by(&mut self, movement: &Movement) -> Result<()>
-        ensures { let e = ⟦<Self as EditorState>⟧ in Does e result self.old self.new
-            (record (e.draft self.old) {
-              line = moved (e.display self.old).layout movement.now (e.draft self.old).line;
-            }) 2 }
+        ensures { let e = ⟦<Self as EditorState>⟧ in let d = e.draft self.old in
+            Does e result self.old self.new
+            (record d { line = moved (e.display self.old).layout movement.now d.line })
+            (move_drawn d.line movement.now) 1 }
     {
         match movement {
             Movement::ViFirstPrint => {
@@ -222,12 +214,11 @@ impl<'out, 'prompt, W: Renderer, H: Helper, P: Prompt, S: History> State<
     // Moves the cursor `n` lines up, or from the first line to the line of the history before this one.
     pub(crate) fn up_or_previous(&mut self, n: RepeatCount) -> Result<()>
         ensures { let e = ⟦<Self as EditorState>⟧ in let layout = (e.display self.old).layout in
-            Does e result self.old self.new
-            (if is_some (up_by layout (e.draft self.old).line n)
-            then record (e.draft self.old) {
-              line = moved layout (LineUp n) (e.draft self.old).line;
-            }
-            else previous_shown (e.environment self.old) (e.draft self.old)) 1 }
+            let d = e.draft self.old in let found = is_some (up_by layout d.line n) in
+            let w = e.environment self.old in Does e result self.old self.new
+            (if found then record d { line = moved layout (LineUp n) d.line }
+            else previous_shown w d)
+            (if found then cursor MoveCursor else drawn_if (not (way_ends w Reverse d))) 1 }
     {
         if self.edit_move_line_up(n)? {
             return Ok(());
@@ -238,12 +229,11 @@ impl<'out, 'prompt, W: Renderer, H: Helper, P: Prompt, S: History> State<
     // Moves the cursor `n` lines down, or from the last line to the line of the history behind this one.
     pub(crate) fn down_or_next(&mut self, n: RepeatCount) -> Result<()>
         ensures { let e = ⟦<Self as EditorState>⟧ in let layout = (e.display self.old).layout in
-            Does e result self.old self.new
-            (if is_some (down_by layout (e.draft self.old).line n)
-            then record (e.draft self.old) {
-              line = moved layout (LineDown n) (e.draft self.old).line;
-            }
-            else next_shown (e.environment self.old) (e.draft self.old)) 1 }
+            let d = e.draft self.old in let found = is_some (down_by layout d.line n) in
+            let w = e.environment self.old in Does e result self.old self.new
+            (if found then record d { line = moved layout (LineDown n) d.line }
+            else next_shown w d)
+            (if found then cursor MoveCursor else drawn_if (not (way_ends w Forward d))) 1 }
     {
         if self.edit_move_line_down(n)? {
             return Ok(());
@@ -268,16 +258,11 @@ impl<'out, 'prompt, W: Renderer, H: Helper, P: Prompt, S: History> State<
     /// # Errors
     /// Those of the renderer.
     pub fn move_cursor_to_end(&mut self) -> Result<()>
-        ensures draft { let d = ⟦<Self as EditorState>⟧.draft in d self.new ≡ d self.old }
         ensures moved { let d = ⟦<Self as EditorState>⟧.display in
             GoesToShownEnd result (d self.old) (d self.new) }
         ensures ends { let e = ⟦<Self as EditorState>⟧ in
             OnOk result (ShowsLine e self.old → HasShownEnd e self.new) }
-        ensures redraws { let e = ⟦<Self as EditorState>⟧ in
-            e.redraws self.new ≡ e.redraws self.old }
-        ensures frame { Frame ⟦<Self as EditorState>⟧ self.old self.new }
-        ensures fails { let e = ⟦<Self as EditorState>⟧ in
-            FailsOnlyIf result (RendererFailed e self.old self.new) }
+        ensures paints { Paints ⟦<Self as EditorState>⟧ false result self.old self.new }
     {
         self.view.move_cursor_to_end()
     }

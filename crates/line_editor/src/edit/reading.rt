@@ -1,17 +1,18 @@
 //! How the next command is read.
-ghost use Rattle.std.specs.Prelude.{◌≡◌, [], IfOk, OnOk, IsErrOf};
+ghost use Rattle.std.specs.Prelude.{◌≡◌, OnOk};
 ghost use Rattle.line_config.specs.Error.{MemoryOnly};
-ghost use Rattle.line_editor.specs.InputState.{keys_of};
-ghost use Rattle.line_editor.specs.Reading.{ReadsOn, ReadsPhrase, OutOfItems};
 ghost use Rattle.line_editor.specs.Editor.{grouped};
+ghost use Rattle.line_editor.specs.InputState.{keys_of};
+ghost use Rattle.line_editor.specs.Reading.{ReadsCommand};
 ghost use Rattle.line_keys.specs.Command.{command_of};
-ghost use Rattle.line_keys.specs.Draft.{Draft, KeepsLine, start_text};
-ghost use Rattle.line_keys.specs.EditorState.{DrewNothing, KeepsDrawn, Undrawn};
+ghost use Rattle.line_keys.specs.Draft.{KeepsLine, start_text};
+ghost use Rattle.line_keys.specs.Drawing.{Undrawn};
+ghost use Rattle.line_keys.specs.ShownLine.{KeepsDrawn};
 
 use crate::binding::ConditionalEventHandler;
 use crate::edit::State;
 use crate::keymap::InputState;
-use line_config::{Prompt, ReadlineError, Result};
+use line_config::{Prompt, Result};
 use line_keys::command::Cmd;
 use line_keys::editor_state::EditorState;
 use line_keys::keymap::Refresher;
@@ -40,23 +41,8 @@ impl<'out, 'prompt, W: Renderer, H: Helper, P: Prompt, S: History> State<
         rdr: &mut W::Reader,
         single_esc_abort: bool,
     ) -> Result<Cmd>
-        ensures phrase { let k =
-            keys_of ⟦<dyn ConditionalEventHandler as ConditionalEventHandler>⟧ in
-            let e = ⟦<Self as EditorState>⟧ in IfOk result (λ c. (draft : Draft)
-            × ReadsPhrase e W.Reader.RawReader self.old (k input_state.old) rdr.old self.new rdr.new
-            (command_of c) draft (k input_state.new)
-            × (e.draft self.new ≡ grouped (command_of c) draft)) }
-        ensures eof { let k = keys_of ⟦<dyn ConditionalEventHandler as ConditionalEventHandler>⟧ in
-            IsErrOf result ReadlineError.Eof → OutOfItems ⟦<Self as EditorState>⟧
-            W.Reader.RawReader self.old (k input_state.old) rdr.old self.new rdr.new }
-        // Where nothing was left to read, nothing changes.
-        ensures dry { let e = ⟦<Self as EditorState>⟧ in W.Reader.rest rdr.old ≡ []
-            → (e.draft self.new ≡ e.draft self.old) × DrewNothing e self.old self.new }
-        ensures line { let d = ⟦<Self as EditorState>⟧.draft in
-            KeepsLine (d self.old) (d self.new) }
-        ensures reading { let k =
-            keys_of ⟦<dyn ConditionalEventHandler as ConditionalEventHandler>⟧ in
-            ReadsOn ⟦<Self as EditorState>⟧ W.Reader.RawReader result
+        ensures { let k = keys_of ⟦<dyn ConditionalEventHandler as ConditionalEventHandler>⟧ in
+            ReadsCommand ⟦<Self as EditorState>⟧ W.Reader.RawReader grouped result
             self.old (k input_state.old) rdr.old self.new (k input_state.new) rdr.new }
     {
         let command = input_state.next_cmd(rdr, self, single_esc_abort)?;

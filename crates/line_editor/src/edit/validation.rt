@@ -1,15 +1,15 @@
 //! Verdicts on the line, and the hint taken away.
-ghost use Rattle.std.specs.Prelude.{◌≡◌, ◌||◌, not, is_some, None, IfOk, OnOk};
+ghost use Rattle.std.specs.Prelude.{◌≡◌, ◌||◌, if◌then◌else◌, is_some, IfOk, OnOk};
 ghost use Rattle.line_buffer.specs.Changes.{adds_end};
 ghost use Rattle.line_buffer.specs.Line.{ends_in_white_space};
-ghost use Rattle.line_keys.specs.Draft.{in_group, out_of_group, start_text, unhinted};
-ghost use Rattle.line_keys.specs.EditorState.{DrewIf, DrewNothing, FailsOnlyIf, Frame, KeepsLayoutRight, PartyFailed, Redraws, ShowsLine, ShowsNoHint};
+ghost use Rattle.line_editor.specs.Accept.{unhinted_by, validated};
+ghost use Rattle.line_editor.specs.Drawings.{unhinted_drawn, verdict_drawn};
+ghost use Rattle.line_editor.specs.Verdict.{draws_verdict_on, kind_of_verdict};
+ghost use Rattle.line_keys.specs.Draft.{in_group, out_of_group, unhinted};
+ghost use Rattle.line_keys.specs.Drawing.{Does, nothing, with_text};
+ghost use Rattle.line_keys.specs.ShownLine.{LosesHint, ShowsNoHint};
 ghost use Rattle.line_parts.specs.Environment.{verdict_on};
 ghost use Rattle.line_parts.specs.Verdict.{message_of, verdict_of};
-ghost use Rattle.line_parts.specs.declared.highlight.CmdKind.TheVariants.{ForcedRefresh};
-ghost use Rattle.line_editor.specs.Runs.{LosesHint};
-ghost use Rattle.line_editor.specs.Accept.{unhinted_by, validated};
-ghost use Rattle.line_editor.specs.Verdict.{draws_verdict, draws_verdict_on, kind_of_verdict};
 
 use crate::edit::State;
 use line_config::{Prompt, Result};
@@ -35,24 +35,11 @@ impl<'out, 'prompt, W: Renderer, H: Helper, P: Prompt, S: History> State<
     pub fn validate(&mut self) -> Result<ValidationResult>
         ensures verdict { let e = ⟦<Self as EditorState>⟧ in IfOk result (λ r.
             verdict_of r ≡ verdict_on (e.environment self.old) (e.draft self.old).line.text) }
-        ensures draft { let e = ⟦<Self as EditorState>⟧ in OnOk result
-            (e.draft self.new ≡ validated (e.environment self.old) (e.draft self.old)) }
-        ensures start { let d = ⟦<Self as EditorState>⟧.draft in
-            OnOk result (start_text (d self.new) ≡ start_text (d self.old)) }
-        ensures drew { let e = ⟦<Self as EditorState>⟧ in
-            let verdict = verdict_on (e.environment self.old) (e.draft self.old).line.text in
-            OnOk result (DrewIf e (draws_verdict (e.environment self.old) (e.draft self.old))
-            self.old self.new (message_of verdict) (kind_of_verdict verdict)) }
-        ensures right { OnOk result
-            (KeepsLayoutRight ⟦<Self as EditorState>⟧ self.old self.new) }
-        ensures line { let e = ⟦<Self as EditorState>⟧ in
-            OnOk result (ShowsLine e self.old → ShowsLine e self.new) }
+        ensures does { let e = ⟦<Self as EditorState>⟧ in
+            let w = e.environment self.old in let d = e.draft self.old in
+            Does e result self.old self.new (validated w d) (verdict_drawn w d) 1 }
         ensures no_hint { let e = ⟦<Self as EditorState>⟧ in
             OnOk result (ShowsNoHint e self.old → ShowsNoHint e self.new) }
-        ensures redraws { OnOk result (Redraws ⟦<Self as EditorState>⟧ 0 1 self.old self.new) }
-        ensures frame { Frame ⟦<Self as EditorState>⟧ self.old self.new }
-        ensures fails { let e = ⟦<Self as EditorState>⟧ in
-            FailsOnlyIf result (PartyFailed e self.old self.new) }
     {
         if !self.parties.has_validator() {
             return Ok(ValidationResult::Valid(None));
@@ -69,18 +56,10 @@ impl<'out, 'prompt, W: Renderer, H: Helper, P: Prompt, S: History> State<
             verdict_of r.0 ≡ verdict_on (e.environment self.old) (e.draft self.old).line.text) }
         ensures corrected { let c = (in_group (⟦<Self as EditorState>⟧.draft self.old)).changes in
             IfOk result (λ r. r.1 ≡ adds_end c.open_groups c.entries) }
-        ensures draft { let d = ⟦<Self as EditorState>⟧.draft in OnOk result
-            (d self.new ≡ out_of_group (in_group (d self.old))) }
-        ensures start { let d = ⟦<Self as EditorState>⟧.draft in
-            OnOk result (start_text (d self.new) ≡ start_text (d self.old)) }
-        ensures drew { DrewNothing ⟦<Self as EditorState>⟧ self.old self.new }
-        ensures line { let e = ⟦<Self as EditorState>⟧ in
-            OnOk result (ShowsLine e self.old → ShowsLine e self.new) }
+        ensures does { let e = ⟦<Self as EditorState>⟧ in Does e result self.old self.new
+            (out_of_group (in_group (e.draft self.old))) nothing 1 }
         ensures no_hint { let e = ⟦<Self as EditorState>⟧ in
             OnOk result (ShowsNoHint e self.old → ShowsNoHint e self.new) }
-        ensures frame { Frame ⟦<Self as EditorState>⟧ self.old self.new }
-        ensures fails { let e = ⟦<Self as EditorState>⟧ in
-            FailsOnlyIf result (PartyFailed e self.old self.new) }
     {
         self.edited.begin_group()?;
         let verdict = self.parties.validate(self.alloc, self.edited.line())?;
@@ -91,26 +70,15 @@ impl<'out, 'prompt, W: Renderer, H: Helper, P: Prompt, S: History> State<
     #[tactic(auto, using(crate::proofs::DrawnLemmas::message_trails, crate::proofs::DrawnLemmas::message_behind, crate::proofs::DrawnLemmas::line_stays, crate::proofs::DrawnLemmas::no_hint_stays))]
     // Draws the line with a verdict's message, where there is something to show or to take away.
     fn show_verdict(&mut self, verdict: &ValidationResult, corrected: bool) -> Result<()>
-        ensures draft { let e = ⟦<Self as EditorState>⟧ in OnOk result
-            (e.draft self.new ≡ unhinted_by (verdict_of verdict.now) (e.draft self.old)) }
-        ensures start { let d = ⟦<Self as EditorState>⟧.draft in
-            OnOk result (start_text (d self.new) ≡ start_text (d self.old)) }
-        ensures drew { let e = ⟦<Self as EditorState>⟧ in let v = verdict_of verdict.now in
-            OnOk result (DrewIf e
-            (draws_verdict_on v (corrected || is_some (e.draft self.old).hint))
-            self.old self.new (message_of v) (kind_of_verdict v)) }
-        ensures right { OnOk result
-            (KeepsLayoutRight ⟦<Self as EditorState>⟧ self.old self.new) }
-        ensures line { let e = ⟦<Self as EditorState>⟧ in let text = (e.draft self.old).line.text in
-            verdict_of verdict.now ≡ verdict_on (e.environment self.old) text
-            → OnOk result (ShowsLine e self.old → ShowsLine e self.new) }
+        requires { let e = ⟦<Self as EditorState>⟧ in verdict_of verdict.now
+            ≡ verdict_on (e.environment self.old) (e.draft self.old).line.text }
+        ensures does { let e = ⟦<Self as EditorState>⟧ in
+            let v = verdict_of verdict.now in let d = e.draft self.old in
+            Does e result self.old self.new (unhinted_by v d)
+            (if draws_verdict_on v (corrected || is_some d.hint)
+            then with_text (message_of v) (kind_of_verdict v) else nothing) 1 }
         ensures no_hint { let e = ⟦<Self as EditorState>⟧ in
-            let text = (e.draft self.old).line.text in
-            verdict_of verdict.now ≡ verdict_on (e.environment self.old) text
-            → OnOk result (ShowsNoHint e self.old → ShowsNoHint e self.new) }
-        ensures frame { Frame ⟦<Self as EditorState>⟧ self.old self.new }
-        ensures fails { let e = ⟦<Self as EditorState>⟧ in
-            FailsOnlyIf result (PartyFailed e self.old self.new) }
+            OnOk result (ShowsNoHint e self.old → ShowsNoHint e self.new) }
     {
         let (message, kind) = match verdict {
             ValidationResult::Incomplete => return Ok(()),
@@ -126,18 +94,10 @@ impl<'out, 'prompt, W: Renderer, H: Helper, P: Prompt, S: History> State<
     // Takes the hint away: by a full redraw without it, where a hint is there, a character is highlighted or another prompt
     // is shown.
     pub(crate) fn drop_hint(&mut self) -> Result<()>
-        ensures draft { let e = ⟦<Self as EditorState>⟧ in OnOk result
-            (e.draft self.new ≡ unhinted (e.draft self.old)) }
-        ensures start { let d = ⟦<Self as EditorState>⟧.draft in
-            OnOk result (start_text (d self.new) ≡ start_text (d self.old)) }
-        ensures drew { let e = ⟦<Self as EditorState>⟧ in let d = e.display self.old in OnOk result
-            (DrewIf e (is_some (e.draft self.old).hint || d.lit || not d.layout.default_prompt)
-            self.old self.new None ForcedRefresh) }
+        ensures does { let e = ⟦<Self as EditorState>⟧ in let d = e.draft self.old in
+            Does e result self.old self.new (unhinted d)
+            (unhinted_drawn (e.display self.old) d) 1 }
         ensures loses { OnOk result (LosesHint ⟦<Self as EditorState>⟧ self.old self.new) }
-        ensures redraws { OnOk result (Redraws ⟦<Self as EditorState>⟧ 0 1 self.old self.new) }
-        ensures frame { Frame ⟦<Self as EditorState>⟧ self.old self.new }
-        ensures fails { let e = ⟦<Self as EditorState>⟧ in
-            FailsOnlyIf result (PartyFailed e self.old self.new) }
     {
         if self.has_hint() || self.view.is_lit() || !self.is_default_prompt() {
             self.refresh_line_with_msg(None, CmdKind::ForcedRefresh)?;

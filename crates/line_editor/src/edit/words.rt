@@ -4,7 +4,7 @@ ghost use Rattle.std.specs.List.{list_any};
 ghost use Rattle.line_buffer.specs.Transpose.{are_apart, has_two_chars, next_alphanumeric, words_beside};
 ghost use Rattle.line_buffer.specs.Undo.{is_change, newest_steps};
 ghost use Rattle.line_editor.specs.Edits.{chars_transposed, lines_shifted, steps_undone, word_changed, words_transposed};
-ghost use Rattle.line_keys.specs.EditorState.{DrawsEdit, DrawsEditIf};
+ghost use Rattle.line_keys.specs.Drawing.{Does, edit_drawn, with_hint};
 
 use crate::edit::State;
 use line_buffer::{Movement, RepeatCount, WordAction};
@@ -28,8 +28,9 @@ impl<'out, 'prompt, W: Renderer, H: Helper, P: Prompt, S: History> State<
     /// Those of the parties and of the renderer, and that memory ran out.
     pub fn edit_transpose_chars(&mut self) -> Result<()>
         ensures { let e = ⟦<Self as EditorState>⟧ in
-            DrawsEditIf e (has_two_chars (e.draft self.old).line) result self.old self.new
-            (chars_transposed (e.environment self.old) (e.draft self.old)) }
+            Does e result self.old self.new
+            (chars_transposed (e.environment self.old) (e.draft self.old))
+            (edit_drawn (has_two_chars (e.draft self.old).line)) 1 }
     {
         let exchanged = self.edited.transpose_chars()?;
         self.show_edit(exchanged)
@@ -42,9 +43,9 @@ impl<'out, 'prompt, W: Renderer, H: Helper, P: Prompt, S: History> State<
     /// Those of the parties and of the renderer, and that memory ran out.
     pub fn edit_transpose_words(&mut self, n: RepeatCount) -> Result<()>
         ensures { let e = ⟦<Self as EditorState>⟧ in
-            DrawsEditIf e (are_apart (words_beside (e.draft self.old).line n))
-            result self.old self.new
-            (words_transposed (e.environment self.old) n (e.draft self.old)) }
+            Does e result self.old self.new
+            (words_transposed (e.environment self.old) n (e.draft self.old))
+            (edit_drawn (are_apart (words_beside (e.draft self.old).line n))) 1 }
     {
         let exchanged = self.edited.transpose_words(n)?;
         self.show_edit(exchanged)
@@ -56,9 +57,9 @@ impl<'out, 'prompt, W: Renderer, H: Helper, P: Prompt, S: History> State<
     /// Those of the parties and of the renderer, and that memory ran out.
     pub fn edit_word(&mut self, action: WordAction) -> Result<()>
         ensures { let e = ⟦<Self as EditorState>⟧ in
-            DrawsEditIf e (is_some (next_alphanumeric (e.draft self.old).line))
-            result self.old self.new
-            (word_changed (e.environment self.old) action (e.draft self.old)) }
+            Does e result self.old self.new
+            (word_changed (e.environment self.old) action (e.draft self.old))
+            (edit_drawn (is_some (next_alphanumeric (e.draft self.old).line))) 1 }
     {
         let changed = self.edited.edit_word(action)?;
         self.show_edit(changed)
@@ -70,8 +71,9 @@ impl<'out, 'prompt, W: Renderer, H: Helper, P: Prompt, S: History> State<
     /// # Errors
     /// Those of the parties and of the renderer, and that memory ran out.
     pub fn edit_indent(&mut self, mvt: &Movement, amount: u8, dedent: bool) -> Result<()>
-        ensures { let e = ⟦<Self as EditorState>⟧ in DrawsEdit e result self.old self.new
-            (lines_shifted (e.environment self.old) dedent amount mvt.now (e.draft self.old)) }
+        ensures { let e = ⟦<Self as EditorState>⟧ in Does e result self.old self.new
+            (lines_shifted (e.environment self.old) dedent amount mvt.now (e.draft self.old))
+            with_hint 1 }
     {
         self.edited.indent(mvt, usize::from(amount), dedent)?;
         self.show_edit(true)
@@ -80,9 +82,9 @@ impl<'out, 'prompt, W: Renderer, H: Helper, P: Prompt, S: History> State<
     // Takes `n` steps back, one for `n` = 0.
     pub(crate) fn undo(&mut self, n: RepeatCount) -> Result<()>
         ensures { let e = ⟦<Self as EditorState>⟧ in
-            DrawsEditIf e (list_any is_change (newest_steps n (e.draft self.old).changes.entries))
-            result self.old self.new
-            (steps_undone (e.environment self.old) n (e.draft self.old)) }
+            Does e result self.old self.new
+            (steps_undone (e.environment self.old) n (e.draft self.old)) (edit_drawn
+            (list_any is_change (newest_steps n (e.draft self.old).changes.entries))) 1 }
     {
         let undone = self.edited.undo(n)?;
         self.show_edit(undone)

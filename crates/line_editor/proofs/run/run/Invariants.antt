@@ -5,6 +5,7 @@ use Rattle.line_parts.specs.Hint.{suggestion_of}
 use Rattle.line_keys.specs.declared.editor_state.EditorState.{Ghosts}
 use Rattle.line_editor.specs.declared.edit.State.{State}
 use Rattle.line_editor.specs.InputState.{keys_of}
+use Rattle.line_editor.specs.Runs.{session}
 use Rattle.line_editor.proofs.UnderwayLemmas.{Underway}
 use Rattle.line_editor.proofs.run.run.Given as goal
 
@@ -41,7 +42,8 @@ editor_state g = record {
 abbrev pub invariant-turns : goal.invariant-turns
 invariant-turns g l =
     let k = keys_of (λ v. (g.dyn-1.0.entry v).1) in
-    Underway (editor_state g) g.W.Reader.RawReader l.fn.state (k l.fn.input_state) l.fn.config.indent_size l.fn.rdr l.fn.kill_ring l.state (k l.input_state) l.rdr l.kill_ring
+    Underway (editor_state g) g.W.Reader.RawReader l.fn.config.indent_size
+    (session l.fn.state (k l.fn.input_state) l.fn.rdr l.fn.kill_ring) (session l.state (k l.input_state) l.rdr l.kill_ring)
 
 abbrev pub decreases-turns : goal.decreases-turns
 decreases-turns g l = length (g.W.Reader.RawReader.rest l.rdr)

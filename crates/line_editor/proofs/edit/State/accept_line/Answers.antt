@@ -1,17 +1,11 @@
-use Rattle.line_editor.proofs.AcceptLemmas.{message_behind_drop, own_prompt_stays}
+use Rattle.line_editor.proofs.AcceptLemmas.{accepts, frame_both, none_failed}
+use Rattle.line_editor.proofs.CommandLemmas.{executed_ok}
+use Rattle.line_editor.specs.declared.command.Status.TheVariants.{Submit}
 use Rattle.line_editor.proofs.edit.State.accept_line.Goals as goal
 
-pub returns-clause-drawn : goal.returns-clause-drawn
-returns-clause-drawn g c =
-    let loses = c.in_ok-drop_hint.ensures.loses in
-    let valid = c.in_ok-validate.ensures in
-    record {
-      own_prompt = own_prompt_stays _ _ _ _ _ _ loses.own_prompt valid.drew;
-      right = λ was_right. valid.right (loses.right was_right);
-      no_hint = λ shown. valid.no_hint (loses.no_hint shown);
-    }
-
-pub returns-clause-message : goal.returns-clause-message
-returns-clause-message g c = λ some same.
+pub returns : goal.returns
+returns g c = λ input indent kills.
     let drop = c.in_ok-drop_hint.ensures in
-    message_behind_drop _ _ _ _ _ drop.frame drop.draft c.in_ok-validate.ensures.drew some
+    let asked = c.in_ok-validate.ensures in
+    executed_ok _ _ _ _ _ _ _ _ Submit (accepts _ _ _ c.args.self.now _ _ drop.does drop.loses asked.does asked.no_hint input indent kills)
+    (frame_both _ _ _ c.args.self.now _ _ drop.does drop.loses asked.does asked.no_hint) (none_failed _ _ _ c.args.self.now _ _ drop.does drop.loses asked.does asked.no_hint)

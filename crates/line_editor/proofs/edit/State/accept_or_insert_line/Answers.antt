@@ -1,39 +1,32 @@
-use Rattle.line_editor.proofs.AcceptLemmas.{message_behind_drop, newline_longer, own_prompt_stays}
-use Rattle.line_editor.proofs.DrawnLemmas.{no_hint_line}
+use Rattle.std.proofs.Common.{sym, ◌∙◌}
+use Rattle.line_editor.proofs.AcceptLemmas.{frame_both, line_stays_so, newline_comes, none_failed, submits_line}
+use Rattle.line_editor.proofs.CommandLemmas.{executed_ok}
+use Rattle.line_editor.proofs.DrawnLemmas.{frame_then}
+use Rattle.line_editor.specs.declared.command.Status.TheVariants.{Proceed, Submit}
 use Rattle.line_editor.proofs.edit.State.accept_or_insert_line.Goals as goal
 
-pub returns-in-Invalid-Some-clause-drawn : goal.returns-in-Invalid-Some-clause-drawn
-returns-in-Invalid-Some-clause-drawn g c =
-    let loses = c.in_ok-drop_hint.ensures.loses in
-    let valid = c.in_ok-validate.ensures in
-    record {
-      right = λ was_right. valid.right (loses.right was_right);
-      line = λ shown. valid.line (no_hint_line _ _ (loses.no_hint shown));
-    }
-
-pub returns-in-Valid-clause-drawn : goal.returns-in-Valid-clause-drawn
-returns-in-Valid-clause-drawn g c =
-    let loses = c.in_ok-drop_hint.ensures.loses in
-    let valid = c.in_ok-validate.ensures in
-    record {
-      own_prompt = own_prompt_stays _ _ _ _ _ _ loses.own_prompt valid.drew;
-      right = λ was_right. valid.right (loses.right was_right);
-      no_hint = λ shown. valid.no_hint (loses.no_hint shown);
-    }
-
-pub returns-in-Invalid-Some-clause-message : goal.returns-in-Invalid-Some-clause-message
-returns-in-Invalid-Some-clause-message g c = λ some same.
+pub returns-in-Submits : goal.returns-in-Submits
+returns-in-Submits g c = λ input indent kills.
     let drop = c.in_ok-drop_hint.ensures in
-    message_behind_drop _ _ _ _ _ drop.frame drop.draft c.in_ok-validate.ensures.drew some
+    let asked = c.in_ok-verdict.ensures in
+    executed_ok _ _ _ _ _ _ _ _ Submit
+    (submits_line _ _ _ c.args.self.now _ _ drop.does drop.loses asked.does asked.no_hint c.args.accept_in_the_middle _ _ asked.verdict c.is_end_of_input.ensures _ c.reply_for.ensures c.in-Submits.is input indent kills)
+    (frame_both _ _ _ c.args.self.now _ _ drop.does drop.loses asked.does asked.no_hint) (none_failed _ _ _ c.args.self.now _ _ drop.does drop.loses asked.does asked.no_hint)
 
-pub returns-in-Valid-clause-message : goal.returns-in-Valid-clause-message
-returns-in-Valid-clause-message g c = λ some same.
+pub returns-in-Stays : goal.returns-in-Stays
+returns-in-Stays g c = λ input indent kills.
     let drop = c.in_ok-drop_hint.ensures in
-    message_behind_drop _ _ _ _ _ drop.frame drop.draft c.in_ok-validate.ensures.drew some
+    let asked = c.in_ok-verdict.ensures in
+    executed_ok _ _ _ _ _ _ _ _ Proceed
+    (line_stays_so _ _ _ c.args.self.now _ _ drop.does drop.loses asked.does asked.no_hint c.args.accept_in_the_middle _ _ asked.verdict c.is_end_of_input.ensures _ c.reply_for.ensures c.in-Stays.is input indent kills)
+    (frame_both _ _ _ c.args.self.now _ _ drop.does drop.loses asked.does asked.no_hint) (none_failed _ _ _ c.args.self.now _ _ drop.does drop.loses asked.does asked.no_hint)
 
-pub returns-clause-message : goal.returns-clause-message
-returns-clause-message g c = λ some same.
+pub returns : goal.returns
+returns g c = λ input indent kills.
     let drop = c.in_ok-drop_hint.ensures in
-    let asked = c.in_ok-validate.ensures in
-    let typed = c.in_ok-edit_insert-in_default.ensures.does in
-    absurd (newline_longer _ _ _ _ _ drop.frame asked.frame typed.frame drop.draft asked.draft typed.draft same)
+    let asked = c.in_ok-verdict.ensures in
+    let typed = c.in_ok-edit_insert-in-GoesOn.ensures in
+    executed_ok _ _ _ _ _ _ _ _ Proceed
+    (newline_comes _ _ _ c.args.self.now _ _ drop.does drop.loses asked.does asked.no_hint c.args.accept_in_the_middle _ _ asked.verdict c.is_end_of_input.ensures _ c.reply_for.ensures _ _ c.in-GoesOn.is typed input indent kills)
+    (frame_then _ _ _ _ (frame_both _ _ _ c.args.self.now _ _ drop.does drop.loses asked.does asked.no_hint) typed.frame)
+    (typed.fails.quiet ∙ none_failed _ _ _ c.args.self.now _ _ drop.does drop.loses asked.does asked.no_hint)

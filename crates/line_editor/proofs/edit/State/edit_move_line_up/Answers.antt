@@ -5,7 +5,5 @@ use Rattle.line_editor.proofs.edit.State.edit_move_line_up.Goals as goal
 
 pub returns-clause-moves : goal.returns-clause-moves
 returns-clause-moves g c =
-    let drawn = c.in_ok-move_cursor.ensures in
     let line = rw (c.layout.ensures) at c.move_to_line_up.ensures.line in
-    move_drawn _ _ c.args.self.now _ _ _ _ drawn.frame (nothing_drawn _ _ _ refl refl refl refl refl refl) refl line
-    drawn.draft drawn.right drawn.drew drawn.still
+    move_drawn _ _ _ c.args.self.now _ _ _ _ (nothing_drawn _ _ _ refl refl refl refl refl refl) refl line c.in_ok-move_cursor.ensures

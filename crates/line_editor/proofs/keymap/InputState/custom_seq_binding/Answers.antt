@@ -1,7 +1,9 @@
 use Rattle.std.proofs.Common.{rules, ◌≡◌, [], ◌∷◌, ◌++◌, ap, sym, ◌∙◌, option_map}
 use Rattle.std.specs.Prelude.{slice_get}
+use Rattle.std.proofs.lemmas.Result.{err_from_is_err_and}
 use Rattle.line_keys.specs.Command.{command_of}
-use Rattle.line_editor.proofs.SequenceReadLemmas.{answered, in_vain, leads_further}
+use Rattle.line_editor.proofs.ReadingLemmas.{fault_dry}
+use Rattle.line_editor.proofs.SequenceReadLemmas.{answered, ends_inside, in_vain, leads_further}
 use Rattle.line_editor.proofs.keymap.InputState.custom_seq_binding.Goals as goal
 
 pub returns-in-Some-clause-reads : goal.returns-in-Some-clause-reads
@@ -23,5 +25,12 @@ keys-preserved g c =
     let pushed = c.in_ok-push-2.ensures.items in
     let key = c.in_ok-next_key.ensures in
     let none = ap (λ o. option_map command_of o) (sym c.in-None.is) ∙ c.in_ok-command.ensures.command in
-    rw pushed (leads_further _ _ _ _ _ _ _ _ c.keys.invariant key.took key.binding key.counts (rw (← pushed, ← c.as_slice.ensures.value) none)
+    rw pushed (leads_further _ _ _ _ _ _ _ _ c.keys.invariant key.took key.binding key.counts.stays (rw (← pushed, ← c.as_slice.ensures.value) none)
     (rw (← pushed, ← c.as_slice-in-keys.ensures.value) c.if-not-leads_on-2.ensures))
+
+pub returns-in_err-next_key-clause-reads : goal.returns-in_err-next_key-clause-reads
+returns-in_err-next_key-clause-reads g c =
+    let p = err_from_is_err_and c.from_residual-in_err-next_key.result c.from_residual-in_err-next_key.ensures.1 in
+    rw (p.1, p.2) (λ no.
+    let dry = fault_dry _ _ c.in_err-next_key.ensures.fault no in
+    (dry.0, ends_inside _ _ _ _ _ _ _ c.keys.invariant dry.1 (c.in_err-next_key.ensures.kept ∙ dry.1)))

@@ -1,8 +1,7 @@
 use Rattle.std.proofs.Common.{ap, sym, ◌∙◌, option_map}
 use Rattle.std.specs.Prelude.{unwrap_or}
-use Rattle.std.proofs.result.Match.{if_ok_then}
 use Rattle.line_keys.specs.Command.{command_of}
-use Rattle.line_editor.proofs.TailLemmas.{behind_bound, behind_own, behind_row, ends_row}
+use Rattle.line_editor.proofs.TailLemmas.{behind_bound, behind_own, row_on}
 use Rattle.line_editor.proofs.keymap.InputState.read_behind.Goals as goal
 
 pub returns-in-Some-clause-reads : goal.returns-in-Some-clause-reads
@@ -20,13 +19,4 @@ returns-clause-reads g c =
     let own = g.R.RawReader.own_binding c.args.rdr.now in
     let unbound = ap (λ o. option_map command_of o) (sym c.in_default.is) ∙ c.in_ok-command.ensures.command own in
     let counted = c.unwrap_or-count.ensures ∙ ap (λ n. unwrap_or c.args.typed n) c.one.ensures in
-    if_ok_then c.read_tail.result _ _
-    (λ command read. behind_row _ _ _ _ _ _ _ _ _ _ unbound c.in_default-own_command.ensures counted c.meaning_of_key-meaning.ensures (command_of command) read)
-    c.read_tail.ensures.reads
-
-pub returns-clause-eof : goal.returns-clause-eof
-returns-clause-eof g c = λ is_eof.
-    let own = g.R.RawReader.own_binding c.args.rdr.now in
-    let unbound = ap (λ o. option_map command_of o) (sym c.in_default.is) ∙ c.in_ok-command.ensures.command own in
-    let counted = c.unwrap_or-count.ensures ∙ ap (λ n. unwrap_or c.args.typed n) c.one.ensures in
-    ends_row _ _ _ _ _ _ _ _ _ _ unbound c.in_default-own_command.ensures counted c.meaning_of_key-meaning.ensures (c.read_tail.ensures.eof is_eof)
+    row_on _ _ _ _ _ _ _ _ _ _ unbound c.in_default-own_command.ensures counted c.meaning_of_key-meaning.ensures _ c.read_tail.ensures.reads

@@ -1,0 +1,120 @@
+-- What each command draws.
+use Rattle.std.specs.Prelude.{ℕ, ◌==◌, ◌||◌, Bool, false, not, if◌then◌else◌, List, length, Option, Some, None, is_some}
+use Rattle.std.specs.List.{list_any}
+use Rattle.line_buffer.specs.Cluster.{place_on}
+use Rattle.line_buffer.specs.Kill.{killed_range}
+use Rattle.line_buffer.specs.KillRing.{yank_popped, yanked_text}
+use Rattle.line_buffer.specs.Line.{Line, ends_in_white_space, start_of_line, with_cursor}
+use Rattle.line_buffer.specs.Lines.{down_by, up_by}
+use Rattle.line_buffer.specs.Transpose.{are_apart, has_two_chars, next_alphanumeric, words_beside}
+use Rattle.line_buffer.specs.Undo.{is_change, newest_steps}
+use Rattle.line_buffer.specs.declared.keymap.Movement.{Movement}
+use Rattle.line_buffer.specs.declared.keymap.Movement.TheVariants.{ViFirstPrint}
+use Rattle.line_keys.specs.Command.{Command, accept_line, accept_or_insert_line, beginning_of_history, capitalize_word, clear_screen, complete_hint, dedent, downcase_word, end_of_file, end_of_history, history_search_backward, history_search_forward, indent, insert, interrupt, kill, line_down_or_next_history, line_up_or_previous_history, move, newline, next_history, overwrite, previous_history, repaint, replace, replace_char, self_insert, transpose_chars, transpose_words, undo, upcase_word, yank, yank_pop}
+use Rattle.line_keys.specs.Display.{Display}
+use Rattle.line_keys.specs.Draft.{Draft, unhinted}
+use Rattle.line_keys.specs.Drawing.{Drawing, cursor, cursor_over, cursor_to_end, drawn_if, edit_drawn, nothing, with_hint, with_text}
+use Rattle.line_parts.specs.Environment.{Environment, verdict_on}
+use Rattle.line_parts.specs.Verdict.{message_of}
+use Rattle.line_parts.specs.declared.highlight.CmdKind.TheVariants.{ForcedRefresh, MoveCursor}
+use Rattle.line_parts.specs.declared.history.SearchDirection.TheVariants.{Forward, Reverse}
+use Rattle.line_state.specs.Edited.{pops_text}
+use Rattle.line_editor.specs.Accept.{reply_to}
+use Rattle.line_editor.specs.Editor.{Editor}
+use Rattle.line_editor.specs.HistoryMoves.{search_of, way_ends}
+use Rattle.line_editor.specs.Verdict.{draws_verdict, kind_of_verdict}
+use Rattle.line_editor.specs.declared.command.Reply.{Reply}
+use Rattle.line_editor.specs.declared.command.Reply.TheVariants.{GoesOn}
+
+-- the line without its hint, where one is there, a character is highlighted or another prompt is shown
+abbrev pub unhinted_drawn : Display → Draft → Drawing
+unhinted_drawn display draft =
+    if is_some draft.hint || display.lit || not display.layout.default_prompt then with_text None ForcedRefresh else nothing
+
+-- the verdict's message, where there is something to show or to take away
+abbrev pub verdict_drawn : Environment → Draft → Drawing
+verdict_drawn environment draft = let verdict = verdict_on environment draft.line.text in
+    if draws_verdict environment draft then with_text (message_of verdict) (kind_of_verdict verdict) else nothing
+
+-- the verdict's message, or else the line without its hint
+abbrev pub validated_drawn : Display → Environment → Draft → Drawing
+validated_drawn display environment draft =
+    if draws_verdict environment (unhinted draft) then verdict_drawn environment (unhinted draft) else unhinted_drawn display draft
+
+-- a newline is drawn with the hint, and a line that stays with its verdict
+abbrev pub reply_drawn : Reply → Drawing → Drawing
+reply_drawn GoesOn shown = with_hint
+reply_drawn reply shown = shown
+
+-- a move of the cursor: to the first character that is no white space by way of the line's start
+abbrev pub move_drawn : Line → Movement → Drawing
+move_drawn line ViFirstPrint = cursor_over (with_cursor line (start_of_line line))
+move_drawn line movement = cursor MoveCursor
+
+-- whether there is a text to put in
+abbrev pub has_text : Option (List ℕ) → Bool
+has_text None = false
+has_text (Some text) = not (length text == 0)
+
+-- a yank of a text, where there is one, and a text in place of a yanked one
+abbrev pub yank_drawn : Option (List ℕ) → Drawing
+yank_drawn None = nothing
+yank_drawn (Some text) = edit_drawn (not (length text == 0))
+
+abbrev pub pop_drawn : Line → Option (ℕ × List ℕ) → Drawing
+pop_drawn line None = nothing
+pop_drawn line (Some popped) = edit_drawn (pops_text line popped.0 popped.1)
+
+-- what a command draws that proceeds and leaves the kill ring; those that are left to the program above draw nothing
+abbrev pub edited_drawn : Display → Environment → Draft → Command → Drawing
+edited_drawn display environment draft (self_insert n c) = with_hint
+edited_drawn display environment draft newline = with_hint
+edited_drawn display environment draft (insert n text) = edit_drawn (not (length text == 0))
+edited_drawn display environment draft (replace_char n c) = edit_drawn (is_some (place_on draft.line n))
+edited_drawn display environment draft (overwrite c) = edit_drawn (is_some (place_on draft.line 1))
+edited_drawn display environment draft (move movement) = move_drawn draft.line movement
+edited_drawn display environment draft (line_up_or_previous_history n) =
+    if is_some (up_by display.layout draft.line n) then cursor MoveCursor else drawn_if (not (way_ends environment Reverse draft))
+edited_drawn display environment draft (line_down_or_next_history n) =
+    if is_some (down_by display.layout draft.line n) then cursor MoveCursor else drawn_if (not (way_ends environment Forward draft))
+edited_drawn display environment draft (undo n) = edit_drawn (list_any is_change (newest_steps n draft.changes.entries))
+edited_drawn display environment draft (indent movement) = with_hint
+edited_drawn display environment draft (dedent movement) = with_hint
+edited_drawn display environment draft transpose_chars = edit_drawn (has_two_chars draft.line)
+edited_drawn display environment draft (transpose_words n) = edit_drawn (are_apart (words_beside draft.line n))
+edited_drawn display environment draft capitalize_word = edit_drawn (is_some (next_alphanumeric draft.line))
+edited_drawn display environment draft downcase_word = edit_drawn (is_some (next_alphanumeric draft.line))
+edited_drawn display environment draft upcase_word = edit_drawn (is_some (next_alphanumeric draft.line))
+edited_drawn display environment draft previous_history = drawn_if (not (way_ends environment Reverse draft))
+edited_drawn display environment draft next_history = drawn_if (not (way_ends environment Forward draft))
+edited_drawn display environment draft beginning_of_history = drawn_if (not (way_ends environment Reverse draft))
+edited_drawn display environment draft end_of_history = drawn_if (not (way_ends environment Forward draft))
+edited_drawn display environment draft history_search_backward = drawn_if (is_some (search_of environment Reverse draft))
+edited_drawn display environment draft history_search_forward = drawn_if (is_some (search_of environment Forward draft))
+edited_drawn display environment draft complete_hint = drawn_if (is_some draft.hint)
+edited_drawn display environment draft clear_screen = with_hint
+edited_drawn display environment draft repaint = with_hint
+edited_drawn display environment draft _ = nothing
+
+-- what a command draws
+abbrev pub drawing_of : Display → Environment → Editor → Command → Drawing
+drawing_of display environment editor (kill movement) = drawn_if (is_some (killed_range editor.draft.line movement))
+drawing_of display environment editor (replace movement text) =
+    drawn_if (is_some (killed_range editor.draft.line movement) || has_text text)
+drawing_of display environment editor (yank n anchor) = yank_drawn (yanked_text editor.kills)
+drawing_of display environment editor yank_pop = pop_drawn editor.draft.line (yank_popped editor.kills)
+drawing_of display environment editor end_of_file = unhinted_drawn display editor.draft
+drawing_of display environment editor accept_line = validated_drawn display environment editor.draft
+drawing_of display environment editor (accept_or_insert_line in_the_middle) =
+    reply_drawn (reply_to (verdict_on environment editor.draft.line.text) (in_the_middle || ends_in_white_space editor.draft.line))
+    (validated_drawn display environment editor.draft)
+drawing_of display environment editor interrupt = cursor_to_end
+drawing_of display environment editor command = edited_drawn display environment editor.draft command
+
+-- how often a command draws the line in full, at most
+abbrev pub most_drawn : Command → ℕ
+most_drawn newline = 2
+most_drawn (replace movement text) = 2
+most_drawn accept_line = 2
+most_drawn (accept_or_insert_line in_the_middle) = 3
+most_drawn _ = 1
