@@ -1,8 +1,0 @@
-use Rattle.tests.specs.ScreenLaws.{measured-one}
-use Rattle.tests.proofs.recorder.RecorderRenderer.write_and_flush.Goals as goal
-
-pub returns-clause-shown : goal.returns-clause-shown
-returns-clause-shown c = λ ch e print room.
-    let one = measured-one c.args.self.now.columns ch c.args.self.now.place room.1 print in
-    let noted = c.in_ok-note.ensures in
-    cc (c.in_ok-push_str.ensures.bytes, noted.columns, noted.place, noted.text, noted.origin)

@@ -1,6 +1,0 @@
-pub mod Advisor
-pub mod Folder
-pub mod Screen
-pub mod ScreenLaws
-pub mod Typist
-pub mod Watcher

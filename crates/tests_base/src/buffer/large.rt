@@ -1,0 +1,364 @@
+//! Texts of some thousand bytes, and some thousand entries and groups: no call makes an error of them.
+ghost use Rattle.std.specs.Prelude.{OnOk};
+ghost use Rattle.line_buffer.specs.Undo.{Tells};
+
+use super::edits::{Edit, after, edited};
+use line_buffer::{
+    Changeset, KillRing, LineBuffer, Mode, Movement, OutOfMemory, RepeatCount, WordAction,
+};
+use std::alloc::Global;
+use std::process::Abort;
+use std::test::Fail;
+
+/// A call on a line: one of a table, or one that is handed a large text.
+enum Step {
+    Edit(Edit),
+    InsertText(usize),
+    Yank(RepeatCount),
+    YankPop(usize),
+    Update(usize),
+    Replace(usize, usize),
+}
+
+/// Makes the call. Its answer, where it has one.
+fn stepped(
+    rt: &impl Abort,
+    line: &mut LineBuffer,
+    changes: &mut Changeset,
+    step: &Step,
+    text: &str,
+) -> Result<Option<bool>, OutOfMemory>
+    requires { Tells changes.old.entries line.old.text }
+    ensures { OnOk result (Tells changes.new.entries line.new.text) }
+{
+    match step {
+        Step::Edit(edit) => return edited(rt, line, changes, edit),
+        Step::Yank(n) => return line.yank(text, *n, changes),
+        Step::YankPop(size) => return line.yank_pop(*size, text, changes),
+        Step::InsertText(place) => {
+            assert!(rt; line.as_str().is_char_boundary(*place) && line.pos() <= *place);
+            line.insert_str(*place, text, changes)?;
+        }
+        Step::Update(pos) => {
+            assert!(rt; text.is_char_boundary(*pos));
+            line.update(text, *pos, changes)?;
+        }
+        Step::Replace(start, end) => {
+            assert!(rt; start <= end && line.as_str().is_char_boundary(*start));
+            assert!(rt; line.as_str().is_char_boundary(*end));
+            line.replace(*start..*end, text, changes)?;
+        }
+    }
+    Ok(None)
+}
+
+/// So many times one text.
+fn text_of(alloc: Global, text: &str, count: usize) -> Result<String, OutOfMemory> {
+    let mut texts = String::new(alloc);
+    for _ in 0..count {
+        texts.push_str(text)?;
+    }
+    Ok(texts)
+}
+
+/// Calls on an empty line, and one more; its answer, the length of the text, the cursor and the number of entries then.
+type Case = (&'static [Edit], Step, Option<bool>, (usize, usize, usize));
+
+/// The large text has 4,000 bytes. All that was done is taken back at the end.
+fn edits(rt: &impl Abort, alloc: Global, case: &Case) -> Result<(), Fail> {
+    let (steps, step, answer, left) = case;
+    let text = text_of(alloc, "日 ", 1_000)?;
+    let (mut line, mut changes, _) = after(rt, alloc, "", 0, steps)?;
+    let found = stepped(rt, &mut line, &mut changes, step, text.as_str())?;
+    assert_eq!(rt; found, *answer);
+    assert_eq!(rt; (line.len(), line.pos(), changes.len()), *left);
+    assert!(rt; changes.undo(&mut line, 65_535)?);
+    assert_eq!(rt; (line.as_str(), line.pos(), changes.len()), ("", 0, 0));
+    Ok(())
+}
+
+/// A word of 6,000 bytes, with the cursor behind its second character.
+const WORD: &[Edit] = &[Edit::Insert('é', 3_000), Edit::Go(4)];
+
+/// Words of 3,000 and of 2,000 bytes, with the cursor at the end.
+const WORDS: &[Edit] = &[
+    Edit::Insert('a', 3_000),
+    Edit::Insert(' ', 1),
+    Edit::Insert('b', 2_000),
+];
+
+/// Lines, each of a newline alone, with the cursor at the start.
+const LINES: &[Edit] = &[Edit::Insert('\n', 2_000), Edit::Go(0)];
+
+const INDENTED: &[Edit] = &[
+    Edit::Insert('\n', 2_000),
+    Edit::Go(0),
+    Edit::Indent(Movement::WholeBuffer, 2),
+];
+
+const EDITS: &[Case] = &[
+    (
+        WORD,
+        Step::Edit(Edit::Insert('日', 2_000)),
+        Some(false),
+        (12_000, 6_004, 2),
+    ),
+    (WORD, Step::InsertText(4), None, (10_000, 4, 2)),
+    (WORD, Step::Yank(1), Some(false), (10_000, 4_004, 2)),
+    (WORD, Step::Yank(3), Some(false), (18_000, 12_004, 2)),
+    (WORD, Step::YankPop(4), Some(false), (9_996, 4_000, 3)),
+    (WORD, Step::Update(4_000), None, (4_000, 4_000, 3)),
+    (WORD, Step::Replace(0, 6_000), None, (4_000, 4_000, 2)),
+    (
+        WORD,
+        Step::Edit(Edit::Delete(2_000)),
+        Some(true),
+        (2_000, 4, 2),
+    ),
+    (
+        WORD,
+        Step::Edit(Edit::TransposeChars),
+        Some(true),
+        (6_000, 6, 2),
+    ),
+    (
+        WORDS,
+        Step::Edit(Edit::TransposeWords(1)),
+        Some(true),
+        (5_001, 5_001, 4),
+    ),
+    (
+        WORD,
+        Step::Edit(Edit::EditWord(WordAction::Uppercase)),
+        Some(true),
+        (6_000, 6_000, 2),
+    ),
+    (
+        WORD,
+        Step::Edit(Edit::Indent(Movement::WholeBuffer, 3_000)),
+        Some(true),
+        (9_000, 3_004, 2),
+    ),
+    (
+        LINES,
+        Step::Edit(Edit::Indent(Movement::WholeBuffer, 2)),
+        Some(true),
+        (6_000, 2, 2_001),
+    ),
+    (
+        INDENTED,
+        Step::Edit(Edit::Dedent(Movement::WholeBuffer, 2)),
+        Some(true),
+        (2_000, 0, 4_001),
+    ),
+];
+
+#[test]
+fn texts_are_edited(rt: HostRuntime) -> Result<(), Fail> {
+    for case in EDITS {
+        edits(&rt, rt.alloc(), case)?;
+    }
+    Ok(())
+}
+
+/// So many rounds of these calls.
+fn rounds(
+    rt: &impl Abort,
+    line: &mut LineBuffer,
+    changes: &mut Changeset,
+    steps: &[Edit],
+    count: usize,
+) -> Result<Option<bool>, OutOfMemory>
+    requires { Tells changes.old.entries line.old.text }
+    ensures { OnOk result (Tells changes.new.entries line.new.text) }
+{
+    let mut answer = None;
+    for _round in 0..count {
+        for step in steps {
+            answer = edited(rt, line, changes, step)?;
+        }
+    }
+    Ok(answer)
+}
+
+/// Calls that are made 2,000 times on an empty line, and calls that are made once then, with the last answer, the length
+/// of the text and the number of entries after each.
+type Rounds = (
+    &'static [Edit],
+    Option<bool>,
+    (usize, usize),
+    &'static [(Edit, Option<bool>, usize, usize)],
+);
+
+fn groups(rt: &impl Abort, alloc: Global, case: &Rounds) -> Result<(), Fail> {
+    let (steps, answer, left, further) = case;
+    let mut line = LineBuffer::new(alloc);
+    let mut changes = Changeset::new(alloc);
+    let found = rounds(rt, &mut line, &mut changes, steps, 2_000)?;
+    assert_eq!(rt; found, *answer);
+    assert_eq!(rt; (line.len(), changes.len()), *left);
+    for (step, answer, len, entries) in *further {
+        let found = edited(rt, &mut line, &mut changes, step)?;
+        assert_eq!(rt;
+            (found, line.len(), changes.len()),
+            (*answer, *len, *entries)
+        );
+    }
+    Ok(())
+}
+
+const TYPED: Edit = Edit::Insert('a', 1);
+
+const GROUPS: &[Rounds] = &[
+    // one after another: each has its begin, an insert and its end
+    (
+        &[Edit::Begin, TYPED, Edit::End],
+        Some(true),
+        (2_000, 6_000),
+        &[
+            (Edit::Undo(1), Some(true), 1_999, 5_997),
+            (Edit::Undo(998), Some(true), 1_001, 3_003),
+            (Edit::Undo(2_000), Some(true), 0, 0),
+        ],
+    ),
+    // one in another, with nothing in them, or with an insert in the innermost
+    (
+        &[Edit::Begin],
+        None,
+        (0, 2_000),
+        &[(Edit::End, Some(false), 0, 0)],
+    ),
+    (
+        &[Edit::Begin],
+        None,
+        (0, 2_000),
+        &[
+            (TYPED, Some(true), 1, 2_001),
+            (Edit::End, Some(true), 1, 4_001),
+            (Edit::Undo(1), Some(true), 0, 0),
+        ],
+    ),
+    // without groups: inserts that join, and those that do not
+    (
+        &[TYPED],
+        Some(true),
+        (2_000, 1),
+        &[(Edit::Undo(1), Some(true), 0, 0)],
+    ),
+    (
+        &[Edit::Insert('-', 1)],
+        Some(true),
+        (2_000, 2_000),
+        &[
+            (Edit::Undo(1_500), Some(true), 500, 500),
+            (Edit::Undo(0), Some(true), 499, 499),
+        ],
+    ),
+];
+
+#[test]
+fn groups_are_opened_closed_and_taken_back(rt: HostRuntime) -> Result<(), Fail> {
+    for case in GROUPS {
+        groups(&rt, rt.alloc(), case)?;
+    }
+    Ok(())
+}
+
+/// The text of a word of 6,000 bytes is copied, killed and taken back; the ring then has it.
+fn kills(
+    rt: &impl Abort,
+    alloc: Global,
+    mvt: &Movement,
+    place: usize,
+    gone: usize,
+) -> Result<(), Fail> {
+    let (mut line, mut changes, _) = after(rt, alloc, "", 0, WORD)?;
+    let mut ring = KillRing::new(alloc, 1);
+    let wanted = text_of(alloc, "é", gone)?;
+    let Some(copy) = line.copy(mvt)? else {
+        return Err(Fail::from("a text"));
+    };
+    assert_eq!(rt; copy.as_str(), wanted.as_str());
+    let Some((at, text, _)) = line.kill(mvt, &mut changes, &mut ring)? else {
+        return Err(Fail::from("a text"));
+    };
+    assert_eq!(rt; (at, text.as_str()), (place, wanted.as_str()));
+    assert_eq!(rt; ring.yank(), Some(wanted.as_str()));
+    assert!(rt; changes.undo(&mut line, 1)?);
+    assert_eq!(rt; line.len(), 6_000);
+    Ok(())
+}
+
+#[test]
+fn texts_are_copied_and_killed(rt: HostRuntime) -> Result<(), Fail> {
+    for (mvt, place, gone) in [
+        (Movement::WholeBuffer, 0, 3_000),
+        (Movement::EndOfLine, 4, 2_998),
+        (Movement::WholeLine, 0, 3_000),
+        (Movement::EndOfBuffer, 4, 2_998),
+    ] {
+        kills(&rt, rt.alloc(), &mvt, place, gone)?;
+    }
+    Ok(())
+}
+
+/// The text that comes in last, and one that goes.
+#[test]
+fn texts_are_given(rt: HostRuntime) -> Result<(), Fail> {
+    let (mut line, mut changes, _) = after(&rt, rt.alloc(), "", 0, WORD)?;
+    let wanted = text_of(rt.alloc(), "é", 3_000)?;
+    let Some(last) = changes.last_insert()? else {
+        return Err(Fail::from("a text"));
+    };
+    assert_eq!(rt; last.as_str(), wanted.as_str());
+    let Some(gone) = line.delete(2_500, &mut changes)? else {
+        return Err(Fail::from("a text"));
+    };
+    assert_eq!(rt; gone.len(), 5_000);
+    let text = text_of(rt.alloc(), "日", 5_000)?;
+    assert!(rt; text.as_str().is_char_boundary(3));
+    let line = LineBuffer::init(rt.alloc(), text.as_str(), 3)?;
+    assert_eq!(rt; (line.as_str(), line.pos()), (text.as_str(), 3));
+    Ok(())
+}
+
+/// Three kills of 4,000 bytes each, one after another or each for itself, and the length of the text that comes back.
+fn joins(rt: &impl Abort, alloc: Global, apart: bool, wanted: usize) -> Result<(), Fail> {
+    let text = text_of(alloc, "日 ", 1_000)?;
+    let mut ring = KillRing::new(alloc, 2);
+    for mode in [Mode::Append, Mode::Append, Mode::Prepend] {
+        ring.kill(text.as_str(), mode)?;
+        if apart {
+            ring.reset();
+        }
+    }
+    let Some(yanked) = ring.yank() else {
+        return Err(Fail::from("a text"));
+    };
+    assert_eq!(rt; yanked.len(), wanted);
+    Ok(())
+}
+
+#[test]
+fn kills_join(rt: HostRuntime) -> Result<(), Fail> {
+    joins(&rt, rt.alloc(), false, 12_000)?;
+    joins(&rt, rt.alloc(), true, 4_000)
+}
+
+/// A ring of 3,000 slots, each with its text, and one kill more.
+#[test]
+fn kills_fill_a_ring(rt: HostRuntime) -> Result<(), Fail> {
+    let mut ring = KillRing::new(rt.alloc(), 3_000);
+    for _ in 0..3_000 {
+        ring.kill("x", Mode::Append)?;
+        ring.reset();
+    }
+    ring.kill("yz", Mode::Append)?;
+    assert_eq!(rt; ring.yank(), Some("yz"));
+    assert_eq!(rt; ring.yank_pop(), Some((2, "x")));
+    for _ in 0..2_998 {
+        assert_eq!(rt; ring.yank_pop(), Some((1, "x")));
+    }
+    assert_eq!(rt; ring.yank_pop(), Some((1, "yz")));
+    Ok(())
+}

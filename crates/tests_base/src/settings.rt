@@ -1,0 +1,363 @@
+//! Settings, errors and prompts.
+
+mod copies;
+
+use line_buffer::{GraphemeClusterMode, OutOfMemory};
+use line_config::{
+    Behavior, BellStyle, Builder, ColorMode, CompletionType, Config, Configurer, EditMode,
+    HistoryDuplicates, Prompt, ReadlineError, Result,
+};
+use std::alloc::{AllocError, AllocFailed, Global};
+use std::io::{self, ErrorKind};
+use std::process::Abort;
+use std::test::Fail;
+use std::{fmt, result};
+
+/// How a configuration was made.
+#[derive(Clone, Copy, Debug)]
+enum Made {
+    New,
+    Builder,
+    Clone,
+    Built,
+    BuiltAndCloned,
+    SetConfig,
+    SetBuilder,
+}
+
+/// Each setting but the behavior and the synchronized output away from its default, by the calls of whatever holds them.
+fn set_all<C: Configurer>(holder: &mut C) -> Result<()> {
+    holder.set_max_history_size(7)?;
+    holder.set_history_ignore_dups(false)?;
+    holder.set_history_ignore_space(true);
+    holder.set_completion_type(CompletionType::List);
+    holder.set_completion_prompt_limit(9);
+    holder.set_completion_show_all_if_ambiguous(true);
+    holder.set_edit_mode(EditMode::Vi);
+    holder.set_keyseq_timeout(Some(11));
+    holder.set_auto_add_history(true);
+    holder.set_bell_style(BellStyle::None);
+    holder.set_color_mode(ColorMode::Forced);
+    holder.set_grapheme_cluster_mode(GraphemeClusterMode::NoZwj);
+    holder.set_tab_stop(4);
+    holder.set_indent_size(3);
+    holder.set_check_cursor_position(true);
+    holder.enable_bracketed_paste(false);
+    holder.enable_synchronized_output(false);
+    holder.set_enable_signals(true);
+    Ok(())
+}
+
+/// Each setting but the synchronized output away from its default, by the builder's own calls.
+fn built() -> Result<Builder> {
+    Ok(
+        Config::builder(GraphemeClusterMode::Unicode)
+            .max_history_size(7)?
+            .history_ignore_dups(false)?
+            .history_ignore_space(true)
+            .completion_type(CompletionType::List)
+            .completion_prompt_limit(9)
+            .completion_show_all_if_ambiguous(true)
+            .edit_mode(EditMode::Vi)
+            .keyseq_timeout(Some(11))
+            .auto_add_history(true)
+            .bell_style(BellStyle::None)
+            .color_mode(ColorMode::Forced)
+            .grapheme_cluster_mode(GraphemeClusterMode::NoZwj)
+            .behavior(Behavior::PreferTerm)
+            .tab_stop(4)
+            .indent_size(3)
+            .check_cursor_position(true)
+            .bracketed_paste(false)
+            .enable_signals(true),
+    )
+}
+
+fn config_by(how: Made) -> result::Result<Config, Fail> {
+    Ok(match how {
+        Made::New => Config::new(GraphemeClusterMode::WcWidth),
+        Made::Builder => Builder::new(GraphemeClusterMode::WcWidth).build(),
+        Made::Clone => Config::new(GraphemeClusterMode::WcWidth).clone()?,
+        Made::Built => built()?.build(),
+        Made::BuiltAndCloned => built()?.clone()?.build(),
+        Made::SetConfig => {
+            let mut config = Config::new(GraphemeClusterMode::Unicode);
+            set_all(&mut config)?;
+            config
+        }
+        Made::SetBuilder => {
+            let mut builder = Builder::new(GraphemeClusterMode::Unicode);
+            set_all(&mut builder)?;
+            builder.build()
+        }
+    })
+}
+
+type History = (usize, HistoryDuplicates, bool, bool);
+
+type Completion = (CompletionType, usize, bool);
+
+type Keys = (Option<u16>, EditMode, bool, bool);
+
+type Screen = (
+    BellStyle,
+    ColorMode,
+    GraphemeClusterMode,
+    Behavior,
+    bool,
+    bool,
+);
+
+type Columns = (u8, u8);
+
+/// Every setting, read back.
+type Settings = (History, Completion, Keys, Screen, Columns);
+
+fn settings(config: &Config) -> Settings {
+    (
+        (
+            config.max_history_size(),
+            config.history_duplicates(),
+            config.history_ignore_space(),
+            config.auto_add_history(),
+        ),
+        (
+            config.completion_type(),
+            config.completion_prompt_limit(),
+            config.completion_show_all_if_ambiguous(),
+        ),
+        (
+            config.keyseq_timeout(),
+            config.edit_mode(),
+            config.enable_bracketed_paste(),
+            config.enable_signals(),
+        ),
+        (
+            config.bell_style(),
+            config.color_mode(None),
+            config.grapheme_cluster_mode(),
+            config.behavior(),
+            config.check_cursor_position(),
+            config.enable_synchronized_output(),
+        ),
+        (config.tab_stop(), config.indent_size()),
+    )
+}
+
+fn reads_back(rt: &impl Abort, how: Made, wanted: &Settings) -> result::Result<(), Fail> {
+    let config = config_by(how)?;
+    assert_eq!(rt; settings(&config), *wanted, "{how:?}");
+    assert_eq!(rt; config, config_by(how)?, "{how:?}");
+    Ok(())
+}
+
+const DEFAULTS: Settings = (
+    (100, HistoryDuplicates::IgnoreConsecutive, false, false),
+    (CompletionType::Circular, 100, false),
+    (None, EditMode::Emacs, true, false),
+    (
+        BellStyle::Audible,
+        ColorMode::Enabled,
+        GraphemeClusterMode::WcWidth,
+        Behavior::Stdio,
+        false,
+        true,
+    ),
+    (8, 2),
+);
+
+const BUILT: Settings = (
+    (7, HistoryDuplicates::AlwaysAdd, true, true),
+    (CompletionType::List, 9, true),
+    (Some(11), EditMode::Vi, false, true),
+    (
+        BellStyle::None,
+        ColorMode::Forced,
+        GraphemeClusterMode::NoZwj,
+        Behavior::PreferTerm,
+        true,
+        true,
+    ),
+    (4, 3),
+);
+
+/// No call of a `Configurer` sets the behavior, and no call of the builder the synchronized output.
+const SET: Settings = (
+    (7, HistoryDuplicates::AlwaysAdd, true, true),
+    (CompletionType::List, 9, true),
+    (Some(11), EditMode::Vi, false, true),
+    (
+        BellStyle::None,
+        ColorMode::Forced,
+        GraphemeClusterMode::NoZwj,
+        Behavior::Stdio,
+        true,
+        false,
+    ),
+    (4, 3),
+);
+
+const HOLDERS: &[(Made, Settings)] = &[
+    (Made::New, DEFAULTS),
+    (Made::Builder, DEFAULTS),
+    (Made::Clone, DEFAULTS),
+    (Made::Built, BUILT),
+    (Made::BuiltAndCloned, BUILT),
+    (Made::SetConfig, SET),
+    (Made::SetBuilder, SET),
+];
+
+#[test]
+fn are_read_back(rt: HostRuntime) -> result::Result<(), Fail> {
+    for (how, wanted) in HOLDERS {
+        reads_back(&rt, *how, wanted)?;
+    }
+    assert_eq!(rt;
+        (BellStyle::default(), Behavior::default()),
+        (BellStyle::Audible, Behavior::Stdio)
+    );
+    Ok(())
+}
+
+/// What the builder is told, one after another, and the timeout then.
+type Timed = (&'static [(Option<EditMode>, Option<u16>)], Option<u16>);
+
+/// Each step is a style, or else a timeout.
+fn times(rt: &impl Abort, case: &Timed) {
+    let (steps, timeout) = case;
+    let mut builder = Config::builder(GraphemeClusterMode::Unicode);
+    for (style, time) in *steps {
+        builder = match style {
+            Some(style) => builder.edit_mode(*style),
+            None => builder.keyseq_timeout(*time),
+        };
+    }
+    assert_eq!(rt; builder.build().keyseq_timeout(), *timeout);
+}
+
+const TIMED: &[Timed] = &[
+    (&[(None, Some(7)), (Some(EditMode::Vi), None)], Some(500)),
+    (&[(Some(EditMode::Vi), None), (None, Some(7))], Some(7)),
+    (
+        &[(Some(EditMode::Vi), None), (Some(EditMode::Emacs), None)],
+        None,
+    ),
+];
+
+#[test]
+fn the_style_sets_the_timeout(rt: HostRuntime) {
+    for case in TIMED {
+        times(&rt, case);
+    }
+}
+
+/// What is set, the value of `NO_COLOR`, and what is shown.
+type Colors = (ColorMode, Option<&'static str>, ColorMode);
+
+fn colors(rt: &impl Abort, case: Colors) {
+    let (set, value, shown) = case;
+    let config = Config::builder(GraphemeClusterMode::Unicode)
+        .color_mode(set)
+        .build();
+    assert_eq!(rt; config.color_mode(value), shown);
+}
+
+const COLORS: &[Colors] = &[
+    (ColorMode::Enabled, Some("1"), ColorMode::Disabled),
+    (ColorMode::Enabled, Some(""), ColorMode::Enabled),
+    (ColorMode::Enabled, None, ColorMode::Enabled),
+    (ColorMode::Forced, Some("1"), ColorMode::Forced),
+    (ColorMode::Disabled, None, ColorMode::Disabled),
+];
+
+#[test]
+fn no_color(rt: HostRuntime) {
+    for case in COLORS {
+        colors(&rt, *case);
+    }
+}
+
+/// Where an error comes from.
+#[derive(Clone, Copy)]
+enum Cause {
+    Eof,
+    Interrupted,
+    OnFire,
+    Memory,
+    Broken,
+    Invalid,
+    Format,
+    Refused,
+    RefusedWithValue,
+    OutOfMemory,
+}
+
+fn error_of(cause: Cause) -> ReadlineError {
+    match cause {
+        Cause::Eof => ReadlineError::Eof,
+        Cause::Interrupted => ReadlineError::Interrupted,
+        Cause::OnFire => ReadlineError::Io(io::Error::other("the disk is on fire")),
+        Cause::Memory => ReadlineError::Memory,
+        Cause::Broken => ReadlineError::from(io::Error::new(ErrorKind::BrokenPipe, "gone")),
+        Cause::Invalid => ReadlineError::from(ErrorKind::InvalidData),
+        Cause::Format => ReadlineError::from(fmt::Error),
+        Cause::Refused => ReadlineError::from(AllocError),
+        Cause::RefusedWithValue => ReadlineError::from(AllocFailed { value: 7u8 }),
+        Cause::OutOfMemory => ReadlineError::from(OutOfMemory),
+    }
+}
+
+/// A cause, the text, if one is written down for it, and the kind of an error of input or output.
+type Error = (Cause, Option<&'static str>, Option<ErrorKind>);
+
+fn errors(rt: &impl Abort, alloc: Global, case: Error) -> result::Result<(), Fail> {
+    let (cause, text, kind) = case;
+    let error = error_of(cause);
+    let shown = format!(in alloc; "{error}")?;
+    assert_eq!(rt; shown.as_str(), text.unwrap_or(shown.as_str()));
+    let found = match error {
+        ReadlineError::Io(cause) => Some(cause.kind()),
+        _ => None,
+    };
+    assert_eq!(rt; found, kind, "{shown}");
+    Ok(())
+}
+
+const ERRORS: &[Error] = &[
+    (Cause::Eof, Some("EOF"), None),
+    (Cause::Interrupted, Some("Interrupted"), None),
+    (
+        Cause::OnFire,
+        Some("the disk is on fire"),
+        Some(ErrorKind::Other),
+    ),
+    (Cause::Memory, Some("out of memory"), None),
+    (Cause::Broken, Some("gone"), Some(ErrorKind::BrokenPipe)),
+    (Cause::Invalid, None, Some(ErrorKind::InvalidData)),
+    (Cause::Format, None, Some(ErrorKind::Other)),
+    (Cause::Refused, Some("out of memory"), None),
+    (Cause::RefusedWithValue, Some("out of memory"), None),
+    (Cause::OutOfMemory, Some("out of memory"), None),
+];
+
+#[test]
+fn errors_by_their_cause(rt: HostRuntime) -> result::Result<(), Fail> {
+    for case in ERRORS {
+        errors(&rt, rt.alloc(), *case)?;
+    }
+    Ok(())
+}
+
+fn forms_are<P: Prompt>(prompt: &P, raw: &str, styled: &str) -> bool {
+    prompt.raw() == raw && prompt.styled() == styled
+}
+
+#[test]
+fn the_raw_prompt_comes_first(rt: HostRuntime) -> result::Result<(), Fail> {
+    let raw = String::from_str(rt.alloc(), "> ")?;
+    let styled = String::from_str(rt.alloc(), "\x1b[1m> \x1b[0m")?;
+    assert!(rt; forms_are(&"> ", "> ", "> ") && forms_are(&raw, "> ", "> "));
+    assert!(rt; forms_are(&("> ", "styled"), "> ", "styled"));
+    assert!(rt; forms_are(&(raw, styled), "> ", "\x1b[1m> \x1b[0m"));
+    Ok(())
+}

@@ -1,0 +1,360 @@
+//! What is large fails for no reason of its own: texts past 1,000 bytes, 1,000 groups of changes, 1,000 lines of a history.
+
+use super::Step::{self, *};
+use super::{Editor, PLAIN, done};
+use line_buffer::At::*;
+use line_buffer::Movement::*;
+use line_buffer::Word::*;
+use line_buffer::{CharSearch as Search, GraphemeClusterMode, KillRing};
+use line_config::{Config, Result};
+use line_editor::Bindings;
+use line_editor::command::Status;
+use line_editor::edit::State;
+use line_editor::keymap::InputState;
+use line_keys::command::Anchor::*;
+use line_parts::{Context, History};
+use std::alloc::Global;
+use std::process::Abort;
+use std::test::Fail;
+use tests_parties::advisor::{Advisor, Tip};
+use tests_parties::shelf::Shelf;
+use tests_stand_ins::recorder::Recorder;
+
+/// How many lines the history holds: each is `line` and a number of four digits, the first 1000. What is done once, what
+/// so many times, and what once behind it; and the length of the line, the cursor and the place that are left.
+type Case = (
+    u64,
+    &'static [Step],
+    u64,
+    &'static [Step],
+    &'static [Step],
+    usize,
+    usize,
+    usize,
+);
+
+/// A history of so many lines.
+fn shelved(alloc: Global, lines: u64) -> Result<Shelf> {
+    let mut history = Shelf::new(alloc, 0);
+    history.set_max_len(5000)?;
+    for line in 0..lines {
+        let number = line.saturating_add(1000);
+        let _ = history.add_owned(format!(in alloc; "line{number}")?)?;
+    }
+    Ok(history)
+}
+
+/// Does the steps, none of which fails.
+fn takes(
+    rt: &impl Abort,
+    alloc: Global,
+    state: &mut Editor<'_, '_>,
+    kills: &mut KillRing,
+    steps: &[Step],
+) -> Result<()> {
+    let config = Config::new(GraphemeClusterMode::Unicode);
+    let bindings = Bindings::new(alloc);
+    let input = InputState::new(&config, &bindings);
+    for step in steps {
+        let status = done(alloc, state, &input, kills, &config, step)?;
+        assert_eq!(rt; status, Status::Proceed);
+    }
+    Ok(())
+}
+
+fn lasts(rt: &impl Abort, alloc: Global, case: &Case) -> std::result::Result<(), Fail> {
+    let (lines, before, times, steps, behind, len, pos, place) = case;
+    let history = shelved(alloc, *lines)?;
+    let mut screen = Recorder::new(alloc, 80, false, 0);
+    let mut helper = Advisor::hinting(Some(Tip("!!", Some("!!"))), PLAIN.verdict, None);
+    let context = Context::new(&history);
+    let mut kills = KillRing::new(alloc, 60);
+    let mut state = State::new(alloc, &mut screen, &"> ", Some(&mut helper), context)?;
+    takes(rt, alloc, &mut state, &mut kills, before)?;
+    for _ in 0..*times {
+        takes(rt, alloc, &mut state, &mut kills, steps)?;
+    }
+    takes(rt, alloc, &mut state, &mut kills, behind)?;
+    let found = (state.line().len(), state.pos(), state.place());
+    assert_eq!(rt; found, (*len, *pos, *place));
+    Ok(())
+}
+
+const LONG: Step = SelfInsert(1200, 'x');
+
+/// Lines of 1,200 bytes and more.
+const TEXTS: &[Case] = &[
+    (0, &[LONG], 1, &[Kill(WholeLine)], &[], 0, 0, 0),
+    (0, &[LONG], 1, &[Kill(BackwardChar(1100))], &[], 100, 100, 0),
+    (
+        0,
+        &[LONG],
+        1,
+        &[Kill(BeginningOfLine)],
+        &[Yank(2, Before), YankPop],
+        2400,
+        2400,
+        0,
+    ),
+    (
+        0,
+        &[LONG],
+        1,
+        &[Kill(BeginningOfLine)],
+        &[Yank(2, Before)],
+        2400,
+        2400,
+        0,
+    ),
+    (
+        0,
+        &[LONG, ViYankTo(WholeLine)],
+        1,
+        &[Yank(1, Before)],
+        &[Yank(1, After)],
+        3600,
+        3600,
+        0,
+    ),
+    (0, &[Insert(1200, "日\n")], 1, &[], &[], 4800, 4800, 0),
+    (
+        0,
+        &[Insert(1200, "x\n")],
+        1,
+        &[Indent(WholeBuffer)],
+        &[],
+        4800,
+        4800,
+        0,
+    ),
+    (
+        0,
+        &[Insert(1200, "x\n")],
+        1,
+        &[Indent(WholeBuffer), Dedent(WholeBuffer)],
+        &[],
+        2400,
+        2400,
+        0,
+    ),
+    (
+        0,
+        &[LONG],
+        1,
+        &[Replace(WholeLine, Some("日"))],
+        &[],
+        3,
+        0,
+        0,
+    ),
+    (0, &[LONG], 1, &[PopText(1199, "日")], &[], 4, 4, 0),
+    (
+        0,
+        &[LONG, Put(1200, "y", Before)],
+        1,
+        &[],
+        &[],
+        2400,
+        2400,
+        0,
+    ),
+    (0, &[LONG, Newline], 1, &[LONG], &[Undo(1)], 1201, 1201, 0),
+    (
+        0,
+        &[LONG, Move(BeginningOfLine)],
+        1,
+        &[ReplaceChar(1100, 'y')],
+        &[Overwrite('z')],
+        1200,
+        1100,
+        0,
+    ),
+    (
+        0,
+        &[LONG, Move(BeginningOfLine)],
+        1,
+        &[UpcaseWord, TransposeChars],
+        &[TransposeWords(1)],
+        1200,
+        1200,
+        0,
+    ),
+    (
+        0,
+        &[LONG, Move(BackwardWord(1, Emacs)), CapitalizeWord],
+        1,
+        &[Move(BackwardChar(1150)), Move(ForwardChar(1100))],
+        &[DowncaseWord],
+        1200,
+        1200,
+        0,
+    ),
+    (
+        0,
+        &[LONG],
+        1,
+        &[Move(ViCharSearch(1100, Search::Backward('x')))],
+        &[Move(ForwardWord(1, AfterEnd, Vi))],
+        1200,
+        1200,
+        0,
+    ),
+    (
+        0,
+        &[LONG],
+        1,
+        &[Backup, Kill(WholeLine), Restore],
+        &[],
+        1200,
+        1200,
+        0,
+    ),
+    (
+        0,
+        &[LONG],
+        1,
+        &[CompleteHint],
+        &[Repaint, ClearScreen],
+        1202,
+        1202,
+        0,
+    ),
+    (
+        0,
+        &[LONG],
+        1,
+        &[EndOfFile, AskVerdict, AskLastInsert],
+        &[],
+        1200,
+        1200,
+        0,
+    ),
+    (
+        0,
+        &[LONG],
+        1,
+        &[PreviousHistory, HistorySearchBackward],
+        &[],
+        1200,
+        1200,
+        0,
+    ),
+];
+
+#[test]
+fn of_texts(rt: HostRuntime) -> std::result::Result<(), Fail> {
+    for case in TEXTS {
+        lasts(&rt, rt.alloc(), case)?;
+    }
+    Ok(())
+}
+
+const GROUP: &[Step] = &[Begin, SelfInsert(1, 'x'), End];
+
+/// One step after the other, and one kill.
+const CHANGES: &[Case] = &[
+    (0, &[], 1010, GROUP, &[Undo(1000)], 10, 10, 0),
+    (0, &[], 1010, &[Begin], &[LONG, End, Undo(1)], 0, 0, 0),
+    (
+        0,
+        &[],
+        1010,
+        &[SelfInsert(1, 'x'), Kill(BeginningOfLine)],
+        &[Yank(1, Before)],
+        1010,
+        1010,
+        0,
+    ),
+    (
+        0,
+        &[],
+        1010,
+        &[SelfInsert(1, 'x'), Kill(BeginningOfLine), Reset],
+        &[Yank(1, Before), YankPop],
+        1,
+        1,
+        0,
+    ),
+    (0, &[], 1010, &[Repaint], &[LONG], 1200, 1200, 0),
+];
+
+#[test]
+fn of_changes(rt: HostRuntime) -> std::result::Result<(), Fail> {
+    for case in CHANGES {
+        lasts(&rt, rt.alloc(), case)?;
+    }
+    Ok(())
+}
+
+/// A history of 1,100 lines of eight bytes.
+const WALKS: &[Case] = &[
+    (1100, &[], 1050, &[PreviousHistory], &[], 8, 8, 50),
+    (
+        1100,
+        &[SelfInsert(1, 'x')],
+        1100,
+        &[PreviousHistory],
+        &[PreviousHistory],
+        8,
+        8,
+        0,
+    ),
+    (
+        1100,
+        &[SelfInsert(1, 'x'), BeginningOfHistory],
+        1100,
+        &[NextHistory],
+        &[],
+        1,
+        1,
+        1100,
+    ),
+    (
+        1100,
+        &[SelfInsert(1, 'l')],
+        1050,
+        &[HistorySearchBackward],
+        &[],
+        8,
+        1,
+        50,
+    ),
+    (
+        1100,
+        &[BeginningOfHistory, Move(BeginningOfLine)],
+        1050,
+        &[HistorySearchForward],
+        &[],
+        8,
+        0,
+        1050,
+    ),
+    (
+        1100,
+        &[],
+        1050,
+        &[LineUpOrPreviousHistory(1)],
+        &[EndOfHistory],
+        0,
+        0,
+        1100,
+    ),
+    (
+        1100,
+        &[Insert(1, "line1000")],
+        1,
+        &[HistorySearchBackward],
+        &[],
+        8,
+        8,
+        0,
+    ),
+];
+
+#[test]
+fn of_histories(rt: HostRuntime) -> std::result::Result<(), Fail> {
+    for case in WALKS {
+        lasts(&rt, rt.alloc(), case)?;
+    }
+    Ok(())
+}

@@ -1,0 +1,16 @@
+//! The tests of keys, of their tables and bindings and of runs, as tables of cases, and the examples of the documents.
+#![tactic(auto)]
+
+#[cfg(test)]
+mod bindings;
+pub mod caller;
+#[cfg(test)]
+mod editor;
+pub mod example;
+#[cfg(test)]
+mod examples;
+#[cfg(test)]
+mod keys;
+#[cfg(test)]
+mod tables;
+pub mod watcher;

@@ -1,0 +1,159 @@
+//! A history of which a call can fail.
+ghost use Rattle.line_config.specs.Error.{FaultsOnly};
+
+use crate::countdown::Countdown;
+use crate::fault::Fault;
+use line_config::Result;
+use line_parts::history::{SearchDirection, SearchResult};
+use line_parts::{History, MemHistory};
+use std::alloc::Global;
+
+/// A call that can fail: a look-up with the index that is looked at first.
+#[derive(Clone, Copy, Debug, PartialEq, Eq)]
+pub enum Call {
+    Get(usize),
+    Search(usize),
+    StartsWith(usize),
+    Add,
+    AddOwned,
+    SetMaxLen,
+    IgnoreDups,
+    Clear,
+}
+
+/// Which calls fail.
+#[derive(Clone, Copy, Debug)]
+pub enum Failing {
+    /// This call alone.
+    Only(Call),
+    /// All other calls.
+    AllBut(Call),
+    /// All calls.
+    All,
+}
+
+impl Failing {
+    fn has(self, call: Call) -> bool {
+        match self {
+            Failing::Only(one) => one == call,
+            Failing::AllBut(one) => one != call,
+            Failing::All => true,
+        }
+    }
+}
+
+/// A history: lines that are kept in memory, how many look-ups come up to the one that fails, and which calls fail
+/// each time, by what.
+#[derive(Drop)]
+pub struct Shelf {
+    lines: MemHistory,
+    countdown: Countdown,
+    failing: Option<(Failing, Fault)>,
+}
+
+impl Shelf {
+    /// A history without lines. Its look-up of the number `failing`, from 1 on, fails; none does where that is 0.
+    pub fn new(alloc: Global, failing: u64) -> Shelf {
+        Shelf {
+            lines: MemHistory::new(alloc),
+            countdown: Countdown::new(failing),
+            failing: None,
+        }
+    }
+
+    /// Its look-up of the number `failing`, from 1 on, fails by this fault; none does where that is 0.
+    pub fn fail_by(&mut self, failing: u64, fault: Fault) {
+        self.countdown = Countdown::with(failing, fault);
+    }
+
+    /// From now on these calls fail, by this fault, each time. A call that fails changes nothing.
+    pub fn fail_in(&mut self, failing: Failing, fault: Fault) {
+        self.failing = Some((failing, fault));
+    }
+
+    /// Fails where this call is to fail each time.
+    fn called(&self, call: Call) -> Result<()>
+        ensures { FaultsOnly result }
+    {
+        match self.failing {
+            Some((failing, fault)) if failing.has(call) => fault.answer(),
+            _ => Ok(()),
+        }
+    }
+
+    /// Counts a look-up, and fails where it is to fail.
+    fn looked_up(&self, call: Call) -> Result<()>
+        ensures { FaultsOnly result }
+    {
+        self.called(call)?;
+        self.countdown.call()
+    }
+}
+
+impl History for Shelf {
+    ghost use Rattle.std.specs.Prelude.{false};
+
+    ghost lines = { λ s. s.lines.lines };
+
+    ghost rules = { λ s. s.lines.rules };
+
+    ghost sure = { λ _. false };
+
+    fn get(&self, index: usize, dir: SearchDirection) -> Result<Option<SearchResult<'_>>> {
+        self.looked_up(Call::Get(index))?;
+        self.lines.get(index, dir)
+    }
+
+    fn add(&mut self, line: &str) -> Result<bool> {
+        self.called(Call::Add)?;
+        self.lines.add(line)
+    }
+
+    fn add_owned(&mut self, line: String) -> Result<bool> {
+        self.called(Call::AddOwned)?;
+        self.lines.add_owned(line)
+    }
+
+    fn len(&self) -> usize {
+        self.lines.len()
+    }
+
+    fn set_max_len(&mut self, len: usize) -> Result<()> {
+        self.called(Call::SetMaxLen)?;
+        self.lines.set_max_len(len)
+    }
+
+    fn ignore_dups(&mut self, yes: bool) -> Result<()> {
+        self.called(Call::IgnoreDups)?;
+        self.lines.ignore_dups(yes)
+    }
+
+    fn ignore_space(&mut self, yes: bool) {
+        self.lines.ignore_space(yes);
+    }
+
+    fn clear(&mut self) -> Result<()> {
+        self.called(Call::Clear)?;
+        self.lines.clear()
+    }
+
+    fn search(
+        &self,
+        term: &str,
+        start: usize,
+        dir: SearchDirection,
+    ) -> Result<Option<SearchResult<'_>>> {
+        self.looked_up(Call::Search(start))?;
+        self.lines.search(term, start, dir)
+    }
+
+    fn starts_with(
+        &self,
+        term: &str,
+        start: usize,
+        dir: SearchDirection,
+    ) -> Result<Option<SearchResult<'_>>> {
+        self.looked_up(Call::StartsWith(start))?;
+        self.lines.starts_with(term, start, dir)
+    }
+}

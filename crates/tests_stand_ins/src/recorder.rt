@@ -1,0 +1,329 @@
+//! A renderer that writes down each call that it gets, and can fail one of them.
+ghost use Rattle.std.specs.Prelude.{◌≡◌, ◌≤◌, ◌<◌, string_bytes, OnOk};
+ghost use Rattle.line_config.specs.Error.{FaultsOnly};
+ghost use Rattle.line_config.specs.Failures.{CountsFailures};
+ghost use Rattle.tests_stand_ins.specs.Screen.{after_byte, measured};
+
+use crate::typist::Typist;
+use line_buffer::{GraphemeClusterMode, Layout, LineBuffer, Position, Unit};
+use line_config::{Prompt, ReadlineError, Result};
+use line_parts::Highlighter;
+use line_state::{Renderer, ScreenState};
+use std::alloc::Global;
+use std::borrow::CowStr;
+use std::fmt::{Display, Formatter};
+use std::{fmt, io};
+
+const ORIGIN: Position = Position { row: 0, col: 0 };
+
+/// What a renderer says of a call that fails by an error of its own.
+pub const CUT: &str = "the screen is cut";
+
+/// A renderer: a screen of so many columns, each of one byte, that keeps a line of text for each call that can fail.
+#[derive(Drop)]
+pub struct Recorder {
+    alloc: Global,
+    columns: Unit,
+    colors: bool,
+    place: Position,
+    text: String,
+    origin: Position,
+    redraws: u64,
+    failures: u64,
+    calls: u64,
+    failing: u64,
+    is_cut: bool,
+    log: String,
+    ghost some_columns: { 0 < columns },
+}
+
+impl Recorder {
+    /// An empty screen. Its call of the number `failing`, from 1 on, fails; none does where that is 0.
+    pub fn new(alloc: Global, columns: Unit, colors: bool, failing: u64) -> Recorder
+        requires { 0 < columns }
+    {
+        Recorder {
+            alloc,
+            columns,
+            colors,
+            place: ORIGIN,
+            text: String::new(alloc),
+            origin: ORIGIN,
+            redraws: 0,
+            failures: 0,
+            calls: 0,
+            failing,
+            is_cut: false,
+            log: String::new(alloc),
+        }
+    }
+
+    /// Its call of the number `failing`, from 1 on, fails by an error of its own.
+    pub fn cut_at(&mut self, failing: u64) {
+        self.failing = failing;
+        self.is_cut = true;
+    }
+
+    /// What was written down, a line for each call that can fail.
+    pub fn log(&self) -> &str {
+        self.log.as_str()
+    }
+
+    /// Counts a call, writes it down, and fails where it is the one that is to fail.
+    fn note(&mut self, call: &str) -> Result<()>
+        ensures columns { self.new.columns ≡ self.old.columns }
+        ensures colors { self.new.colors ≡ self.old.colors }
+        ensures place { self.new.place ≡ self.old.place }
+        ensures text { self.new.text ≡ self.old.text }
+        ensures origin { self.new.origin ≡ self.old.origin }
+        ensures redraws { self.new.redraws ≡ self.old.redraws }
+        ensures counts { CountsFailures result self.old.failures self.new.failures }
+        ensures faults { FaultsOnly result }
+    {
+        self.log.push_str(call)?;
+        self.log.push('\n')?;
+        self.calls = self.calls.saturating_add(1);
+        if self.calls == self.failing {
+            self.failures = self.failures.saturating_add(1);
+            return Err(ReadlineError::Io(self.cause()));
+        }
+        Ok(())
+    }
+
+    /// Why a call fails.
+    fn cause(&self) -> io::Error {
+        if self.is_cut {
+            return io::Error::new(io::ErrorKind::PermissionDenied, CUT);
+        }
+        io::Error::from(io::ErrorKind::Other)
+    }
+
+    /// Forgets what is shown. The cursor goes to the first place.
+    fn clear(&mut self)
+        ensures columns { self.new.columns ≡ self.old.columns }
+        ensures colors { self.new.colors ≡ self.old.colors }
+        ensures redraws { self.new.redraws ≡ self.old.redraws }
+        ensures failures { self.new.failures ≡ self.old.failures }
+    {
+        self.text.clear();
+        self.origin = ORIGIN;
+        self.place = ORIGIN;
+    }
+}
+
+/// Shows where the prompt ends, where the cursor is and where what is shown ends, by row and column, and a `+` where
+/// something is shown behind the line; or that nothing was drawn.
+#[derive(Clone, Copy)]
+struct Places<'l>(Option<&'l Layout>);
+
+impl Display for Places<'_> {
+    fn fmt<W: fmt::Write>(&self, f: &mut Formatter<W>) -> fmt::Result {
+        match self.0 {
+            Some(layout) => {
+                let (prompt, cursor, end) = (layout.prompt_size, layout.cursor, layout.end);
+                write!(f, "{}:{}", prompt.row, prompt.col)?;
+                write!(f, " {}:{}", cursor.row, cursor.col)?;
+                write!(f, " {}:{}", end.row, end.col)?;
+                f.write_str(if layout.has_info { "+" } else { "" })
+            }
+            None => f.write_str("none"),
+        }
+    }
+}
+
+/// Shows the prompt, and where it has styles the form with them.
+#[derive(Clone, Copy)]
+struct Styled<'p>(&'p str, &'p str);
+
+impl Display for Styled<'_> {
+    fn fmt<W: fmt::Write>(&self, f: &mut Formatter<W>) -> fmt::Result {
+        let (raw, styled) = (self.0, self.1);
+        if raw == styled {
+            return write!(f, "{raw:?}");
+        }
+        write!(f, "{raw:?} as {styled:?}")
+    }
+}
+
+/// How a highlighter shows a line.
+fn shown<'l, H: Highlighter>(
+    alloc: Global,
+    line: &'l LineBuffer,
+    highlighter: Option<&H>,
+) -> CowStr<'l> {
+    let Some(highlighter) = highlighter else {
+        return CowStr::Borrowed("plain");
+    };
+    match highlighter.highlight(alloc, line.as_str(), line.pos()) {
+        Ok(text) => text,
+        Err(_) => CowStr::Borrowed("not shown"),
+    }
+}
+
+/// Where the text ends that begins at `origin`.
+#[tactic(auto, unfolding(crate::specs::Screen::measured))]
+pub(crate) fn measured(columns: Unit, text: &str, origin: Position) -> Position
+    ensures { result ≡ measured columns text.now origin }
+{
+    let mut place = origin;
+    for byte in text.as_bytes() {
+        place = after_byte(columns, place, *byte);
+    }
+    place
+}
+
+/// The place after one more byte.
+fn after_byte(columns: Unit, place: Position, byte: u8) -> Position
+    ensures { result ≡ after_byte columns place byte }
+{
+    if byte != b'\n' && usize::from(place.col) + 1 < usize::from(columns) {
+        return Position {
+            row: place.row,
+            col: place.col + 1,
+        };
+    }
+    Position {
+        row: place.row.saturating_add(1),
+        col: 0,
+    }
+}
+
+impl ScreenState for Recorder {
+    ghost use Rattle.line_buffer.specs.declared.layout.GraphemeClusterMode.TheVariants.{Unicode};
+    ghost use Rattle.tests_stand_ins.specs.Screen.{measured};
+
+    ghost surface = { λ r. record {
+      measure = measured r.columns;
+      columns = r.columns;
+      colors = r.colors;
+      mode = Unicode;
+    } };
+
+    ghost screen = { λ r. record {
+      position = r.place;
+      text = string_bytes r.text;
+      origin = r.origin;
+    } };
+
+    ghost redraws = { λ r. r.redraws };
+
+    ghost failures = { λ r. r.failures };
+}
+
+impl Renderer for Recorder {
+    type Reader = Typist;
+
+    ghost use Rattle.tests_stand_ins.specs.ScreenLaws as laws;
+
+    fn move_cursor(&mut self, old: Position, new: Position) -> Result<()> {
+        let (from, to) = ((old.row, old.col), (new.row, new.col));
+        let call = format!(in self.alloc; "move {from:?} to {to:?}")?;
+        self.note(&call)?;
+        self.place = new;
+        Ok(())
+    }
+
+    fn refresh_line<P: Prompt, H: Highlighter>(
+        &mut self,
+        prompt: &P,
+        line: &LineBuffer,
+        hint: Option<&str>,
+        old_layout: Option<&Layout>,
+        new_layout: &Layout,
+        highlighter: Option<&H>,
+    ) -> Result<()> {
+        let call = format!(in self.alloc;
+            "draw {} {:?} {} {hint:?} old {} new {} {}",
+            Styled(prompt.raw(), prompt.styled()),
+            line.as_str(),
+            line.pos(),
+            Places(old_layout),
+            Places(Some(new_layout)),
+            shown(self.alloc, line, highlighter).as_str(),
+        )?;
+        self.note(&call)?;
+        self.text.clear();
+        self.text.push_str(line.as_str())?;
+        self.place = new_layout.cursor;
+        self.origin = new_layout.prompt_size;
+        self.redraws = self.redraws.saturating_add(1);
+        Ok(())
+    }
+
+    fn calculate_position(&self, s: &str, orig: Position) -> Position {
+        measured(self.columns, s, orig)
+    }
+
+    fn write_and_flush(&mut self, buf: &str) -> Result<()> {
+        let call = format!(in self.alloc; "write {buf:?}")?;
+        self.note(&call)?;
+        self.text.push_str(buf)?;
+        self.place = measured(self.columns, buf, self.place);
+        Ok(())
+    }
+
+    fn beep(&mut self) -> Result<()> {
+        self.note("beep")
+    }
+
+    fn clear_screen(&mut self) -> Result<()> {
+        self.note("clear screen")?;
+        self.clear();
+        Ok(())
+    }
+
+    fn clear_rows(&mut self, layout: &Layout) -> Result<()> {
+        let call = format!(in self.alloc; "clear rows of {}", Places(Some(layout)))?;
+        self.note(&call)?;
+        self.clear();
+        Ok(())
+    }
+
+    fn clear_to_eol(&mut self) -> Result<()> {
+        self.note("clear to the end of the row")?;
+        let end = measured(self.columns, self.text.as_str(), self.origin);
+        let gone = usize::from(end.col.saturating_sub(self.place.col));
+        let kept = self.text.len().saturating_sub(gone);
+        if end.row == self.place.row && self.text.is_char_boundary(kept) {
+            self.text.truncate(kept);
+        }
+        Ok(())
+    }
+
+    fn update_size(&mut self) {}
+
+    fn get_columns(&self) -> Unit {
+        self.columns
+    }
+
+    fn get_rows(&self) -> Unit {
+        24
+    }
+
+    fn colors_enabled(&self) -> bool {
+        self.colors
+    }
+
+    fn grapheme_cluster_mode(&self) -> GraphemeClusterMode {
+        GraphemeClusterMode::Unicode
+    }
+
+    fn move_cursor_at_leftmost(&mut self, rdr: &mut Typist) -> Result<()> {
+        let _ = rdr;
+        self.note("move to the first column")?;
+        self.place.col = 0;
+        Ok(())
+    }
+
+    fn begin_synchronized_update(&mut self) -> Result<()> {
+        self.note("begin to hold back")
+    }
+
+    fn end_synchronized_update(&mut self) -> Result<()> {
+        self.note("show what was held back")
+    }
+
+    ghost column_below = { λ r. laws.measured-below r.columns };
+
+    ghost one_column = { λ r. laws.measured-push r.columns };
+}
