@@ -2,6 +2,8 @@
 use Rattle.std.specs.Prelude.{ℕ, Result, Ok, Err}
 use Rattle.line_config.specs.declared.error.ReadlineError.{ReadlineError}
 use Rattle.line_config.specs.declared.error.ReadlineError.TheVariants as errors
+use Rattle.replay.specs.declared.report.Ending.{Ending}
+use Rattle.replay.specs.declared.report.Ending.TheVariants.{Ran, BadScript}
 use Rattle.replay.specs.declared.report.Outcome.{Outcome}
 use Rattle.replay.specs.declared.report.Outcome.TheVariants.{Submitted, Eof, Interrupted, Fault}
 
@@ -13,9 +15,11 @@ outcome_of (Err errors.Interrupted) = Interrupted
 outcome_of (Err (errors.Io _)) = Fault
 outcome_of (Err errors.Memory) = Fault
 
--- the status of each end
-abbrev pub status_of : Outcome → ℕ
-status_of Submitted = 0
-status_of Eof = 1
-status_of Interrupted = 2
-status_of Fault = 3
+-- the status that the program ends with; an error is a fault of memory, or of one of its own streams
+abbrev pub status_of : Result Ending ReadlineError → ℕ
+status_of (Ok (Ran Submitted)) = 0
+status_of (Ok (Ran Eof)) = 1
+status_of (Ok (Ran Interrupted)) = 2
+status_of (Ok (Ran Fault)) = 3
+status_of (Ok BadScript) = 4
+status_of (Err _) = 3

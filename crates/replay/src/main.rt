@@ -1,7 +1,7 @@
 //! Runs a script of keys through the line editor, and prints what became of the line.
 #![tactic(auto)]
 
-ghost use Rattle.std.specs.Prelude.{◌≤◌, IfOk};
+ghost use Rattle.std.specs.Prelude.{◌≤◌};
 
 mod helper;
 mod measure;
@@ -19,18 +19,12 @@ use line_editor::run::run;
 use line_keys::keymap::Refresher;
 use line_parts::{Context, FileHistory};
 use plain::Plain;
-use report::{Outcome, Report};
+use report::{Ending, Outcome, Report, exit_status};
 use script::{Script, ScriptError, read_script};
 use std::alloc::Global;
 use std::io;
 use std::io::{Read, Write};
 use std::process::ExitCode;
-
-/// The status of a fault.
-const FAULT: u8 = 3;
-
-/// The status of a script with a bad line.
-const BAD_SCRIPT: u8 = 4;
 
 /// The slots of the kill ring.
 const KILL_RING_SIZE: usize = 60;
@@ -46,26 +40,21 @@ fn main(rt: HostRuntime) -> ExitCode {
 pub fn play<R: Read + Drop, O: Write>(alloc: Global, input: R, out: &mut O) -> u8
     ensures { result ≤ 4 }
 {
-    match play_script(alloc, input, out) {
-        Ok(status) => status,
-        Err(_) => FAULT,
-    }
+    exit_status(play_script(alloc, input, out))
 }
 
-/// The same, with a fault of a stream or of memory as the error.
+/// The same, and the answer is what was done. An error is a fault of memory, or of one of the two streams.
 fn play_script<R: Read + Drop, O: Write>(
     alloc: Global,
     input: R,
     out: &mut O,
-) -> Result<u8, ReadlineError>
-    ensures { IfOk result (λ status. status ≤ 4) }
-{
+) -> Result<Ending, ReadlineError> {
     let parsed = match read_script(alloc, input) {
         Ok(parsed) => parsed,
         Err(ScriptError::BadLine(line)) => {
             writeln!(out, "bad script line {line}")?;
             out.flush()?;
-            return Ok(BAD_SCRIPT);
+            return Ok(Ending::BadScript);
         }
         Err(ScriptError::Fault(error)) => return Err(error),
     };
@@ -82,7 +71,7 @@ fn play_script<R: Read + Drop, O: Write>(
     )?;
     writeln!(out, "redraws {}", screen.redraws())?;
     out.flush()?;
-    Ok(outcome.status())
+    Ok(Ending::Ran(outcome))
 }
 
 /// Edits a line by the script's items, and prints all but the redraws.

@@ -33,19 +33,6 @@ impl Outcome {
             Err(ReadlineError::Io(_) | ReadlineError::Memory) => Outcome::Fault,
         }
     }
-
-    /// The status that the program ends with.
-    pub(crate) fn status(self) -> u8
-        ensures value { result ≡ status_of self }
-        ensures bound { result ≤ 3 }
-    {
-        match self {
-            Outcome::Submitted => 0,
-            Outcome::Eof => 1,
-            Outcome::Interrupted => 2,
-            Outcome::Fault => 3,
-        }
-    }
 }
 
 impl Display for Outcome {
@@ -56,6 +43,29 @@ impl Display for Outcome {
             Outcome::Interrupted => "interrupted",
             Outcome::Fault => "fault",
         })
+    }
+}
+
+/// What the program did.
+#[derive(Clone, Copy)]
+pub(crate) enum Ending {
+    /// It ran the script, which ended so.
+    Ran(Outcome),
+    /// It named the script's first bad line.
+    BadScript,
+}
+
+/// The status that the program ends with. An error is a fault of memory, or of one of the program's own streams.
+pub(crate) fn exit_status(answer: Result<Ending>) -> u8
+    ensures value { result ≡ status_of answer }
+    ensures bound { result ≤ 4 }
+{
+    match answer {
+        Ok(Ending::Ran(Outcome::Submitted)) => 0,
+        Ok(Ending::Ran(Outcome::Eof)) => 1,
+        Ok(Ending::Ran(Outcome::Interrupted)) => 2,
+        Ok(Ending::Ran(Outcome::Fault)) | Err(_) => 3,
+        Ok(Ending::BadScript) => 4,
     }
 }
 
@@ -107,18 +117,18 @@ mod tests {
     use std::result::Result;
     use std::test::Fail;
 
-    fn names(rt: &impl Abort, alloc: Global, case: (Outcome, &str, u8)) -> Result<(), Fail> {
-        let (outcome, name, status) = case;
+    fn names(rt: &impl Abort, alloc: Global, case: (Outcome, &str)) -> Result<(), Fail> {
+        let (outcome, name) = case;
         let shown = format!(in alloc; "{outcome}")?;
-        assert_eq!(rt; (shown.as_str(), outcome.status()), (name, status));
+        assert_eq!(rt; shown.as_str(), name);
         Ok(())
     }
 
-    const OUTCOMES: &[(Outcome, &str, u8)] = &[
-        (Outcome::Submitted, "submitted", 0),
-        (Outcome::Eof, "eof", 1),
-        (Outcome::Interrupted, "interrupted", 2),
-        (Outcome::Fault, "fault", 3),
+    const OUTCOMES: &[(Outcome, &str)] = &[
+        (Outcome::Submitted, "submitted"),
+        (Outcome::Eof, "eof"),
+        (Outcome::Interrupted, "interrupted"),
+        (Outcome::Fault, "fault"),
     ];
 
     #[test]
@@ -149,6 +159,11 @@ mod tests {
         (
             "a\\\n世",
             "outcome eof\nline a\\\\\\n世\ncursor 3\nplace 7\nat 2 5\n",
+        ),
+        // other control characters stand as they are
+        (
+            "\r\t\u{1}\\n\0",
+            "outcome eof\nline \r\t\u{1}\\\\n\0\ncursor 3\nplace 7\nat 2 5\n",
         ),
     ];
 

@@ -60,6 +60,13 @@ const SCRIPTS: &[Case] = &[
         0,
     ),
     ("type a\nhistory a\n", "bad script line 2\n", 4),
+    // what stands behind a submit is not read by the editor, but has to be good
+    (
+        "type a\nkey Enter\ntype b\nkey PasteStart\nkey C-c",
+        "outcome submitted\nline a\ncursor 1\nplace 0\nat 0 3\nredraws 2\n",
+        0,
+    ),
+    ("type a\n\nkey Enter\nkey\n", "bad script line 4\n", 4),
     // an open bracket asks for another line, and one at fault stays with its message
     (
         "brackets\ntype (\nkey Enter\ntype )\nkey Enter\n",
@@ -75,6 +82,27 @@ const SCRIPTS: &[Case] = &[
         "type ]\nkey Enter\n",
         "outcome submitted\nline ]\ncursor 1\nplace 0\nat 0 3\nredraws 2\n",
         0,
+    ),
+    // a setting given twice: what is on stays on, and the later prompt and columns count
+    (
+        "brackets\nbrackets\ntype ]\nkey Enter\n",
+        "outcome eof\nline ]\ncursor 1\nplace 0\nat 0 3\nredraws 3\n",
+        1,
+    ),
+    (
+        "hints\nhistory ab\nhints\ntype a\nkey Right\n",
+        "outcome eof\nline ab\ncursor 2\nplace 1\nat 0 4\nredraws 3\n",
+        1,
+    ),
+    (
+        "prompt abcdef\ncolumns 10\ncolumns 12\nprompt abc\ntype 123456789\n",
+        "outcome eof\nline 123456789\ncursor 9\nplace 0\nat 1 0\nredraws 10\n",
+        1,
+    ),
+    (
+        "prompt abc\ncolumns 12\ncolumns 10\nprompt \ntype 123456789\n",
+        "outcome eof\nline 123456789\ncursor 9\nplace 0\nat 0 9\nredraws 10\n",
+        1,
     ),
     // a hint is shown behind the line, and is no part of it; moves keep it, and Right at the end takes it
     (
@@ -108,22 +136,130 @@ fn prints_what_became_of_the_line(rt: HostRuntime) -> Result<(), Fail> {
     Ok(())
 }
 
-/// A stream that can't be read.
-#[derive(Drop)]
-struct Broken;
+/// A key where a pasted text is read, and the other way round: a fault of the reader. The state is printed as it
+/// stands.
+const FAULTS: &[Case] = &[
+    (
+        "key PasteStart\nkey C-d\n",
+        "outcome fault\nline \ncursor 0\nplace 0\nat 0 2\nredraws 1\n",
+        3,
+    ),
+    (
+        "type ab\nkey PasteStart\nkey Enter\n",
+        "outcome fault\nline ab\ncursor 2\nplace 0\nat 0 4\nredraws 3\n",
+        3,
+    ),
+    (
+        "history x\nhistory a\\\\b\\nc\nkey Up\nkey Left\nkey PasteStart\ntype q\nkey C-c\n",
+        "outcome fault\nline a\\\\b\\nc\ncursor 4\nplace 1\nat 1 0\nredraws 3\n",
+        3,
+    ),
+    // the mark is the second key of C-], and the text is read where a key is
+    (
+        "type a\nkey C-]\npaste x\nkey Enter\n",
+        "outcome fault\nline a\ncursor 1\nplace 0\nat 0 3\nredraws 2\n",
+        3,
+    ),
+];
 
-impl Read for Broken {
+#[test]
+fn prints_the_state_after_a_fault(rt: HostRuntime) -> Result<(), Fail> {
+    for case in FAULTS {
+        prints(&rt, rt.alloc(), *case)?;
+    }
+    Ok(())
+}
+
+/// Kills the numbers from 1 on, each by itself, yanks, and goes back in the kill ring.
+fn goes_back(rt: &impl Abort, alloc: Global, case: (usize, usize, &str)) -> Result<(), Fail> {
+    let (kills, turns, printed) = case;
+    let mut script = Vec::new(alloc);
+    for number in 1..=kills {
+        write!(script, "type {number}\nkey C-u\n")?;
+    }
+    writeln!(script, "key C-y")?;
+    for _ in 0..turns {
+        writeln!(script, "key M-y")?;
+    }
+    let mut out = Vec::new(alloc);
+    let ended = play(alloc, script.as_slice(), &mut out);
+    let shown = str::from_utf8(&out)?;
+    assert_eq!(rt; (shown, ended), (printed, 1), "{kills} {turns}");
+    Ok(())
+}
+
+/// So many kills and so many steps back, and what is printed. The ring has 60 slots: the 61st kill takes the place of
+/// the first, and the 60th step comes back to where it began.
+const RING: &[(usize, usize, &str)] = &[
+    (
+        4,
+        3,
+        "outcome eof\nline 1\ncursor 1\nplace 0\nat 0 3\nredraws 13\n",
+    ),
+    (
+        60,
+        59,
+        "outcome eof\nline 1\ncursor 1\nplace 0\nat 0 3\nredraws 232\n",
+    ),
+    (
+        61,
+        59,
+        "outcome eof\nline 2\ncursor 1\nplace 0\nat 0 3\nredraws 235\n",
+    ),
+    (
+        61,
+        60,
+        "outcome eof\nline 61\ncursor 2\nplace 0\nat 0 4\nredraws 236\n",
+    ),
+];
+
+#[test]
+fn keeps_sixty_killed_texts(rt: HostRuntime) -> Result<(), Fail> {
+    for case in RING {
+        goes_back(&rt, rt.alloc(), *case)?;
+    }
+    Ok(())
+}
+
+/// A stream that gives these bytes, and then can't be read.
+#[derive(Drop)]
+struct Cut {
+    rest: &'static [u8],
+}
+
+impl Read for Cut {
     fn read(&mut self, buf: &mut [u8]) -> io::Result<usize> {
-        let _ = buf;
-        Err(io::Error::from(io::ErrorKind::Other))
+        if self.rest.is_empty() {
+            Err(io::Error::from(io::ErrorKind::Other))
+        } else {
+            self.rest.read(buf)
+        }
     }
 }
 
+/// Plays a script that its stream cuts short: nothing is printed, and the status is that of a fault.
+fn is_cut(rt: &impl Abort, alloc: Global, script: &'static str) {
+    let mut out = Vec::new(alloc);
+    let input = Cut {
+        rest: script.as_bytes(),
+    };
+    assert_eq!(rt; play(alloc, input, &mut out), 3, "{script}");
+    assert_eq!(rt; out.len(), 0, "{script}");
+}
+
+const CUT: &[&str] = &[
+    "",
+    "type a\n",
+    "type a\nkey Enter\n",
+    "type a\nkey Ent",
+    "key\n",
+];
+
 #[test]
 fn ends_with_the_fault_of_its_input(rt: HostRuntime) {
-    let mut out = Vec::new(rt.alloc());
-    assert_eq!(rt; play(rt.alloc(), Broken, &mut out), FAULT);
-    assert_eq!(rt; out.len(), 0);
+    for script in CUT {
+        is_cut(&rt, rt.alloc(), script);
+    }
 }
 
 /// A stream that takes one byte a call. One write of it fails, or each from one on, or each flush.
@@ -288,7 +424,7 @@ const WHOLE: &[Case] = &[
         "outcome submitted\nline a\ncursor 1\nplace 0\nat 0 3\nredraws 2\n",
         0,
     ),
-    ("key\n", "bad script line 1\n", BAD_SCRIPT),
+    ("key\n", "bad script line 1\n", 4),
 ];
 
 /// Plays to a stream of which the write after `failing` bytes fails, once or for good, or whose flush does: what is
@@ -312,7 +448,7 @@ fn faults(
     let ended = play(alloc, script.as_bytes(), &mut out);
     let printed = failing.min(whole.len());
     let wanted = if failing < whole.len() || !flushes {
-        FAULT
+        3
     } else {
         status
     };

@@ -115,14 +115,25 @@ mod tests {
         ),
         ("Space", Some((KeyCode::Char(' '), Modifiers::NONE))),
         ("F1", Some((KeyCode::F(1), Modifiers::NONE))),
+        ("F2", Some((KeyCode::F(2), Modifiers::NONE))),
         ("F9", Some((KeyCode::F(9), Modifiers::NONE))),
         ("F10", Some((KeyCode::F(10), Modifiers::NONE))),
+        ("F19", Some((KeyCode::F(19), Modifiers::NONE))),
+        ("F20", Some((KeyCode::F(20), Modifiers::NONE))),
         ("F24", Some((KeyCode::F(24), Modifiers::NONE))),
         ("F", Some((KeyCode::Char('F'), Modifiers::NONE))),
         ("a", Some((KeyCode::Char('a'), Modifiers::NONE))),
         (" ", Some((KeyCode::Char(' '), Modifiers::NONE))),
         ("-", Some((KeyCode::Char('-'), Modifiers::NONE))),
         ("世", Some((KeyCode::Char('世'), Modifiers::NONE))),
+        ("A", Some((KeyCode::Char('A'), Modifiers::NONE))),
+        ("\\", Some((KeyCode::Char('\\'), Modifiers::NONE))),
+        ("\t", Some((KeyCode::Tab, Modifiers::NONE))),
+        ("\r", Some((KeyCode::Enter, Modifiers::NONE))),
+        ("\u{1b}", Some((KeyCode::Esc, Modifiers::NONE))),
+        ("\u{7f}", Some((KeyCode::Backspace, Modifiers::NONE))),
+        ("\u{1}", Some((KeyCode::Char('A'), Modifiers::CTRL))),
+        ("\0", Some((KeyCode::Char('@'), Modifiers::CTRL))),
     ];
 
     #[test]
@@ -146,6 +157,20 @@ mod tests {
         ("C-S-Left", Some((KeyCode::Left, Modifiers::CTRL_SHIFT))),
         ("M-S-F5", Some((KeyCode::F(5), Modifiers::ALT_SHIFT))),
         ("C-M-S-Up", Some((KeyCode::Up, Modifiers::CTRL_ALT_SHIFT))),
+        // a letter of a modifier behind which nothing follows
+        ("C--", Some((KeyCode::Char('-'), Modifiers::CTRL))),
+        ("S--", Some((KeyCode::Char('-'), Modifiers::SHIFT))),
+        ("C-C", Some((KeyCode::Char('C'), Modifiers::CTRL))),
+        ("C-M-S", Some((KeyCode::Char('S'), Modifiers::CTRL_ALT))),
+        ("C-M--", Some((KeyCode::Char('-'), Modifiers::CTRL_ALT))),
+        // put in normal form once
+        ("C-S-a", Some((KeyCode::Char('A'), Modifiers::CTRL_SHIFT))),
+        ("C-S-A", Some((KeyCode::Char('A'), Modifiers::CTRL))),
+        ("C-é", Some((KeyCode::Char('é'), Modifiers::CTRL))),
+        ("S-Space", Some((KeyCode::Char(' '), Modifiers::SHIFT))),
+        ("S-BackTab", Some((KeyCode::BackTab, Modifiers::SHIFT))),
+        ("M-S-Tab", Some((KeyCode::BackTab, Modifiers::ALT))),
+        ("M-Enter", Some((KeyCode::Enter, Modifiers::ALT))),
     ];
 
     #[test]
@@ -165,6 +190,14 @@ mod tests {
         ("M-", None),
         ("S-", None),
         ("C-M-S-", None),
+        ("C-C-", None),
+        ("M-S-", None),
+        ("S-M-", None),
+        ("c-a", None),
+        ("C-ab", None),
+        ("C-Enter ", None),
+        (" Enter", None),
+        ("Ctrl-a", None),
         ("M-C-a", None),
         ("S-M-a", None),
         ("C-C-a", None),
@@ -175,6 +208,8 @@ mod tests {
         ("F+1", None),
         ("F1x", None),
         ("F100", None),
+        ("F257", None),
+        ("f1", None),
         ("e\u{301}", None),
     ];
 

@@ -1,6 +1,7 @@
 //! Scripts, line by line.
 
 use super::*;
+use std::io::Write;
 use std::process::Abort;
 use std::test::Fail;
 
@@ -20,7 +21,7 @@ fn keeps(rt: &impl Abort, alloc: Global, case: (&str, &[KeyEvent])) -> Result<()
 
 #[test]
 fn keeps_the_items_of_good_lines(rt: HostRuntime) -> Result<(), Fail> {
-    let good: [(&str, &[KeyEvent]); 10] = [
+    let good: [(&str, &[KeyEvent]); 16] = [
         ("", &[]),
         ("\n\n", &[]),
         ("type ", &[]),
@@ -37,8 +38,24 @@ fn keeps_the_items_of_good_lines(rt: HostRuntime) -> Result<(), Fail> {
                 typed('\\'),
             ],
         ),
+        (r"type \\n", &[typed('\\'), typed('n')]),
         ("type a\r\n", &[typed('a'), typed('\r')]),
+        ("type \t\u{3}", &[typed('\t'), typed('\u{3}')]),
+        (
+            "type type a",
+            &[
+                typed('t'),
+                typed('y'),
+                typed('p'),
+                typed('e'),
+                typed(' '),
+                typed('a'),
+            ],
+        ),
         ("key  \n", &[typed(' ')]),
+        ("key \r\n", &[ENTER]),
+        ("key é", &[typed('é')]),
+        ("key a\n\n\n", &[typed('a')]),
         (
             "\nkey C-a\n\ntype x\nkey Enter",
             &[CTRL_A, typed('x'), ENTER],
@@ -86,6 +103,35 @@ fn fills_the_history(rt: HostRuntime) -> Result<(), Fail> {
     Ok(())
 }
 
+/// So many lines, the numbers from 1 on, and how many of them are kept and the oldest: the history keeps 100.
+const LIMITED: &[(usize, usize, &str)] = &[(100, 100, "1"), (101, 100, "2"), (250, 100, "151")];
+
+fn limits(rt: &impl Abort, alloc: Global, case: (usize, usize, &str)) -> Result<(), Fail> {
+    let (lines, kept, oldest) = case;
+    let mut script = Vec::new(alloc);
+    for number in 1..=lines {
+        writeln!(script, "history {number}")?;
+    }
+    let Ok(parsed) = read_script(alloc, script.as_slice()) else {
+        return Err(Fail::from("a good script"));
+    };
+    assert_eq!(rt; parsed.history.len(), kept, "{lines}");
+    let first = parsed.history.iter().next();
+    assert!(rt;
+        matches!(first, Some(entry) if entry.as_str() == oldest),
+        "{lines}"
+    );
+    Ok(())
+}
+
+#[test]
+fn keeps_a_hundred_lines(rt: HostRuntime) -> Result<(), Fail> {
+    for case in LIMITED {
+        limits(&rt, rt.alloc(), *case)?;
+    }
+    Ok(())
+}
+
 /// A script, and whether there are hints and whether brackets are checked.
 type Switched = (&'static str, bool, bool);
 
@@ -107,6 +153,10 @@ const SWITCHED: &[Switched] = &[
     ("history hints\ntype brackets", false, false),
     ("hints", true, false),
     ("brackets\n", false, true),
+    // what is on stays on
+    ("hints\nhints", true, false),
+    ("brackets\nbrackets", false, true),
+    ("brackets\nhints\nbrackets\nhints\n", true, true),
     ("\nhints\n\nhistory a\nbrackets\nhints\ntype (", true, true),
 ];
 
@@ -139,8 +189,12 @@ const SET: &[Set] = &[
     ("prompt ", "", 80),
     ("prompt  a \ntype prompt b", " a ", 80),
     (r"prompt a\nb\\", "a\nb\\", 80),
+    ("prompt a\r\n", "a\r", 80),
+    ("prompt columns 70", "columns 70", 80),
     ("prompt a\nprompt b\ncolumns 70\n\ncolumns 10", "b", 10),
+    ("columns 10\nprompt b\ncolumns 70\nprompt ", "", 70),
     ("columns 0080", "> ", 80),
+    ("columns 000000000000000000000000000080", "> ", 80),
     ("columns 10", "> ", 10),
     ("columns 1000", "> ", 1000),
 ];
@@ -159,6 +213,8 @@ const PASTED: &[(&str, &str)] = &[
     ("paste a", "a"),
     (r"paste a\nb\\", "a\nb\\"),
     ("paste  é\n", " é"),
+    ("paste a\r\n", "a\r"),
+    (r"paste a\\nb", r"a\nb"),
 ];
 
 fn pastes(rt: &impl Abort, alloc: Global, case: (&str, &str)) -> Result<(), Fail> {
@@ -207,6 +263,11 @@ const BAD: &[(&[u8], usize)] = &[
     (b"Type a", 1),
     (b"types a", 1),
     (b"\r\n", 1),
+    (b" ", 1),
+    (b" \ntype a", 1),
+    (b"\n\n\ntype a\n\nfoo bar\n\nfoo", 6),
+    (b"# a", 1),
+    (b"\xef\xbb\xbftype a", 1),
     (b"key Enter\r\n", 1),
     (b"type \\t", 1),
     (b"type a\\", 1),
@@ -214,6 +275,7 @@ const BAD: &[(&[u8], usize)] = &[
     (b"type \xff", 1),
     (b"type a\n\xc3\n", 2),
     (b"key Foo\n\xff", 1),
+    (b"\n\xff\nkey Foo", 2),
     (b"mode vi", 1),
     (b"history", 1),
     (b"history\ta", 1),
@@ -239,11 +301,17 @@ const BAD: &[(&[u8], usize)] = &[
     (b"columns 9", 1),
     (b"columns 1001", 1),
     (b"columns 65536", 1),
+    (b"columns 65616", 1),
+    (b"columns 4294967376", 1),
+    (b"columns 18446744073709551696", 1),
+    (b"columns \xd9\xa3\xd9\xa0", 1),
     (b"type a\ncolumns 9", 2),
     (b"columns +80", 1),
     (b"columns -1", 1),
     (b"columns 8 0", 1),
     (b"columns 80 ", 1),
+    (b"columns  80", 1),
+    (b"columns 80\ncolumns 9", 2),
     (b"columns 80\r\n", 1),
     (b"columns ten", 1),
     (b"type a\ncolumns 80", 2),
@@ -251,6 +319,8 @@ const BAD: &[(&[u8], usize)] = &[
     (b"prompt \\t", 1),
     (b"prompt a\\", 1),
     (b"paste a\nprompt $", 2),
+    (b"paste \nhistory a", 2),
+    (b"type a\nprompt \\t", 2),
     (b"paste", 1),
     (b"paste \\t", 1),
     (b"key a\npaste a\\\nkey Foo", 2),
