@@ -95,6 +95,23 @@ pub(super) fn edited(
     Ok(Some(answer))
 }
 
+/// Makes the calls in order. The last one's answer, where it has one.
+pub(super) fn all_edited(
+    rt: &impl Abort,
+    line: &mut LineBuffer,
+    changes: &mut Changeset,
+    steps: &[Edit],
+) -> Result<Option<bool>, OutOfMemory>
+    requires { Tells changes.old.entries line.old.text }
+    ensures { OnOk result (Tells changes.new.entries line.new.text) }
+{
+    let mut answer = None;
+    for step in steps {
+        answer = edited(rt, line, changes, step)?;
+    }
+    Ok(answer)
+}
+
 /// The line, its changes and the last answer after the calls.
 pub(super) fn after(
     rt: &impl Abort,
@@ -107,10 +124,7 @@ pub(super) fn after(
 {
     let mut line = line_at(rt, alloc, text, pos)?;
     let mut changes = Changeset::new(alloc);
-    let mut answer = None;
-    for step in steps {
-        answer = edited(rt, &mut line, &mut changes, step)?;
-    }
+    let answer = all_edited(rt, &mut line, &mut changes, steps)?;
     Ok((line, changes, answer))
 }
 
