@@ -1,5 +1,5 @@
 -- Bindings of events.
-use Rattle.std.specs.Prelude.{Bool, true, List, map, find, Option, Some, is_some, option_map}
+use Rattle.std.specs.Prelude.{◌≡◌, if◌then◌else◌, Bool, true, List, map, find, Option, Some, is_some, option_map}
 use Rattle.std.specs.List.{list_all, list_any}
 use Rattle.line_keys.specs.Command.{Command, command_of}
 use Rattle.line_keys.specs.declared.keys.KeyEvent.{KeyEvent}
@@ -39,6 +39,12 @@ begins bound chord = is_some (handler_of bound chord)
 -- no error of input or output comes from a handler
 abbrev pub all_sure : Bound → Bool
 all_sure bound = list_all (λ binding. binding.1.sure) bound
+
+-- one event is bound to a handler anew, and the others as before; bindings whose handlers are all sure stay so by one that is sure
+pub record Rebinds (old new : Bound) (chord : Chord) (handler : Handler) : Type 0 where
+  pub handlers : (other : Chord) → handler_of new other
+      ≡ (if same_chord chord other then Some handler else handler_of old other)
+  pub sure : all_sure old ≡ true → handler.sure ≡ true → all_sure new ≡ true
 
 module _ {X : Type 0} {P : X → Type 0} (g : (x : X) → handlers.Ghosts (P x)) where
   -- a handler as a value: a command answers itself

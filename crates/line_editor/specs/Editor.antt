@@ -1,17 +1,29 @@
 -- The abstract editor, and what a command answers.
-use Rattle.std.specs.Prelude.{◌≡◌, ℕ, true, false}
+use Rattle.std.specs.Prelude.{◌≡◌, ℕ, Bool, true, false}
 use Rattle.line_buffer.specs.KillRing.{Ring}
 use Rattle.line_buffer.specs.declared.layout.GraphemeClusterMode.{GraphemeClusterMode}
 use Rattle.line_buffer.specs.declared.layout.Layout.{Layout}
 use Rattle.line_keys.specs.Command.{Command, replace}
 use Rattle.line_keys.specs.Display.{Display, corner}
 use Rattle.line_keys.specs.Draft.{Draft, in_group}
+use Rattle.line_keys.specs.declared.editor_state.EditorState.{Ghosts}
+use Rattle.line_parts.specs.Environment.{Environment}
 use Rattle.line_state.specs.Edited.{Edited}
 
 -- the abstract editor: the draft and the kill ring
 pub record Editor : Type 0 where
   pub draft : Draft
   pub kills : Ring
+
+-- what an editor begins with: a draft, those who are asked and whether they are sure, a renderer on which nothing is drawn, and its
+-- counts of failures and of full redraws
+pub record Begins {X : Type 0} (e : Ghosts X) (editor : X) (start : Draft) (asked : Environment) (surely : Bool) (undrawn : Display) (failed drawn : ℕ) : Type 0 where
+  pub draft : e.draft editor ≡ start
+  pub environment : e.environment editor ≡ asked
+  pub sure : e.sure editor ≡ surely
+  pub display : e.display editor ≡ undrawn
+  pub failures : e.failures editor ≡ failed
+  pub redraws : e.redraws editor ≡ drawn
 
 -- how a command answers: the next one is read, the line is submitted, or the run ends with the end of the input or an interrupt
 pub data Answer : Type 0 where

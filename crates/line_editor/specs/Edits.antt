@@ -127,13 +127,17 @@ steps_undone environment n draft = after_edit environment
 abbrev pub cursor_moved : Ruler → Movement → Draft → Draft
 cursor_moved ruler movement draft = record draft { line = moved (measuring ruler) movement draft.line }
 
--- what a hint completes the line with is yanked at the end of the cursor's line, if there is such a text
+-- what a hint completes the line with is yanked, if there is such a text
 abbrev pub with_completion : Option (List ℕ) → Edited → Edited
 with_completion None e = e
 with_completion (Some text) e = with_yanked text 1 e
 
+-- what a hint completes the line with is yanked at the end of the cursor's line
+abbrev pub with_completion_at_end : Option (List ℕ) → Draft → Edited
+with_completion_at_end text draft =
+    with_completion text (record (edited_of draft) { line = with_cursor draft.line (end_of_line draft.line) })
+
 -- the hint is put into the line; without a hint nothing happens
 abbrev pub completed : Environment → Option Suggestion → Draft → Draft
 completed environment None draft = draft
-completed environment (Some hint) draft = after_edit environment true (with_completion hint.completion
-    (record (edited_of draft) { line = with_cursor draft.line (end_of_line draft.line) })) draft
+completed environment (Some hint) draft = after_edit environment true (with_completion_at_end hint.completion draft) draft

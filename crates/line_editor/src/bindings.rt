@@ -2,8 +2,8 @@
 ghost use Rattle.std.specs.Prelude.{◌≡◌, [], true, if◌then◌else◌, IfOk, OnErr, OnOk, Option, Some, option_map};
 ghost use Rattle.std.specs.List.{position};
 ghost use Rattle.line_config.specs.Error.{MemoryOnly};
-ghost use Rattle.line_editor.specs.Binding.{all_sure, begins, bound_of, handled, handler_of, leads_on};
-ghost use Rattle.line_editor.specs.Event.{Chord, begins_chord, chord_of, keys, same_chord};
+ghost use Rattle.line_editor.specs.Binding.{Rebinds, begins, bound_of, handled, handler_of, leads_on};
+ghost use Rattle.line_editor.specs.Event.{begins_chord, chord_of, keys, same_chord};
 ghost use Rattle.line_editor.specs.Keymap.{key_handler};
 
 use crate::binding::{ConditionalEventHandler, Event, EventHandler};
@@ -38,17 +38,13 @@ impl Bindings {
     /// That memory ran out. Then the map is as it was.
     pub fn insert(&mut self, event: Event, handler: EventHandler) -> Result<Option<EventHandler>>
         ensures bound { let g = ⟦<dyn ConditionalEventHandler as ConditionalEventHandler>⟧ in
-            OnOk result ((chord : Chord) → handler_of (bound_of g self.new) chord
-            ≡ (if same_chord (chord_of event) chord then Some (handled g handler)
-            else handler_of (bound_of g self.old) chord)) }
+            OnOk result (Rebinds (bound_of g self.old) (bound_of g self.new)
+            (chord_of event) (handled g handler)) }
         ensures old { let g = ⟦<dyn ConditionalEventHandler as ConditionalEventHandler>⟧ in
             IfOk result (λ old.
             option_map (handled g) old ≡ handler_of (bound_of g self.old) (chord_of event)) }
-        ensures sure { let g = ⟦<dyn ConditionalEventHandler as ConditionalEventHandler>⟧ in
-            all_sure (bound_of g self.old) ≡ true → (handled g handler).sure ≡ true
-            → all_sure (bound_of g self.new) ≡ true }
-        ensures err { let g = ⟦<dyn ConditionalEventHandler as ConditionalEventHandler>⟧ in
-            OnErr result (bound_of g self.new ≡ bound_of g self.old) }
+        ensures err { let b = bound_of ⟦<dyn ConditionalEventHandler as ConditionalEventHandler>⟧
+            in OnErr result (b self.new ≡ b self.old) }
         ensures memory { MemoryOnly result }
     {
         match self.place(&event) {

@@ -2,13 +2,14 @@
 ghost use Rattle.std.specs.Prelude.{IsCharBoundary, if◌then◌else◌, ◌≡◌, ℕ, ◌≤◌, ◌&&◌, Bool, true, List, [], Option, Some, None, option_map, is_some, length, IfOk, OnOk, OnErr, IsOk};
 ghost use Rattle.std.specs.Borrow.{GName};
 ghost use Rattle.line_config.specs.Error.{MemoryOnly};
+ghost use Rattle.line_editor.specs.Editor.{Begins};
 ghost use Rattle.line_editor.specs.Info.{shown_info};
 ghost use Rattle.line_keys.specs.Display.{IsRight, ShowsText, lit_after, undrawn};
 ghost use Rattle.line_keys.specs.Draft.{empty_draft, hinted, KeepsText};
 ghost use Rattle.line_keys.specs.Drawing.{DrewNothing, Paints, ShowsEdit, Undrawn};
 ghost use Rattle.line_keys.specs.EditorState.{FailsOnlyIf, Frame, Shows};
 ghost use Rattle.line_parts.specs.Environment.{Environment};
-ghost use Rattle.line_parts.specs.Helped.{hint_by, is_sure_by, lights_by, verdict_by};
+ghost use Rattle.line_parts.specs.Helped.{environment_by, is_sure_by};
 ghost use Rattle.line_parts.specs.Hint.{suggestion_of};
 
 mod drawing;
@@ -122,22 +123,14 @@ impl<'out, 'prompt, W: Renderer, H: Helper, P: Prompt, S: History> State<
         ctx: Context<'out, S>,
     ) -> Result<Self>
         ensures made { IsOk result }
-        ensures draft { IfOk result (λ s.
-            ⟦<Self as EditorState>⟧.draft s ≡ empty_draft ctx.entry.index) }
-        ensures display { IfOk result (λ s. ⟦<Self as EditorState>⟧.display s
-            ≡ undrawn (W.surface out.old) (W.screen out.old) (P.raw_text prompt.now)) }
-        ensures environment { IfOk result (λ s. ⟦<Self as EditorState>⟧.environment s ≡ record {
-          hint_at = hint_by H.hint_at helper.entry;
-          verdict_at = verdict_by H.verdict_at helper.entry;
-          lights = lights_by H.lights helper.entry;
-          lines = S.lines ctx.entry.history;
-        }) }
-        ensures sure { IfOk result (λ s. ⟦<Self as EditorState>⟧.sure s
-            ≡ (is_sure_by H.Hinter.sure helper.entry && is_sure_by H.Validator.sure helper.entry
-            && S.sure ctx.entry.history)) }
-        ensures failures { IfOk result (λ s.
-            ⟦<Self as EditorState>⟧.failures s ≡ W.failures out.old) }
-        ensures redraws { IfOk result (λ s. ⟦<Self as EditorState>⟧.redraws s ≡ W.redraws out.old) }
+        ensures begins { IfOk result (λ s. Begins ⟦<Self as EditorState>⟧ s
+            (empty_draft ctx.entry.index)
+            (environment_by H.hint_at H.verdict_at H.lights helper.entry
+              (S.lines ctx.entry.history))
+            (is_sure_by H.Hinter.sure helper.entry && is_sure_by H.Validator.sure helper.entry
+              && S.sure ctx.entry.history)
+            (undrawn (W.surface out.old) (W.screen out.old) (P.raw_text prompt.now))
+            (W.failures out.old) (W.redraws out.old)) }
         ensures loan { IfOk result (λ s. ⟦<Self as EditorState>⟧.loan s ≡ out.entry.ghost_name) }
     {
         Ok(State {
@@ -165,24 +158,16 @@ impl<'out, 'prompt, W: Renderer, H: Helper, P: Prompt, S: History> State<
         cursor: usize,
     ) -> Result<Self>
         requires { IsCharBoundary text.now cursor }
-        ensures draft { IfOk result (λ s. ⟦<Self as EditorState>⟧.draft s
-            ≡ record (empty_draft ctx.entry.index) {
+        ensures begins { IfOk result (λ s. Begins ⟦<Self as EditorState>⟧ s
+            (record (empty_draft ctx.entry.index) {
               line = record { text = text.now; cursor = cursor };
-            }) }
-        ensures display { IfOk result (λ s. ⟦<Self as EditorState>⟧.display s
-            ≡ undrawn (W.surface out.old) (W.screen out.old) (P.raw_text prompt.now)) }
-        ensures environment { IfOk result (λ s. ⟦<Self as EditorState>⟧.environment s ≡ record {
-          hint_at = hint_by H.hint_at helper.entry;
-          verdict_at = verdict_by H.verdict_at helper.entry;
-          lights = lights_by H.lights helper.entry;
-          lines = S.lines ctx.entry.history;
-        }) }
-        ensures sure { IfOk result (λ s. ⟦<Self as EditorState>⟧.sure s
-            ≡ (is_sure_by H.Hinter.sure helper.entry && is_sure_by H.Validator.sure helper.entry
-            && S.sure ctx.entry.history)) }
-        ensures failures { IfOk result (λ s.
-            ⟦<Self as EditorState>⟧.failures s ≡ W.failures out.old) }
-        ensures redraws { IfOk result (λ s. ⟦<Self as EditorState>⟧.redraws s ≡ W.redraws out.old) }
+            })
+            (environment_by H.hint_at H.verdict_at H.lights helper.entry
+              (S.lines ctx.entry.history))
+            (is_sure_by H.Hinter.sure helper.entry && is_sure_by H.Validator.sure helper.entry
+              && S.sure ctx.entry.history)
+            (undrawn (W.surface out.old) (W.screen out.old) (P.raw_text prompt.now))
+            (W.failures out.old) (W.redraws out.old)) }
         ensures loan { IfOk result (λ s. ⟦<Self as EditorState>⟧.loan s ≡ out.entry.ghost_name) }
         ensures memory { MemoryOnly result }
     {
@@ -254,15 +239,13 @@ impl<'out, 'prompt, W: Renderer, H: Helper, P: Prompt, S: History> State<
 
     // Asks whether characters of the line are highlighted, where colors are on.
     fn ask_highlight(&mut self, kind: CmdKind)
-        ensures draft { let d = ⟦<Self as EditorState>⟧.draft in d self.new ≡ d self.old }
         ensures display { let e = ⟦<Self as EditorState>⟧ in
             let line = (e.draft self.old).line in
             let lit = lit_after (e.environment self.old) (e.display self.old) line kind in
             e.display self.new ≡ record (e.display self.old) { lit = lit } }
-        ensures redraws { let e = ⟦<Self as EditorState>⟧ in
-            e.redraws self.new ≡ e.redraws self.old }
-        ensures failures { let e = ⟦<Self as EditorState>⟧ in
-            e.failures self.new ≡ e.failures self.old }
+        ensures stays { let e = ⟦<Self as EditorState>⟧ in (e.draft self.new ≡ e.draft self.old)
+            × (e.redraws self.new ≡ e.redraws self.old)
+            × (e.failures self.new ≡ e.failures self.old) }
         ensures hint { self.new.hint ≡ self.old.hint }
         ensures frame { Frame ⟦<Self as EditorState>⟧ self.old self.new }
     {

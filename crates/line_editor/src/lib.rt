@@ -5,7 +5,6 @@ pub mod binding;
 pub mod bindings;
 pub mod command;
 pub mod edit;
-pub mod examples;
 pub mod keymap;
 pub mod laws;
 pub mod run;

@@ -5,7 +5,6 @@
 pub mod command;
 pub mod count;
 pub mod editor_state;
-pub mod examples;
 pub mod keymap;
 pub mod keys;
 pub mod laws;

@@ -1,5 +1,5 @@
 -- What is said of a drawn line by what contracts see of it.
-use Rattle.std.specs.Prelude.{◌≡◌, ◌≤◌, Bool, List, ℕ, Option, Result, OnOk}
+use Rattle.std.specs.Prelude.{◌≡◌, ◌≤◌, Bool, true, List, ℕ, Option, Result, OnOk}
 use Rattle.line_buffer.specs.Line.{Line}
 use Rattle.line_buffer.specs.declared.layout.Layout.{Layout}
 use Rattle.line_buffer.specs.declared.layout.Position.{Position}
@@ -15,6 +15,10 @@ pub record KeepsSurface {X : Type 0} (d : Ghosts X) (old new : X) : Type 0 where
   pub surface : (d.display new).surface ≡ (d.display old).surface
   pub prompt_end : (d.display new).prompt_end ≡ (d.display old).prompt_end
   pub failures : d.failures old ≤ d.failures new
+
+-- a highlighter may come only where colors are shown
+abbrev pub ColorsAreOn : {X : Type 0} → Ghosts X → X → Bool → Type 0
+ColorsAreOn d view highlighted = highlighted ≡ true → (d.display view).surface.colors ≡ true
 
 -- how a call may fail that asks the renderer
 abbrev pub FailsBySurface : {X T : Type 0} → Ghosts X → Result T ReadlineError → X → X → Type 0

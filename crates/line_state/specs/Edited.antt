@@ -1,5 +1,5 @@
 -- A line with its changes.
-use Rattle.std.specs.Prelude.{◌≡◌, ℕ, min, Bool, true, false, List, length, ◌==◌, ◌&&◌, if◌then◌else◌, Option, Some, None, encode_utf8, Result, OnOk, OnErr}
+use Rattle.std.specs.Prelude.{◌≡◌, ℕ, min, Bool, true, false, List, length, ◌==◌, ◌&&◌, if◌then◌else◌, Option, Some, None, encode_utf8, Result, IfOk, OnOk, OnErr, is_some, not}
 use Rattle.std.specs.List.{repeat}
 use Rattle.line_buffer.specs.Changes.{Changes, Entry, begun, ended, no_changes, with_entries, with_insert, with_replaced, with_typed, with_update}
 use Rattle.line_keys.specs.declared.command.Anchor.{Anchor}
@@ -8,7 +8,7 @@ use Rattle.line_buffer.specs.Cluster.{clusters, place_back, place_on}
 use Rattle.line_buffer.specs.Edit.{on_entries}
 use Rattle.line_buffer.specs.Indent.{indented, indented_range, with_indents}
 use Rattle.line_buffer.specs.Kill.{with_killed}
-use Rattle.line_buffer.specs.Line.{Line, after, inserted_at, inserted_at_cursor, moved_to, replaced_in, without}
+use Rattle.line_buffer.specs.Line.{Line, after, inserted_at, inserted_at_cursor, moved_to, replaced_in, with_cursor, without}
 use Rattle.line_buffer.specs.Transpose.{chars_exchanged, with_chars_exchanged, with_word_cased, with_words_exchanged, word_cased, words_exchanged}
 use Rattle.line_buffer.specs.Undo.{all_taken_back, first_text, newest_steps, without_steps}
 use Rattle.line_buffer.specs.Yank.{can_pop, line_yank_popped, line_yanked, with_yank, with_yank_pop}
@@ -140,3 +140,28 @@ pub record EditsTo {T E : Type 0} (result : Result T E) (old new left : Edited) 
   pub edited : OnOk result (new ≡ left)
   pub first : OnOk result (first_text new.changes new.line ≡ first_text old.changes old.line)
   pub err : OnErr result (new.changes ≡ no_changes)
+
+-- what an edit leaves, and whether there was something to edit, which the call tells
+pub record Finds {E : Type 0} (result : Result Bool E) (old new left : Edited) (found : Bool) : Type 0 where
+  pub answer : IfOk result (λ done. done ≡ found)
+  pub edit : EditsTo result old new left
+
+-- the same, where an edit that is not told of leaves the line
+pub record Reports {E : Type 0} (result : Result Bool E) (old new left : Edited) (found : Bool) : Type 0 where
+  pub answer : IfOk result (λ done. done ≡ found)
+  pub edit : EditsTo result old new left
+  pub unreported : IfOk result (λ done. done ≡ false → new.line ≡ old.line)
+
+-- the cursor goes to a place, if there is one, and the call tells whether there is
+pub record GoesTo (found : Bool) (old new : Edited) (place : Option ℕ) : Type 0 where
+  pub answer : found ≡ is_some place
+  pub line : new ≡ with_place place old
+
+-- the cursor goes to a byte, and the call tells whether it stood at another
+pub record GoesToByte (moved : Bool) (old new : Edited) (byte : ℕ) : Type 0 where
+  pub answer : moved ≡ not (byte == old.line.cursor)
+  pub line : new ≡ record old { line = with_cursor old.line byte }
+
+-- taking all changes back gives the same text
+abbrev pub KeepsFirst : Edited → Edited → Type 0
+KeepsFirst old new = first_text new.changes new.line ≡ first_text old.changes old.line

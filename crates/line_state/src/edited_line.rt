@@ -5,7 +5,7 @@ ghost use Rattle.line_buffer.specs.Changes.{adds_end, begun, ended, last_insert_
 ghost use Rattle.line_buffer.specs.Kill.{killed_range, ring_with_killed};
 ghost use Rattle.line_buffer.specs.Range.{range_of, text_in, unless_empty};
 ghost use Rattle.line_buffer.specs.Undo.{is_change, newest_steps};
-ghost use Rattle.line_state.specs.Edited.{EditsTo, undone, with_copies, without_range};
+ghost use Rattle.line_state.specs.Edited.{EditsTo, Finds, undone, with_copies, without_range};
 
 mod exchanges;
 mod moves;
@@ -87,12 +87,10 @@ impl EditedLine {
         movement: &Movement,
         kill_ring: &mut KillRing,
     ) -> Result<bool, OutOfMemory>
-        ensures answer { IfOk result (λ found.
-            found ≡ is_some (killed_range self.old.line movement.now)) }
-        ensures edit { EditsTo result self.old self.new
-            (without_range (killed_range self.old.line movement.now) self.old) }
-        ensures ring { OnOk result (kill_ring.new ≡ ring_with_killed self.old.line movement.now
-            (killed_range self.old.line movement.now) kill_ring.old) }
+        ensures finds { let range = killed_range self.old.line movement.now in
+            Finds result self.old self.new (without_range range self.old) (is_some range) }
+        ensures ring { let range = killed_range self.old.line movement.now in OnOk result
+            (kill_ring.new ≡ ring_with_killed self.old.line movement.now range kill_ring.old) }
         ensures size { kill_ring.new.size ≡ kill_ring.old.size }
         ensures bound { OnErr result (length kill_ring.new.slots ≤ kill_ring.new.size) }
     {
@@ -113,9 +111,8 @@ impl EditedLine {
 
     /// Takes `n` steps back, one for `n` = 0, or as many as there are. Returns whether a change of the text was taken back.
     pub fn undo(&mut self, n: RepeatCount) -> Result<bool, OutOfMemory>
-        ensures answer { IfOk result (λ undone.
-            undone ≡ list_any is_change (newest_steps n self.old.changes.entries)) }
-        ensures edit { EditsTo result self.old self.new (undone n self.old) }
+        ensures finds { Finds result self.old self.new (undone n self.old)
+            (list_any is_change (newest_steps n self.old.changes.entries)) }
         ensures unreported { IfOk result (λ done. done ≡ false → self.new.line ≡ self.old.line) }
     {
         self.changes.undo(&mut self.line, n)

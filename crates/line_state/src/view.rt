@@ -2,7 +2,7 @@
 ghost use Rattle.std.specs.Prelude.{◌≡◌, ◌↔◌, if◌then◌else◌, Some, None, ℕ, Bool, true, false, List, Option, is_some, option_map, OnOk, OnErr, IsTrue};
 ghost use Rattle.line_buffer.specs.declared.layout.Position.{Position};
 ghost use Rattle.line_keys.specs.Display.{GoesToShownEnd, corner, cursor_position, undrawn};
-ghost use Rattle.line_state.specs.Drawn.{DrawsInFull, DrawsNoneInFull, FailsBySurface, KeepsSurface, RedrawsKept, cleared};
+ghost use Rattle.line_state.specs.Drawn.{ColorsAreOn, DrawsInFull, DrawsNoneInFull, RedrawsKept, cleared};
 
 use crate::drawn::Drawn;
 use crate::screen_state::ScreenState;
@@ -115,8 +115,7 @@ impl<'out, 'prompt, W: Renderer, P: Prompt> View<'out, 'prompt, W, P> {
         info: Option<&str>,
         highlighter: Option<&H>,
     ) -> Result<()>
-        requires { let d = ⟦<Self as Drawn>⟧ in
-            is_some highlighter ≡ true → (d.display self.old).surface.colors ≡ true }
+        requires { ColorsAreOn ⟦<Self as Drawn>⟧ self.old (is_some highlighter) }
         ensures { let d = ⟦<Self as Drawn>⟧ in DrawsInFull d result self.old self.new
             (d.display self.old).prompt_end true line.now (option_map (λ s. s.now) info.entry) }
     {
@@ -135,8 +134,7 @@ impl<'out, 'prompt, W: Renderer, P: Prompt> View<'out, 'prompt, W, P> {
         info: Option<&str>,
         highlighter: Option<&H>,
     ) -> Result<()>
-        requires { let d = ⟦<Self as Drawn>⟧ in
-            is_some highlighter ≡ true → (d.display self.old).surface.colors ≡ true }
+        requires { ColorsAreOn ⟦<Self as Drawn>⟧ self.old (is_some highlighter) }
         ensures { let d = ⟦<Self as Drawn>⟧ in DrawsInFull d result self.old self.new
             ((d.display self.old).surface.measure prompt.now corner) false line.now
             (option_map (λ s. s.now) info.entry) }
@@ -158,8 +156,7 @@ impl<'out, 'prompt, W: Renderer, P: Prompt> View<'out, 'prompt, W, P> {
     ) -> Result<()>
         requires measured { let d = ⟦<Self as Drawn>⟧ in
             (d.display self.old).surface.measure (Q.raw_text prompt.now) corner ≡ prompt_size }
-        requires colored { let d = ⟦<Self as Drawn>⟧ in
-            is_some highlighter ≡ true → (d.display self.old).surface.colors ≡ true }
+        requires colored { ColorsAreOn ⟦<Self as Drawn>⟧ self.old (is_some highlighter) }
         ensures { let d = ⟦<Self as Drawn>⟧ in DrawsInFull d result self.old self.new
             prompt_size default_prompt line.now (option_map (λ s. s.now) info.entry) }
     {
@@ -186,8 +183,7 @@ impl<'out, 'prompt, W: Renderer, P: Prompt> View<'out, 'prompt, W, P> {
         info: Option<&str>,
         highlighter: Option<&H>,
     ) -> Result<()>
-        requires { let d = ⟦<Self as Drawn>⟧ in
-            is_some highlighter ≡ true → (d.display self.old).surface.colors ≡ true }
+        requires { ColorsAreOn ⟦<Self as Drawn>⟧ self.old (is_some highlighter) }
         ensures { let d = ⟦<Self as Drawn>⟧ in
             RedrawsKept d result self.old self.new line.now (option_map (λ s. s.now) info.entry) }
     {
@@ -218,9 +214,7 @@ impl<'out, 'prompt, W: Renderer, P: Prompt> View<'out, 'prompt, W, P> {
     pub fn move_cursor_to_end(&mut self) -> Result<()>
         ensures moved { let d = ⟦<Self as Drawn>⟧.display in
             GoesToShownEnd result (d self.old) (d self.new) }
-        ensures redraws { ⟦<Self as Drawn>⟧.redraws self.new ≡ ⟦<Self as Drawn>⟧.redraws self.old }
-        ensures keeps { KeepsSurface ⟦<Self as Drawn>⟧ self.old self.new }
-        ensures fails { FailsBySurface ⟦<Self as Drawn>⟧ result self.old self.new }
+        ensures part { DrawsNoneInFull ⟦<Self as Drawn>⟧ result self.old self.new }
     {
         if self.layout.cursor == self.layout.end {
             return Ok(());
@@ -295,9 +289,8 @@ impl<'out, 'prompt, W: Renderer, P: Prompt> View<'out, 'prompt, W, P> {
     pub fn set_lit(&mut self, lit: bool)
         ensures display { let d = ⟦<Self as Drawn>⟧.display in
             d self.new ≡ record (d self.old) { lit = lit } }
-        ensures redraws { ⟦<Self as Drawn>⟧.redraws self.new ≡ ⟦<Self as Drawn>⟧.redraws self.old }
-        ensures failures { let d = ⟦<Self as Drawn>⟧ in d.failures self.new ≡ d.failures self.old }
-        ensures loan { ⟦<Self as Drawn>⟧.loan self.new ≡ ⟦<Self as Drawn>⟧.loan self.old }
+        ensures stays { let d = ⟦<Self as Drawn>⟧ in (d.redraws self.new ≡ d.redraws self.old)
+            × (d.failures self.new ≡ d.failures self.old) × (d.loan self.new ≡ d.loan self.old) }
     {
         self.highlight_char = lit;
     }

@@ -5,12 +5,16 @@
 mod bindings;
 pub mod caller;
 #[cfg(test)]
+mod definitions;
+#[cfg(test)]
 mod editor;
 pub mod example;
 #[cfg(test)]
 mod examples;
 #[cfg(test)]
 mod keys;
+#[cfg(test)]
+mod phrases;
 #[cfg(test)]
 mod tables;
 pub mod watcher;

@@ -1,8 +1,7 @@
 //! The hint, put into the line.
 ghost use Rattle.std.specs.Prelude.{◌≡◌, is_some, option_and_then, option_map, OnOk};
-ghost use Rattle.line_buffer.specs.Line.{with_cursor, end_of_line};
-ghost use Rattle.line_editor.specs.Editor.{edited_of, with_edited};
-ghost use Rattle.line_editor.specs.Edits.{completed, with_completion};
+ghost use Rattle.line_editor.specs.Editor.{with_edited};
+ghost use Rattle.line_editor.specs.Edits.{completed, with_completion_at_end};
 ghost use Rattle.line_keys.specs.Draft.{start_text};
 ghost use Rattle.line_keys.specs.Drawing.{Does, DrewNothing, drawn_if};
 ghost use Rattle.line_keys.specs.EditorState.{FailsByRenderer, Frame};
@@ -51,8 +50,7 @@ impl<'out, 'prompt, W: Renderer, H: Helper, P: Prompt, S: History> State<
     fn yank_hint(&mut self) -> Result<()>
         ensures draft { let e = ⟦<Self as EditorState>⟧ in let d = e.draft self.old in
             OnOk result (e.draft self.new ≡ with_edited d
-            (with_completion (option_and_then (λ hint. hint.completion) d.hint)
-            (record (edited_of d) { line = with_cursor d.line (end_of_line d.line) }))) }
+            (with_completion_at_end (option_and_then (λ hint. hint.completion) d.hint) d)) }
         ensures start { let d = ⟦<Self as EditorState>⟧.draft in OnOk result
             (start_text (d self.new) ≡ start_text (d self.old)) }
         ensures drew { DrewNothing ⟦<Self as EditorState>⟧ self.old self.new }

@@ -54,13 +54,10 @@ impl<'out, 'prompt, W: Renderer, H: Helper, P: Prompt, S: History> State<
     #[tactic(auto, using(crate::proofs::DrawnLemmas::line_stays))]
     fn begin_group(&mut self, command: &Cmd) -> Result<()>
         ensures draft { let d = ⟦<Self as EditorState>⟧.draft in OnOk result
-            (d self.new ≡ grouped (command_of command.now) (d self.old)) }
-        ensures start { let d = ⟦<Self as EditorState>⟧.draft in
-            OnOk result (start_text (d self.new) ≡ start_text (d self.old)) }
+            ((d self.new ≡ grouped (command_of command.now) (d self.old))
+            × (start_text (d self.new) ≡ start_text (d self.old))) }
         ensures line { let d = ⟦<Self as EditorState>⟧.draft in
-            KeepsLine (d self.old) (d self.new) }
-        ensures hint { let d = ⟦<Self as EditorState>⟧.draft in
-            (d self.new).hint ≡ (d self.old).hint }
+            KeepsLine (d self.old) (d self.new) × ((d self.new).hint ≡ (d self.old).hint) }
         ensures undrawn { Undrawn ⟦<Self as EditorState>⟧ self.old self.new }
         ensures drawn { KeepsDrawn ⟦<Self as EditorState>⟧ self.old self.new }
         ensures memory { MemoryOnly result }

@@ -4,7 +4,7 @@ ghost use Rattle.line_buffer.specs.Cluster.{clusters, place_on};
 ghost use Rattle.line_buffer.specs.Line.{after};
 ghost use Rattle.line_buffer.specs.Range.{from_cursor};
 ghost use Rattle.line_buffer.specs.Transpose.{are_apart, chars_exchanged, has_two_chars, next_alphanumeric, with_chars_exchanged, with_word_cased, with_words_exchanged, word_cased, words_beside, words_exchanged};
-ghost use Rattle.line_state.specs.Edited.{EditsTo, edited_to, with_char_for, with_chars_swapped, with_copies_to, with_lines_shifted, with_next_word, with_overwritten, with_words_swapped, without_range};
+ghost use Rattle.line_state.specs.Edited.{EditsTo, Finds, Reports, edited_to, with_char_for, with_chars_swapped, with_copies_to, with_lines_shifted, with_next_word, with_overwritten, with_words_swapped, without_range};
 
 use super::EditedLine;
 use line_buffer::{Movement, OutOfMemory, RepeatCount, WordAction};
@@ -14,10 +14,8 @@ use unicode_segmentation::UnicodeSegmentation;
 impl EditedLine {
     /// Puts a character in the place of the cluster at the cursor, which goes behind it. Returns whether there is one.
     pub fn overwrite(&mut self, c: char) -> Result<bool, OutOfMemory>
-        ensures answer { IfOk result (λ done. done ≡ is_some (place_on self.old.line 1)) }
-        ensures edit { let stop = place_on self.old.line 1 in
-            EditsTo result self.old self.new (with_overwritten c stop self.old) }
-        ensures unreported { IfOk result (λ done. done ≡ false → self.new.line ≡ self.old.line) }
+        ensures { let stop = place_on self.old.line 1 in
+            Reports result self.old self.new (with_overwritten c stop self.old) (is_some stop) }
     {
         let Some(stop) = self.line.next_pos(1) else {
             return Ok(false);
@@ -32,9 +30,8 @@ impl EditedLine {
     /// Puts a character in the place of each of `n` clusters from the cursor on, or of as many as there are, in one group
     /// of changes, with the cursor on the last. Returns whether there is one.
     pub fn replace_char(&mut self, c: char, n: RepeatCount) -> Result<bool, OutOfMemory>
-        ensures answer { IfOk result (λ done. done ≡ is_some (place_on self.old.line n)) }
-        ensures edit { EditsTo result self.old self.new (with_char_for c n self.old) }
-        ensures unreported { IfOk result (λ done. done ≡ false → self.new.line ≡ self.old.line) }
+        ensures { Reports result self.old self.new (with_char_for c n self.old)
+            (is_some (place_on self.old.line n)) }
     {
         self.begin_group()?;
         let replaced = self.replace_clusters(c, n)?;
@@ -44,10 +41,9 @@ impl EditedLine {
 
     // Puts a character in the place of each of `n` clusters from the cursor on, with the cursor on the last.
     fn replace_clusters(&mut self, c: char, n: RepeatCount) -> Result<bool, OutOfMemory>
-        ensures answer { IfOk result (λ done. done ≡ is_some (place_on self.old.line n)) }
-        ensures edit { let count = min n (length (clusters (after self.old.line))) in
+        ensures { let count = min n (length (clusters (after self.old.line))) in
             let stop = place_on self.old.line n in
-            EditsTo result self.old self.new (with_copies_to c count stop self.old) }
+            Finds result self.old self.new (with_copies_to c count stop self.old) (is_some stop) }
     {
         let count = self.count_clusters(n);
         if !self.delete(n)? {
@@ -68,9 +64,8 @@ impl EditedLine {
 
     // Takes `n` clusters from the cursor on away, or as many as there are. Returns whether there is one.
     fn delete(&mut self, n: RepeatCount) -> Result<bool, OutOfMemory>
-        ensures answer { IfOk result (λ done. done ≡ is_some (place_on self.old.line n)) }
-        ensures edit { let range = from_cursor self.old.line (place_on self.old.line n) in
-            EditsTo result self.old self.new (without_range range self.old) }
+        ensures { let stop = place_on self.old.line n in Finds result self.old self.new
+            (without_range (from_cursor self.old.line stop) self.old) (is_some stop) }
     {
         let gone = self.line.delete(n, &mut self.changes)?;
         Ok(gone.is_some())
@@ -79,9 +74,8 @@ impl EditedLine {
     /// Exchanges the clusters before and at the cursor, at the end of the text the last two, in one group of changes, with
     /// the cursor behind both. Returns whether there are two.
     pub fn transpose_chars(&mut self) -> Result<bool, OutOfMemory>
-        ensures answer { IfOk result (λ done. done ≡ has_two_chars self.old.line) }
-        ensures edit { EditsTo result self.old self.new (with_chars_swapped self.old) }
-        ensures unreported { IfOk result (λ done. done ≡ false → self.new.line ≡ self.old.line) }
+        ensures { Reports result self.old self.new (with_chars_swapped self.old)
+            (has_two_chars self.old.line) }
     {
         self.begin_group()?;
         let exchanged = self.exchange_chars()?;
@@ -91,9 +85,9 @@ impl EditedLine {
 
     // Exchanges the clusters before and at the cursor.
     fn exchange_chars(&mut self) -> Result<bool, OutOfMemory>
-        ensures answer { IfOk result (λ done. done ≡ has_two_chars self.old.line) }
-        ensures edit { let line = self.old.line in EditsTo result self.old self.new
-            (edited_to (chars_exchanged line) (with_chars_exchanged line) self.old) }
+        ensures { let line = self.old.line in Finds result self.old self.new
+            (edited_to (chars_exchanged line) (with_chars_exchanged line) self.old)
+            (has_two_chars line) }
     {
         self.line.transpose_chars(&mut self.changes)
     }
@@ -101,8 +95,8 @@ impl EditedLine {
     /// Exchanges the word that ends `n` words on from the cursor with the `n`-th before it, in one group of changes, with the
     /// cursor behind both. Returns whether these are two words; if not, the cursor goes behind the first.
     pub fn transpose_words(&mut self, n: RepeatCount) -> Result<bool, OutOfMemory>
-        ensures answer { IfOk result (λ done. done ≡ are_apart (words_beside self.old.line n)) }
-        ensures edit { EditsTo result self.old self.new (with_words_swapped n self.old) }
+        ensures reports { Finds result self.old self.new (with_words_swapped n self.old)
+            (are_apart (words_beside self.old.line n)) }
         ensures unreported { IfOk result (λ done.
             done ≡ false → self.new.line.text ≡ self.old.line.text) }
     {
@@ -114,18 +108,17 @@ impl EditedLine {
 
     // Exchanges the word that ends `n` words on from the cursor with the `n`-th before it.
     fn exchange_words(&mut self, n: RepeatCount) -> Result<bool, OutOfMemory>
-        ensures answer { IfOk result (λ done. done ≡ are_apart (words_beside self.old.line n)) }
-        ensures edit { let line = self.old.line in EditsTo result self.old self.new
-            (edited_to (words_exchanged line n) (with_words_exchanged line n) self.old) }
+        ensures { let line = self.old.line in Finds result self.old self.new
+            (edited_to (words_exchanged line n) (with_words_exchanged line n) self.old)
+            (are_apart (words_beside line n)) }
     {
         self.line.transpose_words(n, &mut self.changes)
     }
 
     /// Changes the case of the next word, in one group of changes, with the cursor behind it. Returns whether there is one.
     pub fn edit_word(&mut self, action: WordAction) -> Result<bool, OutOfMemory>
-        ensures answer { IfOk result (λ done. done ≡ is_some (next_alphanumeric self.old.line)) }
-        ensures edit { EditsTo result self.old self.new (with_next_word action self.old) }
-        ensures unreported { IfOk result (λ done. done ≡ false → self.new.line ≡ self.old.line) }
+        ensures { Reports result self.old self.new (with_next_word action self.old)
+            (is_some (next_alphanumeric self.old.line)) }
     {
         self.begin_group()?;
         let changed = self.change_word(action)?;
@@ -135,9 +128,9 @@ impl EditedLine {
 
     // Changes the case of the next word.
     fn change_word(&mut self, action: WordAction) -> Result<bool, OutOfMemory>
-        ensures answer { IfOk result (λ done. done ≡ is_some (next_alphanumeric self.old.line)) }
-        ensures edit { let line = self.old.line in EditsTo result self.old self.new
-            (edited_to (word_cased action line) (with_word_cased action line) self.old) }
+        ensures { let line = self.old.line in Finds result self.old self.new
+            (edited_to (word_cased action line) (with_word_cased action line) self.old)
+            (is_some (next_alphanumeric line)) }
     {
         self.line.edit_word(action, &mut self.changes)
     }

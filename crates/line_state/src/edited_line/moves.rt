@@ -1,13 +1,12 @@
 //! Moves of the cursor.
-ghost use Rattle.std.specs.Prelude.{◌≡◌, ◌==◌, false, not, is_some, length};
+ghost use Rattle.std.specs.Prelude.{◌≡◌, false, length};
 ghost use Rattle.line_buffer.specs.Cluster.{place_on, place_back};
 ghost use Rattle.line_buffer.specs.Line.{after, with_cursor, start_of_line, end_of_line};
 ghost use Rattle.line_buffer.specs.Lines.{down_by, up_by};
 ghost use Rattle.line_buffer.specs.Search.{search_place};
 ghost use Rattle.line_buffer.specs.Word.{word_back, word_on};
-ghost use Rattle.line_buffer.specs.Undo.{first_text};
 ghost use Rattle.line_parts.specs.History.{begins_blank};
-ghost use Rattle.line_state.specs.Edited.{with_place};
+ghost use Rattle.line_state.specs.Edited.{GoesTo, GoesToByte, KeepsFirst};
 ghost use Rattle.line_state.specs.Moves.{moved, to_first_print};
 
 use super::EditedLine;
@@ -16,59 +15,49 @@ use line_buffer::{At, CharSearch, Layout, Movement, RepeatCount, Word};
 impl EditedLine {
     /// Moves the cursor `n` clusters back, or as many as there are. Returns whether it moved.
     pub fn move_backward(&mut self, n: RepeatCount) -> bool
-        ensures answer { result ≡ is_some (place_back self.old.line n) }
-        ensures line { self.new ≡ with_place (place_back self.old.line n) self.old }
+        ensures { GoesTo result self.old self.new (place_back self.old.line n) }
     {
         self.line.move_backward(n)
     }
 
     /// Moves the cursor `n` clusters on, or as many as there are. Returns whether it moved.
     pub fn move_forward(&mut self, n: RepeatCount) -> bool
-        ensures answer { result ≡ is_some (place_on self.old.line n) }
-        ensures line { self.new ≡ with_place (place_on self.old.line n) self.old }
+        ensures { GoesTo result self.old self.new (place_on self.old.line n) }
     {
         self.line.move_forward(n)
     }
 
     /// Moves the cursor to the start of its line. Returns whether it moved.
     pub fn move_home(&mut self) -> bool
-        ensures answer { result ≡ not (start_of_line self.old.line == self.old.line.cursor) }
-        ensures line { self.new
-            ≡ record self.old { line = with_cursor self.old.line (start_of_line self.old.line) } }
+        ensures { GoesToByte result self.old self.new (start_of_line self.old.line) }
     {
         self.line.move_home()
     }
 
     /// Moves the cursor to the end of its line. Returns whether it moved.
     pub fn move_end(&mut self) -> bool
-        ensures answer { result ≡ not (end_of_line self.old.line == self.old.line.cursor) }
-        ensures line { self.new
-            ≡ record self.old { line = with_cursor self.old.line (end_of_line self.old.line) } }
+        ensures { GoesToByte result self.old self.new (end_of_line self.old.line) }
     {
         self.line.move_end()
     }
 
     /// Moves the cursor to the start of the text. Returns whether it moved.
     pub fn move_buffer_start(&mut self) -> bool
-        ensures answer { result ≡ not (0 == self.old.line.cursor) }
-        ensures line { self.new ≡ record self.old { line = with_cursor self.old.line 0 } }
+        ensures { GoesToByte result self.old self.new 0 }
     {
         self.line.move_buffer_start()
     }
 
     /// Moves the cursor to the end of the text. Returns whether it moved.
     pub fn move_buffer_end(&mut self) -> bool
-        ensures answer { result ≡ not (length self.old.line.text == self.old.line.cursor) }
-        ensures line { let end = length self.old.line.text in
-            self.new ≡ record self.old { line = with_cursor self.old.line end } }
+        ensures { GoesToByte result self.old self.new (length self.old.line.text) }
     {
         self.line.move_buffer_end()
     }
 
     /// Moves the cursor back to the start of the `n`-th word before it. Returns whether there is such a place.
     pub fn move_to_prev_word(&mut self, word: Word, n: RepeatCount) -> bool
-        ensures answer { result ≡ is_some (word_back word self.old.line n) }
-        ensures line { self.new ≡ with_place (word_back word self.old.line n) self.old }
+        ensures { GoesTo result self.old self.new (word_back word self.old.line n) }
     {
         self.line.move_to_prev_word(word, n)
     }
@@ -76,8 +65,7 @@ impl EditedLine {
     /// Moves the cursor on by `n` words: to the start of one, to before its end or to after it. Returns whether there is
     /// such a place.
     pub fn move_to_next_word(&mut self, at: At, word: Word, n: RepeatCount) -> bool
-        ensures answer { result ≡ is_some (word_on at word self.old.line n) }
-        ensures line { self.new ≡ with_place (word_on at word self.old.line n) self.old }
+        ensures { GoesTo result self.old self.new (word_on at word self.old.line n) }
     {
         self.line.move_to_next_word(at, word, n)
     }
@@ -85,8 +73,7 @@ impl EditedLine {
     /// Moves the cursor to the `n`-th place that the search leads to, or to the last where there are fewer. Returns whether
     /// there is such a place.
     pub fn move_to(&mut self, search: CharSearch, n: RepeatCount) -> bool
-        ensures answer { result ≡ is_some (search_place search self.old.line n) }
-        ensures line { self.new ≡ with_place (search_place search self.old.line n) self.old }
+        ensures { GoesTo result self.old self.new (search_place search self.old.line n) }
     {
         self.line.move_to(search, n)
     }
@@ -94,8 +81,7 @@ impl EditedLine {
     /// Moves the cursor to its column in the line `n` above, one for `n` = 0, or in the first. Returns false on the first
     /// line. Columns are counted as the layout has them, with the prompt before the first line.
     pub fn move_to_line_up(&mut self, n: RepeatCount, layout: &Layout) -> bool
-        ensures answer { result ≡ is_some (up_by layout.now self.old.line n) }
-        ensures line { self.new ≡ with_place (up_by layout.now self.old.line n) self.old }
+        ensures { GoesTo result self.old self.new (up_by layout.now self.old.line n) }
     {
         self.line.move_to_line_up(n, layout)
     }
@@ -103,8 +89,7 @@ impl EditedLine {
     /// Moves the cursor to its column in the line `n` below, one for `n` = 0, or in the last. Returns false on the last
     /// line. Columns are counted as the layout has them, with the prompt before the first line.
     pub fn move_to_line_down(&mut self, n: RepeatCount, layout: &Layout) -> bool
-        ensures answer { result ≡ is_some (down_by layout.now self.old.line n) }
-        ensures line { self.new ≡ with_place (down_by layout.now self.old.line n) self.old }
+        ensures { GoesTo result self.old self.new (down_by layout.now self.old.line n) }
     {
         self.line.move_to_line_down(n, layout)
     }
@@ -117,8 +102,7 @@ impl EditedLine {
             ≡ record self.old { line = moved layout.now movement.now self.old.line } }
         ensures stayed { result ≡ false → self.new ≡ self.old }
         ensures text { self.new.line.text ≡ self.old.line.text }
-        ensures first { first_text self.new.changes self.new.line
-            ≡ first_text self.old.changes self.old.line }
+        ensures first { KeepsFirst self.old self.new }
     {
         match movement {
             Movement::BeginningOfLine => self.move_home(),

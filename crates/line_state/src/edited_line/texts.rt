@@ -1,7 +1,7 @@
 //! Texts that come into the line.
 ghost use Rattle.std.specs.Prelude.{◌≡◌, ◌==◌, not, false, length, IfOk, IsCharBoundary};
 ghost use Rattle.line_buffer.specs.Yank.{can_pop, line_yank_popped, with_yank_pop};
-ghost use Rattle.line_state.specs.Edited.{EditsTo, edited_to, in_one_group, pops_text, with_popped, with_text, with_update_to, with_yanked, yanked_at, at_anchor, stepped_back};
+ghost use Rattle.line_state.specs.Edited.{EditsTo, Finds, KeepsFirst, Reports, edited_to, in_one_group, pops_text, with_popped, with_text, with_update_to, with_yanked, yanked_at, at_anchor, stepped_back};
 ghost use Rattle.line_buffer.specs.Undo.{first_text};
 
 use super::EditedLine;
@@ -20,9 +20,8 @@ impl EditedLine {
 
     /// Inserts `n` copies of a text at the cursor, which goes behind them. Returns whether there was a text.
     pub fn yank(&mut self, text: &str, n: RepeatCount) -> Result<bool, OutOfMemory>
-        ensures answer { IfOk result (λ done. done ≡ not (length text.now == 0)) }
-        ensures edit { EditsTo result self.old self.new (with_yanked text.now n self.old) }
-        ensures unreported { IfOk result (λ done. done ≡ false → self.new.line ≡ self.old.line) }
+        ensures { Reports result self.old self.new (with_yanked text.now n self.old)
+            (not (length text.now == 0)) }
     {
         let yanked = self.line.yank(text, n, &mut self.changes)?;
         Ok(yanked.is_some())
@@ -38,9 +37,8 @@ impl EditedLine {
         n: RepeatCount,
         step_back: bool,
     ) -> Result<bool, OutOfMemory>
-        ensures answer { IfOk result (λ done. done ≡ not (length text.now == 0)) }
-        ensures edit { EditsTo result self.old self.new
-            (yanked_at anchor text.now n step_back self.old) }
+        ensures reports { Finds result self.old self.new
+            (yanked_at anchor text.now n step_back self.old) (not (length text.now == 0)) }
         ensures unreported { IfOk result (λ done.
             done ≡ false → self.new.line.text ≡ self.old.line.text) }
     {
@@ -57,8 +55,7 @@ impl EditedLine {
     fn go_to(&mut self, anchor: Anchor)
         ensures line { self.new ≡ at_anchor anchor self.old }
         ensures text { self.new.line.text ≡ self.old.line.text }
-        ensures first { first_text self.new.changes self.new.line
-            ≡ first_text self.old.changes self.old.line }
+        ensures first { KeepsFirst self.old self.new }
     {
         match anchor {
             Anchor::Before => {}
@@ -71,8 +68,7 @@ impl EditedLine {
     // Moves the cursor one cluster back, if it is to.
     fn step_back(&mut self, back: bool)
         ensures line { self.new ≡ stepped_back back self.old }
-        ensures first { first_text self.new.changes self.new.line
-            ≡ first_text self.old.changes self.old.line }
+        ensures first { KeepsFirst self.old self.new }
     {
         if back {
             self.move_backward(1);
@@ -82,8 +78,8 @@ impl EditedLine {
     /// Puts a text in the place of `size` bytes before the cursor, in one group of changes, with the cursor behind it.
     /// Returns whether a text went or came: none goes where the bytes pass the start of the text, or cut a character.
     pub fn yank_pop(&mut self, size: usize, text: &str) -> Result<bool, OutOfMemory>
-        ensures answer { IfOk result (λ done. done ≡ pops_text self.old.line size text.now) }
-        ensures edit { EditsTo result self.old self.new (with_popped size text.now self.old) }
+        ensures reports { Finds result self.old self.new (with_popped size text.now self.old)
+            (pops_text self.old.line size text.now) }
         ensures unreported { IfOk result (λ done.
             done ≡ false → self.new.line.text ≡ self.old.line.text) }
     {

@@ -1,19 +1,20 @@
-use Rattle.std.proofs.Common.{[], ◌∷◌, None, refl}
+use Rattle.std.proofs.Common.{[], ◌∷◌, Some, refl}
+use Rattle.line_keys.specs.Command.{noop}
 use Rattle.line_keys.specs.Key.{event}
 use Rattle.line_keys.specs.declared.keys.KeyCode.TheVariants.{Char}
 use Rattle.line_keys.specs.declared.keys.TheConstants.Modifiers.{CTRL, NONE}
 use Rattle.line_keys.specs.Item.{key}
-use Rattle.line_editor.proofs.SequenceLemmas.{two_in_vain}
-use Rattle.line_editor.proofs.examples.a_key_read_in_vain.Goals as goal
+use Rattle.line_editor.proofs.SequenceLemmas.{two_answered}
+use Rattle.tests_keys.proofs.phrases.a_bound_sequence.Goals as goal
 
 pub returns : goal.returns
 returns c = λ environment. record {
   typed = [];
   last = event (Char 88) CTRL;
-  tail = key (event (Char 98) NONE) ∷ [];
+  tail = key (event (Char 97) NONE) ∷ [];
   cut = refl;
   counted = refl;
-  keyed = (event (Char 98) NONE ∷ [], None, [], two_in_vain _ _ (event (Char 98) NONE) refl refl refl, refl, (refl, refl));
+  keyed = (event (Char 97) NONE ∷ [], Some noop, [], two_answered _ _ (event (Char 97) NONE) refl noop refl, refl, (refl, refl));
   draft_left = refl;
   input_left = refl;
 }

@@ -3,7 +3,7 @@ use Rattle.line_keys.specs.Key.{event}
 use Rattle.line_keys.specs.declared.keys.KeyCode.TheVariants.{F}
 use Rattle.line_keys.specs.declared.keys.TheConstants.Modifiers.{NONE}
 use Rattle.line_editor.proofs.SequenceLemmas.{one_in_vain}
-use Rattle.line_editor.proofs.examples.a_key_that_no_table_has.Goals as goal
+use Rattle.tests_keys.proofs.phrases.a_key_that_no_table_has.Goals as goal
 
 pub returns : goal.returns
 returns c = λ environment. record {

@@ -2,16 +2,17 @@ use Rattle.std.proofs.Common.{[], ◌∷◌, refl}
 use Rattle.line_keys.specs.Key.{event}
 use Rattle.line_keys.specs.declared.keys.KeyCode.TheVariants.{Char}
 use Rattle.line_keys.specs.declared.keys.TheConstants.Modifiers.{ALT, CTRL, NONE}
-use Rattle.line_editor.proofs.examples.two_back.Goals as goal
+use Rattle.line_keys.specs.Item.{key}
+use Rattle.tests_keys.proofs.phrases.back_to_a_character.Goals as goal
 
 pub returns : goal.returns
 returns c = λ environment. record {
-  typed = event (Char 45) ALT ∷ event (Char 50) NONE ∷ [];
-  last = event (Char 70) CTRL;
-  tail = [];
+  typed = event (Char 45) ALT ∷ [];
+  last = event (Char 93) CTRL;
+  tail = key (event (Char 97) NONE) ∷ [];
   cut = refl;
   counted = refl;
-  keyed = (refl, refl);
+  keyed = (event (Char 97) NONE, refl, refl);
   draft_left = refl;
   input_left = refl;
 }

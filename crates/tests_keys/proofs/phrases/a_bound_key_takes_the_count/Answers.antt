@@ -2,7 +2,7 @@ use Rattle.std.proofs.Common.{[], ◌∷◌, refl}
 use Rattle.line_keys.specs.Key.{event}
 use Rattle.line_keys.specs.declared.keys.KeyCode.TheVariants.{Char, F}
 use Rattle.line_keys.specs.declared.keys.TheConstants.Modifiers.{ALT, NONE}
-use Rattle.line_editor.proofs.examples.a_bound_key_takes_the_count.Goals as goal
+use Rattle.tests_keys.proofs.phrases.a_bound_key_takes_the_count.Goals as goal
 
 pub returns : goal.returns
 returns c = λ environment. record {

@@ -2,17 +2,16 @@ use Rattle.std.proofs.Common.{[], ◌∷◌, refl}
 use Rattle.line_keys.specs.Key.{event}
 use Rattle.line_keys.specs.declared.keys.KeyCode.TheVariants.{Char}
 use Rattle.line_keys.specs.declared.keys.TheConstants.Modifiers.{ALT, CTRL, NONE}
-use Rattle.line_keys.specs.Item.{key}
-use Rattle.line_editor.proofs.examples.back_to_a_character.Goals as goal
+use Rattle.tests_keys.proofs.phrases.two_back.Goals as goal
 
 pub returns : goal.returns
 returns c = λ environment. record {
-  typed = event (Char 45) ALT ∷ [];
-  last = event (Char 93) CTRL;
-  tail = key (event (Char 97) NONE) ∷ [];
+  typed = event (Char 45) ALT ∷ event (Char 50) NONE ∷ [];
+  last = event (Char 70) CTRL;
+  tail = [];
   cut = refl;
   counted = refl;
-  keyed = (event (Char 97) NONE, refl, refl);
+  keyed = (refl, refl);
   draft_left = refl;
   input_left = refl;
 }

@@ -4,7 +4,7 @@ use Rattle.line_keys.specs.declared.keys.KeyCode.TheVariants.{Char}
 use Rattle.line_keys.specs.declared.keys.TheConstants.Modifiers.{CTRL}
 use Rattle.line_keys.specs.Item.{key}
 use Rattle.line_editor.proofs.SequenceLemmas.{two_in_vain}
-use Rattle.line_editor.proofs.examples.the_second_key_of_all.Goals as goal
+use Rattle.tests_keys.proofs.phrases.the_second_key_of_all.Goals as goal
 
 pub returns : goal.returns
 returns c = λ environment. record {

@@ -1,12 +1,12 @@
-use Rattle.std.proofs.Common.{[], refl}
+use Rattle.std.proofs.Common.{[], ◌∷◌, refl}
 use Rattle.line_keys.specs.Key.{event}
 use Rattle.line_keys.specs.declared.keys.KeyCode.TheVariants.{Char}
-use Rattle.line_keys.specs.declared.keys.TheConstants.Modifiers.{NONE}
-use Rattle.line_editor.proofs.examples.each_key_is_bound.Goals as goal
+use Rattle.line_keys.specs.declared.keys.TheConstants.Modifiers.{ALT, NONE}
+use Rattle.tests_keys.proofs.phrases.three_times_a.Goals as goal
 
 pub returns : goal.returns
 returns c = λ environment. record {
-  typed = [];
+  typed = event (Char 51) ALT ∷ [];
   last = event (Char 97) NONE;
   tail = [];
   cut = refl;

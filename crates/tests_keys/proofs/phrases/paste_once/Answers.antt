@@ -3,7 +3,7 @@ use Rattle.line_keys.specs.Key.{event}
 use Rattle.line_keys.specs.declared.keys.KeyCode.TheVariants.{BracketedPasteStart}
 use Rattle.line_keys.specs.declared.keys.TheConstants.Modifiers.{NONE}
 use Rattle.line_keys.specs.Item.{paste}
-use Rattle.line_editor.proofs.examples.paste_once.Goals as goal
+use Rattle.tests_keys.proofs.phrases.paste_once.Goals as goal
 
 pub returns : goal.returns
 returns c = λ environment. record {

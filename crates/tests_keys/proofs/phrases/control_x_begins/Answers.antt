@@ -4,7 +4,7 @@ use Rattle.line_keys.specs.declared.keys.KeyCode.TheVariants.{Char}
 use Rattle.line_keys.specs.declared.keys.TheConstants.Modifiers.{CTRL}
 use Rattle.line_keys.specs.Item.{key}
 use Rattle.line_editor.proofs.SequenceLemmas.{one_in_vain}
-use Rattle.line_editor.proofs.examples.control_x_begins.Goals as goal
+use Rattle.tests_keys.proofs.phrases.control_x_begins.Goals as goal
 
 pub returns : goal.returns
 returns c = λ environment. record {

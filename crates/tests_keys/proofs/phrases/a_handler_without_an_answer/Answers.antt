@@ -4,7 +4,7 @@ use Rattle.line_keys.specs.declared.keys.KeyCode.TheVariants.{Char, F}
 use Rattle.line_keys.specs.declared.keys.TheConstants.Modifiers.{NONE}
 use Rattle.line_keys.specs.Item.{key}
 use Rattle.line_editor.proofs.SequenceLemmas.{two_in_vain}
-use Rattle.line_editor.proofs.examples.a_handler_without_an_answer.Goals as goal
+use Rattle.tests_keys.proofs.phrases.a_handler_without_an_answer.Goals as goal
 
 pub returns : goal.returns
 returns c = λ environment. record {
