@@ -6,12 +6,14 @@ use Rattle.line_editor.proofs.edit.State.edit_kill.Goals as goal
 pub returns-then-branch : goal.returns-then-branch
 returns-then-branch g c =
     let kill = c.in_ok-kill.ensures in
+    let found = kill.finds.answer in
     kill_done _ _ c.args.self.now _ _ _ _ c.args.movement.now
-    (killed_range c.args.self.now.edited.line c.args.movement.now) _ (cc) (nothing_drawn _ _ _ refl refl refl refl refl refl) refl kill.edit.edited kill.edit.first kill.ring
+    (killed_range c.args.self.now.edited.line c.args.movement.now) _ (cc) (nothing_drawn _ _ _ refl refl refl refl refl refl) refl kill.finds.edit.edited kill.finds.edit.first kill.ring
     c.show_edit.ensures
 
 pub returns : goal.returns
 returns g c =
     let kill = c.in_ok-kill.ensures in
+    let found = kill.finds.answer in
     kills_nothing _ _ c.args.self.now _ _ _ c.args.movement.now
-    (killed_range c.args.self.now.edited.line c.args.movement.now) _ (cc) (nothing_drawn _ _ _ refl refl refl refl refl refl) refl kill.edit.edited kill.ring
+    (killed_range c.args.self.now.edited.line c.args.movement.now) _ (cc) (nothing_drawn _ _ _ refl refl refl refl refl refl) refl kill.finds.edit.edited kill.ring

@@ -5,5 +5,5 @@ use Rattle.line_editor.proofs.edit.State.edit_transpose_words.Goals as goal
 pub returns : goal.returns
 returns g c =
     let edit = c.in_ok-exchanged.ensures in
-    line_done _ _ c.args.self.now _ _ _ _ _ _ (nothing_drawn _ _ _ refl refl refl refl refl refl) refl edit.edit.edited edit.edit.first
-    edit.answer edit.unreported c.show_edit.ensures
+    line_done _ _ c.args.self.now _ _ _ _ _ _ (nothing_drawn _ _ _ refl refl refl refl refl refl) refl edit.reports.edit.edited edit.reports.edit.first
+    edit.reports.answer edit.unreported c.show_edit.ensures
