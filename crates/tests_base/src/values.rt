@@ -282,25 +282,40 @@ fn has_pieces<T: Debug>(
     Ok(())
 }
 
-/// What types with fields of their own show: their values.
 #[test]
-fn debug_shows_what_is_held(rt: HostRuntime) -> Result<(), Fail> {
-    let alloc = rt.alloc();
-    let mut line = LineBuffer::init(alloc, "ab日", 2)?;
-    has_pieces(&rt, alloc, &line, &["LineBuffer", "\"ab日\"", "2"])?;
-    let mut changes = Changeset::new(alloc);
+fn debug_shows_a_line(rt: HostRuntime) -> Result<(), Fail> {
+    let mut line = LineBuffer::init(rt.alloc(), "ab日", 2)?;
+    line.yank("xyz", 1, &mut Changeset::new(rt.alloc()))?;
+    has_pieces(&rt, rt.alloc(), &line, &["LineBuffer", "\"abxyz日\"", "5"])
+}
+
+#[test]
+fn debug_shows_changes(rt: HostRuntime) -> Result<(), Fail> {
+    let mut line = LineBuffer::init(rt.alloc(), "ab日", 2)?;
+    let mut changes = Changeset::new(rt.alloc());
     line.yank("xyz", 1, &mut changes)?;
-    has_pieces(&rt, alloc, &line, &["\"abxyz日\"", "5"])?;
-    has_pieces(&rt, alloc, &changes, &["Changeset", "\"xyz\"", "2"])?;
-    let mut ring = KillRing::new(alloc, 7);
+    has_pieces(&rt, rt.alloc(), &changes, &["Changeset", "\"xyz\"", "2"])
+}
+
+#[test]
+fn debug_shows_a_kill_ring(rt: HostRuntime) -> Result<(), Fail> {
+    let mut ring = KillRing::new(rt.alloc(), 7);
     ring.kill("uvw", Mode::Append)?;
-    has_pieces(&rt, alloc, &ring, &["KillRing", "\"uvw\"", "7"])?;
+    has_pieces(&rt, rt.alloc(), &ring, &["KillRing", "\"uvw\"", "7"])
+}
+
+#[test]
+fn debug_shows_a_layout(rt: HostRuntime) -> Result<(), Fail> {
     let mut layout = Layout::new(GraphemeClusterMode::NoZwj);
     layout.end = Position { row: 3, col: 4 };
     let pieces = ["Layout", "NoZwj", "end: Position { row: 3, col: 4 }"];
-    has_pieces(&rt, alloc, &layout, pieces.as_slice())?;
+    has_pieces(&rt, rt.alloc(), &layout, pieces.as_slice())
+}
+
+#[test]
+fn debug_shows_an_error(rt: HostRuntime) -> Result<(), Fail> {
     let error = ReadlineError::Io(io::Error::other("the disk is on fire"));
-    has_pieces(&rt, alloc, &error, &["Io", "the disk is on fire"])
+    has_pieces(&rt, rt.alloc(), &error, &["Io", "the disk is on fire"])
 }
 
 #[test]

@@ -262,26 +262,55 @@ fn groups_are_opened_closed_and_taken_back(rt: HostRuntime) -> Result<(), Fail> 
     Ok(())
 }
 
-/// The text of a word of 6,000 bytes is copied, killed and taken back; the ring then has it.
+/// A copy has this text.
+fn copies(rt: &impl Abort, line: &LineBuffer, mvt: &Movement, wanted: &str) -> Result<(), Fail> {
+    match line.copy(mvt)? {
+        Some(copy) => assert_eq!(rt; copy.as_str(), wanted),
+        None => panic!(rt; "no copy"),
+    }
+    Ok(())
+}
+
+/// A kill takes a text from its place, and the ring then has it.
 fn kills(
+    rt: &impl Abort,
+    line: &mut LineBuffer,
+    changes: &mut Changeset,
+    ring: &mut KillRing,
+    mvt: &Movement,
+    gone: (usize, &str),
+) -> Result<(), Fail>
+    requires { Tells changes.old.entries line.old.text }
+    ensures { OnOk result (Tells changes.new.entries line.new.text) }
+{
+    match line.kill(mvt, changes, ring)? {
+        Some((at, text, _)) => assert_eq!(rt; (at, text.as_str()), gone),
+        None => panic!(rt; "no kill"),
+    }
+    assert_eq!(rt; ring.yank(), Some(gone.1));
+    Ok(())
+}
+
+/// The text of a word of 6,000 bytes is copied, killed and taken back.
+fn copies_and_kills(
     rt: &impl Abort,
     alloc: Global,
     mvt: &Movement,
     place: usize,
     gone: usize,
 ) -> Result<(), Fail> {
-    let (mut line, mut changes, _) = after(rt, alloc, "", 0, WORD)?;
-    let mut ring = KillRing::new(alloc, 1);
     let wanted = text_of(alloc, "é", gone)?;
-    let Some(copy) = line.copy(mvt)? else {
-        return Err(Fail::from("a text"));
-    };
-    assert_eq!(rt; copy.as_str(), wanted.as_str());
-    let Some((at, text, _)) = line.kill(mvt, &mut changes, &mut ring)? else {
-        return Err(Fail::from("a text"));
-    };
-    assert_eq!(rt; (at, text.as_str()), (place, wanted.as_str()));
-    assert_eq!(rt; ring.yank(), Some(wanted.as_str()));
+    let (mut line, mut changes, _) = after(rt, alloc, "", 0, WORD)?;
+    copies(rt, &line, mvt, wanted.as_str())?;
+    let mut ring = KillRing::new(alloc, 1);
+    kills(
+        rt,
+        &mut line,
+        &mut changes,
+        &mut ring,
+        mvt,
+        (place, wanted.as_str()),
+    )?;
     assert!(rt; changes.undo(&mut line, 1)?);
     assert_eq!(rt; line.len(), 6_000);
     Ok(())
@@ -295,28 +324,39 @@ fn texts_are_copied_and_killed(rt: HostRuntime) -> Result<(), Fail> {
         (Movement::WholeLine, 0, 3_000),
         (Movement::EndOfBuffer, 4, 2_998),
     ] {
-        kills(&rt, rt.alloc(), &mvt, place, gone)?;
+        copies_and_kills(&rt, rt.alloc(), &mvt, place, gone)?;
     }
     Ok(())
 }
 
-/// The text that comes in last, and one that goes.
+/// The text that comes in last.
 #[test]
-fn texts_are_given(rt: HostRuntime) -> Result<(), Fail> {
+fn the_last_insert_is_given(rt: HostRuntime) -> Result<(), Fail> {
+    let (_, changes, _) = after(&rt, rt.alloc(), "", 0, WORD)?;
+    match changes.last_insert()? {
+        Some(last) => assert_eq!(&rt; last.len(), 6_000),
+        None => panic!(&rt; "no insert"),
+    }
+    Ok(())
+}
+
+/// The text that a deletion takes away.
+#[test]
+fn a_deleted_text_is_given(rt: HostRuntime) -> Result<(), Fail> {
     let (mut line, mut changes, _) = after(&rt, rt.alloc(), "", 0, WORD)?;
-    let wanted = text_of(rt.alloc(), "é", 3_000)?;
-    let Some(last) = changes.last_insert()? else {
-        return Err(Fail::from("a text"));
-    };
-    assert_eq!(rt; last.as_str(), wanted.as_str());
-    let Some(gone) = line.delete(2_500, &mut changes)? else {
-        return Err(Fail::from("a text"));
-    };
-    assert_eq!(rt; gone.len(), 5_000);
+    match line.delete(2_500, &mut changes)? {
+        Some(gone) => assert_eq!(&rt; gone.len(), 5_000),
+        None => panic!(&rt; "no deletion"),
+    }
+    Ok(())
+}
+
+#[test]
+fn a_line_begins_with_its_text(rt: HostRuntime) -> Result<(), Fail> {
     let text = text_of(rt.alloc(), "日", 5_000)?;
-    assert!(rt; text.as_str().is_char_boundary(3));
+    assert!(&rt; text.as_str().is_char_boundary(3));
     let line = LineBuffer::init(rt.alloc(), text.as_str(), 3)?;
-    assert_eq!(rt; (line.as_str(), line.pos()), (text.as_str(), 3));
+    assert_eq!(&rt; (line.as_str(), line.pos()), (text.as_str(), 3));
     Ok(())
 }
 
@@ -341,22 +381,4 @@ fn joins(rt: &impl Abort, alloc: Global, apart: bool, wanted: usize) -> Result<(
 fn kills_join(rt: HostRuntime) -> Result<(), Fail> {
     joins(&rt, rt.alloc(), false, 12_000)?;
     joins(&rt, rt.alloc(), true, 4_000)
-}
-
-/// A ring of 3,000 slots, each with its text, and one kill more.
-#[test]
-fn kills_fill_a_ring(rt: HostRuntime) -> Result<(), Fail> {
-    let mut ring = KillRing::new(rt.alloc(), 3_000);
-    for _ in 0..3_000 {
-        ring.kill("x", Mode::Append)?;
-        ring.reset();
-    }
-    ring.kill("yz", Mode::Append)?;
-    assert_eq!(rt; ring.yank(), Some("yz"));
-    assert_eq!(rt; ring.yank_pop(), Some((2, "x")));
-    for _ in 0..2_998 {
-        assert_eq!(rt; ring.yank_pop(), Some((1, "x")));
-    }
-    assert_eq!(rt; ring.yank_pop(), Some((1, "yz")));
-    Ok(())
 }

@@ -106,7 +106,13 @@ fn yanks_turn_the_ring_back(rt: HostRuntime) -> Result<(), Fail> {
 
 /// How many kills of a text of its own into a ring of so many slots; how many yank-pops then give a text of one
 /// byte, one after another, until the last kill's comes again.
-const FULL: &[(usize, usize, usize)] = &[(60, 59, 58), (60, 60, 59), (60, 61, 59), (60, 62, 59)];
+const FULL: &[(usize, usize, usize)] = &[
+    (60, 59, 58),
+    (60, 60, 59),
+    (60, 61, 59),
+    (60, 62, 59),
+    (3_000, 3_001, 2_999),
+];
 
 fn fills(rt: &impl Abort, alloc: Global, case: &(usize, usize, usize)) -> Result<(), Fail> {
     let (size, kills, others) = *case;
