@@ -17,21 +17,33 @@ type Case = (
     Option<(usize, &'static str, Direction)>,
 );
 
-fn kills(rt: &impl Abort, alloc: Global, case: &Case) -> Result<(), Fail> {
-    let (text, pos, mvt, after, gone) = case;
-    let mut line = line_at(rt, alloc, text, *pos)?;
-    let mut changes = Changeset::new(alloc);
-    let mut ring = KillRing::new(alloc, 2);
-    let killed = line.kill(mvt, &mut changes, &mut ring)?;
-    assert_eq!(rt; line.as_str(), *after, "{mvt:?} from {pos} in {text:?}");
-    match (&killed, gone) {
+/// What a kill gives is what went.
+fn went(
+    rt: &impl Abort,
+    killed: &Option<(usize, String, Direction)>,
+    gone: &Option<(usize, &'static str, Direction)>,
+) {
+    match (killed, gone) {
         (Some((place, text, side)), Some((at, went, from))) => {
             assert_eq!(rt; (*place, text.as_str(), *side), (*at, *went, *from));
-            assert_eq!(rt; (line.pos(), changes.len()), (*at, 1));
         }
-        (None, None) => assert_eq!(rt; (line.pos(), changes.len()), (*pos, 0)),
-        _ => panic!(rt; "{mvt:?} from {pos} in {text:?} gave {killed:?}"),
+        (None, None) => {}
+        _ => panic!(rt; "{killed:?} for {gone:?}"),
     }
+}
+
+fn kills(rt: &impl Abort, alloc: Global, case: &Case) -> Result<(), Fail> {
+    let (text, pos, mvt, after, gone) = case;
+    let (place, entries) = match gone {
+        Some((place, _, _)) => (*place, 1),
+        None => (*pos, 0),
+    };
+    let mut line = line_at(rt, alloc, text, *pos)?;
+    let mut changes = Changeset::new(alloc);
+    let killed = line.kill(mvt, &mut changes, &mut KillRing::new(alloc, 2))?;
+    went(rt, &killed, gone);
+    assert_eq!(rt; line.as_str(), *after);
+    assert_eq!(rt; (line.pos(), changes.len()), (place, entries));
     Ok(())
 }
 

@@ -370,10 +370,7 @@ fn joins(rt: &impl Abort, alloc: Global, apart: bool, wanted: usize) -> Result<(
             ring.reset();
         }
     }
-    let Some(yanked) = ring.yank() else {
-        return Err(Fail::from("a text"));
-    };
-    assert_eq!(rt; yanked.len(), wanted);
+    assert_eq!(rt; ring.yank().map(|yanked| yanked.len()), Some(wanted));
     Ok(())
 }
 

@@ -376,18 +376,14 @@ type Asked = (
 fn asks(rt: &impl Abort, alloc: Global, case: &Asked) -> Result<(), Fail> {
     let (text, pos, next, prev, at_end, white) = *case;
     let line = line_at(rt, alloc, text, pos)?;
-    assert_eq!(rt;
-        (line.next_pos(1), line.prev_pos(1)),
-        (next, prev),
-        "at {pos} in {text:?}"
-    );
+    let places = (line.next_pos(1), line.prev_pos(1));
+    assert_eq!(rt; places, (next, prev));
     let found = (line.is_cursor_at_end(), line.is_end_of_input());
-    assert_eq!(rt; found, (at_end, white), "at {pos} in {text:?}");
+    assert_eq!(rt; found, (at_end, white));
     assert_eq!(rt;
         (line.is_empty(), line.len()),
         (text.is_empty(), text.len())
     );
-    assert!(rt; LineBuffer::new(alloc).is_empty());
     Ok(())
 }
 

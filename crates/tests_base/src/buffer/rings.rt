@@ -30,6 +30,18 @@ fn acted(ring: &mut KillRing, act: &Act) -> Result<(), Fail> {
 /// A size and calls; then the text that a yank gives and those that further yank-pops give.
 type Case = (usize, &'static [Act], &'static [&'static str]);
 
+/// A yank gives the first text, and each yank-pop then the next one, with the length of the one before it.
+fn gives(rt: &impl Abort, ring: &mut KillRing, texts: &[&'static str]) {
+    let mut before = None;
+    for text in texts {
+        match before {
+            None => assert_eq!(rt; ring.yank(), Some(*text)),
+            Some(len) => assert_eq!(rt; ring.yank_pop(), Some((len, *text))),
+        }
+        before = Some(text.len());
+    }
+}
+
 fn turns(rt: &impl Abort, alloc: Global, case: &Case) -> Result<(), Fail> {
     let (size, acts, texts) = case;
     let mut ring = KillRing::new(alloc, *size);
@@ -37,14 +49,7 @@ fn turns(rt: &impl Abort, alloc: Global, case: &Case) -> Result<(), Fail> {
         acted(&mut ring, act)?;
     }
     assert_eq!(rt; ring.yank_pop(), None, "of size {size}");
-    let mut before = None;
-    for text in *texts {
-        match before {
-            None => assert_eq!(rt; ring.yank(), Some(*text), "of size {size}"),
-            Some(len) => assert_eq!(rt; ring.yank_pop(), Some((len, *text)), "of size {size}"),
-        }
-        before = Some(text.len());
-    }
+    gives(rt, &mut ring, texts);
     Ok(())
 }
 
@@ -114,20 +119,29 @@ const FULL: &[(usize, usize, usize)] = &[
     (3_000, 3_001, 2_999),
 ];
 
-fn fills(rt: &impl Abort, alloc: Global, case: &(usize, usize, usize)) -> Result<(), Fail> {
-    let (size, kills, others) = *case;
-    let mut ring = KillRing::new(alloc, size);
+/// So many texts, each in a slot of its own, and a last one.
+fn filled(ring: &mut KillRing, kills: usize) -> Result<(), Fail> {
     for _ in 1..kills {
         ring.kill("x", Mode::Append)?;
         ring.reset();
     }
-    ring.kill("yz", Mode::Append)?;
+    Ok(ring.kill("yz", Mode::Append)?)
+}
+
+fn pops(rt: &impl Abort, ring: &mut KillRing, len: usize, text: &str) {
+    assert_eq!(rt; ring.yank_pop(), Some((len, text)));
+}
+
+fn fills(rt: &impl Abort, alloc: Global, case: &(usize, usize, usize)) -> Result<(), Fail> {
+    let (size, kills, others) = *case;
+    let mut ring = KillRing::new(alloc, size);
+    filled(&mut ring, kills)?;
     assert_eq!(rt; ring.yank(), Some("yz"));
-    assert_eq!(rt; ring.yank_pop(), Some((2, "x")));
+    pops(rt, &mut ring, 2, "x");
     for _ in 1..others {
-        assert_eq!(rt; ring.yank_pop(), Some((1, "x")), "{kills} kills");
+        pops(rt, &mut ring, 1, "x");
     }
-    assert_eq!(rt; ring.yank_pop(), Some((1, "yz")), "{kills} kills");
+    pops(rt, &mut ring, 1, "yz");
     Ok(())
 }
 
