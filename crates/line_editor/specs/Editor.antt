@@ -15,15 +15,16 @@ pub record Editor : Type 0 where
   pub draft : Draft
   pub kills : Ring
 
--- what an editor begins with: a draft, those who are asked and whether they are sure, a renderer on which nothing is drawn, and its
--- counts of failures and of full redraws
-pub record Begins {X : Type 0} (e : Ghosts X) (editor : X) (start : Draft) (asked : Environment) (surely : Bool) (undrawn : Display) (failed drawn : ℕ) : Type 0 where
+-- what an editor begins with: a draft, those who are asked and whether they are sure, and a renderer on which nothing is drawn,
+-- with its counts of failures and of full redraws and whose loan it is
+pub record Begins {X : Type 0} (e : Ghosts X) (editor : X) (start : Draft) (asked : Environment) (surely : Bool) (undrawn : Display) (failed drawn : ℕ) (lent : e.Loan) : Type 0 where
   pub draft : e.draft editor ≡ start
   pub environment : e.environment editor ≡ asked
   pub sure : e.sure editor ≡ surely
   pub display : e.display editor ≡ undrawn
   pub failures : e.failures editor ≡ failed
   pub redraws : e.redraws editor ≡ drawn
+  pub loan : e.loan editor ≡ lent
 
 -- how a command answers: the next one is read, the line is submitted, or the run ends with the end of the input or an interrupt
 pub data Answer : Type 0 where

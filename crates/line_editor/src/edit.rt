@@ -130,8 +130,7 @@ impl<'out, 'prompt, W: Renderer, H: Helper, P: Prompt, S: History> State<
             (is_sure_by H.Hinter.sure helper.entry && is_sure_by H.Validator.sure helper.entry
               && S.sure ctx.entry.history)
             (undrawn (W.surface out.old) (W.screen out.old) (P.raw_text prompt.now))
-            (W.failures out.old) (W.redraws out.old)) }
-        ensures loan { IfOk result (λ s. ⟦<Self as EditorState>⟧.loan s ≡ out.entry.ghost_name) }
+            (W.failures out.old) (W.redraws out.old) out.entry.ghost_name) }
     {
         Ok(State {
             alloc,
@@ -167,8 +166,7 @@ impl<'out, 'prompt, W: Renderer, H: Helper, P: Prompt, S: History> State<
             (is_sure_by H.Hinter.sure helper.entry && is_sure_by H.Validator.sure helper.entry
               && S.sure ctx.entry.history)
             (undrawn (W.surface out.old) (W.screen out.old) (P.raw_text prompt.now))
-            (W.failures out.old) (W.redraws out.old)) }
-        ensures loan { IfOk result (λ s. ⟦<Self as EditorState>⟧.loan s ≡ out.entry.ghost_name) }
+            (W.failures out.old) (W.redraws out.old) out.entry.ghost_name) }
         ensures memory { MemoryOnly result }
     {
         Ok(State {
