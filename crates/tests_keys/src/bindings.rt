@@ -99,17 +99,37 @@ fn holds(rt: &impl Abort, alloc: Global, case: &Case) -> std::result::Result<(),
         .edit_mode(*style)
         .build();
     let bindings = map_of(alloc, bound)?;
-    let history = MemHistory::new(alloc);
-    let mut screen = Recorder::new(alloc, 80, false, 0);
-    let mut helper = Advisor::new(*hint, (true, true, None), None);
     let mut input = InputState::new(&config, &bindings);
-    let mut kills = KillRing::new(alloc, 60);
     let mut typist = Typist::new(alloc);
     typist.press(keys)?;
+    runs(
+        rt,
+        alloc,
+        &config,
+        &mut input,
+        &mut typist,
+        *hint,
+        &(*end, *line, *cursor),
+    )
+}
+
+/// Runs on what was typed. How the run ends, the line and the cursor then.
+fn runs(
+    rt: &impl Abort,
+    alloc: Global,
+    config: &Config,
+    input: &mut InputState<'_>,
+    typist: &mut Typist,
+    hint: Option<&'static str>,
+    wanted: &(&'static str, &'static str, usize),
+) -> std::result::Result<(), Fail> {
+    let history = MemHistory::new(alloc);
+    let mut screen = Recorder::new(alloc, 80, false, 0);
+    let mut helper = Advisor::new(hint, (true, true, None), None);
+    let mut kills = KillRing::new(alloc, 60);
     let context = Context::new(&history);
     let mut state = State::new(alloc, &mut screen, &"> ", Some(&mut helper), context)?;
-    let outcome = run(&mut state, &mut input, &mut typist, &mut kills, &config);
-    assert_eq!(rt; ended(&outcome), *end, "{keys:?}");
-    assert_eq!(rt; (state.line(), state.pos()), (*line, *cursor), "{keys:?}");
+    let outcome = run(&mut state, input, typist, &mut kills, config);
+    assert_eq!(rt; (ended(&outcome), state.line(), state.pos()), *wanted);
     Ok(())
 }

@@ -22,6 +22,11 @@ fn a_line_by_the_example(rt: HostRuntime) -> Result<(), Fail> {
     typist.press(KEYS)?;
     let line = read_line(rt.alloc(), &mut screen, &mut typist)?;
     assert_eq!(rt; line.as_str(), "ba");
+    Ok(())
+}
+
+#[test]
+fn a_character_by_the_caller(rt: HostRuntime) -> Result<(), Fail> {
     let mut buffer = LineBuffer::new(rt.alloc());
     type_in(&mut buffer, &mut Changeset::new(rt.alloc()), 'é')?;
     assert_eq!(rt; buffer.as_str(), "é");

@@ -540,44 +540,46 @@ fn of_search_kinds(rt: HostRuntime) {
 /// Keys of a count, whether the number is positive, the number, and the prompt.
 type Typed = (&'static [char], bool, u16, &'static str);
 
+const COUNTS: &[Typed] = &[
+    (&['5'], true, 5, "(arg: 5) "),
+    (&['-'], false, 1, "(arg: -1) "),
+    (&['-', '2', '3'], false, 23, "(arg: -23) "),
+    (&['2', '-', '3'], true, 23, "(arg: 23) "),
+    (&['-', '-'], false, 1, "(arg: -1) "),
+    (&['0'], true, 1, "(arg: 0) "),
+    (&['-', '0'], true, 1, "(arg: 0) "),
+    (&['0', '0', '7'], true, 7, "(arg: 7) "),
+    (&['9', '9', '9', '9'], true, 9999, "(arg: 9999) "),
+    (
+        &['9', '9', '9', '9', '9', '9', '9'],
+        true,
+        9999,
+        "(arg: 9999) ",
+    ),
+    (&['1', '0', '0', '0', '5'], true, 1000, "(arg: 1000) "),
+    (
+        &['-', '0', '9', '9', '9', '1', '2'],
+        false,
+        9991,
+        "(arg: -9991) ",
+    ),
+];
+
+fn counts(rt: &impl Abort, alloc: Global, typed: &Typed) -> Result<(), Fail> {
+    let (chars, positive, n, prompt) = *typed;
+    let mut count = TypedCount::new(KeyEvent(K::Char(chars[0]), M::ALT));
+    for c in &chars[1..] {
+        count.push(KeyEvent(K::Char(*c), M::NONE));
+    }
+    assert_eq!(rt; count.count(), Count { n, positive }, "{chars:?}");
+    assert_eq!(rt; count.prompt(alloc)?.as_str(), prompt);
+    Ok(())
+}
+
 #[test]
 fn of_counts(rt: HostRuntime) -> Result<(), Fail> {
-    let rows: [Typed; 12] = [
-        (&['5'], true, 5, "(arg: 5) "),
-        (&['-'], false, 1, "(arg: -1) "),
-        (&['-', '2', '3'], false, 23, "(arg: -23) "),
-        (&['2', '-', '3'], true, 23, "(arg: 23) "),
-        (&['-', '-'], false, 1, "(arg: -1) "),
-        (&['0'], true, 1, "(arg: 0) "),
-        (&['-', '0'], true, 1, "(arg: 0) "),
-        (&['0', '0', '7'], true, 7, "(arg: 7) "),
-        (&['9', '9', '9', '9'], true, 9999, "(arg: 9999) "),
-        (
-            &['9', '9', '9', '9', '9', '9', '9'],
-            true,
-            9999,
-            "(arg: 9999) ",
-        ),
-        (&['1', '0', '0', '0', '5'], true, 1000, "(arg: 1000) "),
-        (
-            &['-', '0', '9', '9', '9', '1', '2'],
-            false,
-            9991,
-            "(arg: -9991) ",
-        ),
-    ];
-    for (chars, positive, n, prompt) in &rows {
-        let first = KeyEvent(K::Char(chars[0]), M::ALT);
-        let mut typed = TypedCount::new(first);
-        for c in &chars[1..] {
-            typed.push(KeyEvent(K::Char(*c), M::NONE));
-        }
-        let wanted = Count {
-            n: *n,
-            positive: *positive,
-        };
-        assert_eq!(rt; typed.count(), wanted, "{chars:?}");
-        assert_eq!(rt; typed.prompt(rt.alloc())?.as_str(), *prompt);
+    for typed in COUNTS {
+        counts(&rt, rt.alloc(), typed)?;
     }
     Ok(())
 }

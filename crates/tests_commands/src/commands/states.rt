@@ -12,6 +12,7 @@ use line_keys::command::Cmd;
 use line_keys::keymap::Refresher;
 use line_parts::Context;
 use std::alloc::Global;
+use std::fmt::{Debug, Formatter};
 use std::process::Abort;
 use tests_parties::advisor::Advisor;
 use tests_parties::shelf::Shelf;
@@ -188,4 +189,31 @@ fn leads(rt: &impl Abort, alloc: Global, setup: &Setup, text: &str) -> Result<()
 #[test]
 fn searches_from_a_line(rt: HostRuntime) -> Result<()> {
     leads(&rt, rt.alloc(), &OVER_GIT, "gi")
+}
+
+/// What `Debug` writes of a state has each of these pieces.
+fn writes(rt: &impl Abort, alloc: Global, state: &Editor<'_, '_>, pieces: &[&str]) {
+    let mut formatter = Formatter::new(String::new(alloc));
+    assert!(rt; state.fmt(&mut formatter).is_ok());
+    let written = formatter.into_inner();
+    for piece in pieces {
+        assert!(rt; written.as_str().contains(*piece), "{piece}");
+    }
+}
+
+fn writes_a_line(rt: &impl Abort, alloc: Global, screen: &mut Recorder) -> Result<()> {
+    let history = shelved(alloc, &OVER_TWO)?;
+    let context = Context::new(&history);
+    let text = "日本";
+    assert!(rt; text.is_char_boundary(3));
+    let state = State::with_line(alloc, screen, &"> ", None, context, text, 3)?;
+    let pieces = ["State", "\"日本\"", "pos: 3", "history_index: 2", "Layout"];
+    writes(rt, alloc, &state, pieces.as_slice());
+    Ok(())
+}
+
+#[test]
+fn is_written(rt: HostRuntime) -> Result<()> {
+    let mut screen = Recorder::new(rt.alloc(), 80, false, 0);
+    writes_a_line(&rt, rt.alloc(), &mut screen)
 }

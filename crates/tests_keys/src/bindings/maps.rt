@@ -83,19 +83,22 @@ fn the_old_handler_comes_back(rt: HostRuntime) -> Result<(), Fail> {
     Ok(())
 }
 
+fn copies(rt: &impl Abort, alloc: Global, on: &On, wanted: &On) -> Result<(), Fail> {
+    let event_here = event(alloc, on)?;
+    let copy = event_here.clone(alloc)?;
+    assert_eq!(rt; copy, event_here);
+    assert_eq!(rt; copy.normalize(), event(alloc, wanted)?);
+    Ok(())
+}
+
 #[test]
 fn events_are_copied_and_put_into_normal_form(rt: HostRuntime) -> Result<(), Fail> {
-    let alloc = rt.alloc();
-
     for (on, wanted) in [
         (On::Keys(&[LOWER_X, A]), On::Keys(&[CTRL_X, A])),
         (On::Each, On::Each),
         (On::Mouse, On::Mouse),
     ] {
-        let event_here = event(alloc, &on)?;
-        let copy = event_here.clone(alloc)?;
-        assert_eq!(rt; copy, event_here);
-        assert_eq!(rt; copy.normalize(), event(alloc, &wanted)?);
+        copies(&rt, rt.alloc(), &on, &wanted)?;
     }
     Ok(())
 }

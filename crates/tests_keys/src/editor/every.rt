@@ -123,7 +123,7 @@ fn each_set(
     Ok(())
 }
 
-/// Runs on a letter, what is typed before the key, and the key.
+/// Types a letter, what is typed before the key, and the key.
 fn ends(
     rt: &impl Abort,
     alloc: Global,
@@ -131,6 +131,20 @@ fn ends(
     key: KeyEvent,
     wanted: &'static str,
 ) -> std::result::Result<(), Fail> {
+    let mut typist = Typist::new(alloc);
+    typist.press(&[KeyEvent(K::Char('b'), M::NONE)])?;
+    typist.press(before)?;
+    typist.press(&[key])?;
+    assert_eq!(rt;
+        end_by(alloc, &mut typist)?,
+        wanted,
+        "{before:?}, then {key:?}"
+    );
+    Ok(())
+}
+
+/// How a run on what was typed ends.
+fn end_by(alloc: Global, typist: &mut Typist) -> Result<&'static str> {
     let config = Config::builder(GraphemeClusterMode::Unicode).build();
     let bindings = Bindings::new(alloc);
     let history = MemHistory::new(alloc);
@@ -138,15 +152,9 @@ fn ends(
     let mut helper = Advisor::new(None, (true, true, None), None);
     let mut input = InputState::new(&config, &bindings);
     let mut kills = KillRing::new(alloc, 60);
-    let mut typist = Typist::new(alloc);
-    typist.press(&[KeyEvent(K::Char('b'), M::NONE)])?;
-    typist.press(before)?;
-    typist.press(&[key])?;
     let context = Context::new(&history);
     let mut state = State::new(alloc, &mut screen, &"> ", Some(&mut helper), context)?;
-    let outcome = run(&mut state, &mut input, &mut typist, &mut kills, &config);
-    assert_eq!(rt; ended(&outcome), wanted, "{before:?}, then {key:?}");
-    Ok(())
+    Ok(ended(&run(&mut state, &mut input, typist, &mut kills, &config)))
 }
 
 #[test]
