@@ -285,7 +285,7 @@ fn holds_behind(
     Ok(())
 }
 
-/// Does the steps, and looks at the state that they leave.
+/// Types what comes before, and does the steps.
 fn edits(
     rt: &impl Abort,
     alloc: Global,
@@ -294,55 +294,85 @@ fn edits(
     before: &[Step],
     case: &Case,
 ) -> std::result::Result<(), Fail> {
-    let (setup, steps, end, wanted) = case;
+    let setup = &case.0;
     let config = Config::builder(GraphemeClusterMode::Unicode)
         .edit_mode(setup.style)
         .build();
     let bindings = map_of(alloc, setup.bound)?;
-    let history = shelved(alloc, setup)?;
     let mut input = InputState::new(&config, &bindings);
-    let mut kills = KillRing::new(alloc, 60);
     let mut typist = Typist::new(alloc);
-    let context = Context::new(&history);
-    let mut state = State::new(alloc, screen, &setup.prompt, helper, context)?;
-    let mut last = Ok(Turned::Proceeds);
     for step in before {
         typed(&mut typist, step)?;
     }
-    for step in *steps {
-        last = match (typed(&mut typist, step), step) {
-            (Err(error), _) => Err(error),
-            (Ok(()), Step::Run(_)) => {
-                match run(&mut state, &mut input, &mut typist, &mut kills, &config) {
-                    Ok(()) => Ok(Turned::Submitted),
-                    Err(error) => Err(error),
-                }
-            }
-            (Ok(()), Step::Advance(_)) => {
-                advance(&mut state, &mut input, &mut typist, &mut kills, &config)
-            }
-            (Ok(()), Step::Turn(_, single_esc_abort)) => {
-                match state.next_cmd(&mut input, &mut typist, *single_esc_abort) {
-                    Ok(command) => {
-                        turned(execute(command, &mut state, &input, &mut kills, &config))
-                    }
-                    Err(error) => Err(error),
-                }
-            }
-            (Ok(()), _) => done(&mut state, &input, &mut kills, &config, step),
-        };
-    }
-    assert_eq!(rt; ended(&last), *end);
+    leaves(
+        rt,
+        alloc,
+        screen,
+        helper,
+        &config,
+        &mut input,
+        &mut typist,
+        case,
+    )?;
     let styles = (input.is_emacs_mode(), input.is_vi_cmd_mode());
     assert_eq!(rt; styles, (setup.style == EditMode::Emacs, false));
-    match wanted {
-        Wanted::Flags(flags) => assert_eq!(rt; typist.flags(), *flags),
-        Wanted::Words(words) => says(rt, alloc, &last, words)?,
-        _ => {}
+    if let Wanted::Flags(flags) = &case.3 {
+        assert_eq!(rt; typist.flags(), *flags);
+    }
+    Ok(())
+}
+
+/// Does the steps, and looks at the state that they leave.
+fn leaves(
+    rt: &impl Abort,
+    alloc: Global,
+    screen: &mut Recorder,
+    helper: Option<&mut Advisor>,
+    config: &Config,
+    input: &mut InputState<'_>,
+    typist: &mut Typist,
+    case: &Case,
+) -> std::result::Result<(), Fail> {
+    let (setup, steps, end, wanted) = case;
+    let history = shelved(alloc, setup)?;
+    let mut kills = KillRing::new(alloc, 60);
+    let context = Context::new(&history);
+    let mut state = State::new(alloc, screen, &setup.prompt, helper, context)?;
+    let mut last = Ok(Turned::Proceeds);
+    for step in *steps {
+        last = stepped(&mut state, input, typist, &mut kills, config, step);
+    }
+    assert_eq!(rt; ended(&last), *end);
+    if let Wanted::Words(words) = wanted {
+        says(rt, alloc, &last, words)?;
     }
     looks(rt, &state, wanted)?;
     assert!(rt; state.place() <= setup.entries.len());
     Ok(())
+}
+
+/// Types a step and does it.
+fn stepped(
+    state: &mut Editor<'_, '_>,
+    input: &mut InputState<'_>,
+    typist: &mut Typist,
+    kills: &mut KillRing,
+    config: &Config,
+    step: &Step,
+) -> Result<Turned> {
+    typed(typist, step)?;
+    match step {
+        Step::Run(_) => {
+            run(state, input, typist, kills, config)?;
+            Ok(Turned::Submitted)
+        }
+        Step::Advance(_) => advance(state, input, typist, kills, config),
+        Step::Turn(_, single_esc_abort) => {
+            let command = state.next_cmd(input, typist, *single_esc_abort)?;
+            turned(execute(command, state, input, kills, config))
+        }
+        _ => done(state, input, kills, config, step),
+    }
 }
 
 /// The history of the editor.

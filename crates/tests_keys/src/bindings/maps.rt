@@ -1,7 +1,7 @@
 //! Bindings as a map.
 
 use super::{Bindings, On, To, command, event};
-use line_editor::binding::EventHandler;
+use line_editor::binding::{Event, EventHandler};
 use line_keys::command::Cmd;
 use line_keys::keys::{KeyCode, KeyEvent, Modifiers};
 use std::alloc::Global;
@@ -47,20 +47,36 @@ fn typed(handler: Option<&EventHandler>) -> Option<char> {
     }
 }
 
+/// Binds an event that is not bound yet.
+fn binds(
+    rt: &impl Abort,
+    alloc: Global,
+    bindings: &mut Bindings,
+    on: &On,
+    to: &To,
+) -> Result<(), Fail> {
+    let handler = EventHandler::from(command(alloc, to)?);
+    let old = bindings.insert(event(alloc, on)?, handler)?;
+    assert_eq!(rt; typed(old.as_ref()), None);
+    Ok(())
+}
+
+/// What an event is bound to, and whether one is or begins a bound one.
+fn finds(rt: &impl Abort, bindings: &Bindings, event: &Event, wanted: Option<char>, begins: bool) {
+    assert_eq!(rt; typed(bindings.get(event)), wanted, "{event:?}");
+    assert_eq!(rt; bindings.begins(event), begins, "{event:?}");
+}
+
 #[test]
 fn events_are_looked_up(rt: HostRuntime) -> Result<(), Fail> {
     let alloc = rt.alloc();
     let mut bindings = Bindings::new(alloc);
-    assert!(rt; !bindings.begins(&event(alloc, &On::Keys(&[]))?));
+    finds(&rt, &bindings, &event(alloc, &On::Keys(&[]))?, None, false);
     for (on, to) in BOUND {
-        let handler = EventHandler::from(command(alloc, to)?);
-        let old = bindings.insert(event(alloc, on)?, handler)?;
-        assert_eq!(rt; typed(old.as_ref()), None);
+        binds(&rt, alloc, &mut bindings, on, to)?;
     }
     for (on, wanted, begins) in LOOKED_UP {
-        let event = event(alloc, on)?;
-        assert_eq!(rt; typed(bindings.get(&event)), *wanted, "{event:?}");
-        assert_eq!(rt; bindings.begins(&event), *begins, "{event:?}");
+        finds(&rt, &bindings, &event(alloc, on)?, *wanted, *begins);
     }
     Ok(())
 }

@@ -77,6 +77,13 @@ fn typed(
     count: &[KeyEvent],
     keys: &[KeyEvent],
 ) -> Result<Cmd, Fail> {
+    let mut typist = Typist::new(alloc);
+    typist.press(count)?;
+    typist.press(keys)?;
+    read(rt, alloc, line, &mut typist)
+}
+
+fn read(rt: &impl Abort, alloc: Global, line: &Line, typist: &mut Typist) -> Result<Cmd, Fail> {
     let (text, cursor, hint) = line;
     let config = Config::builder(GraphemeClusterMode::Unicode).build();
     let bindings = Bindings::new(alloc);
@@ -84,15 +91,12 @@ fn typed(
     let mut screen = Recorder::new(alloc, 80, false, 0);
     let mut helper = Advisor::new(*hint, (true, true, None), None);
     let mut input = InputState::new(&config, &bindings);
-    let mut typist = Typist::new(alloc);
-    typist.press(count)?;
-    typist.press(keys)?;
     let advisor = Some(&mut helper);
     let context = Context::new(&history);
     assert!(rt; text.is_char_boundary(*cursor));
     let mut state = State::with_line(alloc, &mut screen, &"> ", advisor, context, text, *cursor)?;
     state.hint()?;
-    Ok(state.next_cmd(&mut input, &mut typist, true)?)
+    Ok(state.next_cmd(&mut input, typist, true)?)
 }
 
 /// Returns whether a command is that for 3 with 1 in place of the count.
