@@ -314,7 +314,7 @@ fn edits(
     }
 }
 
-/// Draws the empty line, puts the text before and behind the cursor into it, does the steps, and looks at the state.
+/// Does the steps, and looks at the state, and at the history after a fault.
 fn goes_on(
     rt: &impl Abort,
     alloc: Global,
@@ -323,33 +323,70 @@ fn goes_on(
     helper: Option<&mut Advisor>,
     session: (&str, &[Step], &Outcome<'_>),
 ) -> std::result::Result<(), Fail> {
+    let history = shelved(alloc, setup)?;
+    let mut state = State::new(alloc, screen, &"> ", helper, Context::new(&history))?;
+    is_left(rt, alloc, setup, &mut state, session)?;
+    if is_fault(session.2.end) {
+        keeps(rt, &history, setup.entries)?;
+    }
+    Ok(())
+}
+
+/// Does the steps, and looks at the state.
+fn is_left(
+    rt: &impl Abort,
+    alloc: Global,
+    setup: &Setup,
+    state: &mut Editor<'_, '_>,
+    session: (&str, &[Step], &Outcome<'_>),
+) -> std::result::Result<(), Fail> {
     let (start, steps, wanted) = session;
     let config = Config::builder(GraphemeClusterMode::Unicode)
         .edit_mode(setup.style)
         .build();
     let bindings = Bindings::new(alloc);
-    let history = shelved(alloc, setup)?;
     let input = InputState::new(&config, &bindings);
     let mut kills = KillRing::new(alloc, 60);
-    let mut state = State::new(alloc, screen, &"> ", helper, Context::new(&history))?;
-    let (before, after) = halves(rt, start);
-    state.refresh_line()?;
-    state.edit_yank(&input, before, Anchor::Before, 1)?;
-    state.edit_insert_text(after)?;
-    let mut last = Ok(Status::Proceed);
-    for step in steps {
-        last = done(alloc, &mut state, &input, &mut kills, &config, step);
-    }
+    begins(rt, state, &input, start)?;
+    let last = all_done(alloc, state, &input, &mut kills, &config, steps);
     assert_eq!(rt; ended(&last), wanted.end, "{start:?} to {:?}", wanted.line);
-    looks(rt, &state, wanted)?;
+    looks(rt, state, wanted)?;
     if !wanted.said.is_empty() {
         says(rt, alloc, &last, wanted.said)?;
     }
     if is_fault(wanted.end) {
-        recovers(rt, &mut state, &input, &mut kills, &config)?;
-        keeps(rt, &history, setup.entries)?;
+        recovers(rt, state, &input, &mut kills, &config)?;
     }
     Ok(())
+}
+
+/// Draws the empty line, and puts the text before and behind the cursor into it.
+fn begins(
+    rt: &impl Abort,
+    state: &mut Editor<'_, '_>,
+    input: &InputState<'_>,
+    start: &str,
+) -> Result<()> {
+    let (before, after) = halves(rt, start);
+    state.refresh_line()?;
+    state.edit_yank(input, before, Anchor::Before, 1)?;
+    state.edit_insert_text(after)
+}
+
+/// Does the steps. Returns how the last one ended.
+fn all_done(
+    alloc: Global,
+    state: &mut Editor<'_, '_>,
+    input: &InputState<'_>,
+    kills: &mut KillRing,
+    config: &Config,
+    steps: &[Step],
+) -> Result<Status> {
+    let mut last = Ok(Status::Proceed);
+    for step in steps {
+        last = done(alloc, state, input, kills, config, step);
+    }
+    last
 }
 
 /// The history of the editor.
@@ -372,12 +409,15 @@ fn recovers(
     kills: &mut KillRing,
     config: &Config,
 ) -> std::result::Result<(), Fail> {
-    let undone = execute(Cmd::Undo(65535), state, input, kills, config)?;
-    let drawn = execute(Cmd::Repaint, state, input, kills, config)?;
-    assert_eq!(rt; (undone, drawn), (Status::Proceed, Status::Proceed));
+    for command in [Cmd::Undo(65535), Cmd::Repaint] {
+        assert_eq!(rt;
+            execute(command, state, input, kills, config)?,
+            Status::Proceed
+        );
+    }
     let cursor = state.layout().cursor;
-    let found = (state.line(), state.pos(), cursor.row, cursor.col);
-    assert_eq!(rt; found, ("", 0, 0, 2));
+    assert_eq!(rt; (state.line(), state.pos()), ("", 0));
+    assert_eq!(rt; (cursor.row, cursor.col), (0, 2));
     Ok(())
 }
 

@@ -162,24 +162,19 @@ const OVER_GIT: Setup = Setup {
 fn leads(rt: &impl Abort, alloc: Global, setup: &Setup, text: &str) -> Result<()> {
     let history = shelved(alloc, setup)?;
     let mut screen = Recorder::new(alloc, 80, false, 0);
-    let mut helper = Advisor::new(None, (true, true, None), None);
     let context = Context::new(&history);
     let end = text.len();
-    let mut state = State::with_line(
-        alloc,
-        &mut screen,
-        &"> ",
-        Some(&mut helper),
-        context,
-        text,
-        end,
-    )?;
+    let mut state = State::with_line(alloc, &mut screen, &"> ", None, context, text, end)?;
+    walks(rt, alloc, &mut state)
+}
+
+fn walks(rt: &impl Abort, alloc: Global, state: &mut Editor<'_, '_>) -> Result<()> {
     let config = Config::new(GraphemeClusterMode::Unicode);
     let bindings = Bindings::new(alloc);
     let input = InputState::new(&config, &bindings);
     let mut kills = KillRing::new(alloc, 60);
     for (step, line, pos, place) in FROM_A_LINE {
-        let _ = done(alloc, &mut state, &input, &mut kills, &config, step)?;
+        let _ = done(alloc, state, &input, &mut kills, &config, step)?;
         let found = (state.line(), state.pos(), state.place());
         assert_eq!(rt; found, (*line, *pos, *place));
     }
