@@ -537,28 +537,30 @@ fn of_search_kinds(rt: HostRuntime) {
     }
 }
 
-/// Keys of a count, whether the number is positive, the number, and the prompt.
-type Typed = (&'static [char], bool, u16, &'static str);
+/// The first character of a count and those behind it, whether the number is positive, the number, and the prompt.
+type Typed = (char, &'static [char], bool, u16, &'static str);
 
 const COUNTS: &[Typed] = &[
-    (&['5'], true, 5, "(arg: 5) "),
-    (&['-'], false, 1, "(arg: -1) "),
-    (&['-', '2', '3'], false, 23, "(arg: -23) "),
-    (&['2', '-', '3'], true, 23, "(arg: 23) "),
-    (&['-', '-'], false, 1, "(arg: -1) "),
-    (&['0'], true, 1, "(arg: 0) "),
-    (&['-', '0'], true, 1, "(arg: 0) "),
-    (&['0', '0', '7'], true, 7, "(arg: 7) "),
-    (&['9', '9', '9', '9'], true, 9999, "(arg: 9999) "),
+    ('5', &[], true, 5, "(arg: 5) "),
+    ('-', &[], false, 1, "(arg: -1) "),
+    ('-', &['2', '3'], false, 23, "(arg: -23) "),
+    ('2', &['-', '3'], true, 23, "(arg: 23) "),
+    ('-', &['-'], false, 1, "(arg: -1) "),
+    ('0', &[], true, 1, "(arg: 0) "),
+    ('-', &['0'], true, 1, "(arg: 0) "),
+    ('0', &['0', '7'], true, 7, "(arg: 7) "),
+    ('9', &['9', '9', '9'], true, 9999, "(arg: 9999) "),
     (
-        &['9', '9', '9', '9', '9', '9', '9'],
+        '9',
+        &['9', '9', '9', '9', '9', '9'],
         true,
         9999,
         "(arg: 9999) ",
     ),
-    (&['1', '0', '0', '0', '5'], true, 1000, "(arg: 1000) "),
+    ('1', &['0', '0', '0', '5'], true, 1000, "(arg: 1000) "),
     (
-        &['-', '0', '9', '9', '9', '1', '2'],
+        '-',
+        &['0', '9', '9', '9', '1', '2'],
         false,
         9991,
         "(arg: -9991) ",
@@ -566,12 +568,12 @@ const COUNTS: &[Typed] = &[
 ];
 
 fn counts(rt: &impl Abort, alloc: Global, typed: &Typed) -> Result<(), Fail> {
-    let (chars, positive, n, prompt) = *typed;
-    let mut count = TypedCount::new(KeyEvent(K::Char(chars[0]), M::ALT));
-    for c in &chars[1..] {
+    let (first, others, positive, n, prompt) = *typed;
+    let mut count = TypedCount::new(KeyEvent(K::Char(first), M::ALT));
+    for c in others {
         count.push(KeyEvent(K::Char(*c), M::NONE));
     }
-    assert_eq!(rt; count.count(), Count { n, positive }, "{chars:?}");
+    assert_eq!(rt; count.count(), Count { n, positive }, "{prompt}");
     assert_eq!(rt; count.prompt(alloc)?.as_str(), prompt);
     Ok(())
 }
