@@ -126,9 +126,9 @@ impl<'out, 'prompt, W: Renderer, H: Helper, P: Prompt, S: History> State<
         ensures begins { IfOk result (λ s. Begins ⟦<Self as EditorState>⟧ s
             (empty_draft ctx.entry.index)
             (environment_by H.hint_at H.verdict_at H.lights helper.entry
-              (S.lines ctx.entry.history))
+            (S.lines ctx.entry.history))
             (is_sure_by H.Hinter.sure helper.entry && is_sure_by H.Validator.sure helper.entry
-              && S.sure ctx.entry.history)
+            && S.sure ctx.entry.history)
             (undrawn (W.surface out.old) (W.screen out.old) (P.raw_text prompt.now))
             (W.failures out.old) (W.redraws out.old) out.entry.ghost_name) }
     {
@@ -162,9 +162,9 @@ impl<'out, 'prompt, W: Renderer, H: Helper, P: Prompt, S: History> State<
               line = record { text = text.now; cursor = cursor };
             })
             (environment_by H.hint_at H.verdict_at H.lights helper.entry
-              (S.lines ctx.entry.history))
+            (S.lines ctx.entry.history))
             (is_sure_by H.Hinter.sure helper.entry && is_sure_by H.Validator.sure helper.entry
-              && S.sure ctx.entry.history)
+            && S.sure ctx.entry.history)
             (undrawn (W.surface out.old) (W.screen out.old) (P.raw_text prompt.now))
             (W.failures out.old) (W.redraws out.old) out.entry.ghost_name) }
         ensures memory { MemoryOnly result }

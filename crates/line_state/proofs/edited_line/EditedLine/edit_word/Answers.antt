@@ -8,6 +8,6 @@ pub returns : goal.returns
 returns c = record {
   answer = search rules;
   edit = grouped (λ e. edited_to (word_cased c.args.action e.line) (with_word_cased c.args.action e.line) e)
-    _ _ _ _ _ _ _ _ c.in_ok-begin_group.ensures.edit c.in_ok-changed.ensures.edit c.in_ok-end_groups.ensures.edit;
+      _ _ _ _ _ _ _ _ c.in_ok-begin_group.ensures.edit c.in_ok-changed.ensures.edit c.in_ok-end_groups.ensures.edit;
   unreported = search rules;
 }

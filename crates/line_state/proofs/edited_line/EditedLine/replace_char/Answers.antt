@@ -9,6 +9,6 @@ pub returns : goal.returns
 returns c = record {
   answer = search rules;
   edit = grouped (λ e. with_copies_to c.args.c (min c.args.n (length (clusters (after e.line)))) (place_on e.line c.args.n) e)
-    _ _ _ _ _ _ _ _ c.in_ok-begin_group.ensures.edit c.in_ok-replaced.ensures.edit c.in_ok-end_groups.ensures.edit;
+      _ _ _ _ _ _ _ _ c.in_ok-begin_group.ensures.edit c.in_ok-replaced.ensures.edit c.in_ok-end_groups.ensures.edit;
   unreported = search rules;
 }

@@ -8,6 +8,6 @@ pub returns : goal.returns
 returns c = record {
   answer = search rules;
   edit = grouped (λ e. edited_to (chars_exchanged e.line) (with_chars_exchanged e.line) e)
-    _ _ _ _ _ _ _ _ c.in_ok-begin_group.ensures.edit c.in_ok-exchanged.ensures.edit c.in_ok-end_groups.ensures.edit;
+      _ _ _ _ _ _ _ _ c.in_ok-begin_group.ensures.edit c.in_ok-exchanged.ensures.edit c.in_ok-end_groups.ensures.edit;
   unreported = search rules;
 }

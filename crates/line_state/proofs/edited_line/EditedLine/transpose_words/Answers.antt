@@ -8,5 +8,5 @@ pub returns-clause-reports : goal.returns-clause-reports
 returns-clause-reports c = record {
   answer = search rules;
   edit = grouped (λ e. edited_to (words_exchanged e.line c.args.n) (with_words_exchanged e.line c.args.n) e)
-    _ _ _ _ _ _ _ _ c.in_ok-begin_group.ensures.edit c.in_ok-exchanged.ensures.edit c.in_ok-end_groups.ensures.edit;
+      _ _ _ _ _ _ _ _ c.in_ok-begin_group.ensures.edit c.in_ok-exchanged.ensures.edit c.in_ok-end_groups.ensures.edit;
 }

@@ -8,5 +8,5 @@ pub returns-clause-reports : goal.returns-clause-reports
 returns-clause-reports c = record {
   answer = search rules;
   edit = grouped (λ e. edited_to (line_yank_popped e.line c.args.size c.args.text.now) (with_yank_pop e.line c.args.size c.args.text.now) e)
-    _ _ _ _ _ _ _ _ c.in_ok-begin_group.ensures.edit c.in_ok-pop.ensures c.in_ok-end_groups.ensures.edit;
+      _ _ _ _ _ _ _ _ c.in_ok-begin_group.ensures.edit c.in_ok-pop.ensures c.in_ok-end_groups.ensures.edit;
 }
