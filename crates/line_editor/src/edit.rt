@@ -1,14 +1,13 @@
 //! The line while it is edited, and how it is drawn.
-ghost use Rattle.std.specs.Prelude.{IsCharBoundary, if◌then◌else◌, ◌≡◌, ℕ, ◌≤◌, ◌&&◌, Bool, true, List, [], Option, Some, None, option_map, is_some, length, IfOk, OnOk, OnErr, IsOk};
+ghost use Rattle.std.specs.Prelude.{IsCharBoundary, if◌then◌else◌, ◌≡◌, ◌≤◌, ◌&&◌, true, Option, Some, None, option_map, is_some, length, IfOk, OnOk, OnErr, IsOk};
 ghost use Rattle.std.specs.Borrow.{GName};
 ghost use Rattle.line_config.specs.Error.{MemoryOnly};
 ghost use Rattle.line_editor.specs.Editor.{Begins};
 ghost use Rattle.line_editor.specs.Info.{shown_info};
-ghost use Rattle.line_keys.specs.Display.{IsRight, ShowsText, lit_after, undrawn};
+ghost use Rattle.line_keys.specs.Display.{lit_after, undrawn};
 ghost use Rattle.line_keys.specs.Draft.{empty_draft, hinted, KeepsText};
-ghost use Rattle.line_keys.specs.Drawing.{DrewNothing, Paints, ShowsEdit, Undrawn};
+ghost use Rattle.line_keys.specs.Drawing.{Paints, ShowsEdit, Undrawn};
 ghost use Rattle.line_keys.specs.EditorState.{FailsOnlyIf, Frame, Shows};
-ghost use Rattle.line_parts.specs.Environment.{Environment};
 ghost use Rattle.line_parts.specs.Helped.{environment_by, is_sure_by};
 ghost use Rattle.line_parts.specs.Hint.{suggestion_of};
 

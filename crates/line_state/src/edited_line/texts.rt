@@ -2,7 +2,6 @@
 ghost use Rattle.std.specs.Prelude.{◌≡◌, ◌==◌, not, false, length, IfOk, IsCharBoundary};
 ghost use Rattle.line_buffer.specs.Yank.{can_pop, line_yank_popped, with_yank_pop};
 ghost use Rattle.line_state.specs.Edited.{EditsTo, Finds, KeepsFirst, Reports, edited_to, in_one_group, pops_text, with_popped, with_text, with_update_to, with_yanked, yanked_at, at_anchor, stepped_back};
-ghost use Rattle.line_buffer.specs.Undo.{first_text};
 
 use super::EditedLine;
 use line_buffer::{OutOfMemory, RepeatCount};
