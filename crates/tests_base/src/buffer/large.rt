@@ -360,9 +360,9 @@ fn a_line_begins_with_its_text(rt: HostRuntime) -> Result<(), Fail> {
     Ok(())
 }
 
-/// Three kills of 4,000 bytes each, one after another or each for itself, and the length of the text that comes back.
+/// Three kills of 80,000 bytes each, one after another or each for itself, and the length of the text that comes back.
 fn joins(rt: &impl Abort, alloc: Global, apart: bool, wanted: usize) -> Result<(), Fail> {
-    let text = text_of(alloc, "日 ", 1_000)?;
+    let text = text_of(alloc, "日 ", 20_000)?;
     let mut ring = KillRing::new(alloc, 2);
     for mode in [Mode::Append, Mode::Append, Mode::Prepend] {
         ring.kill(text.as_str(), mode)?;
@@ -376,6 +376,6 @@ fn joins(rt: &impl Abort, alloc: Global, apart: bool, wanted: usize) -> Result<(
 
 #[test]
 fn kills_join(rt: HostRuntime) -> Result<(), Fail> {
-    joins(&rt, rt.alloc(), false, 12_000)?;
-    joins(&rt, rt.alloc(), true, 4_000)
+    joins(&rt, rt.alloc(), false, 240_000)?;
+    joins(&rt, rt.alloc(), true, 80_000)
 }

@@ -3,7 +3,7 @@
 //! taken back, and the history is as it was.
 
 use super::Step::{self, *};
-use super::{Outcome, PLAIN, Setup, edits, made};
+use super::{Outcome, PLAIN, Setup, does, edits, leaving, made};
 use line_buffer::At::*;
 use line_buffer::CharSearch;
 use line_buffer::Movement::*;
@@ -369,6 +369,33 @@ const LOOK_UPS: &[LookUps] = &[
 fn in_look_ups(rt: HostRuntime) -> Result<(), Fail> {
     for case in LOOK_UPS {
         lacks_lines(&rt, rt.alloc(), case)?;
+    }
+    Ok(())
+}
+
+/// Steps that ask nobody, and how often they draw.
+const UNASKED: &[(&[Step], u64)] = &[(&[PaintMessage("é")], 1), (&[NextHistory], 0)];
+
+/// Does the steps where the next answer and the first look-up would fail.
+fn asks_nobody(rt: &impl Abort, alloc: Global, case: &(&[Step], u64)) -> Result<(), Fail> {
+    let (steps, draws) = case;
+    let setup = Setup {
+        failing_answer: 4,
+        failing_look_up: 1,
+        entries: &["one"],
+        ..HINTED
+    };
+    let wanted = Outcome {
+        place: 1,
+        ..leaving("日|本", *draws)
+    };
+    does(rt, alloc, &setup, "日|本", steps, &wanted)
+}
+
+#[test]
+fn of_nobody_who_is_asked(rt: HostRuntime) -> Result<(), Fail> {
+    for case in UNASKED {
+        asks_nobody(&rt, rt.alloc(), case)?;
     }
     Ok(())
 }
