@@ -1,5 +1,5 @@
 -- Facts on lines that are accepted.
-use Rattle.std.proofs.Common.{◌≡◌, ℕ, ◌+◌, Bool, true, false, cond, not, List, Option, Some, None, Result, Ok, refl, sym, ◌∙◌, ap, subst, arith, inl, inr}
+use Rattle.std.proofs.Common.{◌≡◌, ℕ, ◌+◌, Bool, true, false, cond, not, List, Option, Some, None, Result, Ok, Err, refl, sym, ◌∙◌, ap, subst, arith, inl, inr}
 use Rattle.std.specs.Prelude.{◌||◌, ◌&&◌, if◌then◌else◌, is_some}
 use Rattle.line_buffer.specs.Changes.{adds_end}
 use Rattle.line_buffer.specs.KillRing.{Ring}
@@ -8,24 +8,26 @@ use Rattle.line_config.specs.declared.error.ReadlineError.{ReadlineError}
 use Rattle.line_keys.specs.Command.{accept_line, accept_or_insert_line, end_of_file}
 use Rattle.line_keys.specs.Display.{Display, Surface}
 use Rattle.line_keys.specs.Draft.{Draft, hint_shown, in_group, out_of_group, start_text, unhinted}
-use Rattle.line_keys.specs.Drawing.{Does, Drawing, Drew, DrewLine, Undrawn, nothing, with_hint, with_text}
+use Rattle.line_keys.specs.Drawing.{Does, DoesAsking, Drawing, Drew, DrewLine, Undrawn, nothing, with_hint, with_text}
 use Rattle.line_keys.specs.EditorState.{Frame}
 use Rattle.line_keys.specs.ShownLine.{LosesHint, ShowsNoHint}
 use Rattle.line_keys.specs.declared.editor_state.EditorState.{Ghosts}
+use Rattle.line_parts.specs.Asks.{Asks, for_hint, for_verdict, is_sure, nobody}
 use Rattle.line_parts.specs.Environment.{Environment, verdict_on}
 use Rattle.line_parts.specs.Verdict.{Verdict, incomplete, invalid, message_of, valid}
 use Rattle.line_parts.specs.declared.highlight.CmdKind.{CmdKind}
 use Rattle.line_parts.specs.declared.highlight.CmdKind.TheVariants.{ForcedRefresh, Other}
 use Rattle.line_editor.specs.Accept.{accepted, answer_at_end, replied, reply_to, unhinted_by, validated}
-use Rattle.line_editor.specs.Drawings.{reply_drawn, unhinted_drawn, validated_drawn, verdict_drawn}
+use Rattle.line_editor.specs.Drawings.{asked_for_reply, asked_of, reply_drawn, unhinted_drawn, validated_drawn, verdict_drawn}
 use Rattle.line_editor.specs.Editor.{Answer, Editor, proceeds, submitted}
 use Rattle.line_editor.specs.Edits.{typed_in}
 use Rattle.line_editor.specs.Input.{Input}
-use Rattle.line_editor.specs.Runs.{DrawnAfter, Executed}
+use Rattle.line_editor.specs.Runs.{DrawnAfter, Executed, Executes, editor_of}
 use Rattle.line_editor.specs.declared.command.Reply.{Reply}
 use Rattle.line_editor.specs.declared.command.Reply.TheVariants.{GoesOn, Stays, Submits}
 use Rattle.line_editor.specs.Verdict.{draws_verdict, draws_verdict_on, kind_of_verdict}
-use Rattle.line_editor.proofs.CommandLemmas.{editor_with, line_kept, line_then, perhaps_lit, perhaps_redraws}
+use Rattle.line_editor.proofs.AskedLemmas.{fails_more, sure_all}
+use Rattle.line_editor.proofs.CommandLemmas.{editor_with, executed_wrong, fails_then, line_kept, line_then, perhaps_lit, perhaps_redraws}
 use Rattle.line_editor.proofs.CountLemmas.{rises_twice, rises_up_to}
 use Rattle.line_editor.proofs.DoneLemmas.{line_after}
 use Rattle.line_editor.proofs.DrawnLemmas.{frame_then, hint_trails, keeps_then, no_hint_line}
@@ -33,7 +35,7 @@ use Rattle.line_editor.proofs.EditLemmas.{was_validated}
 
 -- the end of the input, where the hint was taken away
 pub ends_at : {X T : Type 0} (e : Ghosts X) (x : T) (old new : X) (input : Input) (indent : ℕ) (kills : Ring) (answer : Answer)
-    → Does e (Ok x) old new (unhinted (e.draft old)) (unhinted_drawn (e.display old) (e.draft old)) 1
+    → DoesAsking e nobody (Ok x) old new (unhinted (e.draft old)) (unhinted_drawn (e.display old) (e.draft old)) 1
     → answer_at_end input.style (e.draft old).line.text ≡ answer → DrawnAfter e answer old new
     → Executed e old input indent kills end_of_file new kills answer
 ends_at e x old new input indent kills answer drop is drawn = record {
@@ -67,10 +69,10 @@ pub validates : {X T U V : Type 0} (e : Ghosts X) (x : T) (y : U) (z : V) (old m
     → is_some (e.environment old).verdict_at ≡ true
     → verdict ≡ verdict_on (e.environment old) (e.draft old).line.text
     → corrected ≡ adds_end (in_group (e.draft old)).changes.open_groups (in_group (e.draft old)).changes.entries
-    → Does e (Ok x) old mid (out_of_group (in_group (e.draft old))) nothing 1
-    → Does e (Ok y) mid new (unhinted_by verdict (e.draft mid))
+    → DoesAsking e for_verdict (Ok x) old mid (out_of_group (in_group (e.draft old))) nothing 1
+    → DoesAsking e nobody (Ok y) mid new (unhinted_by verdict (e.draft mid))
     (if draws_verdict_on verdict (corrected || is_some (e.draft mid).hint) then with_text (message_of verdict) (kind_of_verdict verdict) else nothing) 1
-    → Does e (Ok z) old new (validated (e.environment old) (e.draft old)) (verdict_drawn (e.environment old) (e.draft old)) 1
+    → DoesAsking e for_verdict (Ok z) old new (validated (e.environment old) (e.draft old)) (verdict_drawn (e.environment old) (e.draft old)) 1
 validates e x y z old mid new verdict corrected helped said ends asked shown =
     let undrawn : Undrawn e old mid = record { drew = asked.drew; failures = asked.fails.quiet; frame = asked.frame } in
     let n = undrawn.drew.redraws in
@@ -134,8 +136,8 @@ both_lit e old mid new dropped said message kind frame first second none =
     ∙ perhaps_lit e dropped 1 None ForcedRefresh old mid first none
 
 module _ {X T U : Type 0} (e : Ghosts X) (x : T) (y : U) (old mid new : X)
-    (drop : Does e (Ok x) old mid (unhinted (e.draft old)) (unhinted_drawn (e.display old) (e.draft old)) 1) (loses : LosesHint e old mid)
-    (asked : Does e (Ok y) mid new (validated (e.environment mid) (e.draft mid)) (verdict_drawn (e.environment mid) (e.draft mid)) 1)
+    (drop : DoesAsking e nobody (Ok x) old mid (unhinted (e.draft old)) (unhinted_drawn (e.display old) (e.draft old)) 1) (loses : LosesHint e old mid)
+    (asked : DoesAsking e for_verdict (Ok y) mid new (validated (e.environment mid) (e.draft mid)) (verdict_drawn (e.environment mid) (e.draft mid)) 1)
     (no_hint : ShowsNoHint e mid → ShowsNoHint e new) where
   -- what is left, by the environment and the draft before
   left_is : e.draft new ≡ validated (e.environment old) (unhinted (e.draft old))
@@ -254,6 +256,19 @@ module _ {X T U : Type 0} (e : Ghosts X) (x : T) (y : U) (old mid new : X)
           change = inr (line.shows, line.redraws);
           start = typed.start ∙ asked.start ∙ drop.start;
         }
+
+    -- a newline that could not be put in
+    pub newline_fails : {V : Type 0} (f : ReadlineError) (last : X) → reply ≡ GoesOn
+        → DoesAsking {T = V} e for_hint (Err f) new last (typed_in (e.environment new) 1 10 (e.draft new)) with_hint 1
+        → (input : Input) (indent : ℕ) (kills : Ring) → Executes e (Err f) old input indent kills (accept_or_insert_line in_the_middle) last kills
+    newline_fails f last is typed input indent kills =
+        let asks : Asks = asked_of (e.display old) (e.environment old) (editor_of e old kills) (accept_or_insert_line in_the_middle) in
+        let all : Frame e old new = frame_then e old mid new drop.frame asked.frame in
+        executed_wrong e old last input indent kills kills (accept_or_insert_line in_the_middle) f
+        (fails_more e (Err f) for_hint asks old last
+        (λ sure. sure_all (e.sure old) for_hint (sym (ap (λ r. is_sure (e.sure old) (asked_for_reply r)) (reply_is ∙ is)) ∙ sure))
+        (fails_then e for_hint (Err f) old new last all typed.frame (asked.fails.quiet ∙ drop.fails.quiet) typed.fails))
+        (frame_then e old new last all typed.frame)
 
   -- what fails behind the hint that was taken away
   pub frame_both : Frame e old new

@@ -14,17 +14,18 @@ use Rattle.line_keys.specs.declared.command.Cmd.{Cmd}
 use Rattle.line_keys.specs.declared.command.Cmd.TheVariants as Cmd
 use Rattle.line_keys.specs.Display.{Display, IsRight, ShowsInFull, Surface, lit_after}
 use Rattle.line_keys.specs.Draft.{Draft, hint_shown, start_text}
-use Rattle.line_keys.specs.Drawing.{Does, Drawing, Drew, DrewLine, DrewNothing, Refreshes, drawn_if, edit_drawn, ShowsChange, behind_prompt, cursor, cursor_over, cursor_to_end, nothing, with_hint, with_text}
+use Rattle.line_keys.specs.Drawing.{Does, DoesAsking, Drawing, Drew, DrewLine, DrewNothing, Refreshes, asked_by, drawn_if, edit_drawn, ShowsChange, behind_prompt, cursor, cursor_over, cursor_to_end, nothing, with_hint, with_text}
 use Rattle.line_keys.specs.EditorState.{FailsByParty, FailsByRenderer, Frame, Redraws}
 use Rattle.line_keys.specs.ShownLine.{KeepsDrawn}
 use Rattle.line_keys.specs.declared.editor_state.EditorState.{Ghosts}
+use Rattle.line_parts.specs.Asks.{Asks, for_hint, is_sure}
 use Rattle.line_parts.specs.Environment.{Environment}
 use Rattle.line_parts.specs.declared.highlight.CmdKind.{CmdKind}
 use Rattle.line_parts.specs.declared.highlight.CmdKind.TheVariants.{ForcedRefresh, Other}
 use Rattle.line_state.specs.Moves.{moved}
 use Rattle.line_state.specs.Edited as edits
 use Rattle.line_state.specs.Edited.{pops_text}
-use Rattle.line_editor.specs.Drawings.{drawing_of, edited_drawn, has_text, most_drawn, pop_drawn}
+use Rattle.line_editor.specs.Drawings.{asked_of, drawing_of, edited_asked, edited_drawn, has_text, most_drawn, pop_drawn}
 use Rattle.line_editor.specs.Editor.{Editor, Ruler, Step, edited_of, measuring, proceeding, ruler_of, with_draft}
 use Rattle.line_editor.specs.Edits.{after_edit, kill_popped, killed_by, popped_in, replaced_by, text_inserted}
 use Rattle.line_editor.specs.Input.{Input}
@@ -33,6 +34,7 @@ use Rattle.line_editor.specs.Status.{answer_at, answer_of}
 use Rattle.line_editor.specs.Step.{edited_by, step}
 use Rattle.line_editor.specs.declared.command.Status.{Status}
 use Rattle.line_editor.specs.declared.command.Status.TheVariants.{Proceed}
+use Rattle.line_editor.proofs.AskedLemmas.{fails_more, sure_second}
 use Rattle.line_editor.proofs.CountLemmas.{rises_more, rises_stays, rises_twice, rises_up_to}
 use Rattle.line_editor.proofs.HistoryMoveLemmas.{always}
 use Rattle.line_editor.proofs.DoneLemmas.{does_nothing, nothing_drawn}
@@ -60,18 +62,18 @@ measured_by d indent By.BeginningOfBuffer line = refl
 measured_by d indent By.EndOfBuffer line = refl
 
 -- so a move is done by the ruler
-pub moved_by_ruler : {X T : Type 0} (e : Ghosts X) (r : Result T ReadlineError) (old new : X) (indent : ℕ) (movement : Movement) (drawing : Drawing) (most : ℕ)
-    → Does e r old new (record (e.draft old) { line = moved (e.display old).layout movement (e.draft old).line }) drawing most
-    → Does e r old new (record (e.draft old) { line = moved (measuring (ruler_of (e.display old) indent)) movement (e.draft old).line }) drawing most
-moved_by_ruler e r old new indent movement drawing most does =
-    subst (λ l. Does e r old new (record (e.draft old) { line = l }) drawing most) (measured_by (e.display old) indent movement (e.draft old).line) does
+pub moved_by_ruler : {X T : Type 0} (e : Ghosts X) (asks : Asks) (r : Result T ReadlineError) (old new : X) (indent : ℕ) (movement : Movement) (drawing : Drawing) (most : ℕ)
+    → DoesAsking e asks r old new (record (e.draft old) { line = moved (e.display old).layout movement (e.draft old).line }) drawing most
+    → DoesAsking e asks r old new (record (e.draft old) { line = moved (measuring (ruler_of (e.display old) indent)) movement (e.draft old).line }) drawing most
+moved_by_ruler e asks r old new indent movement drawing most does =
+    subst (λ l. DoesAsking e asks r old new (record (e.draft old) { line = l }) drawing most) (measured_by (e.display old) indent movement (e.draft old).line) does
 
 -- a command that is left to the program above does nothing
-pub nothing_there : {X T : Type 0} (e : Ghosts X) (x : T) (old : X) (left : Draft) (drawing : Drawing) (most : ℕ) → drawing ≡ nothing → left ≡ e.draft old
-    → Does e (Ok x) old old left drawing most
-nothing_there e x old left drawing most none same =
-    subst (λ d. Does e (Ok x) old old left d most) (sym none) (subst (λ l. Does e (Ok x) old old l nothing most) (sym same)
-    (does_nothing e x old old most (nothing_drawn e old old refl refl refl refl refl refl) refl))
+pub nothing_there : {X T : Type 0} (e : Ghosts X) (asks : Asks) (x : T) (old : X) (left : Draft) (drawing : Drawing) (most : ℕ) → drawing ≡ nothing → left ≡ e.draft old
+    → DoesAsking e asks (Ok x) old old left drawing most
+nothing_there e asks x old left drawing most none same =
+    subst (λ d. DoesAsking e asks (Ok x) old old left d most) (sym none) (subst (λ l. DoesAsking e asks (Ok x) old old l nothing most) (sym same)
+    (does_nothing e asks x old old most (nothing_drawn e old old refl refl refl refl refl refl) refl))
 
 -- a count that rose behind one that never falls rose from before it
 rose_later : (old mid new : ℕ) → old ≤ mid → mid ≤ new → Rose mid new → Rose old new
@@ -152,6 +154,20 @@ edit_draws display environment editor (yank n anchor) only = absurd (cc)
 edit_draws display environment editor yank_pop only = absurd (cc)
 edit_draws display environment editor _ only = refl
 
+-- so is whom it asks
+pub edit_asks : (display : Display) (environment : Environment) (editor : Editor) (command : Command) → only_edits command ≡ true
+    → asked_of display environment editor command ≡ edited_asked display environment editor.draft command
+edit_asks display environment editor accept_line only = absurd (cc)
+edit_asks display environment editor (accept_or_insert_line in_the_middle) only = absurd (cc)
+edit_asks display environment editor end_of_file only = absurd (cc)
+edit_asks display environment editor interrupt only = absurd (cc)
+edit_asks display environment editor (kill movement) only = absurd (cc)
+edit_asks display environment editor (replace movement text) only = absurd (cc)
+edit_asks display environment editor (vi_yank_to movement) only = absurd (cc)
+edit_asks display environment editor (yank n anchor) only = absurd (cc)
+edit_asks display environment editor yank_pop only = absurd (cc)
+edit_asks display environment editor _ only = refl
+
 -- an editor is its draft and its kills
 editor_is : (draft draft' : Draft) (kills kills' : Ring) → draft' ≡ draft → kills' ≡ kills → editor_with draft' kills' ≡ editor_with draft kills
 editor_is draft draft' kills kills' same too = ap (λ d. editor_with d kills') same ∙ ap (λ k. editor_with draft k) too
@@ -214,11 +230,11 @@ module _ {X : Type 0} (e : Ghosts X) where
       ]
 
   -- what fails behind a step that keeps the frame and counts no failure fails from before it
-  pub fails_then : {T : Type 0} (r : Result T ReadlineError) (old mid new : X) → Frame e old mid → Frame e mid new → e.failures mid ≡ e.failures old
-      → FailsByParty e r mid new → FailsByParty e r old new
-  fails_then (Ok x) old mid new first second none fails = record { io = tt; faults = tt; quiet = fails.quiet ∙ none }
-  fails_then (Err er) old mid new first second none fails = record {
-    io = λ i sure. rose_later _ _ _ first.failures second.failures (fails.io i (first.sure ∙ sure));
+  pub fails_then : {T : Type 0} (asks : Asks) (r : Result T ReadlineError) (old mid new : X) → Frame e old mid → Frame e mid new → e.failures mid ≡ e.failures old
+      → FailsByParty e asks r mid new → FailsByParty e asks r old new
+  fails_then asks (Ok x) old mid new first second none fails = record { io = tt; faults = tt; quiet = fails.quiet ∙ none }
+  fails_then asks (Err er) old mid new first second none fails = record {
+    io = λ i sure. rose_later _ _ _ first.failures second.failures (fails.io i (ap (λ s. is_sure s asks) first.sure ∙ sure));
     faults = fails.faults;
     quiet = λ no. fails.quiet no ∙ none;
   }
@@ -235,7 +251,7 @@ module _ {X : Type 0} (e : Ghosts X) where
     keeps = tt;
     change = tt;
     frame = frame_then e old mid new frame does.frame;
-    fails = fails_then (Err er) old mid new frame does.frame none does.fails;
+    fails = fails_then for_hint (Err er) old mid new frame does.frame none does.fails;
   }
   typed_behind (Ok x) old mid new drawn made given draft text start drew frame none does =
       let line : DrewLine e 2 (hint_shown (e.draft new)) Other old new =
@@ -247,7 +263,7 @@ module _ {X : Type 0} (e : Ghosts X) where
         keeps = record { right = λ was. line.right; line = λ was. hint_trails e new line.shows };
         change = inr (line.shows, line.redraws);
         frame = frame_then e old mid new frame does.frame;
-        fails = fails_then (Ok x) old mid new frame does.frame none does.fails;
+        fails = fails_then for_hint (Ok x) old mid new frame does.frame none does.fails;
       }
 
   -- a refresh that keeps the text is an edit
@@ -321,7 +337,10 @@ replaced e x (Err f) old mid new kills kills' movement range text killed put = r
     keeps = tt;
     change = tt;
     frame = frame_then e old mid new killed.does.frame put.frame;
-    fails = fails_then e (Err f) old mid new killed.does.frame put.frame killed.does.fails.quiet put.fails;
+    fails =
+        fails_more e (Err f) (asked_by (drawn_if (not (length text == 0)))) (asked_by (drawn_if (is_some range || not (length text == 0)))) old new
+        (sure_second (e.sure old) (is_some range) (not (length text == 0)))
+        (fails_then e (asked_by (drawn_if (not (length text == 0)))) (Err f) old mid new killed.does.frame put.frame killed.does.fails.quiet put.fails);
   };
   kills_left = tt;
 }
@@ -341,7 +360,7 @@ replaced e x (Ok y) old mid new kills kills' movement range text killed put =
             let n = both_none (is_some range) (length text == 0) none in
             ap (λ (l : Line). l.text) (stays n.1).0 ∙ ap (λ (d : Draft). d.line.text) (killed.does.draft ∙ none_killed (e.environment old) movement (editor_of e old kills) range n.0));
         frame = frame_then e old mid new killed.does.frame put.frame;
-        fails = fails_then e (Ok y) old mid new killed.does.frame put.frame killed.does.fails.quiet put.fails;
+        fails = record { io = tt; faults = tt; quiet = put.fails.quiet ∙ killed.does.fails.quiet };
       };
       kills_left = killed.kills_left;
     }
@@ -365,7 +384,7 @@ only_killed e x old new kills kills' movement range killed = record {
     keeps = killed.does.keeps;
     change = change_more e old new 1 2 (omega arith) killed.does.change;
     frame = killed.does.frame;
-    fails = killed.does.fails;
+    fails = record { io = tt; faults = tt; quiet = killed.does.fails.quiet };
   };
   kills_left = killed.kills_left;
 }
@@ -391,37 +410,49 @@ module _ {X : Type 0} (e : Ghosts X) (old new : X) (input : Input) (indent : ℕ
   executed_at f other done frame none = record { comes = λ fault. done; frame = frame; io = λ is. absurd (cc); quiet = λ is. none }
 
   -- one that went wrong
-  pub executed_wrong : {T : Type 0} (f : ReadlineError) → FailsByParty {T = T} e (Err f) old new → Frame e old new → Executes e (Err f) old input indent kills command new kills'
+  pub executed_wrong : {T : Type 0} (f : ReadlineError) → FailsByParty {T = T} e (asked_of (e.display old) (e.environment old) (editor_of e old kills) command) (Err f) old new → Frame e old new → Executes e (Err f) old input indent kills command new kills'
   executed_wrong f fails frame =
       record { comes = λ no. absurd (let is = fails.faults in cc); frame = frame; io = fails.io; quiet = fails.quiet }
 
   -- one that proceeds
+  does_ok : {T : Type 0} (x : T) (asks : Asks) (left : Editor) (drawing : Drawing)
+      → step (ruler_of (e.display old) indent) (e.environment old) input (editor_of e old kills) command ≡ proceeding left
+      → drawing_of (e.display old) (e.environment old) (editor_of e old kills) command ≡ drawing
+      → DoesAsking e asks (Ok x) old new left.draft drawing (most_drawn command) → kills' ≡ left.kills
+      → Executes e (Ok Proceed) old input indent kills command new kills'
+  does_ok x asks left drawing steps draws does ring = executed_ok Proceed (record {
+    steps = record {
+      editor = editor_is _ _ _ _ does.draft ring ∙ sym (ap (λ (s : Step). s.editor) steps);
+      answered = ap (λ (s : Step). s.answer) steps;
+    };
+    drew = subst (λ d. Drew e (most_drawn command) d old new) (sym draws) does.drew;
+    drawn = does.keeps;
+    change = change_more e old new (most_drawn command) 3 (few_drawn command) does.change;
+    start = does.start;
+  }) does.frame does.fails.quiet
+
   pub proceeds_ok : {T : Type 0} (x : T) (left : Editor) (drawing : Drawing)
       → step (ruler_of (e.display old) indent) (e.environment old) input (editor_of e old kills) command ≡ proceeding left
       → drawing_of (e.display old) (e.environment old) (editor_of e old kills) command ≡ drawing
       → DoesWithKills e (Ok x) old kills new kills' left drawing (most_drawn command)
       → Executes e (Ok Proceed) old input indent kills command new kills'
-  proceeds_ok x left drawing steps draws done = executed_ok Proceed (record {
-    steps = record {
-      editor = editor_is _ _ _ _ done.does.draft done.kills_left ∙ sym (ap (λ (s : Step). s.editor) steps);
-      answered = ap (λ (s : Step). s.answer) steps;
-    };
-    drew = subst (λ d. Drew e (most_drawn command) d old new) (sym draws) done.does.drew;
-    drawn = done.does.keeps;
-    change = change_more e old new (most_drawn command) 3 (few_drawn command) done.does.change;
-    start = done.does.start;
-  }) done.does.frame done.does.fails.quiet
-
-  pub proceeds_wrong : {T : Type 0} (f : ReadlineError) (left : Editor) (drawing : Drawing)
-      → DoesWithKills e {T = T} (Err f) old kills new kills' left drawing (most_drawn command)
-      → Executes e (Err f) old input indent kills command new kills'
-  proceeds_wrong f left drawing done = executed_wrong f done.does.fails done.does.frame
+  proceeds_ok x left drawing steps draws done = does_ok x (asked_by drawing) left drawing steps draws done.does done.kills_left
 
   -- an edit that proceeds
-  pub edits_ok : {T : Type 0} (x : T) → only_edits command ≡ true → kills' ≡ kills
-      → Does e (Ok x) old new (edited_by (ruler_of (e.display old) indent) (e.environment old) input (e.draft old) command)
+  pub edits_ok : {T : Type 0} (x : T) (asks : Asks) → only_edits command ≡ true → kills' ≡ kills
+      → DoesAsking e asks (Ok x) old new (edited_by (ruler_of (e.display old) indent) (e.environment old) input (e.draft old) command)
       (edited_drawn (e.display old) (e.environment old) (e.draft old) command) (most_drawn command)
       → Executes e (Ok Proceed) old input indent kills command new kills'
-  edits_ok x only same does =
-      proceeds_ok x _ _ (edit_steps (ruler_of (e.display old) indent) (e.environment old) input (editor_of e old kills) command only)
-      (edit_draws (e.display old) (e.environment old) (editor_of e old kills) command only) (record { does = does; kills_left = same })
+  edits_ok x asks only same does =
+      does_ok x asks _ _ (edit_steps (ruler_of (e.display old) indent) (e.environment old) input (editor_of e old kills) command only)
+      (edit_draws (e.display old) (e.environment old) (editor_of e old kills) command only) does same
+
+  -- an edit that went wrong
+  pub edits_wrong : {T : Type 0} (f : ReadlineError) (left : Draft) (drawing : Drawing) (most : ℕ) → only_edits command ≡ true
+      → DoesAsking e {T = T} (edited_asked (e.display old) (e.environment old) (e.draft old) command) (Err f) old new left drawing most
+      → Executes e (Err f) old input indent kills command new kills'
+  edits_wrong f left drawing most only does =
+      executed_wrong f
+      (fails_more e (Err f) (edited_asked (e.display old) (e.environment old) (e.draft old) command) (asked_of (e.display old) (e.environment old) (editor_of e old kills) command) old new
+      (λ sure. ap (λ a. is_sure (e.sure old) a) (sym (edit_asks (e.display old) (e.environment old) (editor_of e old kills) command only)) ∙ sure) does.fails)
+      does.frame

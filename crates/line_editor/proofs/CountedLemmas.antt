@@ -6,6 +6,7 @@ use Rattle.std.proofs.lemmas.List.{append-nil, length-append, length-map, map-ap
 use Rattle.std.proofs.lemmas.List.Folds.{list_all-append}
 use Rattle.line_config.specs.declared.config.EditMode.{EditMode}
 use Rattle.line_config.specs.declared.error.ReadlineError.{ReadlineError}
+use Rattle.line_parts.specs.Asks.{for_hint, is_sure}
 use Rattle.line_parts.specs.Environment.{Environment}
 use Rattle.line_keys.specs.Count.{IsCountOf, continues_count, count_of}
 use Rattle.line_keys.specs.Draft.{Draft, KeepsText, hinted}
@@ -119,7 +120,7 @@ module _ {X Y : Type 0} (e : editors.Ghosts X) (r : readers.Ghosts Y) (start : X
         fails = record {
           io = λ is sure below other.
               let m = c.unread in let n = c.undrawn in
-              let rose = read.fails.io is (c.frame.sure ∙ sure) (omega (arith, below, m)) (omega (arith, other, n)) in
+              let rose = read.fails.io is (ap (λ s. is_sure s for_hint) c.frame.sure ∙ sure) (omega (arith, below, m)) (omega (arith, other, n)) in
               omega (arith, rose, m, n);
           quiet = λ no. let q = read.fails.quiet no in (q.0 ∙ c.unread, q.1 ∙ c.undrawn);
         };
@@ -216,7 +217,7 @@ module _ {X Y : Type 0} (e : editors.Ghosts X) (r : readers.Ghosts Y) (start : X
       fails = record {
         io = λ is sure below other.
             let m = c.unread in let n = c.undrawn in let q = read.fails.quiet in
-            let rose = refreshed.fails.io is (read.keeps.frame.sure ∙ c.frame.sure ∙ sure) (omega (arith, other, n, q.1)) in
+            let rose = refreshed.fails.io is (ap (λ s. is_sure s for_hint) (read.keeps.frame.sure ∙ c.frame.sure) ∙ sure) (omega (arith, other, n, q.1)) in
             omega (arith, rose, m, n, q.0, q.1);
         quiet = λ no. let q = read.fails.quiet in (q.0 ∙ c.unread, refreshed.fails.quiet no ∙ q.1 ∙ c.undrawn);
       };

@@ -9,10 +9,11 @@ use Rattle.line_buffer.specs.Undo.{first_text}
 use Rattle.line_buffer.specs.declared.keymap.Movement.{Movement}
 use Rattle.line_keys.specs.Display.{Display, HasCursorAt, IsRight, lit_after}
 use Rattle.line_keys.specs.Draft.{Draft, hinted, hint_shown, start_text}
-use Rattle.line_keys.specs.Drawing.{Does, Drawing, Drew, DrewCursor, DrewLine, DrewNothing, ShowsEdit, Undrawn, behind_prompt, cursor, cursor_over, cursor_to_end, drawn_if, edit_drawn, nothing, with_hint, with_text}
+use Rattle.line_keys.specs.Drawing.{Does, DoesAsking, Drawing, Drew, DrewCursor, DrewLine, DrewNothing, ShowsEdit, Undrawn, behind_prompt, cursor, cursor_over, cursor_to_end, drawn_if, edit_drawn, nothing, with_hint, with_text}
 use Rattle.line_keys.specs.EditorState.{FailsByParty, FailsByRenderer}
 use Rattle.line_keys.specs.ShownLine.{KeepsDrawn}
 use Rattle.line_keys.specs.declared.editor_state.EditorState.{Ghosts}
+use Rattle.line_parts.specs.Asks.{Asks, for_hint, is_sure, nobody}
 use Rattle.line_parts.specs.Environment.{Environment}
 use Rattle.line_parts.specs.declared.highlight.CmdKind.{CmdKind}
 use Rattle.line_parts.specs.declared.highlight.CmdKind.TheVariants.{MoveCursor, Other}
@@ -82,11 +83,11 @@ module _ {X : Type 0} (e : Ghosts X) (old mid new : X) (undrawn : Undrawn e old 
   edit_after false drew = cursor_after MoveCursor drew
 
   -- failures behind such a step are failures from before it
-  pub fails_after : {T : Type 0} (r : Result T ReadlineError) → FailsByParty e r mid new → FailsByParty e r old new
-  fails_after (Ok x) fails = record { io = tt; faults = tt; quiet = fails.quiet ∙ undrawn.failures }
-  fails_after (Err er) fails = record {
+  pub fails_after : {T : Type 0} (asks : Asks) (r : Result T ReadlineError) → FailsByParty e asks r mid new → FailsByParty e asks r old new
+  fails_after asks (Ok x) fails = record { io = tt; faults = tt; quiet = fails.quiet ∙ undrawn.failures }
+  fails_after asks (Err er) fails = record {
     io = λ i sure below. let n = undrawn.failures in
-        let more = fails.io i (undrawn.frame.sure ∙ sure) (omega (arith, below, n)) in omega (arith, more, n);
+        let more = fails.io i (ap (λ s. is_sure s asks) undrawn.frame.sure ∙ sure) (omega (arith, below, n)) in omega (arith, more, n);
     faults = fails.faults;
     quiet = λ no. fails.quiet no ∙ undrawn.failures;
   }
@@ -96,7 +97,7 @@ module _ {X : Type 0} (e : Ghosts X) (old mid new : X) (undrawn : Undrawn e old 
     pub done_reported : {T : Type 0} (r : Result T ReadlineError) → ShowsEdit e true r mid new
         → Does e r old new (hinted (e.environment old) made) with_hint 1
     done_reported (Err er) shows =
-        record { draft = tt; start = tt; drew = tt; keeps = tt; change = tt; frame = frame_then e old mid new undrawn.frame shows.frame; fails = fails_after (Err er) shows.fails }
+        record { draft = tt; start = tt; drew = tt; keeps = tt; change = tt; frame = frame_then e old mid new undrawn.frame shows.frame; fails = fails_after for_hint (Err er) shows.fails }
     done_reported (Ok x) shows =
         let asked : e.draft new ≡ hinted (e.environment old) made =
         shows.draft ∙ ap (λ w. hinted w (e.draft mid)) undrawn.frame.environment ∙ ap (λ d. hinted (e.environment old) d) draft in
@@ -108,14 +109,14 @@ module _ {X : Type 0} (e : Ghosts X) (old mid new : X) (undrawn : Undrawn e old 
           keeps = record { right = λ was. drew.right; line = λ was. hint_trails e new drew.shows };
           change = inr (drew.shows, drew.redraws);
           frame = frame_then e old mid new undrawn.frame shows.frame;
-          fails = fails_after (Ok x) shows.fails;
+          fails = fails_after for_hint (Ok x) shows.fails;
         }
 
     -- an edit that was not reported: at most the cursor moved
     done_unreported : {T : Type 0} (r : Result T ReadlineError) → made.line.text ≡ (e.draft old).line.text → ShowsEdit e false r mid new
         → Does e r old new made (cursor MoveCursor) 1
     done_unreported (Err er) text shows =
-        record { draft = tt; start = tt; drew = tt; keeps = tt; change = tt; frame = frame_then e old mid new undrawn.frame shows.frame; fails = fails_after (Err er) shows.fails }
+        record { draft = tt; start = tt; drew = tt; keeps = tt; change = tt; frame = frame_then e old mid new undrawn.frame shows.frame; fails = fails_after nobody (Err er) shows.fails }
     done_unreported (Ok x) text shows =
         let same : (e.draft mid).line.text ≡ (e.draft old).line.text = ap (λ (d : Draft). d.line.text) draft ∙ text in
         record {
@@ -126,7 +127,7 @@ module _ {X : Type 0} (e : Ghosts X) (old mid new : X) (undrawn : Undrawn e old 
               shows.draft shows.frame.environment shows.right shows.drew shows.placed;
           change = inl (ap (λ (d : Draft). d.line.text) (shows.draft ∙ draft) ∙ text);
           frame = frame_then e old mid new undrawn.frame shows.frame;
-          fails = fails_after (Ok x) shows.fails;
+          fails = fails_after nobody (Ok x) shows.fails;
         }
 
     done_either : {T : Type 0} (r : Result T ReadlineError) (reported : Bool)
@@ -180,9 +181,9 @@ line_reported e r old mid new edited left undrawn draft same first shows =
     (ap (λ x. with_edited (e.draft old) x) same) first refl shows
 
 -- where nothing happens, all stays
-pub does_nothing : {X T : Type 0} (e : Ghosts X) (x : T) (old new : X) (most : ℕ) → Undrawn e old new → e.draft new ≡ e.draft old
-    → Does {T = T} e (Ok x) old new (e.draft old) nothing most
-does_nothing e x old new most undrawn same = record {
+pub does_nothing : {X T : Type 0} (e : Ghosts X) (asks : Asks) (x : T) (old new : X) (most : ℕ) → Undrawn e old new → e.draft new ≡ e.draft old
+    → DoesAsking {T = T} e asks (Ok x) old new (e.draft old) nothing most
+does_nothing e asks x old new most undrawn same = record {
   draft = same;
   start = ap start_text same;
   drew = undrawn.drew;
@@ -193,20 +194,20 @@ does_nothing e x old new most undrawn same = record {
 }
 
 -- what is done behind a step that draws nothing and leaves the line and its hint is done from before it
-pub does_after : {X T : Type 0} (e : Ghosts X) (r : Result T ReadlineError) (old mid new : X) (left left' : Draft) (reported : Bool)
+pub does_after : {X T : Type 0} (e : Ghosts X) (asks : Asks) (r : Result T ReadlineError) (old mid new : X) (left left' : Draft) (reported : Bool)
     → Undrawn e old mid → (e.draft mid).line ≡ (e.draft old).line → (e.draft mid).hint ≡ (e.draft old).hint
     → start_text (e.draft mid) ≡ start_text (e.draft old) → left ≡ left'
-    → Does e r mid new left (drawn_if reported) 1 → Does e r old new left' (drawn_if reported) 1
-does_after e (Err er) old mid new left left' reported undrawn line hint first same does = record {
+    → DoesAsking e asks r mid new left (drawn_if reported) 1 → DoesAsking e asks r old new left' (drawn_if reported) 1
+does_after e asks (Err er) old mid new left left' reported undrawn line hint first same does = record {
   draft = tt;
   start = tt;
   drew = tt;
   keeps = tt;
   change = tt;
   frame = frame_then e old mid new undrawn.frame does.frame;
-  fails = fails_after e old mid new undrawn (Err er) does.fails;
+  fails = fails_after e old mid new undrawn asks (Err er) does.fails;
 }
-does_after e (Ok x) old mid new left left' reported undrawn line hint first same does =
+does_after e asks (Ok x) old mid new left left' reported undrawn line hint first same does =
     let n = undrawn.drew.redraws in
     record {
       draft = does.draft ∙ same;
@@ -219,7 +220,7 @@ does_after e (Ok x) old mid new left left' reported undrawn line hint first same
             inr (drew.0, λ below. let s = drew.1 (omega (arith, below, n)) in (omega (arith, s.0, n), omega (arith, s.1, n)))
       ];
       frame = frame_then e old mid new undrawn.frame does.frame;
-      fails = fails_after e old mid new undrawn (Ok x) does.fails;
+      fails = fails_after e old mid new undrawn asks (Ok x) does.fails;
     }
   where
     drawn_after : (b : Bool) → Drew e 1 (drawn_if b) mid new → Drew e 1 (drawn_if b) old new
@@ -233,7 +234,7 @@ pub kills_nothing : {X T : Type 0} (e : Ghosts X) (x : T) (old new : X) (kills k
     → DoesWithKills e {T = T} (Ok x) old kills new kills' (killed_by (e.environment old) movement (editor_of e old kills) range) (drawn_if (is_some range)) 1
 kills_nothing e x old new kills kills' movement (Some range) edited found undrawn draft same ring = absurd (cc)
 kills_nothing e x old new kills kills' movement None edited found undrawn draft same ring =
-    record { does = does_nothing e x old new 1 undrawn (draft ∙ ap (λ y. with_edited (e.draft old) y) same); kills_left = ring }
+    record { does = does_nothing e nobody x old new 1 undrawn (draft ∙ ap (λ y. with_edited (e.draft old) y) same); kills_left = ring }
 
 -- a kill that is shown
 pub kill_done : {X T : Type 0} (e : Ghosts X) (r : Result T ReadlineError) (old mid new : X) (kills kills' : Ring) (movement : Movement) (range : Option (ℕ × ℕ)) (edited : Edited)

@@ -12,9 +12,10 @@ use Rattle.line_config.specs.declared.error.ReadlineError.{ReadlineError}
 use Rattle.line_config.specs.Error.{Rose}
 use Rattle.line_keys.specs.Display.{Display, IsRight, lit_after}
 use Rattle.line_keys.specs.Draft.{Draft, hinted, hint_shown, start_text}
-use Rattle.line_keys.specs.Drawing.{Does, DrewNothing, Paints, ShowsEdit, Undrawn, drawn_if, nothing, with_hint}
+use Rattle.line_keys.specs.Drawing.{Does, DoesAsking, DrewNothing, Paints, ShowsEdit, Undrawn, drawn_if, nothing, with_hint}
 use Rattle.line_keys.specs.EditorState.{FailsByParty, FailsByRenderer, Frame}
 use Rattle.line_keys.specs.declared.editor_state.EditorState.{Ghosts}
+use Rattle.line_parts.specs.Asks.{Asks, for_hint, for_line, nobody}
 use Rattle.line_parts.specs.Environment.{Environment}
 use Rattle.line_parts.specs.History.{Found, behind_start, entry_at, line_at, starting_with}
 use Rattle.line_parts.specs.HistoryLaws.{IsOnSide}
@@ -28,9 +29,10 @@ use Rattle.line_buffer.specs.Undo.{first_text}
 use Rattle.line_state.specs.Edited.{Edited, in_one_group, with_update_to}
 use Rattle.line_editor.specs.Editor.{edited_of, with_edited}
 use Rattle.line_editor.specs.Edits.{completed, with_completion}
-use Rattle.line_editor.specs.HistoryMoves.{at_index, come_back, search_beside, search_of, searched, found_shown, line_shown, restored, saved_at_end, showing}
+use Rattle.line_editor.specs.HistoryMoves.{asked_on_way, at_index, come_back, search_beside, search_of, searched, found_shown, line_shown, restored, saved_at_end, showing}
 use Rattle.line_buffer.proofs.SearchLemmas.{front_range}
 use Rattle.line_state.proofs.EditedLemmas.{first_moved}
+use Rattle.line_editor.proofs.AskedLemmas.{does_more, sure_hint}
 use Rattle.line_editor.proofs.DoneLemmas.{does_after, edit_reported, undrawn_twice}
 use Rattle.line_editor.proofs.DrawnLemmas.{drawn_stays, frame_then}
 
@@ -39,13 +41,13 @@ frame_stays : {X : Type 0} (e : Ghosts X) (old : X) → Frame e old old
 frame_stays e old = record { environment = refl; loan = refl; surface = refl; prompt_end = refl; sure = refl; failures = omega arith }
 
 -- a step that draws nothing and leaves the line does nothing else
-pub still_done : {X T : Type 0} (e : Ghosts X) (r : Result T ReadlineError) (old new : X) (left : Draft)
+pub still_done : {X T : Type 0} (e : Ghosts X) (asks : Asks) (r : Result T ReadlineError) (old new : X) (left : Draft)
     → e.draft new ≡ left → left.line ≡ (e.draft old).line → left.hint ≡ (e.draft old).hint → start_text left ≡ start_text (e.draft old)
-    → DrewNothing e old new → Frame e old new → FailsByParty e r old new
-    → Does e r old new left nothing 1
-still_done e (Err er) old new left draft line hint first undrew frame fails =
+    → DrewNothing e old new → Frame e old new → FailsByParty e asks r old new
+    → DoesAsking e asks r old new left nothing 1
+still_done e asks (Err er) old new left draft line hint first undrew frame fails =
     record { draft = tt; start = tt; drew = tt; keeps = tt; change = tt; frame = frame; fails = fails }
-still_done e (Ok x) old new left draft line hint first undrew frame fails = record {
+still_done e asks (Ok x) old new left draft line hint first undrew frame fails = record {
   draft = draft;
   start = ap start_text draft ∙ first;
   drew = undrew;
@@ -56,9 +58,9 @@ still_done e (Ok x) old new left draft line hint first undrew frame fails = reco
 }
 
 -- nothing happens
-pub nothing_done : {X T : Type 0} (e : Ghosts X) (x : T) (old : X) → Does e (Ok x) old old (e.draft old) nothing 1
-nothing_done e x old =
-    still_done e (Ok x) old old (e.draft old) refl refl refl refl (record { display = refl; redraws = refl }) (frame_stays e old) (record { io = tt; faults = tt; quiet = refl })
+pub nothing_done : {X T : Type 0} (e : Ghosts X) (asks : Asks) (x : T) (old : X) → DoesAsking e asks (Ok x) old old (e.draft old) nothing 1
+nothing_done e asks x old =
+    still_done e asks (Ok x) old old (e.draft old) refl refl refl refl (record { display = refl; redraws = refl }) (frame_stays e old) (record { io = tt; faults = tt; quiet = refl })
 
 -- a text of the history was put in the line's place, at another index
 pub shown_in_group : {X T : Type 0} (e : Ghosts X) (r : Result T ReadlineError) (old mid new : X) (text : List ℕ) (cursor index at : ℕ) (edited : Edited)
@@ -111,11 +113,11 @@ saved_starts false draft = refl
 -- the line was left for one of the history
 pub left_for : {X T : Type 0} (e : Ghosts X) (r : Result T ReadlineError) (old mid new : X) (index : ℕ)
     → Undrawn e old mid → e.draft mid ≡ saved_at_end (e.environment old) (e.draft old)
-    → Does e r mid new (line_shown (e.environment mid) index (e.draft mid)) with_hint 1
-    → Does e r old new (line_shown (e.environment old) index (saved_at_end (e.environment old) (e.draft old))) with_hint 1
+    → DoesAsking e for_line r mid new (line_shown (e.environment mid) index (e.draft mid)) with_hint 1
+    → DoesAsking e for_line r old new (line_shown (e.environment old) index (saved_at_end (e.environment old) (e.draft old))) with_hint 1
 left_for e r old mid new index undrawn draft shown =
     let at_end : Bool = (e.draft old).index == length (e.environment old).lines in
-    does_after e r old mid new _ _ true undrawn
+    does_after e for_line r old mid new _ _ true undrawn
     (ap (λ (d : Draft). d.line) draft ∙ saved_line at_end (e.draft old))
     (ap (λ (d : Draft). d.hint) draft ∙ saved_hint at_end (e.draft old))
     (ap start_text draft ∙ saved_starts at_end (e.draft old))
@@ -134,66 +136,76 @@ entry_is_line lines index found within some =
 
 -- at the way's end all stays, and before it an edit is drawn
 pub way_stays : {X T : Type 0} (e : Ghosts X) (x : T) (old : X) (b : Bool) (left : Draft) → b ≡ true
-    → Does e (Ok x) old old (if b then e.draft old else left) (drawn_if (not b)) 1
+    → DoesAsking e (if b then nobody else for_line) (Ok x) old old (if b then e.draft old else left) (drawn_if (not b)) 1
 way_stays e x old b left at =
-    subst (λ c. Does e (Ok x) old old (if c then e.draft old else left) (drawn_if (not c)) 1) (sym at) (nothing_done e x old)
+    subst (λ c. DoesAsking e (if c then nobody else for_line) (Ok x) old old (if c then e.draft old else left) (drawn_if (not c)) 1) (sym at)
+    (nothing_done e nobody x old)
 
 pub way_goes : {X T : Type 0} (e : Ghosts X) (r : Result T ReadlineError) (old new : X) (b : Bool) (left left' : Draft)
-    → b ≡ false → left ≡ left' → Does e r old new left with_hint 1 → Does e r old new (if b then e.draft old else left') (drawn_if (not b)) 1
+    → b ≡ false → left ≡ left' → DoesAsking e for_line r old new left with_hint 1
+    → DoesAsking e (if b then nobody else for_line) r old new (if b then e.draft old else left') (drawn_if (not b)) 1
 way_goes e r old new b left left' at same edit =
-    subst (λ c. Does e r old new (if c then e.draft old else left') (drawn_if (not c)) 1) (sym at)
-    (subst (λ d. Does e r old new d with_hint 1) same edit)
+    subst (λ c. DoesAsking e (if c then nobody else for_line) r old new (if c then e.draft old else left') (drawn_if (not c)) 1) (sym at)
+    (subst (λ d. DoesAsking e for_line r old new d with_hint 1) same edit)
+
+pub way_comes : {X T : Type 0} (e : Ghosts X) (r : Result T ReadlineError) (old new : X) (b : Bool) (left left' : Draft)
+    → b ≡ false → left ≡ left' → Does e r old new left with_hint 1
+    → DoesAsking e (if b then nobody else for_line) r old new (if b then e.draft old else left') (drawn_if (not b)) 1
+way_comes e r old new b left left' at same edit =
+    way_goes e r old new b left left' at same (does_more e r for_hint for_line old new left with_hint 1 (sure_hint (e.sure old)) edit)
 
 -- a renderer that failed is a party that failed
-fails_by : {X T : Type 0} (e : Ghosts X) (r : Result T ReadlineError) (old mid new : X) → e.failures mid ≡ e.failures old
-    → FailsByRenderer e r mid new → FailsByParty e r old new
-fails_by e (Ok x) old mid new same fails = record { io = tt; faults = tt; quiet = fails.quiet ∙ same }
-fails_by e (Err er) old mid new same fails = record {
+fails_by : {X T : Type 0} (e : Ghosts X) (asks : Asks) (r : Result T ReadlineError) (old mid new : X) → e.failures mid ≡ e.failures old
+    → FailsByRenderer e r mid new → FailsByParty e asks r old new
+fails_by e asks (Ok x) old mid new same fails = record { io = tt; faults = tt; quiet = fails.quiet ∙ same }
+fails_by e asks (Err er) old mid new same fails = record {
   io = λ i sure. subst (λ n. Rose n (e.failures new)) same (fails.io i);
   faults = fails.faults;
   quiet = λ no. fails.quiet no ∙ same;
 }
 
 -- there is a beep behind a step that draws nothing and leaves the line
-pub beeped : {X T : Type 0} (e : Ghosts X) (r : Result T ReadlineError) (old mid new : X) (left : Draft) → Undrawn e old mid
+pub beeped : {X T : Type 0} (e : Ghosts X) (asks : Asks) (r : Result T ReadlineError) (old mid new : X) (left : Draft) → Undrawn e old mid
     → e.draft mid ≡ left → left.line ≡ (e.draft old).line → left.hint ≡ (e.draft old).hint → start_text left ≡ start_text (e.draft old)
     → DrewNothing e mid new → Paints e false r mid new
-    → Does e r old new left nothing 1
-beeped e r old mid new left undrawn draft line hint first undrew beep =
-    still_done e r old new left (beep.draft ∙ draft) line hint first
+    → DoesAsking e asks r old new left nothing 1
+beeped e asks r old mid new left undrawn draft line hint first undrew beep =
+    still_done e asks r old new left (beep.draft ∙ draft) line hint first
     (record { display = undrew.display ∙ undrawn.drew.display; redraws = undrew.redraws ∙ undrawn.drew.redraws })
-    (frame_then e old mid new undrawn.frame beep.frame) (fails_by e r old mid new undrawn.failures beep.fails)
+    (frame_then e old mid new undrawn.frame beep.frame) (fails_by e asks r old mid new undrawn.failures beep.fails)
 
 -- a search that found nothing leaves the index where it began
 pub search_fails : {X T : Type 0} (e : Ghosts X) (r : Result T ReadlineError) (old mid new : X) (found : Option Found) (at index : ℕ)
     → None ≡ found → Undrawn e old mid → e.draft mid ≡ at_index at (e.draft old) → at ≡ index
     → DrewNothing e mid new → Paints e false r mid new
-    → Does e r old new (found_shown (e.environment old) found (at_index index (e.draft old))) (drawn_if (is_some found)) 1
+    → DoesAsking e for_line r old new (found_shown (e.environment old) found (at_index index (e.draft old))) (drawn_if (is_some found)) 1
 search_fails e r old mid new found at index none undrawn draft place undrew beep =
-    subst (λ f. Does e r old new (found_shown (e.environment old) f (at_index index (e.draft old))) (drawn_if (is_some f)) 1) none
-    (beeped e r old mid new (at_index index (e.draft old)) undrawn (draft ∙ ap (λ i. at_index i (e.draft old)) place) refl refl refl
+    subst (λ f. DoesAsking e for_line r old new (found_shown (e.environment old) f (at_index index (e.draft old))) (drawn_if (is_some f)) 1) none
+    (beeped e for_line r old mid new (at_index index (e.draft old)) undrawn (draft ∙ ap (λ i. at_index i (e.draft old)) place) refl refl refl
     undrew beep)
 
 -- what a search found is shown
 pub search_shows : {X T : Type 0} (e : Ghosts X) (r : Result T ReadlineError) (old new : X) (found : Option Found) (f : Found) (index : ℕ)
     → Some f ≡ found → Does e r old new (showing (e.environment old) f.entry f.pos (at_index f.index (e.draft old))) with_hint 1
-    → Does e r old new (found_shown (e.environment old) found (at_index index (e.draft old))) (drawn_if (is_some found)) 1
+    → DoesAsking e for_line r old new (found_shown (e.environment old) found (at_index index (e.draft old))) (drawn_if (is_some found)) 1
 search_shows e r old new found f index some edit =
-    subst (λ o. Does e r old new (found_shown (e.environment old) o (at_index index (e.draft old))) (drawn_if (is_some o)) 1) some edit
+    subst (λ o. DoesAsking e for_line r old new (found_shown (e.environment old) o (at_index index (e.draft old))) (drawn_if (is_some o)) 1) some
+    (does_more e r for_hint for_line old new (showing (e.environment old) f.entry f.pos (at_index f.index (e.draft old))) with_hint 1 (sure_hint (e.sure old)) edit)
 
 -- there is nothing to search at the way's end
 pub search_stops : {X T : Type 0} (e : Ghosts X) (r : Result T ReadlineError) (old new : X) (b : Bool) (found : Option Found) (left : Draft)
     → b ≡ true → DrewNothing e old new → Paints e false r old new
-    → Does e r old new (if b then e.draft old else left) (drawn_if (is_some (if b then None else found))) 1
+    → DoesAsking e (if b then nobody else for_line) r old new (if b then e.draft old else left) (drawn_if (is_some (if b then None else found))) 1
 search_stops e r old new b found left at undrew beep =
-    subst (λ c. Does e r old new (if c then e.draft old else left) (drawn_if (is_some (if c then None else found))) 1) (sym at)
-    (still_done e r old new (e.draft old) beep.draft refl refl refl undrew beep.frame (fails_by e r old old new refl beep.fails))
+    subst (λ c. DoesAsking e (if c then nobody else for_line) r old new (if c then e.draft old else left) (drawn_if (is_some (if c then None else found))) 1) (sym at)
+    (still_done e nobody r old new (e.draft old) beep.draft refl refl refl undrew beep.frame (fails_by e nobody r old old new refl beep.fails))
 
 pub search_goes : {X T : Type 0} (e : Ghosts X) (r : Result T ReadlineError) (old new : X) (b : Bool) (found : Option Found) (left : Draft)
-    → b ≡ false → Does e r old new left (drawn_if (is_some found)) 1
-    → Does e r old new (if b then e.draft old else left) (drawn_if (is_some (if b then None else found))) 1
+    → b ≡ false → DoesAsking e for_line r old new left (drawn_if (is_some found)) 1
+    → DoesAsking e (if b then nobody else for_line) r old new (if b then e.draft old else left) (drawn_if (is_some (if b then None else found))) 1
 search_goes e r old new b found left at edit =
-    subst (λ c. Does e r old new (if c then e.draft old else left) (drawn_if (is_some (if c then None else found))) 1) (sym at) edit
+    subst (λ c. DoesAsking e (if c then nobody else for_line) r old new (if c then e.draft old else left) (drawn_if (is_some (if c then None else found))) 1) (sym at)
+    edit
 
 -- what begins with a term can be cut behind it
 begins_at : (term line : List ℕ) (pos : ℕ) (b : Bool) → starts_with eqb line term ≡ b → (if b then Some (length term) else None) ≡ Some pos
@@ -228,7 +240,7 @@ found_within lines term index dir f within some =
 -- without a hint nothing is put into the line
 pub hint_missing : {X T U : Type 0} (e : Ghosts X) (x : T) (old : X) (as_text : U → Suggestion) (hint : Option U) → is_some hint ≡ false
     → Does e (Ok x) old old (completed (e.environment old) (option_map as_text hint) (e.draft old)) (drawn_if (is_some (option_map as_text hint))) 1
-hint_missing e x old as_text None none = nothing_done e x old
+hint_missing e x old as_text None none = nothing_done e nobody x old
 hint_missing e x old as_text (Some hint) none = absurd (cc)
 
 -- a hint was put into the line, or there was a beep, and the line was drawn
@@ -255,31 +267,31 @@ first_there edited old place moved = ap (λ (x : Edited). first_text x.changes x
 -- a search from the line before this one, or from the one behind it
 pub search_back : {X T : Type 0} (e : Ghosts X) (r : Result T ReadlineError) (old new : X) (dir : SearchDirection) (at : ℕ)
     → dir ≡ Reverse → at ≡ (e.draft old).index → (at == 0) ≡ false
-    → Does e r old new
+    → DoesAsking e for_line r old new
     (found_shown (e.environment old) (starting_with (e.environment old).lines (before (e.draft old).line) (at - 1) dir) (at_index (at - 1) (e.draft old)))
     (drawn_if (is_some (starting_with (e.environment old).lines (before (e.draft old).line) (at - 1) dir))) 1
-    → Does e r old new (searched (e.environment old) dir (e.draft old)) (drawn_if (is_some (search_of (e.environment old) dir (e.draft old)))) 1
+    → DoesAsking e (asked_on_way (e.environment old) dir (e.draft old)) r old new (searched (e.environment old) dir (e.draft old)) (drawn_if (is_some (search_of (e.environment old) dir (e.draft old)))) 1
 search_back e r old new Forward at is same away edit = absurd (cc)
 search_back e r old new Reverse at is same away edit =
     search_goes e r old new ((e.draft old).index == 0) (search_beside (e.environment old) Reverse (e.draft old))
     (found_shown (e.environment old) (search_beside (e.environment old) Reverse (e.draft old)) (at_index ((e.draft old).index - 1) (e.draft old)))
     (subst (λ n. (n == 0) ≡ false) same away)
-    (subst (λ n. Does e r old new
+    (subst (λ n. DoesAsking e for_line r old new
     (found_shown (e.environment old) (starting_with (e.environment old).lines (before (e.draft old).line) (n - 1) Reverse) (at_index (n - 1) (e.draft old)))
     (drawn_if (is_some (starting_with (e.environment old).lines (before (e.draft old).line) (n - 1) Reverse))) 1) same edit)
 
 pub search_on : {X T : Type 0} (e : Ghosts X) (r : Result T ReadlineError) (old new : X) (dir : SearchDirection) (at end : ℕ)
     → dir ≡ Forward → at ≡ (e.draft old).index → end ≡ length (e.environment old).lines → (at == end) ≡ false
-    → Does e r old new
+    → DoesAsking e for_line r old new
     (found_shown (e.environment old) (starting_with (e.environment old).lines (before (e.draft old).line) (at + 1) dir) (at_index (at + 1) (e.draft old)))
     (drawn_if (is_some (starting_with (e.environment old).lines (before (e.draft old).line) (at + 1) dir))) 1
-    → Does e r old new (searched (e.environment old) dir (e.draft old)) (drawn_if (is_some (search_of (e.environment old) dir (e.draft old)))) 1
+    → DoesAsking e (asked_on_way (e.environment old) dir (e.draft old)) r old new (searched (e.environment old) dir (e.draft old)) (drawn_if (is_some (search_of (e.environment old) dir (e.draft old)))) 1
 search_on e r old new Reverse at end is same ends away edit = absurd (cc)
 search_on e r old new Forward at end is same ends away edit =
     search_goes e r old new ((e.draft old).index == length (e.environment old).lines) (search_beside (e.environment old) Forward (e.draft old))
     (found_shown (e.environment old) (search_beside (e.environment old) Forward (e.draft old)) (at_index ((e.draft old).index + 1) (e.draft old)))
     (subst (λ n. (n == length (e.environment old).lines) ≡ false) same (subst (λ n. (at == n) ≡ false) ends away))
-    (subst (λ n. Does e r old new
+    (subst (λ n. DoesAsking e for_line r old new
     (found_shown (e.environment old) (starting_with (e.environment old).lines (before (e.draft old).line) (n + 1) Forward) (at_index (n + 1) (e.draft old)))
     (drawn_if (is_some (starting_with (e.environment old).lines (before (e.draft old).line) (n + 1) Forward))) 1) same edit)
 

@@ -1,3 +1,4 @@
+pub mod AskedLemmas
 pub mod BoundLemmas
 pub mod ChordLemmas
 pub mod SequenceLemmas

@@ -9,8 +9,9 @@ use Rattle.line_buffer.specs.declared.keymap.At.TheVariants.{Start}
 use Rattle.line_buffer.specs.declared.keymap.Word.TheVariants.{Big}
 use Rattle.line_config.specs.declared.error.ReadlineError.{ReadlineError}
 use Rattle.line_keys.specs.Draft.{Draft, start_text}
-use Rattle.line_keys.specs.Drawing.{Does, Drawing, DrawsCursor, DrewCursor, MovesTo, Undrawn, cursor_over, drawn_if}
+use Rattle.line_keys.specs.Drawing.{Does, DoesAsking, Drawing, DrawsCursor, DrewCursor, MovesTo, Undrawn, cursor_over, drawn_if}
 use Rattle.line_keys.specs.declared.editor_state.EditorState.{Ghosts}
+use Rattle.line_parts.specs.Asks.{Asks, nobody}
 use Rattle.line_parts.specs.Environment.{Environment}
 use Rattle.line_parts.specs.declared.highlight.CmdKind.TheVariants.{MoveCursor}
 use Rattle.line_parts.specs.History.{begins_blank}
@@ -61,21 +62,22 @@ move_drawn e x y old middle new edited place undrawn draft is draws =
 
 -- where the cursor has no place to go to, what is done instead is done from before
 pub else_done : {X T : Type 0} (e : Ghosts X) (r : Result T ReadlineError) (old mid new : X) (found : Bool) (place : Option ℕ) (moved : Draft)
-    (left : Environment → Draft → Draft) (there : Drawing) (reported : Environment → Draft → Bool)
+    (left : Environment → Draft → Draft) (there : Drawing) (reported : Environment → Draft → Bool) (asked : Environment → Draft → Asks)
     → found ≡ is_some place → found ≡ false → Undrawn e old mid
     → e.draft mid ≡ record (e.draft old) { line = moved_to (e.draft old).line place }
-    → Does e r mid new (left (e.environment mid) (e.draft mid)) (drawn_if (reported (e.environment mid) (e.draft mid))) 1
-    → Does e r old new (if is_some place then moved else left (e.environment old) (e.draft old))
+    → DoesAsking e (asked (e.environment mid) (e.draft mid)) r mid new (left (e.environment mid) (e.draft mid)) (drawn_if (reported (e.environment mid) (e.draft mid))) 1
+    → DoesAsking e (if is_some place then nobody else asked (e.environment old) (e.draft old)) r old new
+    (if is_some place then moved else left (e.environment old) (e.draft old))
     (if is_some place then there else drawn_if (reported (e.environment old) (e.draft old))) 1
-else_done e r old mid new found place moved left there reported answer missing undrawn draft does =
-    let P : Bool → Type 0 = λ b. Does e r old new (if b then moved else left (e.environment old) (e.draft old))
+else_done e r old mid new found place moved left there reported asked answer missing undrawn draft does =
+    let P : Bool → Type 0 = λ b. DoesAsking e (if b then nobody else asked (e.environment old) (e.draft old)) r old new (if b then moved else left (e.environment old) (e.draft old))
     (if b then there else drawn_if (reported (e.environment old) (e.draft old))) 1 in
     let none : is_some place ≡ false = sym answer ∙ missing in
     let same : e.draft mid ≡ e.draft old = draft ∙ ap (λ l. record (e.draft old) { line = l }) (stays_there (e.draft old).line place none) in
-    let Q : Environment → Type 0 = λ w. Does e r mid new (left (e.environment mid) (e.draft mid)) (drawn_if (reported w (e.draft mid))) 1 in
-    let R : Draft → Type 0 = λ d. Does e r mid new (left (e.environment mid) (e.draft mid)) (drawn_if (reported (e.environment old) d)) 1 in
+    let Q : Environment → Type 0 = λ w. DoesAsking e (asked w (e.draft mid)) r mid new (left (e.environment mid) (e.draft mid)) (drawn_if (reported w (e.draft mid))) 1 in
+    let R : Draft → Type 0 = λ d. DoesAsking e (asked (e.environment old) d) r mid new (left (e.environment mid) (e.draft mid)) (drawn_if (reported (e.environment old) d)) 1 in
     subst P (sym none)
-    (does_after e r old mid new _ _ (reported (e.environment old) (e.draft old)) undrawn (ap (λ (d : Draft). d.line) same) (ap (λ (d : Draft). d.hint) same)
+    (does_after e (asked (e.environment old) (e.draft old)) r old mid new _ _ (reported (e.environment old) (e.draft old)) undrawn (ap (λ (d : Draft). d.line) same) (ap (λ (d : Draft). d.hint) same)
     (ap start_text same)
     (ap (λ w. left w (e.draft mid)) undrawn.frame.environment ∙ ap (λ d. left (e.environment old) d) same)
     (subst R same (subst Q undrawn.frame.environment does)))

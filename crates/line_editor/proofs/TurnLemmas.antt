@@ -17,6 +17,8 @@ use Rattle.line_keys.specs.declared.command.Cmd.{Cmd}
 use Rattle.line_keys.specs.declared.editor_state.EditorState as editors
 use Rattle.line_keys.specs.declared.tty.RawReader as readers
 use Rattle.line_editor.specs.Drawings.{drawing_of, most_drawn}
+use Rattle.line_parts.specs.Asks.{for_all, for_hint, is_sure}
+use Rattle.line_editor.proofs.AskedLemmas.{sure_all}
 use Rattle.line_editor.specs.Editor.{Answer, ended, grouped, interrupted, proceeds, ruler_of, submitted}
 use Rattle.line_editor.specs.Keymap.{KeyState}
 use Rattle.line_editor.specs.Reading.{FailsByReading, HasRead, KeepsReading, ReadsCommand, RedrawsItems}
@@ -144,7 +146,7 @@ module _ {X Y : Type 0} (e : editors.Ghosts X) (r : readers.Ghosts Y) (old middl
     stays = record {
       keeps = keeps_turn e r old middle new keys keys' reader reader' read.keeps executes.frame;
       fails = record {
-        io = λ is sure. later_rose _ _ _ _ _ read.fails.quiet.0 read.fails.quiet.1 (executes.io is (read.keeps.both.frame.sure ∙ sure.0));
+        io = λ is sure. later_rose _ _ _ _ _ read.fails.quiet.0 read.fails.quiet.1 (executes.io is (sure_all (e.sure middle) _ (ap (λ s. is_sure s for_all) read.keeps.both.frame.sure ∙ sure.0)));
         quiet = λ no. (read.fails.quiet.0, executes.quiet no ∙ read.fails.quiet.1);
       };
     };
@@ -175,7 +177,7 @@ pub reading_fails : {X Y : Type 0} (e : editors.Ghosts X) (r : readers.Ghosts Y)
     → Advances e r indent (Err f) (session old keys reader kills) (session new keys' reader' kills)
 reading_fails e r old new keys keys' indent reader reader' kills f read other = record {
   turned = tt;
-  stays = record { keeps = read.keeps; fails = record { io = read.fails.io; quiet = read.fails.quiet } };
+  stays = record { keeps = read.keeps; fails = record { io = λ is sure. read.fails.io is (sure_all (e.sure old) for_hint sure.0, sure.1); quiet = read.fails.quiet } };
   faults = is_fault_there (is_fault f) refl;
 }
   where

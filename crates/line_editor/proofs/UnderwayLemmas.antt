@@ -6,6 +6,7 @@ use Rattle.line_buffer.specs.declared.layout.Position.{Position}
 use Rattle.line_config.specs.Error.{IoOnlyIf}
 use Rattle.line_config.specs.declared.error.ReadlineError.{ReadlineError}
 use Rattle.line_config.specs.declared.error.ReadlineError.TheVariants.{Eof, Interrupted}
+use Rattle.line_parts.specs.Asks.{for_all, for_hint, is_sure}
 use Rattle.line_parts.specs.Environment.{Environment}
 use Rattle.line_keys.specs.Display.{Display, IsRight, Surface}
 use Rattle.line_keys.specs.Draft.{Draft, hinted, start_text}
@@ -23,6 +24,7 @@ use Rattle.line_editor.specs.Run.{CutShort, End, Run, stopped, dry}
 use Rattle.line_editor.specs.Runs.{Advances, NeedsMoreItems, Runs, RunsTo, Session, Stays, TakesTurn, editor_of, items_read, session}
 use Rattle.line_editor.specs.Editor.{Answer, Editor, Ruler, proceeds, submitted, ended, interrupted, own_ruler, ruler_of}
 use Rattle.line_editor.specs.declared.run.Turned.{Turned}
+use Rattle.line_editor.proofs.AskedLemmas.{sure_all}
 use Rattle.line_editor.proofs.DrawnLemmas.{frame_then, hint_trails, line_stays}
 use Rattle.line_editor.proofs.RunLemmas.{run-goes, run-ends, run-dry}
 
@@ -78,7 +80,7 @@ module _ {X Y : Type 0} (e : editors.Ghosts X) (r : readers.Ghosts Y) (indent : 
     stays = record {
       keeps = record { both = record { frame = drew.frame; own = refl; counts = omega arith }; bound = refl };
       fails = record {
-        io = λ is sure below other. let rose = drew.fails.io is sure.0 other in omega (arith, rose);
+        io = λ is sure below other. let rose = drew.fails.io is (sure_all (e.sure start.state) for_hint sure.0) other in omega (arith, rose);
         quiet = λ no. (refl, drew.fails.quiet no);
       };
     };
@@ -152,7 +154,7 @@ module _ {X Y : Type 0} (e : editors.Ghosts X) (r : readers.Ghosts Y) (indent : 
           fails = record {
             io = λ is sure below other.
                 let m = u.unread in let n = u.undrawn in
-                let rose = advances.stays.fails.io is (u.keeps.both.frame.sure ∙ sure.0, ap (λ b. all_sure b) u.keeps.bound ∙ sure.1) (omega (arith, below, m)) (omega (arith, other, n)) in
+                let rose = advances.stays.fails.io is (ap (λ s. is_sure s for_all) u.keeps.both.frame.sure ∙ sure.0, ap (λ b. all_sure b) u.keeps.bound ∙ sure.1) (omega (arith, below, m)) (omega (arith, other, n)) in
                 omega (arith, rose, m, n);
             quiet = λ no. let q = advances.stays.fails.quiet no in (q.0 ∙ u.unread, q.1 ∙ u.undrawn);
           };

@@ -13,7 +13,8 @@ use Rattle.line_buffer.specs.declared.keymap.Movement.TheVariants.{ViFirstPrint}
 use Rattle.line_keys.specs.Command.{Command, accept_line, accept_or_insert_line, beginning_of_history, capitalize_word, clear_screen, complete_hint, dedent, downcase_word, end_of_file, end_of_history, history_search_backward, history_search_forward, indent, insert, interrupt, kill, line_down_or_next_history, line_up_or_previous_history, move, newline, next_history, overwrite, previous_history, repaint, replace, replace_char, self_insert, transpose_chars, transpose_words, undo, upcase_word, yank, yank_pop}
 use Rattle.line_keys.specs.Display.{Display}
 use Rattle.line_keys.specs.Draft.{Draft, unhinted}
-use Rattle.line_keys.specs.Drawing.{Drawing, cursor, cursor_over, cursor_to_end, drawn_if, edit_drawn, nothing, with_hint, with_text}
+use Rattle.line_keys.specs.Drawing.{Drawing, asked_by, cursor, cursor_over, cursor_to_end, drawn_if, edit_drawn, nothing, with_hint, with_text}
+use Rattle.line_parts.specs.Asks.{Asks, for_all, for_verdict, nobody}
 use Rattle.line_parts.specs.Environment.{Environment, verdict_on}
 use Rattle.line_parts.specs.Verdict.{message_of}
 use Rattle.line_parts.specs.declared.highlight.CmdKind.TheVariants.{ForcedRefresh, MoveCursor}
@@ -21,7 +22,7 @@ use Rattle.line_parts.specs.declared.history.SearchDirection.TheVariants.{Forwar
 use Rattle.line_state.specs.Edited.{pops_text}
 use Rattle.line_editor.specs.Accept.{reply_to}
 use Rattle.line_editor.specs.Editor.{Editor}
-use Rattle.line_editor.specs.HistoryMoves.{search_of, way_ends}
+use Rattle.line_editor.specs.HistoryMoves.{asked_on_way, search_of, way_ends}
 use Rattle.line_editor.specs.Verdict.{draws_verdict, kind_of_verdict}
 use Rattle.line_editor.specs.declared.command.Reply.{Reply}
 use Rattle.line_editor.specs.declared.command.Reply.TheVariants.{GoesOn}
@@ -110,6 +111,36 @@ drawing_of display environment editor (accept_or_insert_line in_the_middle) =
     (validated_drawn display environment editor.draft)
 drawing_of display environment editor interrupt = cursor_to_end
 drawing_of display environment editor command = edited_drawn display environment editor.draft command
+
+-- whom a command asks that proceeds and leaves the kill ring: the history on its way, and else who is asked for what is drawn
+abbrev pub edited_asked : Display → Environment → Draft → Command → Asks
+edited_asked display environment draft (line_up_or_previous_history n) =
+    if is_some (up_by display.layout draft.line n) then nobody else asked_on_way environment Reverse draft
+edited_asked display environment draft (line_down_or_next_history n) =
+    if is_some (down_by display.layout draft.line n) then nobody else asked_on_way environment Forward draft
+edited_asked display environment draft previous_history = asked_on_way environment Reverse draft
+edited_asked display environment draft next_history = asked_on_way environment Forward draft
+edited_asked display environment draft beginning_of_history = asked_on_way environment Reverse draft
+edited_asked display environment draft end_of_history = asked_on_way environment Forward draft
+edited_asked display environment draft history_search_backward = asked_on_way environment Reverse draft
+edited_asked display environment draft history_search_forward = asked_on_way environment Forward draft
+edited_asked display environment draft command = asked_by (edited_drawn display environment draft command)
+
+-- a newline is drawn with the hint; a line that stays or is submitted asks for the verdict alone
+abbrev pub asked_for_reply : Reply → Asks
+asked_for_reply GoesOn = for_all
+asked_for_reply reply = for_verdict
+
+-- whom a command asks
+abbrev pub asked_of : Display → Environment → Editor → Command → Asks
+asked_of display environment editor accept_line = for_verdict
+asked_of display environment editor (accept_or_insert_line in_the_middle) =
+    asked_for_reply (reply_to (verdict_on environment editor.draft.line.text) (in_the_middle || ends_in_white_space editor.draft.line))
+asked_of display environment editor (kill movement) = asked_by (drawing_of display environment editor (kill movement))
+asked_of display environment editor (replace movement text) = asked_by (drawing_of display environment editor (replace movement text))
+asked_of display environment editor (yank n anchor) = asked_by (drawing_of display environment editor (yank n anchor))
+asked_of display environment editor yank_pop = asked_by (drawing_of display environment editor yank_pop)
+asked_of display environment editor command = edited_asked display environment editor.draft command
 
 -- how often a command draws the line in full, at most
 abbrev pub most_drawn : Command → ℕ

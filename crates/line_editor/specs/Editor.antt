@@ -7,6 +7,7 @@ use Rattle.line_keys.specs.Command.{Command, replace}
 use Rattle.line_keys.specs.Display.{Display, corner}
 use Rattle.line_keys.specs.Draft.{Draft, in_group}
 use Rattle.line_keys.specs.declared.editor_state.EditorState.{Ghosts}
+use Rattle.line_parts.specs.Asks.{Sureness}
 use Rattle.line_parts.specs.Environment.{Environment}
 use Rattle.line_state.specs.Edited.{Edited}
 
@@ -15,9 +16,9 @@ pub record Editor : Type 0 where
   pub draft : Draft
   pub kills : Ring
 
--- what an editor begins with: a draft, those who are asked and whether they are sure, and a renderer on which nothing is drawn,
+-- what an editor begins with: a draft, those who are asked and how far they are sure, and a renderer on which nothing is drawn,
 -- with its counts of failures and of full redraws and whose loan it is
-pub record Begins {X : Type 0} (e : Ghosts X) (editor : X) (start : Draft) (asked : Environment) (surely : Bool) (undrawn : Display) (failed drawn : ℕ) (lent : e.Loan) : Type 0 where
+pub record Begins {X : Type 0} (e : Ghosts X) (editor : X) (start : Draft) (asked : Environment) (surely : Sureness) (undrawn : Display) (failed drawn : ℕ) (lent : e.Loan) : Type 0 where
   pub draft : e.draft editor ≡ start
   pub environment : e.environment editor ≡ asked
   pub sure : e.sure editor ≡ surely

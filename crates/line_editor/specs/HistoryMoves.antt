@@ -2,6 +2,7 @@
 use Rattle.std.specs.Prelude.{ℕ, ◌+◌, ◌-◌, ◌==◌, Bool, true, if◌then◌else◌, List, length, Option, Some, None}
 use Rattle.line_buffer.specs.Line.{before}
 use Rattle.line_keys.specs.Draft.{Draft, hinted}
+use Rattle.line_parts.specs.Asks.{Asks, for_line, nobody}
 use Rattle.line_parts.specs.Environment.{Environment}
 use Rattle.line_parts.specs.History.{Found, line_at, starting_with}
 use Rattle.line_parts.specs.declared.history.SearchDirection.{SearchDirection}
@@ -44,6 +45,10 @@ come_back environment draft = hinted environment (at_index (length environment.l
 abbrev pub way_ends : Environment → SearchDirection → Draft → Bool
 way_ends environment Reverse draft = draft.index == 0
 way_ends environment Forward draft = is_at_end environment draft
+
+-- who is asked on the way back in the history, or on: nobody where the way ends
+abbrev pub asked_on_way : Environment → SearchDirection → Draft → Asks
+asked_on_way environment direction draft = if way_ends environment direction draft then nobody else for_line
 
 -- to the history's line before this one, or to the first
 abbrev pub previous_shown : Environment → Draft → Draft

@@ -6,6 +6,7 @@ use Rattle.line_config.specs.Failures.{UnlessIo}
 use Rattle.line_config.specs.declared.config.EditMode.{EditMode}
 use Rattle.line_config.specs.declared.error.ReadlineError.{ReadlineError}
 use Rattle.line_config.specs.declared.error.ReadlineError.TheVariants.{Eof, Interrupted}
+use Rattle.line_parts.specs.Asks.{Asks, for_hint, is_sure}
 use Rattle.line_parts.specs.Environment.{Environment}
 use Rattle.line_keys.specs.Command.{Command, command_of}
 use Rattle.line_keys.specs.Count.{IsCountOf, continues_count, count_of, count_prompt}
@@ -174,12 +175,12 @@ module _ {X Y : Type 0} (e : editors.Ghosts X) (r : readers.Ghosts Y) where
     pub io : IoOnlyIf result (sure → EitherRose (r.failures reader) (e.failures editor) (r.failures reader') (e.failures editor'))
     pub quiet : UnlessIo result ((r.failures reader' ≡ r.failures reader) × (e.failures editor' ≡ e.failures editor))
 
-  -- the parties are sure, and the handlers of the bindings
-  abbrev pub AreSure : X → KeyState → Type 0
-  AreSure editor keys = (e.sure editor ≡ true) × (all_sure keys.bound ≡ true)
+  -- those of the parties that are asked are sure, and the handlers of the bindings
+  abbrev pub AreSure : Asks → X → KeyState → Type 0
+  AreSure asks editor keys = (is_sure (e.sure editor) asks ≡ true) × (all_sure keys.bound ≡ true)
 
-  abbrev pub FailsByReading : {T : Type 0} → Result T ReadlineError → X → KeyState → Y → X → Y → Type 0
-  FailsByReading result editor keys reader editor' reader' = Fails (AreSure editor keys) result editor reader editor' reader'
+  abbrev pub FailsByReading : {T : Type 0} → Asks → Result T ReadlineError → X → KeyState → Y → X → Y → Type 0
+  FailsByReading asks result editor keys reader editor' reader' = Fails (AreSure asks editor keys) result editor reader editor' reader'
 
   -- what stays of the editor and of the reader's own bindings
   pub record KeepsBoth (editor : X) (reader : Y) (editor' : X) (reader' : Y) : Type 0 where
@@ -195,7 +196,7 @@ module _ {X Y : Type 0} (e : editors.Ghosts X) (r : readers.Ghosts Y) where
     pub shows : (keys : List KeyEvent) → IsCountOf typed keys → UnlessFault result (ShowsCount e keys editor')
     pub redraws : UnlessFault result (Redraws e 1 1 editor editor')
     pub keeps : KeepsBoth editor reader editor' reader'
-    pub fails : Fails (e.sure editor ≡ true) result editor reader editor' reader'
+    pub fails : Fails (is_sure (e.sure editor) for_hint ≡ true) result editor reader editor' reader'
 
   -- the items ended in a count that began with a key, and it is shown
   pub record CutInCount (style : EditMode) (first : KeyEvent) (reader : Y) (editor' : X) (reader' : Y) : Type 0 where
@@ -212,7 +213,7 @@ module _ {X Y : Type 0} (e : editors.Ghosts X) (r : readers.Ghosts Y) where
     pub shows : OnOk result (Shows e editor' (hint_shown (e.draft editor')))
     pub right : OnOk result (HasRightLayout e editor')
     pub keeps : KeepsBoth editor reader editor' reader'
-    pub fails : Fails (e.sure editor ≡ true) result editor reader editor' reader'
+    pub fails : Fails (is_sure (e.sure editor) for_hint ≡ true) result editor reader editor' reader'
 
   -- what stays of the editor, the reader and the bindings while commands are read and executed
   pub record KeepsReading (editor : X) (keys : KeyState) (reader : Y) (editor' : X) (keys' : KeyState) (reader' : Y) : Type 0 where
@@ -243,4 +244,4 @@ module _ {X Y : Type 0} (e : editors.Ghosts X) (r : readers.Ghosts Y) where
     pub start : UnlessFault result (start_text (e.draft editor') ≡ start_text (e.draft editor))
     pub redraws : UnlessFault result (RedrawsItems editor reader editor' reader')
     pub keeps : KeepsReading editor keys reader editor' keys' reader'
-    pub fails : FailsByReading result editor keys reader editor' reader'
+    pub fails : FailsByReading for_hint result editor keys reader editor' reader'

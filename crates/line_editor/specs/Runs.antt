@@ -5,6 +5,7 @@ use Rattle.line_config.specs.Error.{FaultsOnly, IoOnlyIf, UnlessFault}
 use Rattle.line_config.specs.Failures.{UnlessIo}
 use Rattle.line_config.specs.declared.error.ReadlineError.{ReadlineError}
 use Rattle.line_config.specs.declared.error.ReadlineError.TheVariants.{Eof, Interrupted}
+use Rattle.line_parts.specs.Asks.{for_all}
 use Rattle.line_keys.specs.Command.{Command}
 use Rattle.line_keys.specs.Draft.{Draft, hint_shown, hinted, start_text}
 use Rattle.line_keys.specs.Drawing.{Does, Drawing, Drew, DrewNothing, ShowsChange}
@@ -14,7 +15,7 @@ use Rattle.line_keys.specs.ShownLine.{GoesToEnd, HasShownEnd, KeepsDrawn, LosesH
 use Rattle.line_keys.specs.declared.editor_state.EditorState as editors
 use Rattle.line_keys.specs.declared.keys.KeyEvent.{KeyEvent}
 use Rattle.line_keys.specs.declared.tty.RawReader as readers
-use Rattle.line_editor.specs.Drawings.{drawing_of, most_drawn}
+use Rattle.line_editor.specs.Drawings.{asked_of, drawing_of, most_drawn}
 use Rattle.line_editor.specs.Editor.{Answer, Editor, Leaves, Ruler, ended, grouped, interrupted, own_ruler, proceeds, ruler_of, submitted}
 use Rattle.line_editor.specs.Input.{Input}
 use Rattle.line_editor.specs.Keymap.{KeyState, keymap_of}
@@ -68,11 +69,11 @@ module _ {X : Type 0} (e : editors.Ghosts X) where
     pub change : ShowsChange e 3 state state'
     pub start : start_text (e.draft state') ≡ start_text (e.draft state)
 
-  -- what executing a command leaves
+  -- what executing a command leaves; an error of input or output comes only where the renderer or one whom the command asks fails
   pub record Executes (result : Result Status ReadlineError) (state : X) (input : Input) (indent : ℕ) (kills : Ring) (command : Command) (state' : X) (kills' : Ring) : Type 0 where
     pub comes : ComesTo result (Executed state input indent kills command state' kills')
     pub frame : Frame e state state'
-    pub io : IoOnlyIf result (PartyFailed e state state')
+    pub io : IoOnlyIf result (PartyFailed e (asked_of (e.display state) (e.environment state) (editor_of state kills) command) state state')
     pub quiet : UnlessIo result (e.failures state' ≡ e.failures state)
 
 module _ {X Y : Type 0} (e : editors.Ghosts X) (r : readers.Ghosts Y) where
@@ -125,7 +126,7 @@ module _ {X Y : Type 0} (e : editors.Ghosts X) (r : readers.Ghosts Y) where
   -- what stays, and how it may fail, whatever is read and executed
   pub record Stays {T : Type 0} (result : Result T ReadlineError) (before after : Session X Y) : Type 0 where
     pub keeps : KeepsReading e r before.state before.keys before.reader after.state after.keys after.reader
-    pub fails : FailsByReading e r result before.state before.keys before.reader after.state after.reader
+    pub fails : FailsByReading e r for_all result before.state before.keys before.reader after.state after.reader
 
   -- what one turn leaves
   pub record Advances (indent : ℕ) (result : Result Turned ReadlineError) (before after : Session X Y) : Type 0 where

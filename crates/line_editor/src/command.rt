@@ -2,7 +2,7 @@
 ghost use Rattle.std.specs.Prelude.{◌≡◌, ◌||◌, ℕ};
 ghost use Rattle.line_buffer.specs.KillRing.{Ring};
 ghost use Rattle.line_editor.specs.Accept.{reply_to};
-ghost use Rattle.line_editor.specs.Drawings.{edited_drawn, most_drawn};
+ghost use Rattle.line_editor.specs.Drawings.{edited_asked, edited_drawn, most_drawn};
 ghost use Rattle.line_editor.specs.Editor.{ruler_of};
 ghost use Rattle.line_editor.specs.Edits.{typed_in};
 ghost use Rattle.line_editor.specs.Input.{Input};
@@ -12,7 +12,7 @@ ghost use Rattle.line_editor.specs.Step.{edited_by};
 ghost use Rattle.line_keys.specs.Command as commands;
 ghost use Rattle.line_keys.specs.Command.{command_of};
 ghost use Rattle.line_keys.specs.Draft.{unhinted};
-ghost use Rattle.line_keys.specs.Drawing.{Does, with_hint};
+ghost use Rattle.line_keys.specs.Drawing.{Does, DoesAsking, with_hint};
 ghost use Rattle.line_parts.specs.Verdict.{verdict_of};
 
 use crate::edit::State;
@@ -100,10 +100,10 @@ impl<'out, 'prompt, W: Renderer, H: Helper, P: Prompt, S: History> State<
     fn edit_by(&mut self, cmd: Cmd, input_state: &InputState<'_>, indent_size: u8) -> Result<()>
         ensures { let e = ⟦<Self as EditorState>⟧ in
             let w = e.environment self.old in let d = e.draft self.old in
-            Does e result self.old self.new
-            (edited_by (ruler_of (e.display self.old) indent_size) w (input_of input_state.now) d
-            (command_of cmd))
-            (edited_drawn (e.display self.old) w d (command_of cmd)) (most_drawn (command_of cmd)) }
+            let c = command_of cmd in
+            DoesAsking e (edited_asked (e.display self.old) w d c) result self.old self.new
+            (edited_by (ruler_of (e.display self.old) indent_size) w (input_of input_state.now) d c)
+            (edited_drawn (e.display self.old) w d c) (most_drawn c) }
     {
         match cmd {
             Cmd::SelfInsert(n, c) => self.edit_insert(c, n),

@@ -1,5 +1,5 @@
 //! The line while it is edited, and how it is drawn.
-ghost use Rattle.std.specs.Prelude.{IsCharBoundary, if◌then◌else◌, ◌≡◌, ◌≤◌, ◌&&◌, true, Option, Some, None, option_map, is_some, length, IfOk, OnOk, OnErr, IsOk};
+ghost use Rattle.std.specs.Prelude.{IsCharBoundary, if◌then◌else◌, ◌≡◌, ◌≤◌, true, Option, Some, None, option_map, is_some, length, IfOk, OnOk, OnErr, IsOk};
 ghost use Rattle.std.specs.Borrow.{GName};
 ghost use Rattle.line_config.specs.Error.{MemoryOnly};
 ghost use Rattle.line_editor.specs.Editor.{Begins};
@@ -8,7 +8,8 @@ ghost use Rattle.line_keys.specs.Display.{lit_after, undrawn};
 ghost use Rattle.line_keys.specs.Draft.{empty_draft, hinted, KeepsText};
 ghost use Rattle.line_keys.specs.Drawing.{Paints, ShowsEdit, Undrawn};
 ghost use Rattle.line_keys.specs.EditorState.{FailsOnlyIf, Frame, Shows};
-ghost use Rattle.line_parts.specs.Helped.{environment_by, is_sure_by};
+ghost use Rattle.line_parts.specs.Asks.{for_hint, is_sure};
+ghost use Rattle.line_parts.specs.Helped.{environment_by, sure_by};
 ghost use Rattle.line_parts.specs.Hint.{suggestion_of};
 
 mod drawing;
@@ -126,8 +127,7 @@ impl<'out, 'prompt, W: Renderer, H: Helper, P: Prompt, S: History> State<
             (empty_draft ctx.entry.index)
             (environment_by H.hint_at H.verdict_at H.lights helper.entry
             (S.lines ctx.entry.history))
-            (is_sure_by H.Hinter.sure helper.entry && is_sure_by H.Validator.sure helper.entry
-            && S.sure ctx.entry.history)
+            (sure_by H.Hinter.sure H.Validator.sure (S.sure ctx.entry.history) helper.entry)
             (undrawn (W.surface out.old) (W.screen out.old) (P.raw_text prompt.now))
             (W.failures out.old) (W.redraws out.old) out.entry.ghost_name) }
     {
@@ -162,8 +162,7 @@ impl<'out, 'prompt, W: Renderer, H: Helper, P: Prompt, S: History> State<
             })
             (environment_by H.hint_at H.verdict_at H.lights helper.entry
             (S.lines ctx.entry.history))
-            (is_sure_by H.Hinter.sure helper.entry && is_sure_by H.Validator.sure helper.entry
-            && S.sure ctx.entry.history)
+            (sure_by H.Hinter.sure H.Validator.sure (S.sure ctx.entry.history) helper.entry)
             (undrawn (W.surface out.old) (W.screen out.old) (P.raw_text prompt.now))
             (W.failures out.old) (W.redraws out.old) out.entry.ghost_name) }
         ensures memory { MemoryOnly result }
@@ -228,7 +227,8 @@ impl<'out, 'prompt, W: Renderer, H: Helper, P: Prompt, S: History> State<
             KeepsText (d self.old) (d self.new) }
         ensures undrawn { Undrawn ⟦<Self as EditorState>⟧ self.old self.new }
         ensures fails { let e = ⟦<Self as EditorState>⟧ in FailsOnlyIf result
-            (e.sure self.old ≡ true → ⊥) (e.failures self.old) (e.failures self.new) }
+            (is_sure (e.sure self.old) for_hint ≡ true → ⊥)
+            (e.failures self.old) (e.failures self.new) }
     {
         self.hint = self.parties.hint(self.alloc, self.edited.line())?;
         Ok(())

@@ -7,6 +7,7 @@ use Rattle.line_keys.specs.Draft.{Draft, KeepsText, hint_shown, hinted, start_te
 use Rattle.line_keys.specs.EditorState.{FailsByParty, FailsByRenderer, Frame, HasCursorDrawn, HasRightLayout, IsAtEnd, Redraws, Shows}
 use Rattle.line_keys.specs.ShownLine.{KeepsDrawn}
 use Rattle.line_keys.specs.declared.editor_state.EditorState.{Ghosts}
+use Rattle.line_parts.specs.Asks.{Asks, for_hint, nobody}
 use Rattle.line_parts.specs.declared.highlight.CmdKind.{CmdKind}
 use Rattle.line_parts.specs.declared.highlight.CmdKind.TheVariants.{MoveCursor, Other}
 
@@ -20,6 +21,12 @@ pub data Drawing : Type 0 where
   cursor : CmdKind → Drawing
   cursor_over : Line → Drawing
   cursor_to_end : Drawing
+
+-- who is asked for what is drawn: where the hint is drawn, it is asked for first
+abbrev pub asked_by : Drawing → Asks
+asked_by with_hint = for_hint
+asked_by (behind_prompt prompt) = for_hint
+asked_by drawing = nobody
 
 -- nothing was drawn
 pub record DrewNothing {X : Type 0} (e : Ghosts X) (old new : X) : Type 0 where
@@ -97,7 +104,7 @@ pub record Refreshes {X T : Type 0} (e : Ghosts X) (result : Result T ReadlineEr
   pub text : KeepsText (e.draft old) (e.draft new)
   pub drew : OnOk result (Drew e 1 drawing old new)
   pub frame : Frame e old new
-  pub fails : FailsByParty e result old new
+  pub fails : FailsByParty e (asked_by drawing) result old new
 
 -- a text that changed was drawn in full with its hint, with so many full redraws at most
 abbrev pub ShowsChange : {X : Type 0} → Ghosts X → ℕ → X → X → Type 0
@@ -105,15 +112,19 @@ ShowsChange e most old new =
     ((e.draft new).line.text ≡ (e.draft old).line.text) ⊎ (Shows e new (hint_shown (e.draft new)) × Redraws e 1 most old new)
 
 -- what a call leaves that edits the line or moves its cursor: the draft, and the text that all changes taken back give; and what it
--- draws, with so many full redraws at most: what is drawn stays good, and a changed text is drawn
-pub record Does {X T : Type 0} (e : Ghosts X) (result : Result T ReadlineError) (old new : X) (left : Draft) (drawing : Drawing) (most : ℕ) : Type 0 where
+-- draws, with so many full redraws at most: what is drawn stays good, and a changed text is drawn; of the parties it asks these alone
+pub record DoesAsking {X T : Type 0} (e : Ghosts X) (asks : Asks) (result : Result T ReadlineError) (old new : X) (left : Draft) (drawing : Drawing) (most : ℕ) : Type 0 where
   pub draft : OnOk result (e.draft new ≡ left)
   pub start : OnOk result (start_text (e.draft new) ≡ start_text (e.draft old))
   pub drew : OnOk result (Drew e most drawing old new)
   pub keeps : OnOk result (KeepsDrawn e old new)
   pub change : OnOk result (ShowsChange e most old new)
   pub frame : Frame e old new
-  pub fails : FailsByParty e result old new
+  pub fails : FailsByParty e asks result old new
+
+-- the same of a call that asks for what it draws alone
+abbrev pub Does : {X T : Type 0} → Ghosts X → Result T ReadlineError → X → X → Draft → Drawing → ℕ → Type 0
+Does e result old new left drawing most = DoesAsking e (asked_by drawing) result old new left drawing most
 
 -- what drawing the cursor leaves: the draft as it was, and the kept cursor where the line's is
 pub record DrawsCursor {X T : Type 0} (e : Ghosts X) (result : Result T ReadlineError) (old new : X) (kind : CmdKind) : Type 0 where
@@ -132,7 +143,7 @@ pub record ShowsEdit {X T : Type 0} (e : Ghosts X) (edited : Bool) (result : Res
   pub placed : OnOk result (HasCursorDrawn e new)
   pub right : OnOk result (ShowsText (e.display old) (e.draft old).line.text → IsRight (e.display new) (e.draft old).line)
   pub frame : Frame e old new
-  pub fails : FailsByParty e result old new
+  pub fails : FailsByParty e (asked_by (edit_drawn edited)) result old new
 
 -- what a move of the cursor leaves: the line with its text, whatever comes; and the cursor drawn
 pub record MovesTo {X T : Type 0} (e : Ghosts X) (result : Result T ReadlineError) (old new : X) (kind : CmdKind) (line : Line) : Type 0 where

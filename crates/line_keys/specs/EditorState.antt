@@ -4,6 +4,7 @@ use Rattle.line_buffer.specs.declared.layout.Layout.{Layout}
 use Rattle.line_config.specs.Error.{FaultsOnly, IoOnlyIf, Rose, max_count}
 use Rattle.line_config.specs.Failures.{UnlessIo}
 use Rattle.line_config.specs.declared.error.ReadlineError.{ReadlineError}
+use Rattle.line_parts.specs.Asks.{Asks, is_sure}
 use Rattle.line_keys.specs.Display.{HasCursorAt, IsFullRedraw, ShowsInFull, IsRight}
 use Rattle.line_keys.specs.Draft.{Draft, hint_shown}
 use Rattle.line_keys.specs.declared.editor_state.EditorState.{Ghosts}
@@ -70,13 +71,13 @@ pub record FailsOnlyIf {T : Type 0} (result : Result T ReadlineError) (cause : T
 abbrev pub RendererFailed : {X : Type 0} → Ghosts X → X → X → Type 0
 RendererFailed e old new = Rose (e.failures old) (e.failures new)
 
--- the renderer failed, or a party is not sure
-abbrev pub PartyFailed : {X : Type 0} → Ghosts X → X → X → Type 0
-PartyFailed e old new = e.sure old ≡ true → Rose (e.failures old) (e.failures new)
+-- the renderer failed, or one of those that are asked is not sure
+abbrev pub PartyFailed : {X : Type 0} → Ghosts X → Asks → X → X → Type 0
+PartyFailed e asks old new = is_sure (e.sure old) asks ≡ true → Rose (e.failures old) (e.failures new)
 
--- how a call may fail that asks the renderer alone, and one that asks the parties too
+-- how a call may fail that asks the renderer alone, and one that asks some of the parties too
 abbrev pub FailsByRenderer : {X T : Type 0} → Ghosts X → Result T ReadlineError → X → X → Type 0
 FailsByRenderer e result old new = FailsOnlyIf result (RendererFailed e old new) (e.failures old) (e.failures new)
 
-abbrev pub FailsByParty : {X T : Type 0} → Ghosts X → Result T ReadlineError → X → X → Type 0
-FailsByParty e result old new = FailsOnlyIf result (PartyFailed e old new) (e.failures old) (e.failures new)
+abbrev pub FailsByParty : {X T : Type 0} → Ghosts X → Asks → Result T ReadlineError → X → X → Type 0
+FailsByParty e asks result old new = FailsOnlyIf result (PartyFailed e asks old new) (e.failures old) (e.failures new)

@@ -1,7 +1,8 @@
 //! What contracts see of an editor.
-ghost use Rattle.std.specs.Prelude.{ℕ, Bool};
+ghost use Rattle.std.specs.Prelude.{ℕ};
 ghost use Rattle.line_keys.specs.Display.{Display};
 ghost use Rattle.line_keys.specs.Draft.{Draft};
+ghost use Rattle.line_parts.specs.Asks.{Sureness};
 ghost use Rattle.line_parts.specs.Environment.{Environment};
 
 /// What contracts see of an editor, and no code reads: the line that is edited, what answers for it, what is drawn, and
@@ -18,8 +19,8 @@ pub trait EditorState {
 
     ghost loan: { Self → Loan };
 
-    // Whether no error of input or output comes from a party that is asked.
-    ghost sure: { Self → Bool };
+    // Which answers of the parties come without an error of input or output.
+    ghost sure: { Self → Sureness };
 
     ghost failures: { Self → ℕ };
 

@@ -6,6 +6,4 @@ use Rattle.line_parts.specs.declared.consulted.Consulted.{Ghosts}
 pub record Unchanged {X : Type 0} (parties : Ghosts X) (old new : X) : Type 0 where
   pub environment : parties.environment new ≡ parties.environment old
   pub index : parties.index new ≡ parties.index old
-  pub sure_of_hints : parties.sure_of_hints new ≡ parties.sure_of_hints old
-  pub sure_of_verdicts : parties.sure_of_verdicts new ≡ parties.sure_of_verdicts old
   pub sure : parties.sure new ≡ parties.sure old

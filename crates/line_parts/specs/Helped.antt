@@ -1,6 +1,7 @@
 -- The answers of a helper, where there may be none.
-use Rattle.std.specs.Prelude.{ℕ, Bool, true, false, List, Option, Some, None}
+use Rattle.std.specs.Prelude.{ℕ, Bool, true, false, ◌&&◌, List, Option, Some, None}
 use Rattle.std.specs.Borrow.{MutBor}
+use Rattle.line_parts.specs.Asks.{Sureness}
 use Rattle.line_parts.specs.Environment.{Environment}
 use Rattle.line_parts.specs.Hint.{Suggestion}
 use Rattle.line_parts.specs.Shown.{Shown}
@@ -29,6 +30,19 @@ lights_by lights (Some helper) text cursor kind = lights helper.now text cursor 
 unfoldable pub is_sure_by : {H : Type 0} → (H → Bool) → Option (MutBor H) → Bool
 is_sure_by sure None = true
 is_sure_by sure (Some helper) = sure helper.now
+
+-- whether a hint comes without an error of input or output, by whether the history is sure, which a helper may ask
+unfoldable pub hints_surely_by : {H : Type 0} → (H → Bool) → Bool → Option (MutBor H) → Bool
+hints_surely_by sure history None = true
+hints_surely_by sure history (Some helper) = sure helper.now && history
+
+-- who is sure of a helper, if there is one, and a history
+abbrev pub sure_by : {H : Type 0} → (H → Bool) → (H → Bool) → Bool → Option (MutBor H) → Sureness
+sure_by hinter validator history helper = record {
+  hints = hints_surely_by hinter history helper;
+  verdicts = is_sure_by validator helper;
+  history = history;
+}
 
 -- what answers for a line: a helper, if there is one, and the lines of a history
 abbrev pub environment_by : {H : Type 0} → (H → Shown → Option Suggestion) → (H → List ℕ → Verdict)

@@ -1,3 +1,4 @@
+pub mod Asks
 pub mod BracketLaws
 pub mod BracketVerdict
 pub mod Brackets

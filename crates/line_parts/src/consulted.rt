@@ -1,5 +1,6 @@
 //! What contracts see of the parties that are asked about a line.
-ghost use Rattle.std.specs.Prelude.{ℕ, Bool};
+ghost use Rattle.std.specs.Prelude.{ℕ};
+ghost use Rattle.line_parts.specs.Asks.{Sureness};
 ghost use Rattle.line_parts.specs.Environment.{Environment};
 
 /// A type whose values answer for a line while it is edited.
@@ -10,12 +11,6 @@ pub trait Consulted {
     // The history index of the line.
     ghost index: { Self → ℕ };
 
-    // Whether no error of input or output comes from its hints, where the history may be asked too.
-    ghost sure_of_hints: { Self → Bool };
-
-    // Whether no error of input or output comes from its verdicts.
-    ghost sure_of_verdicts: { Self → Bool };
-
-    // Whether no error of input or output comes from its hints, its verdicts and its history.
-    ghost sure: { Self → Bool };
+    // Which of its answers come without an error of input or output.
+    ghost sure: { Self → Sureness };
 }

@@ -2,12 +2,12 @@
 ghost use Rattle.std.specs.Prelude.{◌≡◌, ◌≤◌, ◌&&◌, Bool, true, false, List, Option};
 ghost use Rattle.std.specs.Prelude.{is_some, length, option_map, IfOk};
 ghost use Rattle.line_config.specs.Error.{FaultsOnly, IoOnlyIf};
+ghost use Rattle.line_parts.specs.Asks.{for_hint, for_line, for_verdict, is_sure};
 ghost use Rattle.line_parts.specs.Consulted.{Unchanged};
 ghost use Rattle.line_parts.specs.Context.{shown_in};
 ghost use Rattle.line_parts.specs.Environment.{Environment, hint_for, verdict_on};
-ghost use Rattle.line_parts.specs.Helped.{environment_by, hint_by, is_sure_by, lights_by, verdict_by};
+ghost use Rattle.line_parts.specs.Helped.{environment_by, hint_by, hints_surely_by, is_sure_by, lights_by, sure_by, verdict_by};
 ghost use Rattle.line_parts.specs.Hint.{suggestion_of, visible};
-ghost use Rattle.line_parts.specs.Shown.{NotBoth};
 ghost use Rattle.line_parts.specs.Verdict.{verdict_of};
 
 use crate::consulted::Consulted;
@@ -40,16 +40,12 @@ impl<'out, H: Helper, S: History> Consulted for Parties<'out, H, S> {
 
     ghost index = { λ p. p.ctx.index };
 
-    ghost sure_of_hints = { λ p. is_sure_by H.Hinter.sure p.helper && S.sure p.ctx.history };
-
-    ghost sure_of_verdicts = { λ p. is_sure_by H.Validator.sure p.helper };
-
-    ghost sure = { λ p. is_sure_by H.Hinter.sure p.helper
-        && is_sure_by H.Validator.sure p.helper && S.sure p.ctx.history };
+    ghost sure = { λ p.
+        sure_by H.Hinter.sure H.Validator.sure (S.sure p.ctx.history) p.helper };
 }
 
 // Returns the helper's hint for the line.
-#[tactic(auto, unfolding(crate::specs::Helped::hint_by, crate::specs::Helped::is_sure_by))]
+#[tactic(auto, unfolding(crate::specs::Helped::hint_by, crate::specs::Helped::hints_surely_by))]
 fn helper_hint<'a, 'out, H: Helper, S: History>(
     alloc: Global,
     helper: &'a Option<&'out mut H>,
@@ -60,7 +56,7 @@ fn helper_hint<'a, 'out, H: Helper, S: History>(
         ≡ hint_by H.hint_at helper.now
         (shown_in S.History ctx.now line.now.text line.now.cursor)) }
     ensures io { IoOnlyIf result
-        (NotBoth (is_sure_by H.Hinter.sure helper.now) (S.sure ctx.now.history)) }
+        (hints_surely_by H.Hinter.sure (S.sure ctx.now.history) helper.now ≡ false) }
     ensures faults { FaultsOnly result }
 {
     match helper {
@@ -107,7 +103,7 @@ fn helper_verdict<'a, 'out, H: Helper>(
 }
 
 // Asks the helper whether the line has to be drawn in full.
-#[tactic(auto, unfolding(crate::specs::Helped::hint_by, crate::specs::Helped::is_sure_by, crate::specs::Helped::lights_by, crate::specs::Helped::verdict_by))]
+#[tactic(auto, unfolding(crate::specs::Helped::hint_by, crate::specs::Helped::hints_surely_by, crate::specs::Helped::is_sure_by, crate::specs::Helped::lights_by, crate::specs::Helped::verdict_by))]
 fn helper_lights<'out, H: Helper>(
     helper: &mut Option<&'out mut H>,
     line: &LineBuffer,
@@ -117,7 +113,8 @@ fn helper_lights<'out, H: Helper>(
     ensures hints { hint_by H.hint_at helper.new ≡ hint_by H.hint_at helper.old }
     ensures verdicts { verdict_by H.verdict_at helper.new ≡ verdict_by H.verdict_at helper.old }
     ensures lights { lights_by H.lights helper.new ≡ lights_by H.lights helper.old }
-    ensures hinter { is_sure_by H.Hinter.sure helper.new ≡ is_sure_by H.Hinter.sure helper.old }
+    ensures hinter { (history : Bool) → hints_surely_by H.Hinter.sure history helper.new
+        ≡ hints_surely_by H.Hinter.sure history helper.old }
     ensures validator { is_sure_by H.Validator.sure helper.new
         ≡ is_sure_by H.Validator.sure helper.old }
 {
@@ -147,17 +144,14 @@ impl<'out, H: Helper, S: History> Parties<'out, H, S> {
         ensures environment { ⟦<Self as Consulted>⟧.environment result ≡ environment_by
             H.hint_at H.verdict_at H.lights helper.entry (S.lines ctx.entry.history) }
         ensures index { ⟦<Self as Consulted>⟧.index result ≡ ctx.entry.index }
-        ensures hints { ⟦<Self as Consulted>⟧.sure_of_hints result
-            ≡ (is_sure_by H.Hinter.sure helper.entry && S.sure ctx.entry.history) }
-        ensures verdicts { ⟦<Self as Consulted>⟧.sure_of_verdicts result
-            ≡ is_sure_by H.Validator.sure helper.entry }
-        ensures sure { let p = ⟦<Self as Consulted>⟧ in p.sure result
-            ≡ (p.sure_of_hints result && p.sure_of_verdicts result) }
+        ensures sure { ⟦<Self as Consulted>⟧.sure result ≡ sure_by H.Hinter.sure H.Validator.sure
+            (S.sure ctx.entry.history) helper.entry }
     {
         Parties { helper, ctx }
     }
 
     /// Returns the helper's hint for `line`, or None where there is no hint or it displays nothing.
+    /// Without a helper there is none, and the history is not asked.
     ///
     /// # Errors
     /// `Io`, only where the hinter or the history is not sure, and `Memory`.
@@ -165,7 +159,7 @@ impl<'out, H: Helper, S: History> Parties<'out, H, S> {
         ensures answer { let p = ⟦<Self as Consulted>⟧ in IfOk result (λ hint.
             option_map (suggestion_of H.Hint.Hint) hint ≡ hint_for (p.environment self.now)
             line.now.text line.now.cursor (p.index self.now)) }
-        ensures io { IoOnlyIf result (⟦<Self as Consulted>⟧.sure_of_hints self.now ≡ false) }
+        ensures io { IoOnlyIf result (is_sure (⟦<Self as Consulted>⟧.sure self.now) for_hint ≡ false) }
         ensures faults { FaultsOnly result }
     {
         Ok(visible_hint(helper_hint(alloc, &self.helper, line, &self.ctx)?))
@@ -185,7 +179,7 @@ impl<'out, H: Helper, S: History> Parties<'out, H, S> {
     pub fn validate(&self, alloc: Global, line: &LineBuffer) -> Result<ValidationResult>
         ensures answer { IfOk result (λ r. verdict_of r
             ≡ verdict_on (⟦<Self as Consulted>⟧.environment self.now) line.now.text) }
-        ensures io { IoOnlyIf result (⟦<Self as Consulted>⟧.sure_of_verdicts self.now ≡ false) }
+        ensures io { IoOnlyIf result (is_sure (⟦<Self as Consulted>⟧.sure self.now) for_verdict ≡ false) }
         ensures faults { FaultsOnly result }
     {
         let verdict = helper_verdict(alloc, &self.helper, line.as_str())?;
@@ -214,7 +208,8 @@ impl<'out, H: Helper, S: History> Parties<'out, H, S> {
     /// Returns the history.
     pub fn history(&self) -> &'out S
         ensures lines { S.lines result.now ≡ (⟦<Self as Consulted>⟧.environment self.now).lines }
-        ensures sure { ⟦<Self as Consulted>⟧.sure self.now ≡ true → S.sure result.now ≡ true }
+        ensures sure { is_sure (⟦<Self as Consulted>⟧.sure self.now) for_line ≡ true
+            → S.sure result.now ≡ true }
     {
         self.ctx.history()
     }
@@ -233,10 +228,6 @@ impl<'out, H: Helper, S: History> Parties<'out, H, S> {
         ensures index { ⟦<Self as Consulted>⟧.index self.new ≡ index }
         ensures environment { let p = ⟦<Self as Consulted>⟧ in
             p.environment self.new ≡ p.environment self.old }
-        ensures hints { let p = ⟦<Self as Consulted>⟧ in
-            p.sure_of_hints self.new ≡ p.sure_of_hints self.old }
-        ensures verdicts { let p = ⟦<Self as Consulted>⟧ in
-            p.sure_of_verdicts self.new ≡ p.sure_of_verdicts self.old }
         ensures sure { let p = ⟦<Self as Consulted>⟧ in p.sure self.new ≡ p.sure self.old }
     {
         self.ctx.set_history_index(index);

@@ -2,9 +2,10 @@
 ghost use Rattle.std.specs.Prelude.{◌≡◌, ◌+◌, ◌≤◌, IsCharBoundary, false, if◌then◌else◌, not, is_some, length, OnOk, OnErr};
 ghost use Rattle.line_buffer.specs.Line.{before};
 ghost use Rattle.line_config.specs.Error.{MemoryOnly};
-ghost use Rattle.line_editor.specs.HistoryMoves.{at_index, come_back, end_shown, first_shown, found_shown, line_shown, next_shown, previous_shown, restored, saved_at_end, search_of, searched, showing, way_ends};
+ghost use Rattle.line_editor.specs.HistoryMoves.{asked_on_way, at_index, come_back, end_shown, first_shown, found_shown, line_shown, next_shown, previous_shown, restored, saved_at_end, search_of, searched, showing, way_ends};
 ghost use Rattle.line_keys.specs.Draft.{start_text};
-ghost use Rattle.line_keys.specs.Drawing.{Does, DrewNothing, Paints, Undrawn, drawn_if, with_hint};
+ghost use Rattle.line_keys.specs.Drawing.{Does, DoesAsking, DrewNothing, Paints, Undrawn, drawn_if, with_hint};
+ghost use Rattle.line_parts.specs.Asks.{for_line};
 ghost use Rattle.line_parts.specs.History.{starting_with};
 ghost use Rattle.line_parts.specs.declared.history.SearchDirection.TheVariants.{Forward, Reverse};
 
@@ -65,9 +66,10 @@ impl<'out, 'prompt, W: Renderer, H: Helper, P: Prompt, S: History> State<
     pub fn edit_history_next(&mut self, prev: bool) -> Result<()>
         ensures { let e = ⟦<Self as EditorState>⟧ in
             let w = e.environment self.old in let d = e.draft self.old in
-            Does e result self.old self.new
+            let dir = if prev then Reverse else Forward in
+            DoesAsking e (asked_on_way w dir d) result self.old self.new
             (if prev then previous_shown w d else next_shown w d)
-            (drawn_if (not (way_ends w (if prev then Reverse else Forward) d))) 1 }
+            (drawn_if (not (way_ends w dir d))) 1 }
     {
         if prev {
             return self.show_previous();
@@ -83,9 +85,10 @@ impl<'out, 'prompt, W: Renderer, H: Helper, P: Prompt, S: History> State<
     pub fn edit_history(&mut self, first: bool) -> Result<()>
         ensures { let e = ⟦<Self as EditorState>⟧ in
             let w = e.environment self.old in let d = e.draft self.old in
-            Does e result self.old self.new
+            let dir = if first then Reverse else Forward in
+            DoesAsking e (asked_on_way w dir d) result self.old self.new
             (if first then first_shown w d else end_shown w d)
-            (drawn_if (not (way_ends w (if first then Reverse else Forward) d))) 1 }
+            (drawn_if (not (way_ends w dir d))) 1 }
     {
         if first {
             return self.show_first();
@@ -102,7 +105,7 @@ impl<'out, 'prompt, W: Renderer, H: Helper, P: Prompt, S: History> State<
     pub fn edit_history_search(&mut self, dir: SearchDirection) -> Result<()>
         ensures { let e = ⟦<Self as EditorState>⟧ in
             let w = e.environment self.old in let d = e.draft self.old in
-            Does e result self.old self.new
+            DoesAsking e (asked_on_way w dir d) result self.old self.new
             (searched w dir d) (drawn_if (is_some (search_of w dir d))) 1 }
     {
         let index = self.place();
@@ -127,7 +130,7 @@ impl<'out, 'prompt, W: Renderer, H: Helper, P: Prompt, S: History> State<
     fn show_previous(&mut self) -> Result<()>
         ensures { let e = ⟦<Self as EditorState>⟧ in
             let w = e.environment self.old in let d = e.draft self.old in
-            Does e result self.old self.new (previous_shown w d)
+            DoesAsking e (asked_on_way w Reverse d) result self.old self.new (previous_shown w d)
             (drawn_if (not (way_ends w Reverse d))) 1 }
     {
         let index = self.place();
@@ -138,11 +141,11 @@ impl<'out, 'prompt, W: Renderer, H: Helper, P: Prompt, S: History> State<
     }
 
     // Shows the line behind this one, if there is one: behind the history's last stands the one that is being written.
-    #[tactic(auto, using(crate::proofs::HistoryMoveLemmas::way_stays, crate::proofs::HistoryMoveLemmas::way_goes))]
+    #[tactic(auto, using(crate::proofs::HistoryMoveLemmas::way_stays, crate::proofs::HistoryMoveLemmas::way_goes, crate::proofs::HistoryMoveLemmas::way_comes))]
     fn show_next(&mut self) -> Result<()>
         ensures { let e = ⟦<Self as EditorState>⟧ in
             let w = e.environment self.old in let d = e.draft self.old in
-            Does e result self.old self.new (next_shown w d)
+            DoesAsking e (asked_on_way w Forward d) result self.old self.new (next_shown w d)
             (drawn_if (not (way_ends w Forward d))) 1 }
     {
         let index = self.place();
@@ -161,7 +164,7 @@ impl<'out, 'prompt, W: Renderer, H: Helper, P: Prompt, S: History> State<
     fn show_first(&mut self) -> Result<()>
         ensures { let e = ⟦<Self as EditorState>⟧ in
             let w = e.environment self.old in let d = e.draft self.old in
-            Does e result self.old self.new (first_shown w d)
+            DoesAsking e (asked_on_way w Reverse d) result self.old self.new (first_shown w d)
             (drawn_if (not (way_ends w Reverse d))) 1 }
     {
         if self.place() == 0 {
@@ -171,11 +174,11 @@ impl<'out, 'prompt, W: Renderer, H: Helper, P: Prompt, S: History> State<
     }
 
     // Comes back to the line that is being written, if it is not shown already.
-    #[tactic(auto, using(crate::proofs::HistoryMoveLemmas::way_stays, crate::proofs::HistoryMoveLemmas::way_goes))]
+    #[tactic(auto, using(crate::proofs::HistoryMoveLemmas::way_stays, crate::proofs::HistoryMoveLemmas::way_comes))]
     fn show_end(&mut self) -> Result<()>
         ensures { let e = ⟦<Self as EditorState>⟧ in
             let w = e.environment self.old in let d = e.draft self.old in
-            Does e result self.old self.new (end_shown w d)
+            DoesAsking e (asked_on_way w Forward d) result self.old self.new (end_shown w d)
             (drawn_if (not (way_ends w Forward d))) 1 }
     {
         if self.place() == self.parties.history().len() {
@@ -209,7 +212,7 @@ impl<'out, 'prompt, W: Renderer, H: Helper, P: Prompt, S: History> State<
     fn leave_for(&mut self, index: usize) -> Result<()>
         requires { index + 1 ≤ length (⟦<Self as EditorState>⟧.environment self.old).lines }
         ensures { let e = ⟦<Self as EditorState>⟧ in let w = e.environment self.old in
-            Does e result self.old self.new
+            DoesAsking e for_line result self.old self.new
             (line_shown w index (saved_at_end w (e.draft self.old))) with_hint 1 }
     {
         self.save_at_end()?;
@@ -219,7 +222,8 @@ impl<'out, 'prompt, W: Renderer, H: Helper, P: Prompt, S: History> State<
     // Shows the line of the history at an index, with the cursor at its end.
     fn show_line(&mut self, index: usize) -> Result<()>
         requires { index + 1 ≤ length (⟦<Self as EditorState>⟧.environment self.old).lines }
-        ensures { let e = ⟦<Self as EditorState>⟧ in Does e result self.old self.new
+        ensures { let e = ⟦<Self as EditorState>⟧ in
+            DoesAsking e for_line result self.old self.new
             (line_shown (e.environment self.old) index (e.draft self.old)) with_hint 1 }
     {
         let history = self.parties.history();
@@ -259,7 +263,7 @@ impl<'out, 'prompt, W: Renderer, H: Helper, P: Prompt, S: History> State<
         requires { index ≤ length (⟦<Self as EditorState>⟧.environment self.old).lines }
         ensures { let e = ⟦<Self as EditorState>⟧ in let d = e.draft self.old in
             let found = starting_with (e.environment self.old).lines (before d.line) index dir in
-            Does e result self.old self.new
+            DoesAsking e for_line result self.old self.new
             (found_shown (e.environment self.old) found (at_index index d))
             (drawn_if (is_some found)) 1 }
     {

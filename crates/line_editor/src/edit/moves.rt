@@ -7,10 +7,11 @@ ghost use Rattle.line_buffer.specs.Search.{search_place};
 ghost use Rattle.line_buffer.specs.Word.{word_back, word_on};
 ghost use Rattle.line_buffer.specs.declared.keymap.Movement.TheVariants.{LineDown, LineUp};
 ghost use Rattle.line_editor.specs.Drawings.{move_drawn};
-ghost use Rattle.line_editor.specs.HistoryMoves.{next_shown, previous_shown, way_ends};
+ghost use Rattle.line_editor.specs.HistoryMoves.{asked_on_way, next_shown, previous_shown, way_ends};
 ghost use Rattle.line_keys.specs.Display.{GoesToShownEnd};
-ghost use Rattle.line_keys.specs.Drawing.{Does, DrawsCursor, MovesTo, Paints, Undrawn, cursor, drawn_if};
+ghost use Rattle.line_keys.specs.Drawing.{Does, DoesAsking, DrawsCursor, MovesTo, Paints, Undrawn, cursor, drawn_if};
 ghost use Rattle.line_keys.specs.ShownLine.{HasShownEnd, ShowsLine};
+ghost use Rattle.line_parts.specs.Asks.{nobody};
 ghost use Rattle.line_parts.specs.declared.highlight.CmdKind.TheVariants.{MoveCursor};
 ghost use Rattle.line_parts.specs.declared.history.SearchDirection.TheVariants.{Forward, Reverse};
 ghost use Rattle.line_state.specs.Moves.{moved};
@@ -215,7 +216,9 @@ impl<'out, 'prompt, W: Renderer, H: Helper, P: Prompt, S: History> State<
     pub(crate) fn up_or_previous(&mut self, n: RepeatCount) -> Result<()>
         ensures { let e = ⟦<Self as EditorState>⟧ in let layout = (e.display self.old).layout in
             let d = e.draft self.old in let found = is_some (up_by layout d.line n) in
-            let w = e.environment self.old in Does e result self.old self.new
+            let w = e.environment self.old in
+            DoesAsking e (if found then nobody else asked_on_way w Reverse d)
+            result self.old self.new
             (if found then record d { line = moved layout (LineUp n) d.line }
             else previous_shown w d)
             (if found then cursor MoveCursor else drawn_if (not (way_ends w Reverse d))) 1 }
@@ -230,7 +233,9 @@ impl<'out, 'prompt, W: Renderer, H: Helper, P: Prompt, S: History> State<
     pub(crate) fn down_or_next(&mut self, n: RepeatCount) -> Result<()>
         ensures { let e = ⟦<Self as EditorState>⟧ in let layout = (e.display self.old).layout in
             let d = e.draft self.old in let found = is_some (down_by layout d.line n) in
-            let w = e.environment self.old in Does e result self.old self.new
+            let w = e.environment self.old in
+            DoesAsking e (if found then nobody else asked_on_way w Forward d)
+            result self.old self.new
             (if found then record d { line = moved layout (LineDown n) d.line }
             else next_shown w d)
             (if found then cursor MoveCursor else drawn_if (not (way_ends w Forward d))) 1 }

@@ -6,8 +6,9 @@ ghost use Rattle.line_editor.specs.Accept.{unhinted_by, validated};
 ghost use Rattle.line_editor.specs.Drawings.{unhinted_drawn, verdict_drawn};
 ghost use Rattle.line_editor.specs.Verdict.{draws_verdict_on, kind_of_verdict};
 ghost use Rattle.line_keys.specs.Draft.{in_group, out_of_group, unhinted};
-ghost use Rattle.line_keys.specs.Drawing.{Does, nothing, with_text};
+ghost use Rattle.line_keys.specs.Drawing.{DoesAsking, nothing, with_text};
 ghost use Rattle.line_keys.specs.ShownLine.{LosesHint, ShowsNoHint};
+ghost use Rattle.line_parts.specs.Asks.{for_verdict, nobody};
 ghost use Rattle.line_parts.specs.Environment.{verdict_on};
 ghost use Rattle.line_parts.specs.Verdict.{message_of, verdict_of};
 
@@ -37,7 +38,8 @@ impl<'out, 'prompt, W: Renderer, H: Helper, P: Prompt, S: History> State<
             verdict_of r ≡ verdict_on (e.environment self.old) (e.draft self.old).line.text) }
         ensures does { let e = ⟦<Self as EditorState>⟧ in
             let w = e.environment self.old in let d = e.draft self.old in
-            Does e result self.old self.new (validated w d) (verdict_drawn w d) 1 }
+            DoesAsking e for_verdict result self.old self.new (validated w d)
+            (verdict_drawn w d) 1 }
         ensures no_hint { let e = ⟦<Self as EditorState>⟧ in
             OnOk result (ShowsNoHint e self.old → ShowsNoHint e self.new) }
     {
@@ -56,7 +58,8 @@ impl<'out, 'prompt, W: Renderer, H: Helper, P: Prompt, S: History> State<
             verdict_of r.0 ≡ verdict_on (e.environment self.old) (e.draft self.old).line.text) }
         ensures corrected { let c = (in_group (⟦<Self as EditorState>⟧.draft self.old)).changes in
             IfOk result (λ r. r.1 ≡ adds_end c.open_groups c.entries) }
-        ensures does { let e = ⟦<Self as EditorState>⟧ in Does e result self.old self.new
+        ensures does { let e = ⟦<Self as EditorState>⟧ in
+            DoesAsking e for_verdict result self.old self.new
             (out_of_group (in_group (e.draft self.old))) nothing 1 }
         ensures no_hint { let e = ⟦<Self as EditorState>⟧ in
             OnOk result (ShowsNoHint e self.old → ShowsNoHint e self.new) }
@@ -74,7 +77,7 @@ impl<'out, 'prompt, W: Renderer, H: Helper, P: Prompt, S: History> State<
             ≡ verdict_on (e.environment self.old) (e.draft self.old).line.text }
         ensures does { let e = ⟦<Self as EditorState>⟧ in
             let v = verdict_of verdict.now in let d = e.draft self.old in
-            Does e result self.old self.new (unhinted_by v d)
+            DoesAsking e nobody result self.old self.new (unhinted_by v d)
             (if draws_verdict_on v (corrected || is_some d.hint)
             then with_text (message_of v) (kind_of_verdict v) else nothing) 1 }
         ensures no_hint { let e = ⟦<Self as EditorState>⟧ in
@@ -95,7 +98,7 @@ impl<'out, 'prompt, W: Renderer, H: Helper, P: Prompt, S: History> State<
     // is shown.
     pub(crate) fn drop_hint(&mut self) -> Result<()>
         ensures does { let e = ⟦<Self as EditorState>⟧ in let d = e.draft self.old in
-            Does e result self.old self.new (unhinted d)
+            DoesAsking e nobody result self.old self.new (unhinted d)
             (unhinted_drawn (e.display self.old) d) 1 }
         ensures loses { OnOk result (LosesHint ⟦<Self as EditorState>⟧ self.old self.new) }
     {

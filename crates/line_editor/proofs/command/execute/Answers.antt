@@ -3,7 +3,7 @@ use Rattle.std.specs.String.{string_bytes}
 use Rattle.line_buffer.specs.Kill.{killed_range}
 use Rattle.line_keys.specs.Command.{command_of}
 use Rattle.line_editor.specs.InputState.{input_of}
-use Rattle.line_editor.proofs.CommandLemmas.{edits_else, edits_ok, proceeds_ok, replaced_as}
+use Rattle.line_editor.proofs.CommandLemmas.{edits_else, edits_ok, edits_wrong, proceeds_ok, replaced_as}
 use Rattle.line_editor.proofs.command.execute.Goals as goal
 
 pub returns-in-EndOfFile : goal.returns-in-EndOfFile
@@ -40,6 +40,13 @@ returns-in-YankPop g c =
 pub returns-in_default : goal.returns-in_default
 returns-in_default g c =
     let other = c.in_default in
-    edits_ok _ c.args.state.now _ (input_of c.args.input_state.now) c.args.config.now.indent_size _ _ (command_of c.args.cmd) c.in_ok-edit_by-in_default.field-0
+    edits_ok _ c.args.state.now _ (input_of c.args.input_state.now) c.args.config.now.indent_size _ _ (command_of c.args.cmd) c.in_ok-edit_by-in_default.field-0 _
     (edits_else c.args.cmd other.not-AcceptLine other.not-AcceptOrInsertLine other.not-EndOfFile other.not-Interrupt other.not-Kill other.not-Replace other.not-ViYankTo other.not-Yank other.not-YankPop)
     refl (rw c.indent_size.ensures at c.in_ok-edit_by-in_default.ensures)
+
+pub returns-in_err-edit_by-in_default : goal.returns-in_err-edit_by-in_default
+returns-in_err-edit_by-in_default g c =
+    let other = c.in_default in
+    edits_wrong _ c.args.state.now _ (input_of c.args.input_state.now) c.args.config.now.indent_size _ _ (command_of c.args.cmd) _ _ _ _
+    (edits_else c.args.cmd other.not-AcceptLine other.not-AcceptOrInsertLine other.not-EndOfFile other.not-Interrupt other.not-Kill other.not-Replace other.not-ViYankTo other.not-Yank other.not-YankPop)
+    c.in_err-edit_by-in_default.ensures

@@ -1,6 +1,6 @@
-use Rattle.std.proofs.Common.{◌&&◌, option_map, length}
+use Rattle.std.proofs.Common.{option_map, length}
 use Rattle.std.specs.Borrow.{GName}
-use Rattle.line_parts.specs.Helped.{hint_by, is_sure_by, lights_by, verdict_by}
+use Rattle.line_parts.specs.Helped.{hint_by, sure_by, lights_by, verdict_by}
 use Rattle.line_parts.specs.Hint.{suggestion_of}
 use Rattle.line_keys.specs.declared.editor_state.EditorState.{Ghosts}
 use Rattle.line_editor.specs.declared.edit.State.{State}
@@ -34,7 +34,7 @@ editor_state g = record {
     lit = s.view.highlight_char;
   };
   loan = λ s. s.view.out.ghost_name;
-  sure = λ s. is_sure_by g.H.Hinter.sure s.parties.helper && is_sure_by g.H.Validator.sure s.parties.helper && g.S.History.sure s.parties.ctx.history;
+  sure = λ s. sure_by g.H.Hinter.sure g.H.Validator.sure (g.S.History.sure s.parties.ctx.history) s.parties.helper;
   failures = λ s. g.W.ScreenState.failures s.view.out.now;
   redraws = λ s. g.W.ScreenState.redraws s.view.out.now;
 }

@@ -1,5 +1,5 @@
 use Rattle.std.proofs.Common.{sym, ◌∙◌}
-use Rattle.line_editor.proofs.AcceptLemmas.{frame_both, line_stays_so, newline_comes, none_failed, submits_line}
+use Rattle.line_editor.proofs.AcceptLemmas.{frame_both, line_stays_so, newline_comes, newline_fails, none_failed, submits_line}
 use Rattle.line_editor.proofs.CommandLemmas.{executed_ok}
 use Rattle.line_editor.proofs.DrawnLemmas.{frame_then}
 use Rattle.line_editor.specs.declared.command.Status.TheVariants.{Proceed, Submit}
@@ -30,3 +30,10 @@ returns g c = λ input indent kills.
     (newline_comes _ _ _ c.args.self.now _ _ drop.does drop.loses asked.does asked.no_hint c.args.accept_in_the_middle _ _ asked.verdict c.is_end_of_input.ensures _ c.reply_for.ensures _ _ c.in-GoesOn.is typed input indent kills)
     (frame_then _ _ _ _ (frame_both _ _ _ c.args.self.now _ _ drop.does drop.loses asked.does asked.no_hint) typed.frame)
     (typed.fails.quiet ∙ none_failed _ _ _ c.args.self.now _ _ drop.does drop.loses asked.does asked.no_hint)
+
+pub returns-in_err-edit_insert-in-GoesOn : goal.returns-in_err-edit_insert-in-GoesOn
+returns-in_err-edit_insert-in-GoesOn g c = λ input indent kills.
+    let drop = c.in_ok-drop_hint.ensures in
+    let asked = c.in_ok-verdict.ensures in
+    newline_fails _ _ _ c.args.self.now _ _ drop.does drop.loses asked.does asked.no_hint c.args.accept_in_the_middle _ _ asked.verdict c.is_end_of_input.ensures _ c.reply_for.ensures _ _ c.in-GoesOn.is
+    c.in_err-edit_insert-in-GoesOn.ensures input indent kills
