@@ -1,5 +1,5 @@
 -- Facts on lines that are accepted.
-use Rattle.std.proofs.Common.{◌≡◌, ℕ, ◌+◌, Bool, true, false, cond, not, List, Option, Some, None, Result, Ok, Err, refl, sym, ◌∙◌, ap, subst, arith, inl, inr}
+use Rattle.std.proofs.Common.{◌≡◌, ℕ, Bool, true, false, cond, not, List, Option, None, Ok, Err, refl, sym, ◌∙◌, ap, subst, arith, inl, inr}
 use Rattle.std.specs.Prelude.{◌||◌, ◌&&◌, if◌then◌else◌, is_some}
 use Rattle.line_buffer.specs.Changes.{adds_end}
 use Rattle.line_buffer.specs.KillRing.{Ring}
@@ -7,7 +7,7 @@ use Rattle.line_buffer.specs.Line.{Line, ends_in_white_space}
 use Rattle.line_config.specs.declared.error.ReadlineError.{ReadlineError}
 use Rattle.line_keys.specs.Command.{accept_line, accept_or_insert_line, end_of_file}
 use Rattle.line_keys.specs.Display.{Display, Surface}
-use Rattle.line_keys.specs.Draft.{Draft, hint_shown, in_group, out_of_group, start_text, unhinted}
+use Rattle.line_keys.specs.Draft.{Draft, hint_shown, in_group, out_of_group, unhinted}
 use Rattle.line_keys.specs.Drawing.{Does, DoesAsking, Drawing, Drew, DrewLine, Undrawn, nothing, with_hint, with_text}
 use Rattle.line_keys.specs.EditorState.{Frame}
 use Rattle.line_keys.specs.ShownLine.{LosesHint, ShowsNoHint}
@@ -19,7 +19,7 @@ use Rattle.line_parts.specs.declared.highlight.CmdKind.{CmdKind}
 use Rattle.line_parts.specs.declared.highlight.CmdKind.TheVariants.{ForcedRefresh, Other}
 use Rattle.line_editor.specs.Accept.{accepted, answer_at_end, replied, reply_to, unhinted_by, validated}
 use Rattle.line_editor.specs.Drawings.{asked_for_reply, asked_of, reply_drawn, unhinted_drawn, validated_drawn, verdict_drawn}
-use Rattle.line_editor.specs.Editor.{Answer, Editor, proceeds, submitted}
+use Rattle.line_editor.specs.Editor.{Answer, proceeds, submitted}
 use Rattle.line_editor.specs.Edits.{typed_in}
 use Rattle.line_editor.specs.Input.{Input}
 use Rattle.line_editor.specs.Runs.{DrawnAfter, Executed, Executes, editor_of}

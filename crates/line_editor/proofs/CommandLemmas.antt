@@ -11,12 +11,10 @@ use Rattle.line_config.specs.Error.{Rose, is_io, max_count}
 use Rattle.line_keys.specs.Command.{Command, accept_line, accept_or_insert_line, command_of, end_of_file, interrupt, kill, newline, replace, vi_yank_to, yank, yank_pop}
 use Rattle.line_keys.specs.declared.command.Anchor.{Anchor}
 use Rattle.line_keys.specs.declared.command.Cmd.{Cmd}
-use Rattle.line_keys.specs.declared.command.Cmd.TheVariants as Cmd
 use Rattle.line_keys.specs.Display.{Display, IsRight, ShowsInFull, Surface, lit_after}
 use Rattle.line_keys.specs.Draft.{Draft, hint_shown, start_text}
-use Rattle.line_keys.specs.Drawing.{Does, DoesAsking, Drawing, Drew, DrewLine, DrewNothing, Refreshes, asked_by, drawn_if, edit_drawn, ShowsChange, behind_prompt, cursor, cursor_over, cursor_to_end, nothing, with_hint, with_text}
-use Rattle.line_keys.specs.EditorState.{FailsByParty, FailsByRenderer, Frame, Redraws}
-use Rattle.line_keys.specs.ShownLine.{KeepsDrawn}
+use Rattle.line_keys.specs.Drawing.{Does, DoesAsking, Drawing, Drew, DrewLine, DrewNothing, Refreshes, asked_by, drawn_if, edit_drawn, ShowsChange, nothing, with_hint, with_text}
+use Rattle.line_keys.specs.EditorState.{FailsByParty, Frame, Redraws}
 use Rattle.line_keys.specs.declared.editor_state.EditorState.{Ghosts}
 use Rattle.line_parts.specs.Asks.{Asks, for_hint, is_sure}
 use Rattle.line_parts.specs.Environment.{Environment}
@@ -449,7 +447,7 @@ module _ {X : Type 0} (e : Ghosts X) (old new : X) (input : Input) (indent : ℕ
 
   -- an edit that went wrong
   pub edits_wrong : {T : Type 0} (f : ReadlineError) (left : Draft) (drawing : Drawing) (most : ℕ) → only_edits command ≡ true
-      → DoesAsking e {T = T} (edited_asked (e.display old) (e.environment old) (e.draft old) command) (Err f) old new left drawing most
+      → DoesAsking {T = T} e (edited_asked (e.display old) (e.environment old) (e.draft old) command) (Err f) old new left drawing most
       → Executes e (Err f) old input indent kills command new kills'
   edits_wrong f left drawing most only does =
       executed_wrong f

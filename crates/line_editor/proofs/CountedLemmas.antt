@@ -1,5 +1,5 @@
 -- Facts on counts that are read.
-use Rattle.std.proofs.Common.{◌≡◌, ℕ, ◌+◌, ◌-◌, ◌≤◌, List, [], ◌∷◌, ◌++◌, append_assoc, map, length, true, false, Ok, Err, inl, inr, refl, sym, ◌∙◌, ap, arith}
+use Rattle.std.proofs.Common.{◌≡◌, ◌+◌, List, [], ◌∷◌, ◌++◌, append_assoc, map, length, true, false, Ok, Err, inl, inr, refl, sym, ◌∙◌, ap, arith}
 use Rattle.std.specs.Prelude.{◌&&◌}
 use Rattle.std.specs.List.{list_all}
 use Rattle.std.proofs.lemmas.List.{append-nil, length-append, length-map, map-append}

@@ -7,11 +7,10 @@ use Rattle.line_buffer.specs.KillRing.{Ring}
 use Rattle.line_buffer.specs.Line.{Line}
 use Rattle.line_buffer.specs.Undo.{first_text}
 use Rattle.line_buffer.specs.declared.keymap.Movement.{Movement}
-use Rattle.line_keys.specs.Display.{Display, HasCursorAt, IsRight, lit_after}
+use Rattle.line_keys.specs.Display.{Display, HasCursorAt, lit_after}
 use Rattle.line_keys.specs.Draft.{Draft, hinted, hint_shown, start_text}
-use Rattle.line_keys.specs.Drawing.{Does, DoesAsking, Drawing, Drew, DrewCursor, DrewLine, DrewNothing, ShowsEdit, Undrawn, behind_prompt, cursor, cursor_over, cursor_to_end, drawn_if, edit_drawn, nothing, with_hint, with_text}
-use Rattle.line_keys.specs.EditorState.{FailsByParty, FailsByRenderer}
-use Rattle.line_keys.specs.ShownLine.{KeepsDrawn}
+use Rattle.line_keys.specs.Drawing.{Does, DoesAsking, Drew, DrewCursor, DrewLine, DrewNothing, ShowsEdit, Undrawn, cursor, drawn_if, edit_drawn, nothing, with_hint}
+use Rattle.line_keys.specs.EditorState.{FailsByParty}
 use Rattle.line_keys.specs.declared.editor_state.EditorState.{Ghosts}
 use Rattle.line_parts.specs.Asks.{Asks, for_hint, is_sure, nobody}
 use Rattle.line_parts.specs.Environment.{Environment}
@@ -21,7 +20,7 @@ use Rattle.line_state.specs.Edited.{Edited, without_range}
 use Rattle.line_editor.specs.Editor.{edited_of, with_edited}
 use Rattle.line_editor.specs.Edits.{after_edit, killed_by}
 use Rattle.line_editor.specs.Runs.{DoesWithKills, editor_of}
-use Rattle.line_editor.proofs.DrawnLemmas.{drawn_stays, frame_then, hint_trails, keeps_move, keeps_then, line_stays}
+use Rattle.line_editor.proofs.DrawnLemmas.{drawn_stays, frame_then, hint_trails, keeps_move, keeps_then}
 
 -- what leaves all but the draft draws nothing
 pub nothing_drawn : {X : Type 0} (e : Ghosts X) (old new : X)

@@ -1,5 +1,5 @@
 -- Facts on what is drawn of a line.
-use Rattle.std.proofs.Common.{◌≡◌, ◌⊎◌, inl, inr, ℕ, List, Option, None, option_map, refl, sym, ◌∙◌, ap, subst, arith}
+use Rattle.std.proofs.Common.{◌≡◌, inl, inr, ℕ, List, Option, None, option_map, refl, sym, ◌∙◌, ap, subst, arith}
 use Rattle.line_buffer.specs.Line.{Line}
 use Rattle.line_keys.specs.Display.{Display, HasCursorAt, ShowsInFull, IsRight, ShowsText, shown_end}
 use Rattle.line_keys.specs.Draft.{Draft, hint_shown}

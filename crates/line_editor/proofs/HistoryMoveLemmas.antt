@@ -1,5 +1,5 @@
 -- Facts on moves in the history, and on what is drawn where a step that draws nothing comes first.
-use Rattle.std.proofs.Common.{◌≡◌, ℕ, ◌+◌, ◌-◌, ◌≤◌, ◌==◌, ◌++◌, Bool, true, false, cond, List, [], length, take, drop, inl, inr, Option, Some, None, Result, Ok, Err, eqb, not, is_some, option_map, refl, sym, ◌∙◌, ap, subst, arith}
+use Rattle.std.proofs.Common.{◌≡◌, ℕ, ◌+◌, ◌-◌, ◌≤◌, ◌==◌, ◌++◌, Bool, true, false, cond, List, [], length, take, drop, inl, Option, Some, None, Result, Ok, Err, eqb, not, is_some, option_map, refl, sym, ◌∙◌, ap, subst, arith}
 use Rattle.std.specs.Prelude.{if◌then◌else◌, IsCharBoundary, IsUtf8, OnOk, option_and_then}
 use Rattle.std.specs.List.{slice_range, starts_with}
 use Rattle.std.proofs.Math.Seq.{take-append_seam}
@@ -10,26 +10,23 @@ use Rattle.std.proofs.lemmas.Slice.Eq.{starts_is}
 use Rattle.std.proofs.lemmas.Str.{IsCharBoundary-from_take}
 use Rattle.line_config.specs.declared.error.ReadlineError.{ReadlineError}
 use Rattle.line_config.specs.Error.{Rose}
-use Rattle.line_keys.specs.Display.{Display, IsRight, lit_after}
-use Rattle.line_keys.specs.Draft.{Draft, hinted, hint_shown, start_text}
+use Rattle.line_keys.specs.Draft.{Draft, start_text}
 use Rattle.line_keys.specs.Drawing.{Does, DoesAsking, DrewNothing, Paints, ShowsEdit, Undrawn, drawn_if, nothing, with_hint}
 use Rattle.line_keys.specs.EditorState.{FailsByParty, FailsByRenderer, Frame}
 use Rattle.line_keys.specs.declared.editor_state.EditorState.{Ghosts}
-use Rattle.line_parts.specs.Asks.{Asks, for_hint, for_line, nobody}
-use Rattle.line_parts.specs.Environment.{Environment}
+use Rattle.line_parts.specs.Asks.{Asks, for_hint, for_line, for_look_up, nobody}
 use Rattle.line_parts.specs.History.{Found, behind_start, entry_at, line_at, starting_with}
 use Rattle.line_parts.specs.HistoryLaws.{IsOnSide}
 use Rattle.line_parts.specs.Hint.{Suggestion}
 use Rattle.line_parts.specs.declared.history.SearchDirection.{SearchDirection}
 use Rattle.line_parts.specs.declared.history.SearchDirection.TheVariants.{Forward, Reverse}
 use Rattle.line_parts.proofs.HistoryLawLemmas.{found_is_nearest}
-use Rattle.line_parts.specs.declared.highlight.CmdKind.TheVariants.{Other}
 use Rattle.line_buffer.specs.Line.{Line, before, with_cursor, end_of_line}
 use Rattle.line_buffer.specs.Undo.{first_text}
 use Rattle.line_state.specs.Edited.{Edited, in_one_group, with_update_to}
 use Rattle.line_editor.specs.Editor.{edited_of, with_edited}
 use Rattle.line_editor.specs.Edits.{completed, with_completion}
-use Rattle.line_editor.specs.HistoryMoves.{asked_on_way, at_index, come_back, search_beside, search_of, searched, found_shown, line_shown, restored, saved_at_end, showing}
+use Rattle.line_editor.specs.HistoryMoves.{asked_for, asked_in_search, at_index, come_back, search_beside, search_of, searched, found_shown, line_shown, restored, saved_at_end, showing}
 use Rattle.line_buffer.proofs.SearchLemmas.{front_range}
 use Rattle.line_state.proofs.EditedLemmas.{first_moved}
 use Rattle.line_editor.proofs.AskedLemmas.{does_more, sure_hint}
@@ -135,24 +132,18 @@ entry_is_line lines index found within some =
     some_entry _ _ (some ∙ ap (λ o. option_map (λ entry. record { entry = entry; index = index; pos = 0 }) o) (slice_get-get_or lines index [] (omega (arith, within))))
 
 -- at the way's end all stays, and before it an edit is drawn
-pub way_stays : {X T : Type 0} (e : Ghosts X) (x : T) (old : X) (b : Bool) (left : Draft) → b ≡ true
-    → DoesAsking e (if b then nobody else for_line) (Ok x) old old (if b then e.draft old else left) (drawn_if (not b)) 1
-way_stays e x old b left at =
-    subst (λ c. DoesAsking e (if c then nobody else for_line) (Ok x) old old (if c then e.draft old else left) (drawn_if (not c)) 1) (sym at)
+pub way_stays : {X T : Type 0} (e : Ghosts X) (x : T) (old : X) (b : Bool) (asks : Asks) (left : Draft) → b ≡ true
+    → DoesAsking e (if b then nobody else asks) (Ok x) old old (if b then e.draft old else left) (drawn_if (not b)) 1
+way_stays e x old b asks left at =
+    subst (λ c. DoesAsking e (if c then nobody else asks) (Ok x) old old (if c then e.draft old else left) (drawn_if (not c)) 1) (sym at)
     (nothing_done e nobody x old)
 
-pub way_goes : {X T : Type 0} (e : Ghosts X) (r : Result T ReadlineError) (old new : X) (b : Bool) (left left' : Draft)
-    → b ≡ false → left ≡ left' → DoesAsking e for_line r old new left with_hint 1
-    → DoesAsking e (if b then nobody else for_line) r old new (if b then e.draft old else left') (drawn_if (not b)) 1
-way_goes e r old new b left left' at same edit =
-    subst (λ c. DoesAsking e (if c then nobody else for_line) r old new (if c then e.draft old else left') (drawn_if (not c)) 1) (sym at)
-    (subst (λ d. DoesAsking e for_line r old new d with_hint 1) same edit)
-
-pub way_comes : {X T : Type 0} (e : Ghosts X) (r : Result T ReadlineError) (old new : X) (b : Bool) (left left' : Draft)
-    → b ≡ false → left ≡ left' → Does e r old new left with_hint 1
-    → DoesAsking e (if b then nobody else for_line) r old new (if b then e.draft old else left') (drawn_if (not b)) 1
-way_comes e r old new b left left' at same edit =
-    way_goes e r old new b left left' at same (does_more e r for_hint for_line old new left with_hint 1 (sure_hint (e.sure old)) edit)
+pub way_goes : {X T : Type 0} (e : Ghosts X) (r : Result T ReadlineError) (old new : X) (b : Bool) (asks asks' : Asks) (left left' : Draft)
+    → b ≡ false → asks ≡ asks' → left ≡ left' → DoesAsking e asks r old new left with_hint 1
+    → DoesAsking e (if b then nobody else asks') r old new (if b then e.draft old else left') (drawn_if (not b)) 1
+way_goes e r old new b asks asks' left left' at asked same edit =
+    subst (λ c. DoesAsking e (if c then nobody else asks') r old new (if c then e.draft old else left') (drawn_if (not c)) 1) (sym at)
+    (subst (λ a. DoesAsking e a r old new left' with_hint 1) asked (subst (λ d. DoesAsking e asks r old new d with_hint 1) same edit))
 
 -- a renderer that failed is a party that failed
 fails_by : {X T : Type 0} (e : Ghosts X) (asks : Asks) (r : Result T ReadlineError) (old mid new : X) → e.failures mid ≡ e.failures old
@@ -178,33 +169,33 @@ beeped e asks r old mid new left undrawn draft line hint first undrew beep =
 pub search_fails : {X T : Type 0} (e : Ghosts X) (r : Result T ReadlineError) (old mid new : X) (found : Option Found) (at index : ℕ)
     → None ≡ found → Undrawn e old mid → e.draft mid ≡ at_index at (e.draft old) → at ≡ index
     → DrewNothing e mid new → Paints e false r mid new
-    → DoesAsking e for_line r old new (found_shown (e.environment old) found (at_index index (e.draft old))) (drawn_if (is_some found)) 1
+    → DoesAsking e (asked_for found) r old new (found_shown (e.environment old) found (at_index index (e.draft old))) (drawn_if (is_some found)) 1
 search_fails e r old mid new found at index none undrawn draft place undrew beep =
-    subst (λ f. DoesAsking e for_line r old new (found_shown (e.environment old) f (at_index index (e.draft old))) (drawn_if (is_some f)) 1) none
-    (beeped e for_line r old mid new (at_index index (e.draft old)) undrawn (draft ∙ ap (λ i. at_index i (e.draft old)) place) refl refl refl
+    subst (λ f. DoesAsking e (asked_for f) r old new (found_shown (e.environment old) f (at_index index (e.draft old))) (drawn_if (is_some f)) 1) none
+    (beeped e for_look_up r old mid new (at_index index (e.draft old)) undrawn (draft ∙ ap (λ i. at_index i (e.draft old)) place) refl refl refl
     undrew beep)
 
 -- what a search found is shown
 pub search_shows : {X T : Type 0} (e : Ghosts X) (r : Result T ReadlineError) (old new : X) (found : Option Found) (f : Found) (index : ℕ)
     → Some f ≡ found → Does e r old new (showing (e.environment old) f.entry f.pos (at_index f.index (e.draft old))) with_hint 1
-    → DoesAsking e for_line r old new (found_shown (e.environment old) found (at_index index (e.draft old))) (drawn_if (is_some found)) 1
+    → DoesAsking e (asked_for found) r old new (found_shown (e.environment old) found (at_index index (e.draft old))) (drawn_if (is_some found)) 1
 search_shows e r old new found f index some edit =
-    subst (λ o. DoesAsking e for_line r old new (found_shown (e.environment old) o (at_index index (e.draft old))) (drawn_if (is_some o)) 1) some
+    subst (λ o. DoesAsking e (asked_for o) r old new (found_shown (e.environment old) o (at_index index (e.draft old))) (drawn_if (is_some o)) 1) some
     (does_more e r for_hint for_line old new (showing (e.environment old) f.entry f.pos (at_index f.index (e.draft old))) with_hint 1 (sure_hint (e.sure old)) edit)
 
 -- there is nothing to search at the way's end
-pub search_stops : {X T : Type 0} (e : Ghosts X) (r : Result T ReadlineError) (old new : X) (b : Bool) (found : Option Found) (left : Draft)
+pub search_stops : {X T : Type 0} (e : Ghosts X) (r : Result T ReadlineError) (old new : X) (b : Bool) (asks : Asks) (found : Option Found) (left : Draft)
     → b ≡ true → DrewNothing e old new → Paints e false r old new
-    → DoesAsking e (if b then nobody else for_line) r old new (if b then e.draft old else left) (drawn_if (is_some (if b then None else found))) 1
-search_stops e r old new b found left at undrew beep =
-    subst (λ c. DoesAsking e (if c then nobody else for_line) r old new (if c then e.draft old else left) (drawn_if (is_some (if c then None else found))) 1) (sym at)
+    → DoesAsking e (if b then nobody else asks) r old new (if b then e.draft old else left) (drawn_if (is_some (if b then None else found))) 1
+search_stops e r old new b asks found left at undrew beep =
+    subst (λ c. DoesAsking e (if c then nobody else asks) r old new (if c then e.draft old else left) (drawn_if (is_some (if c then None else found))) 1) (sym at)
     (still_done e nobody r old new (e.draft old) beep.draft refl refl refl undrew beep.frame (fails_by e nobody r old old new refl beep.fails))
 
-pub search_goes : {X T : Type 0} (e : Ghosts X) (r : Result T ReadlineError) (old new : X) (b : Bool) (found : Option Found) (left : Draft)
-    → b ≡ false → DoesAsking e for_line r old new left (drawn_if (is_some found)) 1
-    → DoesAsking e (if b then nobody else for_line) r old new (if b then e.draft old else left) (drawn_if (is_some (if b then None else found))) 1
-search_goes e r old new b found left at edit =
-    subst (λ c. DoesAsking e (if c then nobody else for_line) r old new (if c then e.draft old else left) (drawn_if (is_some (if c then None else found))) 1) (sym at)
+pub search_goes : {X T : Type 0} (e : Ghosts X) (r : Result T ReadlineError) (old new : X) (b : Bool) (asks : Asks) (found : Option Found) (left : Draft)
+    → b ≡ false → DoesAsking e asks r old new left (drawn_if (is_some found)) 1
+    → DoesAsking e (if b then nobody else asks) r old new (if b then e.draft old else left) (drawn_if (is_some (if b then None else found))) 1
+search_goes e r old new b asks found left at edit =
+    subst (λ c. DoesAsking e (if c then nobody else asks) r old new (if c then e.draft old else left) (drawn_if (is_some (if c then None else found))) 1) (sym at)
     edit
 
 -- what begins with a term can be cut behind it
@@ -267,31 +258,31 @@ first_there edited old place moved = ap (λ (x : Edited). first_text x.changes x
 -- a search from the line before this one, or from the one behind it
 pub search_back : {X T : Type 0} (e : Ghosts X) (r : Result T ReadlineError) (old new : X) (dir : SearchDirection) (at : ℕ)
     → dir ≡ Reverse → at ≡ (e.draft old).index → (at == 0) ≡ false
-    → DoesAsking e for_line r old new
+    → DoesAsking e (asked_for (starting_with (e.environment old).lines (before (e.draft old).line) (at - 1) dir)) r old new
     (found_shown (e.environment old) (starting_with (e.environment old).lines (before (e.draft old).line) (at - 1) dir) (at_index (at - 1) (e.draft old)))
     (drawn_if (is_some (starting_with (e.environment old).lines (before (e.draft old).line) (at - 1) dir))) 1
-    → DoesAsking e (asked_on_way (e.environment old) dir (e.draft old)) r old new (searched (e.environment old) dir (e.draft old)) (drawn_if (is_some (search_of (e.environment old) dir (e.draft old)))) 1
+    → DoesAsking e (asked_in_search (e.environment old) dir (e.draft old)) r old new (searched (e.environment old) dir (e.draft old)) (drawn_if (is_some (search_of (e.environment old) dir (e.draft old)))) 1
 search_back e r old new Forward at is same away edit = absurd (cc)
 search_back e r old new Reverse at is same away edit =
-    search_goes e r old new ((e.draft old).index == 0) (search_beside (e.environment old) Reverse (e.draft old))
+    search_goes e r old new ((e.draft old).index == 0) (asked_for (search_beside (e.environment old) Reverse (e.draft old))) (search_beside (e.environment old) Reverse (e.draft old))
     (found_shown (e.environment old) (search_beside (e.environment old) Reverse (e.draft old)) (at_index ((e.draft old).index - 1) (e.draft old)))
     (subst (λ n. (n == 0) ≡ false) same away)
-    (subst (λ n. DoesAsking e for_line r old new
+    (subst (λ n. DoesAsking e (asked_for (starting_with (e.environment old).lines (before (e.draft old).line) (n - 1) Reverse)) r old new
     (found_shown (e.environment old) (starting_with (e.environment old).lines (before (e.draft old).line) (n - 1) Reverse) (at_index (n - 1) (e.draft old)))
     (drawn_if (is_some (starting_with (e.environment old).lines (before (e.draft old).line) (n - 1) Reverse))) 1) same edit)
 
 pub search_on : {X T : Type 0} (e : Ghosts X) (r : Result T ReadlineError) (old new : X) (dir : SearchDirection) (at end : ℕ)
     → dir ≡ Forward → at ≡ (e.draft old).index → end ≡ length (e.environment old).lines → (at == end) ≡ false
-    → DoesAsking e for_line r old new
+    → DoesAsking e (asked_for (starting_with (e.environment old).lines (before (e.draft old).line) (at + 1) dir)) r old new
     (found_shown (e.environment old) (starting_with (e.environment old).lines (before (e.draft old).line) (at + 1) dir) (at_index (at + 1) (e.draft old)))
     (drawn_if (is_some (starting_with (e.environment old).lines (before (e.draft old).line) (at + 1) dir))) 1
-    → DoesAsking e (asked_on_way (e.environment old) dir (e.draft old)) r old new (searched (e.environment old) dir (e.draft old)) (drawn_if (is_some (search_of (e.environment old) dir (e.draft old)))) 1
+    → DoesAsking e (asked_in_search (e.environment old) dir (e.draft old)) r old new (searched (e.environment old) dir (e.draft old)) (drawn_if (is_some (search_of (e.environment old) dir (e.draft old)))) 1
 search_on e r old new Reverse at end is same ends away edit = absurd (cc)
 search_on e r old new Forward at end is same ends away edit =
-    search_goes e r old new ((e.draft old).index == length (e.environment old).lines) (search_beside (e.environment old) Forward (e.draft old))
+    search_goes e r old new ((e.draft old).index == length (e.environment old).lines) (asked_for (search_beside (e.environment old) Forward (e.draft old))) (search_beside (e.environment old) Forward (e.draft old))
     (found_shown (e.environment old) (search_beside (e.environment old) Forward (e.draft old)) (at_index ((e.draft old).index + 1) (e.draft old)))
     (subst (λ n. (n == length (e.environment old).lines) ≡ false) same (subst (λ n. (at == n) ≡ false) ends away))
-    (subst (λ n. DoesAsking e for_line r old new
+    (subst (λ n. DoesAsking e (asked_for (starting_with (e.environment old).lines (before (e.draft old).line) (n + 1) Forward)) r old new
     (found_shown (e.environment old) (starting_with (e.environment old).lines (before (e.draft old).line) (n + 1) Forward) (at_index (n + 1) (e.draft old)))
     (drawn_if (is_some (starting_with (e.environment old).lines (before (e.draft old).line) (n + 1) Forward))) 1) same edit)
 

@@ -1,5 +1,5 @@
 -- Facts on phrases that are read.
-use Rattle.std.proofs.Common.{◌≡◌, ◌≢◌, ℕ, ◌+◌, ◌<◌, ◌≤◌, ◌++◌, append_assoc, List, [], ◌∷◌, length, map, Option, Some, None, option_map, Result, Ok, Err, true, false, inl, inr, refl, sym, ◌∙◌, ap, subst, arith}
+use Rattle.std.proofs.Common.{◌≡◌, ℕ, ◌+◌, ◌<◌, ◌≤◌, ◌++◌, append_assoc, List, [], ◌∷◌, length, map, Option, Some, None, option_map, Result, Ok, Err, true, false, inl, inr, refl, sym, ◌∙◌, ap, subst, arith}
 use Rattle.std.specs.Prelude.{OnErr, OnOk}
 use Rattle.std.proofs.lemmas.Bool.{cases_lt}
 use Rattle.std.proofs.lemmas.List.{length-append, length-map}

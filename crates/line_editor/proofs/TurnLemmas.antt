@@ -1,17 +1,15 @@
 -- Facts on turns of a program's state.
-use Rattle.std.proofs.Common.{◌≡◌, ◌∙◌, ℕ, ◌+◌, ◌-◌, ◌≤◌, ◌<◌, Bool, true, false, length, Result, Ok, Err, inl, inr, refl, sym, ap, subst, arith}
-use Rattle.std.proofs.lemmas.Bool.{cases_lt}
+use Rattle.std.proofs.Common.{◌≡◌, ◌∙◌, ℕ, ◌+◌, ◌-◌, ◌≤◌, ◌<◌, Bool, true, false, length, Result, Ok, Err, inl, inr, refl, ap, subst, arith}
 use Rattle.line_buffer.specs.KillRing.{Ring}
 use Rattle.line_buffer.specs.Line.{Line}
 use Rattle.line_config.specs.Error.{is_fault, is_io, max_count}
 use Rattle.line_config.specs.declared.error.ReadlineError.{ReadlineError}
 use Rattle.line_config.specs.declared.error.ReadlineError.TheVariants.{Eof}
-use Rattle.line_keys.specs.Command.{Command, command_of}
-use Rattle.line_keys.specs.Draft.{Draft, KeepsLine, start_text}
+use Rattle.line_keys.specs.Command.{command_of}
 use Rattle.line_parts.specs.declared.highlight.CmdKind.{CmdKind}
 use Rattle.line_parts.specs.declared.highlight.CmdKind.TheVariants.{MoveCursor}
 use Rattle.line_keys.specs.Drawing.{Drawing, Drew, DrewCursor, ShowsChange, behind_prompt, cursor, cursor_over, cursor_to_end, nothing, with_hint, with_text}
-use Rattle.line_keys.specs.EditorState.{Frame, IsInPlace, PartyFailed, Redraws}
+use Rattle.line_keys.specs.EditorState.{Frame, IsInPlace, Redraws}
 use Rattle.line_keys.specs.ShownLine.{KeepsDrawn}
 use Rattle.line_keys.specs.declared.command.Cmd.{Cmd}
 use Rattle.line_keys.specs.declared.editor_state.EditorState as editors
@@ -21,9 +19,9 @@ use Rattle.line_parts.specs.Asks.{for_all, for_hint, is_sure}
 use Rattle.line_editor.proofs.AskedLemmas.{sure_all}
 use Rattle.line_editor.specs.Editor.{Answer, ended, grouped, interrupted, proceeds, ruler_of, submitted}
 use Rattle.line_editor.specs.Keymap.{KeyState}
-use Rattle.line_editor.specs.Reading.{FailsByReading, HasRead, KeepsReading, ReadsCommand, RedrawsItems}
+use Rattle.line_editor.specs.Reading.{KeepsReading, ReadsCommand}
 use Rattle.line_editor.specs.Run.{kills_before}
-use Rattle.line_editor.specs.Runs.{Advances, AdvancesTo, DrawnAfter, Executed, Executes, Session, TakesTurn, editor_of, session}
+use Rattle.line_editor.specs.Runs.{Advances, AdvancesTo, DrawnAfter, Executed, Executes, TakesTurn, editor_of, session}
 use Rattle.line_editor.specs.declared.command.Status.{Status}
 use Rattle.line_editor.specs.declared.run.Turned.{Turned}
 use Rattle.line_editor.specs.declared.run.Turned.TheVariants as turned

@@ -22,7 +22,7 @@ use Rattle.line_parts.specs.declared.history.SearchDirection.TheVariants.{Forwar
 use Rattle.line_state.specs.Edited.{pops_text}
 use Rattle.line_editor.specs.Accept.{reply_to}
 use Rattle.line_editor.specs.Editor.{Editor}
-use Rattle.line_editor.specs.HistoryMoves.{asked_on_way, search_of, way_ends}
+use Rattle.line_editor.specs.HistoryMoves.{asked_back, asked_in_search, asked_on, asked_to_end, search_of, way_ends}
 use Rattle.line_editor.specs.Verdict.{draws_verdict, kind_of_verdict}
 use Rattle.line_editor.specs.declared.command.Reply.{Reply}
 use Rattle.line_editor.specs.declared.command.Reply.TheVariants.{GoesOn}
@@ -115,15 +115,15 @@ drawing_of display environment editor command = edited_drawn display environment
 -- whom a command asks that proceeds and leaves the kill ring: the history on its way, and else who is asked for what is drawn
 abbrev pub edited_asked : Display → Environment → Draft → Command → Asks
 edited_asked display environment draft (line_up_or_previous_history n) =
-    if is_some (up_by display.layout draft.line n) then nobody else asked_on_way environment Reverse draft
+    if is_some (up_by display.layout draft.line n) then nobody else asked_back draft
 edited_asked display environment draft (line_down_or_next_history n) =
-    if is_some (down_by display.layout draft.line n) then nobody else asked_on_way environment Forward draft
-edited_asked display environment draft previous_history = asked_on_way environment Reverse draft
-edited_asked display environment draft next_history = asked_on_way environment Forward draft
-edited_asked display environment draft beginning_of_history = asked_on_way environment Reverse draft
-edited_asked display environment draft end_of_history = asked_on_way environment Forward draft
-edited_asked display environment draft history_search_backward = asked_on_way environment Reverse draft
-edited_asked display environment draft history_search_forward = asked_on_way environment Forward draft
+    if is_some (down_by display.layout draft.line n) then nobody else asked_on environment draft
+edited_asked display environment draft previous_history = asked_back draft
+edited_asked display environment draft next_history = asked_on environment draft
+edited_asked display environment draft beginning_of_history = asked_back draft
+edited_asked display environment draft end_of_history = asked_to_end environment draft
+edited_asked display environment draft history_search_backward = asked_in_search environment Reverse draft
+edited_asked display environment draft history_search_forward = asked_in_search environment Forward draft
 edited_asked display environment draft command = asked_by (edited_drawn display environment draft command)
 
 -- a newline is drawn with the hint; a line that stays or is submitted asks for the verdict alone

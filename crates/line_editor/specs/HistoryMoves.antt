@@ -2,7 +2,7 @@
 use Rattle.std.specs.Prelude.{ℕ, ◌+◌, ◌-◌, ◌==◌, Bool, true, if◌then◌else◌, List, length, Option, Some, None}
 use Rattle.line_buffer.specs.Line.{before}
 use Rattle.line_keys.specs.Draft.{Draft, hinted}
-use Rattle.line_parts.specs.Asks.{Asks, for_line, nobody}
+use Rattle.line_parts.specs.Asks.{Asks, for_hint, for_line, for_look_up, nobody}
 use Rattle.line_parts.specs.Environment.{Environment}
 use Rattle.line_parts.specs.History.{Found, line_at, starting_with}
 use Rattle.line_parts.specs.declared.history.SearchDirection.{SearchDirection}
@@ -46,9 +46,20 @@ abbrev pub way_ends : Environment → SearchDirection → Draft → Bool
 way_ends environment Reverse draft = draft.index == 0
 way_ends environment Forward draft = is_at_end environment draft
 
--- who is asked on the way back in the history, or on: nobody where the way ends
-abbrev pub asked_on_way : Environment → SearchDirection → Draft → Asks
-asked_on_way environment direction draft = if way_ends environment direction draft then nobody else for_line
+-- who is asked on the way back in the history, and on the way on, where no line is looked up for the one that is being written;
+-- nobody where the way ends
+abbrev pub asked_back : Draft → Asks
+asked_back draft = if draft.index == 0 then nobody else for_line
+
+abbrev pub asked_on : Environment → Draft → Asks
+asked_on environment draft =
+    if is_at_end environment draft then nobody
+    else if draft.index + 1 == length environment.lines then for_hint
+    else for_line
+
+-- who is asked on the way back to the line that is being written
+abbrev pub asked_to_end : Environment → Draft → Asks
+asked_to_end environment draft = if is_at_end environment draft then nobody else for_hint
 
 -- to the history's line before this one, or to the first
 abbrev pub previous_shown : Environment → Draft → Draft
@@ -95,3 +106,12 @@ searched environment direction draft =
     if way_ends environment direction draft then draft
     else found_shown environment (search_beside environment direction draft)
     (at_index (index_beside direction draft.index) draft)
+
+-- who is asked in a search: nobody at the history's ends, and for a hint only where a line is found
+abbrev pub asked_for : Option Found → Asks
+asked_for None = for_look_up
+asked_for (Some found) = for_line
+
+abbrev pub asked_in_search : Environment → SearchDirection → Draft → Asks
+asked_in_search environment direction draft =
+    if way_ends environment direction draft then nobody else asked_for (search_beside environment direction draft)

@@ -1,5 +1,5 @@
 -- Commands, turns and runs of a program's state, input state, reader and kill ring.
-use Rattle.std.specs.Prelude.{◌≡◌, ◌⊎◌, ℕ, ◌+◌, ◌-◌, ◌*◌, ◌<◌, ◌≤◌, List, [], ◌∷◌, length, Result, IfOk, OnOk, OnErr, Ok, Err, Option, None, Some}
+use Rattle.std.specs.Prelude.{◌≡◌, ◌⊎◌, ℕ, ◌+◌, ◌-◌, ◌*◌, ◌<◌, ◌≤◌, List, [], length, Result, IfOk, OnOk, Ok, Err}
 use Rattle.line_buffer.specs.KillRing.{Ring}
 use Rattle.line_config.specs.Error.{FaultsOnly, IoOnlyIf, UnlessFault}
 use Rattle.line_config.specs.Failures.{UnlessIo}
@@ -7,9 +7,9 @@ use Rattle.line_config.specs.declared.error.ReadlineError.{ReadlineError}
 use Rattle.line_config.specs.declared.error.ReadlineError.TheVariants.{Eof, Interrupted}
 use Rattle.line_parts.specs.Asks.{for_all}
 use Rattle.line_keys.specs.Command.{Command}
-use Rattle.line_keys.specs.Draft.{Draft, hint_shown, hinted, start_text}
+use Rattle.line_keys.specs.Draft.{hinted, start_text}
 use Rattle.line_keys.specs.Drawing.{Does, Drawing, Drew, DrewNothing, ShowsChange}
-use Rattle.line_keys.specs.EditorState.{Frame, HasRightLayout, IsAtEnd, IsInPlace, PartyFailed, Redraws, Shows}
+use Rattle.line_keys.specs.EditorState.{Frame, HasRightLayout, IsAtEnd, IsInPlace, PartyFailed, Redraws}
 use Rattle.line_keys.specs.Item.{Item}
 use Rattle.line_keys.specs.ShownLine.{GoesToEnd, HasShownEnd, KeepsDrawn, LosesHint, ShowsLine, ShowsNoHint}
 use Rattle.line_keys.specs.declared.editor_state.EditorState as editors

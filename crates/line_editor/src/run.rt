@@ -76,7 +76,8 @@ pub fn advance<'out, 'prompt, W: Renderer, H: Helper, P: Prompt, S: History>(
         Ok(Status::Submit) => Ok(Turned::Submitted),
         Err(ReadlineError::Eof) => Ok(Turned::Ended),
         Err(ReadlineError::Interrupted) => Ok(Turned::Interrupted),
-        Err(error) => Err(error),
+        Err(ReadlineError::Io(cause)) => Err(ReadlineError::Io(cause)),
+        Err(ReadlineError::Memory) => Err(ReadlineError::Memory),
     }
 }
 

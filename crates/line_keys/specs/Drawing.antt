@@ -136,9 +136,10 @@ pub record DrawsCursor {X T : Type 0} (e : Ghosts X) (result : Result T Readline
   pub fails : FailsByRenderer e result old new
 
 -- what showing an edit leaves: where it was reported the hint is asked again and the line is drawn in full with it; else the drawn
--- cursor goes to the line's
+-- cursor goes to the line's; all but the hint stays in any case
 pub record ShowsEdit {X T : Type 0} (e : Ghosts X) (edited : Bool) (result : Result T ReadlineError) (old new : X) : Type 0 where
   pub draft : OnOk result (e.draft new ≡ (if edited then hinted (e.environment old) (e.draft old) else e.draft old))
+  pub text : KeepsText (e.draft old) (e.draft new)
   pub drew : OnOk result (Drew e 1 (edit_drawn edited) old new)
   pub placed : OnOk result (HasCursorDrawn e new)
   pub right : OnOk result (ShowsText (e.display old) (e.draft old).line.text → IsRight (e.display new) (e.draft old).line)

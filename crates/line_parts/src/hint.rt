@@ -1,7 +1,7 @@
 //! Hints: texts that are shown behind the line as its likely end.
-ghost use Rattle.std.specs.Prelude.{◌≡◌, ℕ, Bool, true, List, Option, Some, None};
-ghost use Rattle.std.specs.Prelude.{option_map, IfOk, string_bytes, IsTrue, if◌then◌else◌, length};
-ghost use Rattle.std.specs.Prelude.{◌==◌, ◌-◌};
+ghost use Rattle.std.specs.Prelude.{◌≡◌, ℕ, Bool, true, false, List, [], Option, Some, None};
+ghost use Rattle.std.specs.Prelude.{option_map, IfOk, IsOk, string_bytes, IsTrue, if◌then◌else◌, length};
+ghost use Rattle.std.specs.Prelude.{◌==◌, ◌<◌, ◌-◌};
 ghost use Rattle.std.specs.List.{starts_with};
 ghost use Rattle.line_config.specs.Error.{IoOnlyIf, FaultsOnly, MemoryOnly};
 ghost use Rattle.line_parts.specs.HistoryHint.{rest_behind};
@@ -126,7 +126,8 @@ impl Default for HistoryHinter {
 }
 
 impl Hinter for HistoryHinter {
-    ghost use Rattle.line_parts.specs.Hint.{suggested};
+    ghost use Rattle.line_parts.specs.Context.{shown_in};
+    ghost use Rattle.line_parts.specs.Hint.{suggested, suggestion_of};
     ghost use Rattle.line_parts.specs.HistoryHint.{history_hint};
 
     type Hint = String;
@@ -148,7 +149,14 @@ impl Hinter for HistoryHinter {
         line: &str,
         pos: usize,
         ctx: &Context<'_, S>,
-    ) -> Result<Option<String>> {
+    ) -> Result<Option<String>>
+        ensures answer { IfOk result (λ hint. option_map (suggestion_of ⟦<String as Hint>⟧) hint
+            ≡ option_map suggested (history_hint (shown_in S.History ctx.now line.now pos))) }
+        ensures unasked { line.now ≡ [] → IsOk result }
+        ensures inside { pos < length line.now → IsOk result }
+        ensures io { IoOnlyIf result (S.sure ctx.now.history ≡ false) }
+        ensures faults { FaultsOnly result }
+    {
         if line.is_empty() || pos < line.len() {
             return Ok(None);
         }

@@ -2,7 +2,7 @@
 ghost use Rattle.std.specs.Prelude.{◌≡◌, ◌≤◌, ◌&&◌, Bool, true, false, List, Option};
 ghost use Rattle.std.specs.Prelude.{is_some, length, option_map, IfOk};
 ghost use Rattle.line_config.specs.Error.{FaultsOnly, IoOnlyIf};
-ghost use Rattle.line_parts.specs.Asks.{for_hint, for_line, for_verdict, is_sure};
+ghost use Rattle.line_parts.specs.Asks.{for_hint, for_look_up, for_verdict, is_sure};
 ghost use Rattle.line_parts.specs.Consulted.{Unchanged};
 ghost use Rattle.line_parts.specs.Context.{shown_in};
 ghost use Rattle.line_parts.specs.Environment.{Environment, hint_for, verdict_on};
@@ -159,7 +159,8 @@ impl<'out, H: Helper, S: History> Parties<'out, H, S> {
         ensures answer { let p = ⟦<Self as Consulted>⟧ in IfOk result (λ hint.
             option_map (suggestion_of H.Hint.Hint) hint ≡ hint_for (p.environment self.now)
             line.now.text line.now.cursor (p.index self.now)) }
-        ensures io { IoOnlyIf result (is_sure (⟦<Self as Consulted>⟧.sure self.now) for_hint ≡ false) }
+        ensures io { let sure = ⟦<Self as Consulted>⟧.sure self.now in
+            IoOnlyIf result (is_sure sure for_hint ≡ false) }
         ensures faults { FaultsOnly result }
     {
         Ok(visible_hint(helper_hint(alloc, &self.helper, line, &self.ctx)?))
@@ -179,7 +180,8 @@ impl<'out, H: Helper, S: History> Parties<'out, H, S> {
     pub fn validate(&self, alloc: Global, line: &LineBuffer) -> Result<ValidationResult>
         ensures answer { IfOk result (λ r. verdict_of r
             ≡ verdict_on (⟦<Self as Consulted>⟧.environment self.now) line.now.text) }
-        ensures io { IoOnlyIf result (is_sure (⟦<Self as Consulted>⟧.sure self.now) for_verdict ≡ false) }
+        ensures io { let sure = ⟦<Self as Consulted>⟧.sure self.now in
+            IoOnlyIf result (is_sure sure for_verdict ≡ false) }
         ensures faults { FaultsOnly result }
     {
         let verdict = helper_verdict(alloc, &self.helper, line.as_str())?;
@@ -208,7 +210,7 @@ impl<'out, H: Helper, S: History> Parties<'out, H, S> {
     /// Returns the history.
     pub fn history(&self) -> &'out S
         ensures lines { S.lines result.now ≡ (⟦<Self as Consulted>⟧.environment self.now).lines }
-        ensures sure { is_sure (⟦<Self as Consulted>⟧.sure self.now) for_line ≡ true
+        ensures sure { is_sure (⟦<Self as Consulted>⟧.sure self.now) for_look_up ≡ true
             → S.sure result.now ≡ true }
     {
         self.ctx.history()

@@ -1,5 +1,5 @@
 //! What is drawn of a line: the renderer, the prompt, and the layout that is kept of them.
-ghost use Rattle.std.specs.Prelude.{◌≡◌, ◌↔◌, if◌then◌else◌, Some, None, ℕ, Bool, true, false, List, Option, is_some, option_map, OnOk, OnErr, IsTrue};
+ghost use Rattle.std.specs.Prelude.{◌≡◌, ◌↔◌, if◌then◌else◌, Some, None, ℕ, Bool, true, false, List, Option, is_some, option_map, IsOk, OnOk, OnErr, IsTrue};
 ghost use Rattle.line_buffer.specs.declared.layout.Position.{Position};
 ghost use Rattle.line_keys.specs.Display.{GoesToShownEnd, corner, cursor_position, undrawn};
 ghost use Rattle.line_state.specs.Drawn.{ColorsAreOn, DrawsInFull, DrawsNoneInFull, RedrawsKept, cleared};
@@ -214,6 +214,8 @@ impl<'out, 'prompt, W: Renderer, P: Prompt> View<'out, 'prompt, W, P> {
     pub fn move_cursor_to_end(&mut self) -> Result<()>
         ensures moved { let d = ⟦<Self as Drawn>⟧.display in
             GoesToShownEnd result (d self.old) (d self.new) }
+        ensures still { let layout = (⟦<Self as Drawn>⟧.display self.old).layout in
+            layout.cursor ≡ layout.end → IsOk result }
         ensures part { DrawsNoneInFull ⟦<Self as Drawn>⟧ result self.old self.new }
     {
         if self.layout.cursor == self.layout.end {

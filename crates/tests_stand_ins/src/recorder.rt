@@ -309,7 +309,9 @@ impl Renderer for Recorder {
     }
 
     fn move_cursor_at_leftmost(&mut self, rdr: &mut Typist) -> Result<()> {
-        let _ = rdr;
+        if !rdr.flags().is_empty() {
+            self.note("a key was read")?;
+        }
         self.note("move to the first column")?;
         self.place.col = 0;
         Ok(())

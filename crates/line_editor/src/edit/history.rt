@@ -2,7 +2,7 @@
 ghost use Rattle.std.specs.Prelude.{◌≡◌, ◌+◌, ◌≤◌, IsCharBoundary, false, if◌then◌else◌, not, is_some, length, OnOk, OnErr};
 ghost use Rattle.line_buffer.specs.Line.{before};
 ghost use Rattle.line_config.specs.Error.{MemoryOnly};
-ghost use Rattle.line_editor.specs.HistoryMoves.{asked_on_way, at_index, come_back, end_shown, first_shown, found_shown, line_shown, next_shown, previous_shown, restored, saved_at_end, search_of, searched, showing, way_ends};
+ghost use Rattle.line_editor.specs.HistoryMoves.{asked_back, asked_for, asked_in_search, asked_on, asked_to_end, at_index, come_back, end_shown, first_shown, found_shown, line_shown, next_shown, previous_shown, restored, saved_at_end, search_of, searched, showing, way_ends};
 ghost use Rattle.line_keys.specs.Draft.{start_text};
 ghost use Rattle.line_keys.specs.Drawing.{Does, DoesAsking, DrewNothing, Paints, Undrawn, drawn_if, with_hint};
 ghost use Rattle.line_parts.specs.Asks.{for_line};
@@ -67,7 +67,7 @@ impl<'out, 'prompt, W: Renderer, H: Helper, P: Prompt, S: History> State<
         ensures { let e = ⟦<Self as EditorState>⟧ in
             let w = e.environment self.old in let d = e.draft self.old in
             let dir = if prev then Reverse else Forward in
-            DoesAsking e (asked_on_way w dir d) result self.old self.new
+            DoesAsking e (if prev then asked_back d else asked_on w d) result self.old self.new
             (if prev then previous_shown w d else next_shown w d)
             (drawn_if (not (way_ends w dir d))) 1 }
     {
@@ -86,7 +86,8 @@ impl<'out, 'prompt, W: Renderer, H: Helper, P: Prompt, S: History> State<
         ensures { let e = ⟦<Self as EditorState>⟧ in
             let w = e.environment self.old in let d = e.draft self.old in
             let dir = if first then Reverse else Forward in
-            DoesAsking e (asked_on_way w dir d) result self.old self.new
+            DoesAsking e (if first then asked_back d else asked_to_end w d)
+            result self.old self.new
             (if first then first_shown w d else end_shown w d)
             (drawn_if (not (way_ends w dir d))) 1 }
     {
@@ -105,7 +106,7 @@ impl<'out, 'prompt, W: Renderer, H: Helper, P: Prompt, S: History> State<
     pub fn edit_history_search(&mut self, dir: SearchDirection) -> Result<()>
         ensures { let e = ⟦<Self as EditorState>⟧ in
             let w = e.environment self.old in let d = e.draft self.old in
-            DoesAsking e (asked_on_way w dir d) result self.old self.new
+            DoesAsking e (asked_in_search w dir d) result self.old self.new
             (searched w dir d) (drawn_if (is_some (search_of w dir d))) 1 }
     {
         let index = self.place();
@@ -130,7 +131,7 @@ impl<'out, 'prompt, W: Renderer, H: Helper, P: Prompt, S: History> State<
     fn show_previous(&mut self) -> Result<()>
         ensures { let e = ⟦<Self as EditorState>⟧ in
             let w = e.environment self.old in let d = e.draft self.old in
-            DoesAsking e (asked_on_way w Reverse d) result self.old self.new (previous_shown w d)
+            DoesAsking e (asked_back d) result self.old self.new (previous_shown w d)
             (drawn_if (not (way_ends w Reverse d))) 1 }
     {
         let index = self.place();
@@ -141,11 +142,11 @@ impl<'out, 'prompt, W: Renderer, H: Helper, P: Prompt, S: History> State<
     }
 
     // Shows the line behind this one, if there is one: behind the history's last stands the one that is being written.
-    #[tactic(auto, using(crate::proofs::HistoryMoveLemmas::way_stays, crate::proofs::HistoryMoveLemmas::way_goes, crate::proofs::HistoryMoveLemmas::way_comes))]
+    #[tactic(auto, using(crate::proofs::HistoryMoveLemmas::way_stays, crate::proofs::HistoryMoveLemmas::way_goes))]
     fn show_next(&mut self) -> Result<()>
         ensures { let e = ⟦<Self as EditorState>⟧ in
             let w = e.environment self.old in let d = e.draft self.old in
-            DoesAsking e (asked_on_way w Forward d) result self.old self.new (next_shown w d)
+            DoesAsking e (asked_on w d) result self.old self.new (next_shown w d)
             (drawn_if (not (way_ends w Forward d))) 1 }
     {
         let index = self.place();
@@ -164,7 +165,7 @@ impl<'out, 'prompt, W: Renderer, H: Helper, P: Prompt, S: History> State<
     fn show_first(&mut self) -> Result<()>
         ensures { let e = ⟦<Self as EditorState>⟧ in
             let w = e.environment self.old in let d = e.draft self.old in
-            DoesAsking e (asked_on_way w Reverse d) result self.old self.new (first_shown w d)
+            DoesAsking e (asked_back d) result self.old self.new (first_shown w d)
             (drawn_if (not (way_ends w Reverse d))) 1 }
     {
         if self.place() == 0 {
@@ -174,11 +175,11 @@ impl<'out, 'prompt, W: Renderer, H: Helper, P: Prompt, S: History> State<
     }
 
     // Comes back to the line that is being written, if it is not shown already.
-    #[tactic(auto, using(crate::proofs::HistoryMoveLemmas::way_stays, crate::proofs::HistoryMoveLemmas::way_comes))]
+    #[tactic(auto, using(crate::proofs::HistoryMoveLemmas::way_stays, crate::proofs::HistoryMoveLemmas::way_goes))]
     fn show_end(&mut self) -> Result<()>
         ensures { let e = ⟦<Self as EditorState>⟧ in
             let w = e.environment self.old in let d = e.draft self.old in
-            DoesAsking e (asked_on_way w Forward d) result self.old self.new (end_shown w d)
+            DoesAsking e (asked_to_end w d) result self.old self.new (end_shown w d)
             (drawn_if (not (way_ends w Forward d))) 1 }
     {
         if self.place() == self.parties.history().len() {
@@ -220,6 +221,7 @@ impl<'out, 'prompt, W: Renderer, H: Helper, P: Prompt, S: History> State<
     }
 
     // Shows the line of the history at an index, with the cursor at its end.
+    #[tactic(auto, using(crate::proofs::AskedLemmas::sure_history))]
     fn show_line(&mut self, index: usize) -> Result<()>
         requires { index + 1 ≤ length (⟦<Self as EditorState>⟧.environment self.old).lines }
         ensures { let e = ⟦<Self as EditorState>⟧ in
@@ -259,11 +261,12 @@ impl<'out, 'prompt, W: Renderer, H: Helper, P: Prompt, S: History> State<
     }
 
     // Goes to an index, and from there to the nearest line that begins with the text before the cursor, and shows it.
+    #[tactic(auto, using(crate::proofs::AskedLemmas::sure_look_up))]
     fn search_from(&mut self, index: usize, dir: SearchDirection) -> Result<()>
         requires { index ≤ length (⟦<Self as EditorState>⟧.environment self.old).lines }
         ensures { let e = ⟦<Self as EditorState>⟧ in let d = e.draft self.old in
             let found = starting_with (e.environment self.old).lines (before d.line) index dir in
-            DoesAsking e for_line result self.old self.new
+            DoesAsking e (asked_for found) result self.old self.new
             (found_shown (e.environment self.old) found (at_index index d))
             (drawn_if (is_some found)) 1 }
     {

@@ -1,5 +1,5 @@
 //! Moves of the cursor.
-ghost use Rattle.std.specs.Prelude.{◌≡◌, false, if◌then◌else◌, not, is_some, length, IfOk, OnOk};
+ghost use Rattle.std.specs.Prelude.{◌≡◌, false, if◌then◌else◌, not, is_some, length, IfOk, OnOk, IsOk};
 ghost use Rattle.line_buffer.specs.Cluster.{place_on, place_back};
 ghost use Rattle.line_buffer.specs.Line.{moved_to, with_cursor, start_of_line, end_of_line};
 ghost use Rattle.line_buffer.specs.Lines.{down_by, up_by};
@@ -7,9 +7,10 @@ ghost use Rattle.line_buffer.specs.Search.{search_place};
 ghost use Rattle.line_buffer.specs.Word.{word_back, word_on};
 ghost use Rattle.line_buffer.specs.declared.keymap.Movement.TheVariants.{LineDown, LineUp};
 ghost use Rattle.line_editor.specs.Drawings.{move_drawn};
-ghost use Rattle.line_editor.specs.HistoryMoves.{asked_on_way, next_shown, previous_shown, way_ends};
+ghost use Rattle.line_editor.specs.HistoryMoves.{asked_back, asked_on, next_shown, previous_shown, way_ends};
 ghost use Rattle.line_keys.specs.Display.{GoesToShownEnd};
 ghost use Rattle.line_keys.specs.Drawing.{Does, DoesAsking, DrawsCursor, MovesTo, Paints, Undrawn, cursor, drawn_if};
+ghost use Rattle.line_keys.specs.EditorState.{IsAtEnd};
 ghost use Rattle.line_keys.specs.ShownLine.{HasShownEnd, ShowsLine};
 ghost use Rattle.line_parts.specs.Asks.{nobody};
 ghost use Rattle.line_parts.specs.declared.highlight.CmdKind.TheVariants.{MoveCursor};
@@ -217,7 +218,7 @@ impl<'out, 'prompt, W: Renderer, H: Helper, P: Prompt, S: History> State<
         ensures { let e = ⟦<Self as EditorState>⟧ in let layout = (e.display self.old).layout in
             let d = e.draft self.old in let found = is_some (up_by layout d.line n) in
             let w = e.environment self.old in
-            DoesAsking e (if found then nobody else asked_on_way w Reverse d)
+            DoesAsking e (if found then nobody else asked_back d)
             result self.old self.new
             (if found then record d { line = moved layout (LineUp n) d.line }
             else previous_shown w d)
@@ -234,7 +235,7 @@ impl<'out, 'prompt, W: Renderer, H: Helper, P: Prompt, S: History> State<
         ensures { let e = ⟦<Self as EditorState>⟧ in let layout = (e.display self.old).layout in
             let d = e.draft self.old in let found = is_some (down_by layout d.line n) in
             let w = e.environment self.old in
-            DoesAsking e (if found then nobody else asked_on_way w Forward d)
+            DoesAsking e (if found then nobody else asked_on w d)
             result self.old self.new
             (if found then record d { line = moved layout (LineDown n) d.line }
             else next_shown w d)
@@ -265,6 +266,7 @@ impl<'out, 'prompt, W: Renderer, H: Helper, P: Prompt, S: History> State<
     pub fn move_cursor_to_end(&mut self) -> Result<()>
         ensures moved { let d = ⟦<Self as EditorState>⟧.display in
             GoesToShownEnd result (d self.old) (d self.new) }
+        ensures still { let e = ⟦<Self as EditorState>⟧ in IsAtEnd e self.old → IsOk result }
         ensures ends { let e = ⟦<Self as EditorState>⟧ in
             OnOk result (ShowsLine e self.old → HasShownEnd e self.new) }
         ensures paints { Paints ⟦<Self as EditorState>⟧ false result self.old self.new }

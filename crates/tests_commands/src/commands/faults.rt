@@ -373,14 +373,22 @@ fn in_look_ups(rt: HostRuntime) -> Result<(), Fail> {
     Ok(())
 }
 
-/// Steps that ask nobody, and how often they draw.
-const UNASKED: &[(&[Step], u64)] = &[(&[PaintMessage("é")], 1), (&[NextHistory], 0)];
+/// Which answer of the helper would fail, 0 for none; steps that do not ask for it, and look no line up; and how often they
+/// draw.
+type Unasked = (u64, &'static [Step], u64);
 
-/// Does the steps where the next answer and the first look-up would fail.
-fn asks_nobody(rt: &impl Abort, alloc: Global, case: &(&[Step], u64)) -> Result<(), Fail> {
-    let (steps, draws) = case;
+/// The helper answers three times before them.
+const UNASKED: &[Unasked] = &[
+    (4, &[PaintMessage("é")], 1),
+    (4, &[NextHistory], 0),
+    (0, &[AskHint], 0),
+];
+
+/// Does the steps where this answer and the first look-up would fail.
+fn asks_nobody(rt: &impl Abort, alloc: Global, case: &Unasked) -> Result<(), Fail> {
+    let (answer, steps, draws) = case;
     let setup = Setup {
-        failing_answer: 4,
+        failing_answer: *answer,
         failing_look_up: 1,
         entries: &["one"],
         ..HINTED

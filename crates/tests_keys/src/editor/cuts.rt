@@ -2,7 +2,7 @@
 //! turn, and by a command that is read and executed.
 
 use super::Step::{self, *};
-use super::{Cut, PLAIN, Setup, Wanted, holds_behind};
+use super::{Cut, PLAIN, Setup, Wanted, holds, holds_behind};
 use crate::bindings::On;
 use crate::bindings::To::*;
 use crate::watcher::{REFUSED as HANDLER_ASLEEP, Watcher};
@@ -321,6 +321,22 @@ const OF_PARTIES: &[Case] = &[
 fn of_parties(rt: HostRuntime) -> Result<(), Fail> {
     for case in OF_PARTIES {
         cuts(&rt, rt.alloc(), case)?;
+    }
+    Ok(())
+}
+
+/// A key of a count asks no handler.
+const OF_A_COUNT: &[super::Case] = &[(
+    ASKING_EACH,
+    &[Refresh, Advance(&[ALT_2])],
+    "needs more",
+    Wanted::Len(0),
+)];
+
+#[test]
+fn none_in_a_count(rt: HostRuntime) -> Result<(), Fail> {
+    for case in OF_A_COUNT {
+        holds(&rt, rt.alloc(), case)?;
     }
     Ok(())
 }

@@ -87,6 +87,7 @@ const FLAGS: &[Case] = &[
         Wanted::Flags(&[false, false]),
     ),
     (PLAIN, &[Advance(&[A])], "proceeds", Wanted::Flags(&[false])),
+    (PLAIN, &[Run(&[A])], "eof", Wanted::Flags(&[false, false])),
 ];
 
 #[test]

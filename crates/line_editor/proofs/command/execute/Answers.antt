@@ -1,3 +1,4 @@
+use Rattle.std.proofs.lemmas.Result.{err_from_is_err_and}
 use Rattle.std.proofs.Common.{is_some, option_map, refl}
 use Rattle.std.specs.String.{string_bytes}
 use Rattle.line_buffer.specs.Kill.{killed_range}
@@ -47,6 +48,8 @@ returns-in_default g c =
 pub returns-in_err-edit_by-in_default : goal.returns-in_err-edit_by-in_default
 returns-in_err-edit_by-in_default g c =
     let other = c.in_default in
-    edits_wrong _ c.args.state.now _ (input_of c.args.input_state.now) c.args.config.now.indent_size _ _ (command_of c.args.cmd) _ _ _ _
+    let p = err_from_is_err_and c.from_residual-in_err-edit_by-in_default.result c.from_residual-in_err-edit_by-in_default.ensures.1 in
+    rw (p.1, p.2)
+    (edits_wrong _ c.args.state.now _ (input_of c.args.input_state.now) c.args.config.now.indent_size _ _ (command_of c.args.cmd) _ _ _ _
     (edits_else c.args.cmd other.not-AcceptLine other.not-AcceptOrInsertLine other.not-EndOfFile other.not-Interrupt other.not-Kill other.not-Replace other.not-ViYankTo other.not-Yank other.not-YankPop)
-    c.in_err-edit_by-in_default.ensures
+    (rw c.indent_size.ensures at c.in_err-edit_by-in_default.ensures))

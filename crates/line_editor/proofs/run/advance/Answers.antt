@@ -1,8 +1,7 @@
-use Rattle.std.proofs.Common.{rules, refl, ap}
-use Rattle.line_config.specs.Error.{is_fault}
+use Rattle.std.proofs.Common.{refl}
 use Rattle.line_editor.specs.Editor.{ended, interrupted, proceeds, submitted}
 use Rattle.line_editor.specs.declared.run.Turned.TheVariants as turned
-use Rattle.line_editor.proofs.TurnLemmas.{advanced, goes_wrong, needs_more}
+use Rattle.line_editor.proofs.TurnLemmas.{advanced, needs_more}
 use Rattle.line_editor.proofs.run.advance.Goals as goal
 
 pub returns-in-Err-Eof : goal.returns-in-Err-Eof

@@ -1,4 +1,5 @@
-use Rattle.std.proofs.Common.{sym, ◌∙◌}
+use Rattle.std.proofs.lemmas.Result.{err_from_is_err_and}
+use Rattle.std.proofs.Common.{◌∙◌}
 use Rattle.line_editor.proofs.AcceptLemmas.{frame_both, line_stays_so, newline_comes, newline_fails, none_failed, submits_line}
 use Rattle.line_editor.proofs.CommandLemmas.{executed_ok}
 use Rattle.line_editor.proofs.DrawnLemmas.{frame_then}
@@ -35,5 +36,7 @@ pub returns-in_err-edit_insert-in-GoesOn : goal.returns-in_err-edit_insert-in-Go
 returns-in_err-edit_insert-in-GoesOn g c = λ input indent kills.
     let drop = c.in_ok-drop_hint.ensures in
     let asked = c.in_ok-verdict.ensures in
-    newline_fails _ _ _ c.args.self.now _ _ drop.does drop.loses asked.does asked.no_hint c.args.accept_in_the_middle _ _ asked.verdict c.is_end_of_input.ensures _ c.reply_for.ensures _ _ c.in-GoesOn.is
-    c.in_err-edit_insert-in-GoesOn.ensures input indent kills
+    let p = err_from_is_err_and c.from_residual-in_err-edit_insert-in-GoesOn.result c.from_residual-in_err-edit_insert-in-GoesOn.ensures.1 in
+    rw (p.1, p.2)
+    (newline_fails _ _ _ c.args.self.now _ _ drop.does drop.loses asked.does asked.no_hint c.args.accept_in_the_middle _ _ asked.verdict c.is_end_of_input.ensures _ c.reply_for.ensures _ _ c.in-GoesOn.is
+    c.in_err-edit_insert-in-GoesOn.ensures input indent kills)
