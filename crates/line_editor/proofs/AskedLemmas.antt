@@ -51,11 +51,7 @@ pub sure_look_up : (sure : Sureness) (found : Option Found) → is_sure sure (as
 sure_look_up sure None all = all
 sure_look_up sure (Some found) all = sure_history sure all
 
--- what is asked for one of two drawings is asked for both
-pub sure_first : (sure : Sureness) (found more : Bool) → is_sure sure (asked_by (drawn_if (found || more))) ≡ true → is_sure sure (asked_by (drawn_if found)) ≡ true
-sure_first sure true more all = all
-sure_first sure false more all = refl
-
+-- what is asked for the second of two drawings is asked for both
 pub sure_second : (sure : Sureness) (found more : Bool) → is_sure sure (asked_by (drawn_if (found || more))) ≡ true → is_sure sure (asked_by (drawn_if more)) ≡ true
 sure_second sure true true all = all
 sure_second sure false true all = all
