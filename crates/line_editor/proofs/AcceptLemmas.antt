@@ -1,5 +1,5 @@
 -- Facts on lines that are accepted.
-use Rattle.std.proofs.Common.{◌≡◌, ℕ, Bool, true, false, cond, not, List, Option, None, Ok, Err, refl, sym, ◌∙◌, ap, subst, arith, inl, inr}
+use Rattle.std.proofs.Common.{◌≡◌, ℕ, ◌+◌, Bool, true, false, cond, not, List, Option, None, Ok, Err, refl, sym, ◌∙◌, ap, subst, arith, inl, inr}
 use Rattle.std.specs.Prelude.{◌||◌, ◌&&◌, if◌then◌else◌, is_some}
 use Rattle.line_buffer.specs.Changes.{adds_end}
 use Rattle.line_buffer.specs.KillRing.{Ring}
@@ -18,7 +18,7 @@ use Rattle.line_parts.specs.Verdict.{Verdict, incomplete, invalid, message_of, v
 use Rattle.line_parts.specs.declared.highlight.CmdKind.{CmdKind}
 use Rattle.line_parts.specs.declared.highlight.CmdKind.TheVariants.{ForcedRefresh, Other}
 use Rattle.line_editor.specs.Accept.{accepted, answer_at_end, replied, reply_to, unhinted_by, validated}
-use Rattle.line_editor.specs.Drawings.{asked_for_reply, asked_of, reply_drawn, unhinted_drawn, validated_drawn, verdict_drawn}
+use Rattle.line_editor.specs.Drawings.{asked_for_reply, asked_of, once_for, reply_drawn, reply_times, unhinted_drawn, validated_drawn, validated_times, verdict_drawn}
 use Rattle.line_editor.specs.Editor.{Answer, proceeds, submitted}
 use Rattle.line_editor.specs.Edits.{typed_in}
 use Rattle.line_editor.specs.Input.{Input}
@@ -27,8 +27,8 @@ use Rattle.line_editor.specs.declared.command.Reply.{Reply}
 use Rattle.line_editor.specs.declared.command.Reply.TheVariants.{GoesOn, Stays, Submits}
 use Rattle.line_editor.specs.Verdict.{draws_verdict, draws_verdict_on, kind_of_verdict}
 use Rattle.line_editor.proofs.AskedLemmas.{fails_more, sure_all}
-use Rattle.line_editor.proofs.CommandLemmas.{editor_with, executed_wrong, fails_then, line_kept, line_then, perhaps_lit, perhaps_redraws}
-use Rattle.line_editor.proofs.CountLemmas.{rises_twice, rises_up_to}
+use Rattle.line_editor.proofs.CommandLemmas.{editor_with, executed_wrong, fails_then, line_kept, line_then, perhaps_lit, perhaps_redraws, twice_at_most}
+use Rattle.line_editor.proofs.CountLemmas.{rises_twice, rises_within}
 use Rattle.line_editor.proofs.DoneLemmas.{line_after}
 use Rattle.line_editor.proofs.DrawnLemmas.{frame_then, hint_trails, keeps_then, no_hint_line}
 use Rattle.line_editor.proofs.EditLemmas.{was_validated}
@@ -102,9 +102,10 @@ two_drawn : {X : Type 0} (e : Ghosts X) (old mid new : X) (dropped said : Bool) 
     → (e.draft new).line ≡ (e.draft mid).line
     → Drew e 1 (if dropped then with_text None ForcedRefresh else nothing) old mid
     → Drew e 1 (if said then with_text message kind else nothing) mid new
-    → Drew e 2 (if said then (if said then with_text message kind else nothing) else (if dropped then with_text None ForcedRefresh else nothing)) old new
+    → Drew e (once_for (if dropped then with_text None ForcedRefresh else nothing) + once_for (if said then with_text message kind else nothing))
+    (if said then (if said then with_text message kind else nothing) else (if dropped then with_text None ForcedRefresh else nothing)) old new
 two_drawn e old mid new dropped true message kind frame line first second =
-    line_then e old mid new frame (perhaps_lit e dropped 1 None ForcedRefresh old mid first) 1 1 message kind (perhaps_redraws e dropped 1 None ForcedRefresh old mid first) second
+    line_then e old mid new frame (perhaps_lit e dropped 1 None ForcedRefresh old mid first) (once_for (if dropped then with_text None ForcedRefresh else nothing)) 1 message kind (perhaps_redraws e dropped None ForcedRefresh old mid first) second
 two_drawn e old mid new true false message kind frame line first second = line_kept e old mid new None ForcedRefresh second line first
 two_drawn e old mid new false false message kind frame line first second =
     record { display = second.display ∙ first.display; redraws = second.redraws ∙ first.redraws }
@@ -115,16 +116,6 @@ prompt_stays : {X : Type 0} (e : Ghosts X) (mid new : X) (said : Bool) (message 
     → (e.display new).layout.default_prompt ≡ true
 prompt_stays e mid new true message kind own drew = drew.shows.own_prompt
 prompt_stays e mid new false message kind own drew = ap (λ (d : Display). d.layout.default_prompt) drew.display ∙ own
-
--- more redraws are allowed
-more_drawn : {X : Type 0} (e : Ghosts X) (old new : X) (said dropped : Bool) (message : Option (List ℕ)) (kind : CmdKind)
-    → Drew e 2 (if said then (if said then with_text message kind else nothing) else (if dropped then with_text None ForcedRefresh else nothing)) old new
-    → Drew e 3 (if said then (if said then with_text message kind else nothing) else (if dropped then with_text None ForcedRefresh else nothing)) old new
-more_drawn e old new true dropped message kind drew =
-    record { shows = drew.shows; right = drew.right; lit = drew.lit; redraws = rises_up_to 1 2 3 (e.redraws old) (e.redraws new) (omega arith) drew.redraws }
-more_drawn e old new false true message kind drew =
-    record { shows = drew.shows; right = drew.right; lit = drew.lit; redraws = rises_up_to 1 2 3 (e.redraws old) (e.redraws new) (omega arith) drew.redraws }
-more_drawn e old new false false message kind drew = drew
 
 -- without colors the verdict's drawing leaves the last answer of `highlight_char`
 both_lit : {X : Type 0} (e : Ghosts X) (old mid new : X) (dropped said : Bool) (message : Option (List ℕ)) (kind : CmdKind) → Frame e old mid
@@ -163,11 +154,8 @@ module _ {X T U : Type 0} (e : Ghosts X) (x : T) (y : U) (old mid new : X)
   abbrev said : Verdict
   said = verdict_on (e.environment old) (e.draft old).line.text
 
-  shown_both : Drew e 2 (validated_drawn (e.display old) (e.environment old) (e.draft old)) old new
+  shown_both : Drew e (validated_times (e.display old) (e.environment old) (e.draft old)) (validated_drawn (e.display old) (e.environment old) (e.draft old)) old new
   shown_both = two_drawn e old mid new has_stale says (message_of said) (kind_of_verdict said) drop.frame line_is drop.drew said_there
-
-  shown_three : Drew e 3 (validated_drawn (e.display old) (e.environment old) (e.draft old)) old new
-  shown_three = more_drawn e old new says has_stale (message_of said) (kind_of_verdict said) shown_both
 
   loses_both : LosesHint e old new
   loses_both = record {
@@ -202,8 +190,13 @@ module _ {X T U : Type 0} (e : Ghosts X) (x : T) (y : U) (old mid new : X)
     whole : accepted (e.environment old) in_the_middle (unhinted (e.draft old)) ≡ replied reply left (typed_in (e.environment old) 1 10 left)
     whole = ap (λ r. replied r left (typed_in (e.environment old) 1 10 left)) reply_is
 
-    drawn_is : (given : Reply) → reply ≡ given → reply_drawn given shown ≡ reply_drawn (reply_to said (in_the_middle || ends_in_white_space (e.draft old).line)) shown
-    drawn_is given is = ap (λ r. reply_drawn r shown) (sym (reply_is ∙ is))
+    abbrev times : ℕ
+    times = validated_times (e.display old) (e.environment old) (e.draft old)
+
+    drawn_by : (given : Reply) (last : X) → reply ≡ given → Drew e (reply_times given times) (reply_drawn given shown) old last
+        → Drew e (reply_times (reply_to said (in_the_middle || ends_in_white_space (e.draft old).line)) times)
+        (reply_drawn (reply_to said (in_the_middle || ends_in_white_space (e.draft old).line)) shown) old last
+    drawn_by given last is drew = subst (λ r. Drew e (reply_times r times) (reply_drawn r shown) old last) (sym (reply_is ∙ is)) drew
 
     left_by : (given : Reply) → reply ≡ given → replied given left (typed_in (e.environment old) 1 10 left) ≡ accepted (e.environment old) in_the_middle (unhinted (e.draft old))
     left_by given is = ap (λ r. replied r left (typed_in (e.environment old) 1 10 left)) (sym is) ∙ sym whole
@@ -215,7 +208,7 @@ module _ {X T U : Type 0} (e : Ghosts X) (x : T) (y : U) (old mid new : X)
         editor = ap (λ (d : Draft). editor_with d kills) (left_is ∙ ap (λ (p : Draft × Answer). p.0) (left_by Submits is));
         answered = ap (λ (p : Draft × Answer). p.1) (sym (left_by Submits is));
       };
-      drew = subst (λ d. Drew e 3 d old new) (drawn_is Submits is) shown_three;
+      drew = drawn_by Submits new is shown_both;
       drawn = loses_both;
       change = inl text_is;
       start = asked.start ∙ drop.start;
@@ -228,7 +221,7 @@ module _ {X T U : Type 0} (e : Ghosts X) (x : T) (y : U) (old mid new : X)
         editor = ap (λ (d : Draft). editor_with d kills) (left_is ∙ ap (λ (p : Draft × Answer). p.0) (left_by Stays is));
         answered = ap (λ (p : Draft × Answer). p.1) (sym (left_by Stays is));
       };
-      drew = subst (λ d. Drew e 3 d old new) (drawn_is Stays is) shown_three;
+      drew = drawn_by Stays new is shown_both;
       drawn = record { right = λ was. asked.keeps.right (loses.right was); line = λ there. no_hint_line e new (no_hint (loses.no_hint there)) };
       change = inl text_is;
       start = asked.start ∙ drop.start;
@@ -242,18 +235,24 @@ module _ {X T U : Type 0} (e : Ghosts X) (x : T) (y : U) (old mid new : X)
         let all : Frame e old new = frame_then e old mid new drop.frame asked.frame in
         let longer : e.draft last ≡ typed_in (e.environment old) 1 10 left =
         typed.draft ∙ ap (λ w. typed_in w 1 10 (e.draft new)) all.environment ∙ ap (λ d. typed_in (e.environment old) 1 10 d) left_is in
-        let line : DrewLine e 3 (hint_shown (e.draft last)) Other old last =
-        line_then e old new last all (both_lit e old mid new has_stale says (message_of said) (kind_of_verdict said) drop.frame drop.drew said_there) 2 1 _ Other
-        (rises_twice 0 1 0 1 (e.redraws old) (e.redraws mid) (e.redraws new)
-        (perhaps_redraws e has_stale 1 None ForcedRefresh old mid drop.drew) (perhaps_redraws e says 1 (message_of said) (kind_of_verdict said) mid new said_there)) typed.drew in
+        let first : ℕ = once_for (if has_stale then with_text None ForcedRefresh else nothing) in
+        let second : ℕ = once_for (if says then with_text (message_of said) (kind_of_verdict said) else nothing) in
+        let line : DrewLine e (first + second + 1) (hint_shown (e.draft last)) Other old last =
+        line_then e old new last all (both_lit e old mid new has_stale says (message_of said) (kind_of_verdict said) drop.frame drop.drew said_there) (first + second) 1 _ Other
+        (rises_twice first first second second (e.redraws old) (e.redraws mid) (e.redraws new)
+        (perhaps_redraws e has_stale None ForcedRefresh old mid drop.drew) (perhaps_redraws e says (message_of said) (kind_of_verdict said) mid new said_there)) typed.drew in
         record {
           steps = record {
             editor = ap (λ (d : Draft). editor_with d kills) (longer ∙ ap (λ (p : Draft × Answer). p.0) (left_by GoesOn is));
             answered = ap (λ (p : Draft × Answer). p.1) (sym (left_by GoesOn is));
           };
-          drew = subst (λ d. Drew e 3 d old last) (drawn_is GoesOn is) line;
+          drew = drawn_by GoesOn last is line;
           drawn = record { right = λ was. line.right; line = λ there. hint_trails e last line.shows };
-          change = inr (line.shows, line.redraws);
+          change = inr (
+            line.shows,
+            rises_within 1 (first + second + 1) 3 (e.redraws old) (e.redraws last) (omega arith)
+                (omega (arith, twice_at_most (e.display old) (e.environment old) (e.draft old))) line.redraws,
+          );
           start = typed.start ∙ asked.start ∙ drop.start;
         }
 

@@ -2,8 +2,9 @@
 use Rattle.std.proofs.Common.{◌≡◌, ℕ, ◌+◌, ◌≤◌, Bool, true, false, cond, inl, inr, List, Option, Some, None, option_map, Result, Ok, Err, refl, sym, ◌∙◌, ap, subst, arith}
 use Rattle.std.proofs.lemmas.Bool.{cases_lt}
 use Rattle.std.specs.Prelude.{◌||◌, ◌==◌, if◌then◌else◌, length, not, is_some}
+use Rattle.line_buffer.specs.Kill.{killed_range}
 use Rattle.line_buffer.specs.KillRing.{Ring, after_yank_pop}
-use Rattle.line_buffer.specs.Line.{Line}
+use Rattle.line_buffer.specs.Line.{Line, ends_in_white_space}
 use Rattle.line_buffer.specs.declared.keymap.Movement.{Movement}
 use Rattle.line_buffer.specs.declared.keymap.Movement.TheVariants as By
 use Rattle.line_config.specs.declared.error.ReadlineError.{ReadlineError}
@@ -12,28 +13,31 @@ use Rattle.line_keys.specs.Command.{Command, accept_line, accept_or_insert_line,
 use Rattle.line_keys.specs.declared.command.Anchor.{Anchor}
 use Rattle.line_keys.specs.declared.command.Cmd.{Cmd}
 use Rattle.line_keys.specs.Display.{Display, IsRight, ShowsInFull, Surface, lit_after}
-use Rattle.line_keys.specs.Draft.{Draft, hint_shown, start_text}
+use Rattle.line_keys.specs.Draft.{Draft, hint_shown, start_text, unhinted}
 use Rattle.line_keys.specs.Drawing.{Does, DoesAsking, Drawing, Drew, DrewLine, DrewNothing, Refreshes, asked_by, drawn_if, edit_drawn, ShowsChange, nothing, with_hint, with_text}
 use Rattle.line_keys.specs.EditorState.{FailsByParty, Frame, Redraws}
 use Rattle.line_keys.specs.declared.editor_state.EditorState.{Ghosts}
 use Rattle.line_parts.specs.Asks.{Asks, for_hint, is_sure}
-use Rattle.line_parts.specs.Environment.{Environment}
+use Rattle.line_parts.specs.Environment.{Environment, verdict_on}
 use Rattle.line_parts.specs.declared.highlight.CmdKind.{CmdKind}
 use Rattle.line_parts.specs.declared.highlight.CmdKind.TheVariants.{ForcedRefresh, Other}
 use Rattle.line_state.specs.Moves.{moved}
 use Rattle.line_state.specs.Edited as edits
 use Rattle.line_state.specs.Edited.{pops_text}
-use Rattle.line_editor.specs.Drawings.{asked_of, drawing_of, edited_asked, edited_drawn, has_text, most_drawn, pop_drawn}
+use Rattle.line_editor.specs.Accept.{reply_to}
+use Rattle.line_editor.specs.Drawings.{asked_of, drawing_of, edited_asked, edited_drawn, edited_times, has_text, once_for, pop_drawn, reply_times, times_of, unhinted_drawn, validated_times, verdict_drawn}
 use Rattle.line_editor.specs.Editor.{Editor, Ruler, Step, edited_of, measuring, proceeding, ruler_of, with_draft}
 use Rattle.line_editor.specs.Edits.{after_edit, kill_popped, killed_by, popped_in, replaced_by, text_inserted}
 use Rattle.line_editor.specs.Input.{Input}
 use Rattle.line_editor.specs.Runs.{DoesWithKills, Executed, Executes, editor_of}
 use Rattle.line_editor.specs.Status.{answer_at, answer_of}
 use Rattle.line_editor.specs.Step.{edited_by, step}
+use Rattle.line_editor.specs.declared.command.Reply.{Reply}
+use Rattle.line_editor.specs.declared.command.Reply.TheVariants.{GoesOn}
 use Rattle.line_editor.specs.declared.command.Status.{Status}
 use Rattle.line_editor.specs.declared.command.Status.TheVariants.{Proceed}
 use Rattle.line_editor.proofs.AskedLemmas.{fails_more, sure_second}
-use Rattle.line_editor.proofs.CountLemmas.{rises_more, rises_stays, rises_twice, rises_up_to}
+use Rattle.line_editor.proofs.CountLemmas.{rises_stays, rises_twice, rises_up_to, rises_within}
 use Rattle.line_editor.proofs.HistoryMoveLemmas.{always}
 use Rattle.line_editor.proofs.DoneLemmas.{does_nothing, nothing_drawn}
 use Rattle.line_editor.proofs.DrawnLemmas.{frame_then, hint_trails, keeps_then}
@@ -90,12 +94,28 @@ lit_same true false asked asked' last last' same by none = absurd (cc)
 lit_same false true asked asked' last last' same by none = absurd (cc)
 
 -- no command draws the line in full more than three times
-pub few_drawn : (command : Command) → most_drawn command ≤ 3
-few_drawn newline = omega arith
-few_drawn (replace movement text) = omega arith
-few_drawn accept_line = omega arith
-few_drawn (accept_or_insert_line in_the_middle) = omega arith
-few_drawn _ = omega arith
+once_at_most : (drawing : Drawing) → once_for drawing ≤ 1
+once_at_most nothing = omega arith
+once_at_most _ = omega arith
+
+pub twice_at_most : (display : Display) (environment : Environment) (draft : Draft) → validated_times display environment draft ≤ 2
+twice_at_most display environment draft =
+    omega (arith, once_at_most (unhinted_drawn display draft), once_at_most (verdict_drawn environment (unhinted draft)))
+
+once_more : (reply : Reply) (times : ℕ) → times ≤ 2 → reply_times reply times ≤ 3
+once_more GoesOn times few = omega (arith, few)
+once_more _ times few = omega (arith, few)
+
+pub few_drawn : (display : Display) (environment : Environment) (editor : Editor) (command : Command) → times_of display environment editor command ≤ 3
+few_drawn display environment editor newline = omega (arith, once_at_most (unhinted_drawn display editor.draft))
+few_drawn display environment editor (replace movement text) =
+    omega (arith, once_at_most (drawn_if (is_some (killed_range editor.draft.line movement))), once_at_most (drawn_if (has_text text)))
+few_drawn display environment editor accept_line =
+    let few = twice_at_most display environment editor.draft in omega (arith, few)
+few_drawn display environment editor (accept_or_insert_line in_the_middle) =
+    once_more (reply_to (verdict_on environment editor.draft.line.text) (in_the_middle || ends_in_white_space editor.draft.line))
+    (validated_times display environment editor.draft) (twice_at_most display environment editor.draft)
+few_drawn display environment editor _ = omega arith
 
 -- the commands that only edit
 abbrev only_edits : Command → Bool
@@ -152,6 +172,20 @@ edit_draws display environment editor (yank n anchor) only = absurd (cc)
 edit_draws display environment editor yank_pop only = absurd (cc)
 edit_draws display environment editor _ only = refl
 
+-- so is how often it draws
+pub edit_times : (display : Display) (environment : Environment) (editor : Editor) (command : Command) → only_edits command ≡ true
+    → times_of display environment editor command ≡ edited_times display editor.draft command
+edit_times display environment editor accept_line only = absurd (cc)
+edit_times display environment editor (accept_or_insert_line in_the_middle) only = absurd (cc)
+edit_times display environment editor end_of_file only = absurd (cc)
+edit_times display environment editor interrupt only = absurd (cc)
+edit_times display environment editor (kill movement) only = absurd (cc)
+edit_times display environment editor (replace movement text) only = absurd (cc)
+edit_times display environment editor (vi_yank_to movement) only = absurd (cc)
+edit_times display environment editor (yank n anchor) only = absurd (cc)
+edit_times display environment editor yank_pop only = absurd (cc)
+edit_times display environment editor _ only = refl
+
 -- so is whom it asks
 pub edit_asks : (display : Display) (environment : Environment) (editor : Editor) (command : Command) → only_edits command ≡ true
     → asked_of display environment editor command ≡ edited_asked display environment editor.draft command
@@ -172,21 +206,21 @@ editor_is draft draft' kills kills' same too = ap (λ d. editor_with d kills') s
 
 module _ {X : Type 0} (e : Ghosts X) (old mid new : X) (frame : Frame e old mid) (lit : (e.display old).surface.colors ≡ false → (e.display mid).lit ≡ (e.display old).lit) where
   -- a full redraw behind another drawing is the last of both
-  pub line_then : (before most : ℕ) (trailing : _) (kind : CmdKind) → Redraws e 0 before old mid → DrewLine e most trailing kind mid new
-      → DrewLine e (before + most) trailing kind old new
-  line_then before most trailing kind redraws drew = record {
+  pub line_then : (before times : ℕ) (trailing : _) (kind : CmdKind) → Redraws e before before old mid → DrewLine e times trailing kind mid new
+      → DrewLine e (before + times) trailing kind old new
+  line_then before times trailing kind redraws drew = record {
     shows = drew.shows;
     right = drew.right;
     lit = drew.lit ∙ lit_same (e.display old).surface.colors (e.display mid).surface.colors
         ((e.environment old).lights (e.draft new).line.text (e.draft new).line.cursor kind) ((e.environment mid).lights (e.draft new).line.text (e.draft new).line.cursor kind)
         (e.display old).lit (e.display mid).lit (ap (λ (s : Surface). s.colors) frame.surface)
         (ap (λ (w : Environment). w.lights (e.draft new).line.text (e.draft new).line.cursor kind) frame.environment) lit;
-    redraws = rises_twice 0 before 1 most (e.redraws old) (e.redraws mid) (e.redraws new) redraws drew.redraws;
+    redraws = rises_twice before before times times (e.redraws old) (e.redraws mid) (e.redraws new) redraws drew.redraws;
   }
 
 -- a full redraw that nothing was drawn behind
 pub line_kept : {X : Type 0} (e : Ghosts X) (old mid new : X) (trailing : Option (List ℕ)) (kind : CmdKind) → DrewNothing e mid new
-    → (e.draft new).line ≡ (e.draft mid).line → DrewLine e 1 trailing kind old mid → DrewLine e 2 trailing kind old new
+    → (e.draft new).line ≡ (e.draft mid).line → DrewLine e 1 trailing kind old mid → DrewLine e 1 trailing kind old new
 line_kept e old mid new trailing kind undrew line drew = record {
   shows = record {
     in_full =
@@ -198,8 +232,7 @@ line_kept e old mid new trailing kind undrew line drew = record {
       subst (λ (l : Line). IsRight (e.display new) l) (sym line)
       (subst (λ (d : Display). IsRight d (e.draft mid).line) (sym undrew.display) drew.right);
   lit = ap (λ (d : Display). d.lit) undrew.display ∙ drew.lit ∙ ap (λ (l : Line). lit_after (e.environment old) (e.display old) l kind) (sym line);
-  redraws = rises_up_to 1 1 2 (e.redraws old) (e.redraws new) (omega arith)
-      (rises_stays 1 1 (e.redraws old) (e.redraws mid) (e.redraws new) drew.redraws undrew.redraws);
+  redraws = rises_stays 1 1 (e.redraws old) (e.redraws mid) (e.redraws new) drew.redraws undrew.redraws;
 }
 
 module _ {X : Type 0} (e : Ghosts X) where
@@ -208,16 +241,17 @@ module _ {X : Type 0} (e : Ghosts X) where
   colorless w d line kind none = ap (λ b. cond b (w.lights line.text line.cursor kind) d.lit) none
 
   -- a drawing that takes a hint away, where it draws anything
-  pub perhaps_lit : (drawn : Bool) (most : ℕ) (trailing : _) (kind : CmdKind) (old mid : X)
-      → Drew e most (if drawn then with_text trailing kind else nothing) old mid
+  pub perhaps_lit : (drawn : Bool) (times : ℕ) (trailing : _) (kind : CmdKind) (old mid : X)
+      → Drew e times (if drawn then with_text trailing kind else nothing) old mid
       → (e.display old).surface.colors ≡ false → (e.display mid).lit ≡ (e.display old).lit
-  perhaps_lit true most trailing kind old mid drew none = drew.lit ∙ colorless (e.environment old) (e.display old) (e.draft mid).line kind none
-  perhaps_lit false most trailing kind old mid drew none = ap (λ (d : Display). d.lit) drew.display
+  perhaps_lit true times trailing kind old mid drew none = drew.lit ∙ colorless (e.environment old) (e.display old) (e.draft mid).line kind none
+  perhaps_lit false times trailing kind old mid drew none = ap (λ (d : Display). d.lit) drew.display
 
-  pub perhaps_redraws : (drawn : Bool) (most : ℕ) (trailing : _) (kind : CmdKind) (old mid : X)
-      → Drew e most (if drawn then with_text trailing kind else nothing) old mid → Redraws e 0 most old mid
-  perhaps_redraws true most trailing kind old mid drew = rises_more 1 most most (e.redraws old) (e.redraws mid) (omega arith) drew.redraws
-  perhaps_redraws false most trailing kind old mid drew = λ below. (omega (arith, drew.redraws), omega (arith, drew.redraws))
+  pub perhaps_redraws : (drawn : Bool) (trailing : _) (kind : CmdKind) (old mid : X)
+      → Drew e 1 (if drawn then with_text trailing kind else nothing) old mid
+      → Redraws e (once_for (if drawn then with_text trailing kind else nothing)) (once_for (if drawn then with_text trailing kind else nothing)) old mid
+  perhaps_redraws true trailing kind old mid drew = drew.redraws
+  perhaps_redraws false trailing kind old mid drew = λ below. (omega (arith, drew.redraws), omega (arith, drew.redraws))
 
   -- a change that was drawn with fewer redraws was drawn with more
   pub change_more : (old new : X) (less more : ℕ) → less ≤ more → ShowsChange e less old new → ShowsChange e more old new
@@ -241,7 +275,8 @@ module _ {X : Type 0} (e : Ghosts X) where
   pub typed_behind : {T : Type 0} (r : Result T ReadlineError) (old mid new : X) (drawn : Bool) (made : Environment → Draft → Draft) (given : Draft)
       → e.draft mid ≡ given → given.line.text ≡ (e.draft old).line.text → start_text (e.draft mid) ≡ start_text (e.draft old)
       → Drew e 1 (if drawn then with_text None ForcedRefresh else nothing) old mid → Frame e old mid → e.failures mid ≡ e.failures old
-      → Does e r mid new (made (e.environment mid) (e.draft mid)) with_hint 1 → Does e r old new (made (e.environment old) given) with_hint 2
+      → Does e r mid new (made (e.environment mid) (e.draft mid)) with_hint 1
+      → Does e r old new (made (e.environment old) given) with_hint (once_for (if drawn then with_text None ForcedRefresh else nothing) + 1)
   typed_behind (Err er) old mid new drawn made given draft text start drew frame none does = record {
     draft = tt;
     start = tt;
@@ -252,14 +287,15 @@ module _ {X : Type 0} (e : Ghosts X) where
     fails = fails_then for_hint (Err er) old mid new frame does.frame none does.fails;
   }
   typed_behind (Ok x) old mid new drawn made given draft text start drew frame none does =
-      let line : DrewLine e 2 (hint_shown (e.draft new)) Other old new =
-      line_then e old mid new frame (perhaps_lit drawn 1 None ForcedRefresh old mid drew) 1 1 _ Other (perhaps_redraws drawn 1 None ForcedRefresh old mid drew) does.drew in
+      let first : ℕ = once_for (if drawn then with_text None ForcedRefresh else nothing) in
+      let line : DrewLine e (first + 1) (hint_shown (e.draft new)) Other old new =
+      line_then e old mid new frame (perhaps_lit drawn 1 None ForcedRefresh old mid drew) first 1 _ Other (perhaps_redraws drawn None ForcedRefresh old mid drew) does.drew in
       record {
         draft = does.draft ∙ ap (λ w. made w (e.draft mid)) frame.environment ∙ ap (λ d. made (e.environment old) d) draft;
         start = does.start ∙ start;
         drew = line;
         keeps = record { right = λ was. line.right; line = λ was. hint_trails e new line.shows };
-        change = inr (line.shows, line.redraws);
+        change = inr (line.shows, rises_within 1 (first + 1) (first + 1) (e.redraws old) (e.redraws new) (omega arith) (omega arith) line.redraws);
         frame = frame_then e old mid new frame does.frame;
         fails = fails_then for_hint (Ok x) old mid new frame does.frame none does.fails;
       }
@@ -286,24 +322,29 @@ module _ {X : Type 0} (e : Ghosts X) (old mid new : X) (frame : Frame e old mid)
   found_lit true drew none = drew.lit ∙ colorless e (e.environment old) (e.display old) (e.draft mid).line Other none
   found_lit false drew none = ap (λ (d : Display). d.lit) drew.display
 
-  found_redraws : (found : Bool) → Drew e 1 (drawn_if found) old mid → Redraws e 0 1 old mid
-  found_redraws true drew = rises_more 1 1 1 (e.redraws old) (e.redraws mid) (omega arith) drew.redraws
+  found_redraws : (found : Bool) → Drew e 1 (drawn_if found) old mid → Redraws e (once_for (drawn_if found)) (once_for (drawn_if found)) old mid
+  found_redraws true drew = drew.redraws
   found_redraws false drew = λ below. (omega (arith, drew.redraws), omega (arith, drew.redraws))
 
   -- a line that may have been drawn, and then may have been again
   twice_drawn : (found empty : Bool) → (empty ≡ true → ((e.draft new).line ≡ (e.draft mid).line) × ((e.draft new).hint ≡ (e.draft mid).hint))
-      → Drew e 1 (drawn_if found) old mid → Drew e 1 (drawn_if (not empty)) mid new → Drew e 2 (drawn_if (found || not empty)) old new
+      → Drew e 1 (drawn_if found) old mid → Drew e 1 (drawn_if (not empty)) mid new
+      → Drew e (once_for (drawn_if found) + once_for (drawn_if (not empty))) (drawn_if (found || not empty)) old new
   twice_drawn true true stays first second =
       let s = stays refl in
-      subst (λ (h : _). DrewLine e 2 (option_map (λ s. s.display) h) Other old new) (sym s.1)
+      subst (λ (h : _). DrewLine e 1 (option_map (λ s. s.display) h) Other old new) (sym s.1)
       (line_kept e old mid new (hint_shown (e.draft mid)) Other second s.0 first)
   twice_drawn false true stays first second = record { display = second.display ∙ first.display; redraws = second.redraws ∙ first.redraws }
   twice_drawn true false stays first second = line_then e old mid new frame (found_lit true first) 1 1 (hint_shown (e.draft new)) Other (found_redraws true first) second
-  twice_drawn false false stays first second = line_then e old mid new frame (found_lit false first) 1 1 (hint_shown (e.draft new)) Other (found_redraws false first) second
+  twice_drawn false false stays first second = line_then e old mid new frame (found_lit false first) 0 1 (hint_shown (e.draft new)) Other (found_redraws false first) second
 
-  twice_changed : (drawn : Bool) → Drew e 2 (drawn_if drawn) old new → (drawn ≡ false → (e.draft new).line.text ≡ (e.draft old).line.text) → ShowsChange e 2 old new
-  twice_changed true drew same = inr (drew.shows, drew.redraws)
-  twice_changed false drew same = inl (same refl)
+  twice_changed : (found empty : Bool) → Drew e (once_for (drawn_if found) + once_for (drawn_if (not empty))) (drawn_if (found || not empty)) old new
+      → ((found || not empty) ≡ false → (e.draft new).line.text ≡ (e.draft old).line.text)
+      → ShowsChange e (once_for (drawn_if found) + once_for (drawn_if (not empty))) old new
+  twice_changed true true drew same = inr (drew.shows, drew.redraws)
+  twice_changed true false drew same = inr (drew.shows, rises_within 1 2 2 (e.redraws old) (e.redraws new) (omega arith) (omega arith) drew.redraws)
+  twice_changed false false drew same = inr (drew.shows, drew.redraws)
+  twice_changed false true drew same = inl (same refl)
 
 -- no text leaves the draft as it is
 none_put : (environment : Environment) (text : List ℕ) (draft : Draft) (empty : Bool) → (length text == 0) ≡ empty → empty ≡ true → text_inserted environment text draft ≡ draft
@@ -326,7 +367,7 @@ pub replaced : {X T U : Type 0} (e : Ghosts X) (x : T) (r : Result U ReadlineErr
     → Does e r mid new (text_inserted (e.environment mid) text (e.draft mid)) (drawn_if (not (length text == 0))) 1
     → DoesWithKills e r old kills new kills'
     (with_draft (killed_by (e.environment old) movement (editor_of e old kills) range) (text_inserted (e.environment old) text (killed_by (e.environment old) movement (editor_of e old kills) range).draft))
-    (drawn_if (is_some range || not (length text == 0))) 2
+    (drawn_if (is_some range || not (length text == 0))) (once_for (drawn_if (is_some range)) + once_for (drawn_if (not (length text == 0))))
 replaced e x (Err f) old mid new kills kills' movement range text killed put = record {
   does = record {
     draft = tt;
@@ -346,7 +387,7 @@ replaced e x (Ok y) old mid new kills kills' movement range text killed put =
     let stays : ((length text == 0) ≡ true → ((e.draft new).line ≡ (e.draft mid).line) × ((e.draft new).hint ≡ (e.draft mid).hint)) =
     λ none. let same = put.draft ∙ none_put (e.environment mid) text (e.draft mid) (length text == 0) refl none in
     (ap (λ (d : Draft). d.line) same, ap (λ (d : Draft). d.hint) same) in
-    let drew : Drew e 2 (drawn_if (is_some range || not (length text == 0))) old new =
+    let drew : Drew e (once_for (drawn_if (is_some range)) + once_for (drawn_if (not (length text == 0)))) (drawn_if (is_some range || not (length text == 0))) old new =
     twice_drawn e old mid new killed.does.frame (is_some range) (length text == 0) stays killed.does.drew put.drew in
     record {
       does = record {
@@ -354,7 +395,7 @@ replaced e x (Ok y) old mid new kills kills' movement range text killed put =
         start = put.start ∙ killed.does.start;
         drew = drew;
         keeps = keeps_then e old mid new killed.does.keeps put.keeps;
-        change = twice_changed e old mid new killed.does.frame (is_some range || not (length text == 0)) drew (λ none.
+        change = twice_changed e old mid new killed.does.frame (is_some range) (length text == 0) drew (λ none.
             let n = both_none (is_some range) (length text == 0) none in
             ap (λ (l : Line). l.text) (stays n.1).0 ∙ ap (λ (d : Draft). d.line.text) (killed.does.draft ∙ none_killed (e.environment old) movement (editor_of e old kills) range n.0));
         frame = frame_then e old mid new killed.does.frame put.frame;
@@ -365,22 +406,28 @@ replaced e x (Ok y) old mid new kills kills' movement range text killed put =
 
 -- the same of an equal text
 pub replaced_as : {X T : Type 0} (e : Ghosts X) (r : Result T ReadlineError) (old new : X) (kills kills' : Ring) (movement : Movement) (found : Bool) (put put' : Option (List ℕ)) → put ≡ put'
-    → DoesWithKills e r old kills new kills' (replaced_by (e.environment old) movement put (editor_of e old kills)) (drawn_if (found || has_text put)) 2
-    → DoesWithKills e r old kills new kills' (replaced_by (e.environment old) movement put' (editor_of e old kills)) (drawn_if (found || has_text put')) 2
+    → DoesWithKills e r old kills new kills' (replaced_by (e.environment old) movement put (editor_of e old kills)) (drawn_if (found || has_text put))
+    (once_for (drawn_if found) + once_for (drawn_if (has_text put)))
+    → DoesWithKills e r old kills new kills' (replaced_by (e.environment old) movement put' (editor_of e old kills)) (drawn_if (found || has_text put'))
+    (once_for (drawn_if found) + once_for (drawn_if (has_text put')))
 replaced_as e r old new kills kills' movement found put put' same done =
-    subst (λ p. DoesWithKills e r old kills new kills' (replaced_by (e.environment old) movement p (editor_of e old kills)) (drawn_if (found || has_text p)) 2) same done
+    subst (λ p. DoesWithKills e r old kills new kills' (replaced_by (e.environment old) movement p (editor_of e old kills)) (drawn_if (found || has_text p))
+    (once_for (drawn_if found) + once_for (drawn_if (has_text p)))) same done
 
 -- what is killed, and nothing comes in its place
 pub only_killed : {X T : Type 0} (e : Ghosts X) (x : T) (old new : X) (kills kills' : Ring) (movement : Movement) (range : Option (ℕ × ℕ))
     → DoesWithKills e (Ok x) old kills new kills' (killed_by (e.environment old) movement (editor_of e old kills) range) (drawn_if (is_some range)) 1
-    → DoesWithKills e (Ok x) old kills new kills' (killed_by (e.environment old) movement (editor_of e old kills) range) (drawn_if (is_some range || false)) 2
+    → DoesWithKills e (Ok x) old kills new kills' (killed_by (e.environment old) movement (editor_of e old kills) range) (drawn_if (is_some range || false))
+    (once_for (drawn_if (is_some range)) + once_for (drawn_if false))
 only_killed e x old new kills kills' movement range killed = record {
   does = record {
     draft = killed.does.draft;
     start = killed.does.start;
     drew = twice_drawn e old new new killed.does.frame (is_some range) true (λ none. (refl, refl)) killed.does.drew (record { display = refl; redraws = refl });
     keeps = killed.does.keeps;
-    change = change_more e old new 1 2 (omega arith) killed.does.change;
+    change = twice_changed e old new new killed.does.frame (is_some range) true (twice_drawn e old new new killed.does.frame (is_some range) true (λ none. (refl, refl)) killed.does.drew (record { display = refl; redraws = refl })) (λ none.
+        let n = both_none (is_some range) true none in
+        ap (λ (d : Draft). d.line.text) (killed.does.draft ∙ none_killed (e.environment old) movement (editor_of e old kills) range n.0));
     frame = killed.does.frame;
     fails = record { io = tt; faults = tt; quiet = killed.does.fails.quiet };
   };
@@ -416,34 +463,38 @@ module _ {X : Type 0} (e : Ghosts X) (old new : X) (input : Input) (indent : ℕ
   does_ok : {T : Type 0} (x : T) (asks : Asks) (left : Editor) (drawing : Drawing)
       → step (ruler_of (e.display old) indent) (e.environment old) input (editor_of e old kills) command ≡ proceeding left
       → drawing_of (e.display old) (e.environment old) (editor_of e old kills) command ≡ drawing
-      → DoesAsking e asks (Ok x) old new left.draft drawing (most_drawn command) → kills' ≡ left.kills
+      → DoesAsking e asks (Ok x) old new left.draft drawing (times_of (e.display old) (e.environment old) (editor_of e old kills) command) → kills' ≡ left.kills
       → Executes e (Ok Proceed) old input indent kills command new kills'
   does_ok x asks left drawing steps draws does ring = executed_ok Proceed (record {
     steps = record {
       editor = editor_is _ _ _ _ does.draft ring ∙ sym (ap (λ (s : Step). s.editor) steps);
       answered = ap (λ (s : Step). s.answer) steps;
     };
-    drew = subst (λ d. Drew e (most_drawn command) d old new) (sym draws) does.drew;
+    drew = subst (λ d. Drew e (times_of (e.display old) (e.environment old) (editor_of e old kills) command) d old new) (sym draws) does.drew;
     drawn = does.keeps;
-    change = change_more e old new (most_drawn command) 3 (few_drawn command) does.change;
+    change = change_more e old new (times_of (e.display old) (e.environment old) (editor_of e old kills) command) 3
+        (few_drawn (e.display old) (e.environment old) (editor_of e old kills) command) does.change;
     start = does.start;
   }) does.frame does.fails.quiet
 
   pub proceeds_ok : {T : Type 0} (x : T) (left : Editor) (drawing : Drawing)
       → step (ruler_of (e.display old) indent) (e.environment old) input (editor_of e old kills) command ≡ proceeding left
       → drawing_of (e.display old) (e.environment old) (editor_of e old kills) command ≡ drawing
-      → DoesWithKills e (Ok x) old kills new kills' left drawing (most_drawn command)
+      → DoesWithKills e (Ok x) old kills new kills' left drawing (times_of (e.display old) (e.environment old) (editor_of e old kills) command)
       → Executes e (Ok Proceed) old input indent kills command new kills'
   proceeds_ok x left drawing steps draws done = does_ok x (asked_by drawing) left drawing steps draws done.does done.kills_left
 
   -- an edit that proceeds
   pub edits_ok : {T : Type 0} (x : T) (asks : Asks) → only_edits command ≡ true → kills' ≡ kills
       → DoesAsking e asks (Ok x) old new (edited_by (ruler_of (e.display old) indent) (e.environment old) input (e.draft old) command)
-      (edited_drawn (e.display old) (e.environment old) (e.draft old) command) (most_drawn command)
+      (edited_drawn (e.display old) (e.environment old) (e.draft old) command) (edited_times (e.display old) (e.draft old) command)
       → Executes e (Ok Proceed) old input indent kills command new kills'
   edits_ok x asks only same does =
       does_ok x asks _ _ (edit_steps (ruler_of (e.display old) indent) (e.environment old) input (editor_of e old kills) command only)
-      (edit_draws (e.display old) (e.environment old) (editor_of e old kills) command only) does same
+      (edit_draws (e.display old) (e.environment old) (editor_of e old kills) command only)
+      (subst (λ n. DoesAsking e asks (Ok x) old new (edited_by (ruler_of (e.display old) indent) (e.environment old) input (e.draft old) command)
+      (edited_drawn (e.display old) (e.environment old) (e.draft old) command) n)
+      (sym (edit_times (e.display old) (e.environment old) (editor_of e old kills) command only)) does) same
 
   -- an edit that went wrong
   pub edits_wrong : {T : Type 0} (f : ReadlineError) (left : Draft) (drawing : Drawing) (most : ℕ) → only_edits command ≡ true

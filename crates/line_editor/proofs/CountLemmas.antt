@@ -13,6 +13,11 @@ rises_more least most more old new within rise = λ below. let r = rise (omega (
 pub rises_up_to : (least most more old new : ℕ) → most ≤ more → Rises least most old new → Rises least more old new
 rises_up_to least most more old new within rise = λ below. let r = rise (omega (arith, within, below)) in (omega (arith, r.0), omega (arith, r.1, within))
 
+-- so is one within wider bounds
+pub rises_within : (least times most old new : ℕ) → least ≤ times → times ≤ most → Rises times times old new → Rises least most old new
+rises_within least times most old new enough few rise =
+    λ below. let r = rise (omega (arith, few, below)) in (omega (arith, enough, r.0), omega (arith, few, r.1))
+
 -- two rises are one by both
 pub rises_twice : (least most least' most' old middle new : ℕ) → Rises least most old middle → Rises least' most' middle new
     → Rises (least + least') (most + most') old new

@@ -14,14 +14,14 @@ use Rattle.line_keys.specs.ShownLine.{KeepsDrawn}
 use Rattle.line_keys.specs.declared.command.Cmd.{Cmd}
 use Rattle.line_keys.specs.declared.editor_state.EditorState as editors
 use Rattle.line_keys.specs.declared.tty.RawReader as readers
-use Rattle.line_editor.specs.Drawings.{drawing_of, most_drawn}
+use Rattle.line_editor.specs.Drawings.{drawing_of, times_of}
 use Rattle.line_parts.specs.Asks.{for_all, for_hint, is_sure}
 use Rattle.line_editor.proofs.AskedLemmas.{sure_all}
 use Rattle.line_editor.specs.Editor.{Answer, ended, grouped, interrupted, proceeds, ruler_of, submitted}
 use Rattle.line_editor.specs.Keymap.{KeyState}
 use Rattle.line_editor.specs.Reading.{KeepsReading, ReadsCommand}
 use Rattle.line_editor.specs.Run.{kills_before}
-use Rattle.line_editor.specs.Runs.{Advances, AdvancesTo, DrawnAfter, Executed, Executes, TakesTurn, editor_of, session}
+use Rattle.line_editor.specs.Runs.{Advances, AdvancesTo, DrawnAfter, DrewFor, Executed, Executes, TakesTurn, editor_of, session}
 use Rattle.line_editor.specs.declared.command.Status.{Status}
 use Rattle.line_editor.specs.declared.run.Turned.{Turned}
 use Rattle.line_editor.specs.declared.run.Turned.TheVariants as turned
@@ -39,16 +39,16 @@ module _ {X : Type 0} (e : editors.Ghosts X) where
   ]
 
   -- nor does a drawing
-  drew_few : (most : ℕ) (drawing : Drawing) (old new : X) → most ≤ 3 → Drew e most drawing old new → Redraws e 0 3 old new
-  drew_few most nothing old new few drew = stays_rises 3 (e.redraws old) (e.redraws new) drew.redraws
-  drew_few most with_hint old new few drew = rises_more 1 most 3 (e.redraws old) (e.redraws new) few drew.redraws
-  drew_few most (with_text trailing kind) old new few drew = rises_more 1 most 3 (e.redraws old) (e.redraws new) few drew.redraws
-  drew_few most (behind_prompt prompt) old new few drew = rises_more 1 1 3 (e.redraws old) (e.redraws new) (omega arith) drew.redraws
-  drew_few most (cursor kind) old new few drew = rises_more 0 1 3 (e.redraws old) (e.redraws new) (omega arith) (cursor_once kind old new drew)
-  drew_few most (cursor_over line) old new few drew =
+  drew_few : (times : ℕ) (drawing : Drawing) (old new : X) → times ≤ 3 → Drew e times drawing old new → Redraws e 0 3 old new
+  drew_few times nothing old new few drew = stays_rises 3 (e.redraws old) (e.redraws new) drew.redraws
+  drew_few times with_hint old new few drew = rises_more times times 3 (e.redraws old) (e.redraws new) few drew.redraws
+  drew_few times (with_text trailing kind) old new few drew = rises_more times times 3 (e.redraws old) (e.redraws new) few drew.redraws
+  drew_few times (behind_prompt prompt) old new few drew = rises_more 1 1 3 (e.redraws old) (e.redraws new) (omega arith) drew.redraws
+  drew_few times (cursor kind) old new few drew = rises_more 0 1 3 (e.redraws old) (e.redraws new) (omega arith) (cursor_once kind old new drew)
+  drew_few times (cursor_over line) old new few drew =
       rises_more 0 2 3 (e.redraws old) (e.redraws new) (omega arith)
       (rises_twice 0 1 0 1 (e.redraws old) (e.redraws drew.way) (e.redraws new) (cursor_once MoveCursor old drew.way drew.first) (cursor_once MoveCursor drew.way new drew.second))
-  drew_few most cursor_to_end old new few drew = stays_rises 3 (e.redraws old) (e.redraws new) drew.redraws
+  drew_few times cursor_to_end old new few drew = stays_rises 3 (e.redraws old) (e.redraws new) drew.redraws
 
   module _ (old middle new : X) (keeps : KeepsDrawn e old middle) (in_place : IsInPlace e old → IsInPlace e middle) where
     -- what is drawn after an answer, where it was good before the command
@@ -94,7 +94,8 @@ module _ {X Y : Type 0} (e : editors.Ghosts X) (r : readers.Ghosts Y) (old middl
       → TakesTurn e r indent (session old keys reader kills) (session new keys' reader' kills') answer
   takes_turn answer done =
       let n : ℕ = length (r.rest reader) - length (r.rest reader') in
-      let few : Redraws e 0 3 middle new = drew_few e (most_drawn (command_of c)) (drawing_of (e.display middle) (e.environment middle) (editor_of e middle ready) (command_of c)) middle new (few_drawn (command_of c)) done.drew in
+      let few : Redraws e 0 3 middle new = drew_few e (times_of (e.display middle) (e.environment middle) (editor_of e middle ready) (command_of c)) (drawing_of (e.display middle) (e.environment middle) (editor_of e middle ready) (command_of c)) middle new
+      (few_drawn (e.display middle) (e.environment middle) (editor_of e middle ready) (command_of c)) done.drew in
       record {
         ruler = ruler_of (e.display middle) indent;
         turn = record {
@@ -111,7 +112,7 @@ module _ {X Y : Type 0} (e : editors.Ghosts X) (r : readers.Ghosts Y) (old middl
         found = middle;
         as_read = read.read.begun_there;
         counted = read.read.phrase.drew;
-        drew = subst (λ k. Drew e (most_drawn (command_of c)) (drawing_of (e.display middle) (e.environment middle) (editor_of e middle k) (command_of c)) middle new) reset done.drew;
+        drew = subst (λ k. DrewFor e (editor_of e middle k) (command_of c) middle new) reset done.drew;
         frame = read.keeps.both.frame;
         drawn = drawn_then e old middle new read.read.drawn read.read.in_place answer done.drawn;
         change = change_then e old middle new n (ap (λ (l : Line). l.text) read.line.line) read.redraws done.change;

@@ -1,5 +1,5 @@
 -- What each command draws.
-use Rattle.std.specs.Prelude.{ℕ, ◌==◌, ◌||◌, Bool, false, not, if◌then◌else◌, List, length, Option, Some, None, is_some}
+use Rattle.std.specs.Prelude.{ℕ, ◌+◌, ◌==◌, ◌||◌, Bool, false, not, if◌then◌else◌, List, length, Option, Some, None, is_some}
 use Rattle.std.specs.List.{list_any}
 use Rattle.line_buffer.specs.Cluster.{place_on}
 use Rattle.line_buffer.specs.Kill.{killed_range}
@@ -142,10 +142,32 @@ asked_of display environment editor (yank n anchor) = asked_by (drawing_of displ
 asked_of display environment editor yank_pop = asked_by (drawing_of display environment editor yank_pop)
 asked_of display environment editor command = edited_asked display environment editor.draft command
 
--- how often a command draws the line in full, at most
-abbrev pub most_drawn : Command → ℕ
-most_drawn newline = 2
-most_drawn (replace movement text) = 2
-most_drawn accept_line = 2
-most_drawn (accept_or_insert_line in_the_middle) = 3
-most_drawn _ = 1
+-- a line is drawn in full once, where it is drawn at all
+abbrev pub once_for : Drawing → ℕ
+once_for nothing = 0
+once_for drawing = 1
+
+-- how often a command draws the line that proceeds and leaves the kill ring: a newline takes the hint away first
+abbrev pub edited_times : Display → Draft → Command → ℕ
+edited_times display draft newline = once_for (unhinted_drawn display draft) + 1
+edited_times display draft command = 1
+
+-- how often a line is drawn that is validated: without its hint, and with the verdict's message
+abbrev pub validated_times : Display → Environment → Draft → ℕ
+validated_times display environment draft =
+    once_for (unhinted_drawn display draft) + once_for (verdict_drawn environment (unhinted draft))
+
+-- a newline is drawn once more
+abbrev pub reply_times : Reply → ℕ → ℕ
+reply_times GoesOn times = times + 1
+reply_times reply times = times
+
+-- how often a command draws the line in full, if it draws it: once for each of its steps that draws
+abbrev pub times_of : Display → Environment → Editor → Command → ℕ
+times_of display environment editor (replace movement text) =
+    once_for (drawn_if (is_some (killed_range editor.draft.line movement))) + once_for (drawn_if (has_text text))
+times_of display environment editor accept_line = validated_times display environment editor.draft
+times_of display environment editor (accept_or_insert_line in_the_middle) =
+    reply_times (reply_to (verdict_on environment editor.draft.line.text) (in_the_middle || ends_in_white_space editor.draft.line))
+    (validated_times display environment editor.draft)
+times_of display environment editor command = edited_times display editor.draft command

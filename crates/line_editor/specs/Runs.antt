@@ -15,7 +15,7 @@ use Rattle.line_keys.specs.ShownLine.{GoesToEnd, HasShownEnd, KeepsDrawn, LosesH
 use Rattle.line_keys.specs.declared.editor_state.EditorState as editors
 use Rattle.line_keys.specs.declared.keys.KeyEvent.{KeyEvent}
 use Rattle.line_keys.specs.declared.tty.RawReader as readers
-use Rattle.line_editor.specs.Drawings.{asked_of, drawing_of, most_drawn}
+use Rattle.line_editor.specs.Drawings.{asked_of, drawing_of, times_of}
 use Rattle.line_editor.specs.Editor.{Answer, Editor, Leaves, Ruler, ended, grouped, interrupted, own_ruler, proceeds, ruler_of, submitted}
 use Rattle.line_editor.specs.Input.{Input}
 use Rattle.line_editor.specs.Keymap.{KeyState, keymap_of}
@@ -60,11 +60,17 @@ module _ {X : Type 0} (e : editors.Ghosts X) where
   DrawnAfter ended state state' = LosesHint e state state'
   DrawnAfter interrupted state state' = GoesToEnd e state state'
 
+  -- what a command draws of an editor was drawn, as often as it draws it
+  abbrev pub DrewFor : Editor → Command → X → X → Type 0
+  DrewFor editor command old new =
+      Drew e (times_of (e.display old) (e.environment old) editor command)
+      (drawing_of (e.display old) (e.environment old) editor command) old new
+
   -- a command that was executed and answered: its step and its drawing; what is drawn stays good, a changed text is drawn, and what
   -- all changes taken back give stays
   pub record Executed (state : X) (input : Input) (indent : ℕ) (kills : Ring) (command : Command) (state' : X) (kills' : Ring) (answer : Answer) : Type 0 where
     pub steps : StepsTo state input indent kills command state' kills' answer
-    pub drew : Drew e (most_drawn command) (drawing_of (e.display state) (e.environment state) (editor_of state kills) command) state state'
+    pub drew : DrewFor (editor_of state kills) command state state'
     pub drawn : DrawnAfter answer state state'
     pub change : ShowsChange e 3 state state'
     pub start : start_text (e.draft state') ≡ start_text (e.draft state)
@@ -97,8 +103,7 @@ module _ {X Y : Type 0} (e : editors.Ghosts X) (r : readers.Ghosts Y) where
     pub found : X
     pub as_read : e.draft found ≡ grouped turn.command turn.draft
     pub counted : DrewCount e turn.reads.typed before.state found
-    pub drew : Drew e (most_drawn turn.command)
-        (drawing_of (e.display found) (e.environment found) (editor_of e found (kills_before turn.command before.kills)) turn.command) found after.state
+    pub drew : DrewFor e (editor_of e found (kills_before turn.command before.kills)) turn.command found after.state
     pub frame : Frame e before.state found
     pub drawn : DrawnAfter e answer before.state after.state
     pub change : ShowsChange e (3 + items_read before after) before.state after.state

@@ -2,7 +2,7 @@
 ghost use Rattle.std.specs.Prelude.{◌≡◌, ◌||◌, ℕ};
 ghost use Rattle.line_buffer.specs.KillRing.{Ring};
 ghost use Rattle.line_editor.specs.Accept.{reply_to};
-ghost use Rattle.line_editor.specs.Drawings.{edited_asked, edited_drawn, most_drawn};
+ghost use Rattle.line_editor.specs.Drawings.{edited_asked, edited_drawn, edited_times};
 ghost use Rattle.line_editor.specs.Editor.{ruler_of};
 ghost use Rattle.line_editor.specs.Edits.{typed_in};
 ghost use Rattle.line_editor.specs.Input.{Input};
@@ -103,7 +103,7 @@ impl<'out, 'prompt, W: Renderer, H: Helper, P: Prompt, S: History> State<
             let c = command_of cmd in
             DoesAsking e (edited_asked (e.display self.old) w d c) result self.old self.new
             (edited_by (ruler_of (e.display self.old) indent_size) w (input_of input_state.now) d c)
-            (edited_drawn (e.display self.old) w d c) (most_drawn c) }
+            (edited_drawn (e.display self.old) w d c) (edited_times (e.display self.old) d c) }
     {
         match cmd {
             Cmd::SelfInsert(n, c) => self.edit_insert(c, n),
@@ -154,8 +154,10 @@ impl<'out, 'prompt, W: Renderer, H: Helper, P: Prompt, S: History> State<
 
     // Takes the hint away, and puts a newline at the cursor.
     fn type_newline(&mut self) -> Result<()>
-        ensures { let e = ⟦<Self as EditorState>⟧ in Does e result self.old self.new
-            (typed_in (e.environment self.old) 1 10 (unhinted (e.draft self.old))) with_hint 2 }
+        ensures { let e = ⟦<Self as EditorState>⟧ in let d = e.draft self.old in
+            Does e result self.old self.new
+            (typed_in (e.environment self.old) 1 10 (unhinted d)) with_hint
+            (edited_times (e.display self.old) d commands.newline) }
     {
         self.drop_hint()?;
         self.edit_insert('\n', 1)

@@ -33,12 +33,12 @@ pub record DrewNothing {X : Type 0} (e : Ghosts X) (old new : X) : Type 0 where
   pub display : e.display new ≡ e.display old
   pub redraws : e.redraws new ≡ e.redraws old
 
--- the line was drawn in full with this behind it, at most so often, and at last `highlight_char` was asked for this kind
-pub record DrewLine {X : Type 0} (e : Ghosts X) (most : ℕ) (trailing : Option (List ℕ)) (kind : CmdKind) (old new : X) : Type 0 where
+-- the line was drawn in full with this behind it, so often, and at last `highlight_char` was asked for this kind
+pub record DrewLine {X : Type 0} (e : Ghosts X) (times : ℕ) (trailing : Option (List ℕ)) (kind : CmdKind) (old new : X) : Type 0 where
   pub shows : Shows e new trailing
   pub right : HasRightLayout e new
   pub lit : (e.display new).lit ≡ lit_after (e.environment old) (e.display old) (e.draft new).line kind
-  pub redraws : Redraws e 1 most old new
+  pub redraws : Redraws e times times old new
 
 -- the line was drawn in full once with its hint behind another prompt
 pub record DrewBehind {X : Type 0} (e : Ghosts X) (prompt : List ℕ) (old new : X) : Type 0 where
@@ -66,15 +66,15 @@ pub record DrewCursorAtEnd {X : Type 0} (e : Ghosts X) (old new : X) : Type 0 wh
   pub lit : (e.display new).lit ≡ (e.display old).lit
   pub redraws : e.redraws new ≡ e.redraws old
 
--- this was drawn, with at most so many full redraws
+-- this was drawn; a line, with so many full redraws
 abbrev pub Drew : {X : Type 0} → Ghosts X → ℕ → Drawing → X → X → Type 0
-Drew e most nothing old new = DrewNothing e old new
-Drew e most with_hint old new = DrewLine e most (hint_shown (e.draft new)) Other old new
-Drew e most (with_text trailing kind) old new = DrewLine e most trailing kind old new
-Drew e most (behind_prompt prompt) old new = DrewBehind e prompt old new
-Drew e most (cursor kind) old new = DrewCursor e kind old new
-Drew e most (cursor_over line) old new = DrewCursorOver e line old new
-Drew e most cursor_to_end old new = DrewCursorAtEnd e old new
+Drew e times nothing old new = DrewNothing e old new
+Drew e times with_hint old new = DrewLine e times (hint_shown (e.draft new)) Other old new
+Drew e times (with_text trailing kind) old new = DrewLine e times trailing kind old new
+Drew e times (behind_prompt prompt) old new = DrewBehind e prompt old new
+Drew e times (cursor kind) old new = DrewCursor e kind old new
+Drew e times (cursor_over line) old new = DrewCursorOver e line old new
+Drew e times cursor_to_end old new = DrewCursorAtEnd e old new
 
 -- what is drawn of an edit: the line with its hint where the edit was reported, and else the cursor
 abbrev pub edit_drawn : Bool → Drawing
@@ -112,19 +112,19 @@ ShowsChange e most old new =
     ((e.draft new).line.text ≡ (e.draft old).line.text) ⊎ (Shows e new (hint_shown (e.draft new)) × Redraws e 1 most old new)
 
 -- what a call leaves that edits the line or moves its cursor: the draft, and the text that all changes taken back give; and what it
--- draws, with so many full redraws at most: what is drawn stays good, and a changed text is drawn; of the parties it asks these alone
-pub record DoesAsking {X T : Type 0} (e : Ghosts X) (asks : Asks) (result : Result T ReadlineError) (old new : X) (left : Draft) (drawing : Drawing) (most : ℕ) : Type 0 where
+-- draws, a line with so many full redraws: what is drawn stays good, and a changed text is drawn; of the parties it asks these alone
+pub record DoesAsking {X T : Type 0} (e : Ghosts X) (asks : Asks) (result : Result T ReadlineError) (old new : X) (left : Draft) (drawing : Drawing) (times : ℕ) : Type 0 where
   pub draft : OnOk result (e.draft new ≡ left)
   pub start : OnOk result (start_text (e.draft new) ≡ start_text (e.draft old))
-  pub drew : OnOk result (Drew e most drawing old new)
+  pub drew : OnOk result (Drew e times drawing old new)
   pub keeps : OnOk result (KeepsDrawn e old new)
-  pub change : OnOk result (ShowsChange e most old new)
+  pub change : OnOk result (ShowsChange e times old new)
   pub frame : Frame e old new
   pub fails : FailsByParty e asks result old new
 
 -- the same of a call that asks for what it draws alone
 abbrev pub Does : {X T : Type 0} → Ghosts X → Result T ReadlineError → X → X → Draft → Drawing → ℕ → Type 0
-Does e result old new left drawing most = DoesAsking e (asked_by drawing) result old new left drawing most
+Does e result old new left drawing times = DoesAsking e (asked_by drawing) result old new left drawing times
 
 -- what drawing the cursor leaves: the draft as it was, and the kept cursor where the line's is
 pub record DrawsCursor {X T : Type 0} (e : Ghosts X) (result : Result T ReadlineError) (old new : X) (kind : CmdKind) : Type 0 where

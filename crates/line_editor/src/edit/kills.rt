@@ -1,8 +1,8 @@
 //! What takes text out of the line, and what the kill ring gives back.
-ghost use Rattle.std.specs.Prelude.{◌||◌, is_some, option_map};
+ghost use Rattle.std.specs.Prelude.{◌+◌, ◌||◌, is_some, option_map};
 ghost use Rattle.line_buffer.specs.Kill.{killed_range};
 ghost use Rattle.line_buffer.specs.KillRing.{yank_popped, yanked_text};
-ghost use Rattle.line_editor.specs.Drawings.{has_text, pop_drawn, yank_drawn};
+ghost use Rattle.line_editor.specs.Drawings.{has_text, once_for, pop_drawn, yank_drawn};
 ghost use Rattle.line_editor.specs.Edits.{copied_to, kill_popped, kill_yanked, killed_by, replaced_by, text_of};
 ghost use Rattle.line_editor.specs.InputState.{input_of};
 ghost use Rattle.line_editor.specs.Runs.{DoesWithKills, editor_of};
@@ -105,7 +105,8 @@ impl<'out, 'prompt, W: Renderer, H: Helper, P: Prompt, S: History> State<
             DoesWithKills e result self.old kill_ring.old self.new kill_ring.new
             (replaced_by (e.environment self.old) movement.now put
             (editor_of e self.old kill_ring.old))
-            (drawn_if (is_some range || has_text put)) 2 }
+            (drawn_if (is_some range || has_text put))
+            (once_for (drawn_if (is_some range)) + once_for (drawn_if (has_text put))) }
     {
         self.edit_kill(movement, kill_ring)?;
         match text {
