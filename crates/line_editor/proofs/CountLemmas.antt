@@ -27,23 +27,6 @@ rises_twice least most least' most' old middle new first second =
     let s = second (omega (arith, below, r.1)) in
     (omega (arith, r.0, s.0), omega (arith, r.1, s.1))
 
--- the rises that a command can make
-pub rises_one_three : (old new : ℕ) → Rises 0 1 old new → Rises 0 3 old new
-rises_one_three old new rise = rises_more 0 1 3 old new (omega arith) rise
-
-pub rises_once_three : (old new : ℕ) → Rises 1 1 old new → Rises 0 3 old new
-rises_once_three old new rise = rises_more 1 1 3 old new (omega arith) rise
-
-pub rises_two_three : (old middle new : ℕ) → Rises 0 1 old middle → Rises 0 1 middle new → Rises 0 3 old new
-rises_two_three old middle new first second = rises_more 0 2 3 old new (omega arith) (rises_twice 0 1 0 1 old middle new first second)
-
-pub rises_drop_insert : (old middle new : ℕ) → Rises 0 1 old middle → Rises 1 1 middle new → Rises 0 3 old new
-rises_drop_insert old middle new first second = rises_more 1 2 3 old new (omega arith) (rises_twice 0 1 1 1 old middle new first second)
-
-pub rises_three : (old middle middle' new : ℕ) → Rises 0 1 old middle → Rises 0 1 middle middle' → Rises 1 1 middle' new → Rises 0 3 old new
-rises_three old middle middle' new first second third =
-    rises_more 1 3 3 old new (omega arith) (rises_twice 0 2 1 1 old middle' new (rises_twice 0 1 0 1 old middle middle' first second) third)
-
 -- a count that rose and then stayed has risen
 pub rises_stays : (least most old middle new : ℕ) → Rises least most old middle → new ≡ middle → Rises least most old new
 rises_stays least most old middle new rise same =
