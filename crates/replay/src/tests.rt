@@ -221,6 +221,26 @@ fn keeps_sixty_killed_texts(rt: HostRuntime) -> Result<(), Fail> {
     Ok(())
 }
 
+/// Plays a script without a bad line, and finds none. So it is with any one allocation refused, which is a fault.
+fn has_no_bad_line(rt: &impl Abort, alloc: Global, script: &'static str) {
+    let mut out = Vec::new(alloc);
+    let ended = play(alloc, script.as_bytes(), &mut out);
+    assert!(rt; ended < 4, "{ended} of {script}");
+    assert!(rt; !out.starts_with(b"bad"), "{script}");
+}
+
+const GOOD: &[&str] = &[
+    "columns 40\nhistory git status\nhistory a\\nb\nprompt lang: \nhints\nbrackets\ntype a\nkey Up\nkey Enter\n",
+    "type 日本日本日本日本日本\npaste one\\ntwo\nkey M-3\nkey C-b\nkey C-k\nkey C-y\nkey C-c\n",
+];
+
+#[test]
+fn takes_no_refused_allocation_for_a_bad_line(rt: HostRuntime) {
+    for script in GOOD {
+        has_no_bad_line(&rt, rt.alloc(), script);
+    }
+}
+
 /// A stream that gives these bytes, and then can't be read.
 #[derive(Drop)]
 struct Cut {
