@@ -10,7 +10,7 @@ use Rattle.line_buffer.specs.declared.keymap.Movement.{Movement}
 use Rattle.line_keys.specs.Display.{Display, HasCursorAt, lit_after}
 use Rattle.line_keys.specs.Draft.{Draft, hinted, hint_shown, start_text}
 use Rattle.line_keys.specs.Drawing.{Does, DoesAsking, Drew, DrewCursor, DrewLine, DrewNothing, ShowsEdit, Undrawn, cursor, drawn_if, edit_drawn, nothing, with_hint}
-use Rattle.line_keys.specs.EditorState.{FailsByParty}
+use Rattle.line_keys.specs.EditorState.{FailsByParty, HasCursorDrawn}
 use Rattle.line_keys.specs.declared.editor_state.EditorState.{Ghosts}
 use Rattle.line_parts.specs.Asks.{Asks, for_hint, is_sure, nobody}
 use Rattle.line_parts.specs.Environment.{Environment}
@@ -65,8 +65,8 @@ module _ {X : Type 0} (e : Ghosts X) (old mid new : X) (undrawn : Undrawn e old 
   nothing_after : DrewNothing e mid new → DrewNothing e old new
   nothing_after drew = record { display = drew.display ∙ undrawn.drew.display; redraws = drew.redraws ∙ undrawn.drew.redraws }
 
-  pub cursor_after : (kind : CmdKind) → DrewCursor e kind mid new → DrewCursor e kind old new
-  cursor_after kind drew =
+  pub cursor_after : (kind : CmdKind) → HasCursorDrawn e new → DrewCursor e kind mid new → DrewCursor e kind old new
+  cursor_after kind placed drew =
       let P : Display → Type 0 = λ d. HasCursorAt d (e.draft new).line in
       record {
         drew = elim drew.drew [
@@ -74,12 +74,8 @@ module _ {X : Type 0} (e : Ghosts X) (old mid new : X) (undrawn : Undrawn e old 
           | inr n ↦ inr (nothing_after n)
         ];
         still = λ at. nothing_after (drew.still (subst P (sym undrawn.drew.display) at));
+        placed = inl placed;
       }
-
-  -- so is each drawing of an edit
-  pub edit_after : (reported : Bool) → Drew e 1 (edit_drawn reported) mid new → Drew e 1 (edit_drawn reported) old new
-  edit_after true drew = line_after 1 (hint_shown (e.draft new)) Other drew
-  edit_after false drew = cursor_after MoveCursor drew
 
   -- failures behind such a step are failures from before it
   pub fails_after : {T : Type 0} (asks : Asks) (r : Result T ReadlineError) → FailsByParty e asks r mid new → FailsByParty e asks r old new
@@ -121,7 +117,7 @@ module _ {X : Type 0} (e : Ghosts X) (old mid new : X) (undrawn : Undrawn e old 
         record {
           draft = shows.draft ∙ draft;
           start = ap start_text (shows.draft ∙ draft) ∙ first;
-          drew = cursor_after MoveCursor shows.drew;
+          drew = cursor_after MoveCursor shows.placed shows.drew;
           keeps = keeps_move e old mid new MoveCursor same (ap (λ (d : Draft). d.hint) draft ∙ hint) undrawn.drew.display undrawn.drew.redraws undrawn.frame.environment
               shows.draft shows.frame.environment shows.right shows.drew shows.placed;
           change = inl (ap (λ (d : Draft). d.line.text) (shows.draft ∙ draft) ∙ text);

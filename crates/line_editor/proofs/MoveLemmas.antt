@@ -53,7 +53,7 @@ move_drawn e x y old middle new edited place undrawn draft is draws =
       draft = draws.draft ∙ made;
       text = ap (λ (d : Draft). d.line.text) draws.draft ∙ text';
       start = ap start_text (draws.draft ∙ draft) ∙ first_placed (edited_of (e.draft old)) edited place is;
-      drew = cursor_after e old middle new undrawn MoveCursor draws.drew;
+      drew = cursor_after e old middle new undrawn MoveCursor draws.placed draws.drew;
       keeps = keeps_move e old middle new MoveCursor text' (ap (λ (d : Draft). d.hint) made) undrawn.drew.display
           undrawn.drew.redraws undrawn.frame.environment draws.draft draws.frame.environment draws.right draws.drew draws.placed;
       frame = frame_then e old middle new undrawn.frame draws.frame;
@@ -87,6 +87,7 @@ pub cursor_stays : {X : Type 0} (e : Ghosts X) (editor : X) → DrewCursor e Mov
 cursor_stays e editor = record {
   drew = inr (record { display = refl; redraws = refl });
   still = λ at. record { display = refl; redraws = refl };
+  placed = inr refl;
 }
 
 abbrev on_line : Line → Draft → Draft

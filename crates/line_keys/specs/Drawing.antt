@@ -4,7 +4,7 @@ use Rattle.line_buffer.specs.Line.{Line}
 use Rattle.line_config.specs.declared.error.ReadlineError.{ReadlineError}
 use Rattle.line_keys.specs.Display.{HasCursorAt, IsRight, ShowsInFull, ShowsText, corner, lit_after}
 use Rattle.line_keys.specs.Draft.{Draft, KeepsText, hint_shown, hinted, start_text}
-use Rattle.line_keys.specs.EditorState.{FailsByParty, FailsByRenderer, Frame, HasCursorDrawn, HasRightLayout, IsAtEnd, Redraws, Shows}
+use Rattle.line_keys.specs.EditorState.{FailsByParty, FailsByRenderer, Frame, HasCursorDrawn, HasRightLayout, Redraws, Shows}
 use Rattle.line_keys.specs.ShownLine.{KeepsDrawn}
 use Rattle.line_keys.specs.declared.editor_state.EditorState.{Ghosts}
 use Rattle.line_parts.specs.Asks.{Asks, for_hint, nobody}
@@ -47,10 +47,12 @@ pub record DrewBehind {X : Type 0} (e : Ghosts X) (prompt : List ℕ) (old new :
   pub lit : (e.display new).lit ≡ lit_after (e.environment old) (e.display old) (e.draft new).line Other
   pub redraws : Redraws e 1 1 old new
 
--- the cursor was drawn: the line in full with nothing behind it, or nothing, which is so where the kept cursor is the line's already
+-- the cursor was drawn: the line in full with nothing behind it, or nothing, which is so where the kept cursor is the line's already;
+-- a line that changed has its cursor drawn
 pub record DrewCursor {X : Type 0} (e : Ghosts X) (kind : CmdKind) (old new : X) : Type 0 where
   pub drew : DrewLine e 1 None kind old new ⊎ DrewNothing e old new
   pub still : HasCursorAt (e.display old) (e.draft new).line → DrewNothing e old new
+  pub placed : HasCursorDrawn e new ⊎ ((e.draft new).line ≡ (e.draft old).line)
 
 -- the cursor was drawn on the way to where the line's is, and then there
 pub record DrewCursorOver {X : Type 0} (e : Ghosts X) (line : Line) (old new : X) : Type 0 where
@@ -60,9 +62,10 @@ pub record DrewCursorOver {X : Type 0} (e : Ghosts X) (line : Line) (old new : X
   pub first : DrewCursor e MoveCursor old way
   pub second : DrewCursor e MoveCursor way new
 
--- the kept cursor went to the end of what is shown, and the line was not drawn
+-- the kept cursor went to the kept end; all else that is kept stays, and so does what is shown
 pub record DrewCursorAtEnd {X : Type 0} (e : Ghosts X) (old new : X) : Type 0 where
-  pub at_end : IsAtEnd e new
+  pub layout : (e.display new).layout ≡ record (e.display old).layout { cursor = (e.display old).layout.end }
+  pub text : (e.display new).screen.text ≡ (e.display old).screen.text
   pub lit : (e.display new).lit ≡ (e.display old).lit
   pub redraws : e.redraws new ≡ e.redraws old
 
