@@ -106,7 +106,7 @@ two_drawn : {X : Type 0} (e : Ghosts X) (old mid new : X) (dropped said : Bool) 
     (if said then (if said then with_text message kind else nothing) else (if dropped then with_text None ForcedRefresh else nothing)) old new
 two_drawn e old mid new dropped true message kind frame line first second =
     line_then e old mid new frame (perhaps_lit e dropped 1 None ForcedRefresh old mid first) (once_for (if dropped then with_text None ForcedRefresh else nothing)) 1 message kind (perhaps_redraws e dropped None ForcedRefresh old mid first) second
-two_drawn e old mid new true false message kind frame line first second = line_kept e old mid new None ForcedRefresh second line first
+two_drawn e old mid new true false message kind frame line first second = line_kept e old mid new 1 None ForcedRefresh second line first
 two_drawn e old mid new false false message kind frame line first second =
     record { display = second.display ∙ first.display; redraws = second.redraws ∙ first.redraws }
 

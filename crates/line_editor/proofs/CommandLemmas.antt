@@ -14,7 +14,7 @@ use Rattle.line_keys.specs.declared.command.Anchor.{Anchor}
 use Rattle.line_keys.specs.declared.command.Cmd.{Cmd}
 use Rattle.line_keys.specs.Display.{Display, IsRight, ShowsInFull, Surface, lit_after}
 use Rattle.line_keys.specs.Draft.{Draft, hint_shown, start_text, unhinted}
-use Rattle.line_keys.specs.Drawing.{Does, DoesAsking, Drawing, Drew, DrewLine, DrewNothing, Refreshes, asked_by, drawn_if, edit_drawn, ShowsChange, nothing, with_hint, with_text}
+use Rattle.line_keys.specs.Drawing.{Does, DoesAsking, Drawing, Drew, DrewBehind, DrewLine, DrewNothing, Refreshes, asked_by, drawn_if, edit_drawn, ShowsChange, nothing, with_hint, with_text}
 use Rattle.line_keys.specs.EditorState.{FailsByParty, Frame, Redraws}
 use Rattle.line_keys.specs.declared.editor_state.EditorState.{Ghosts}
 use Rattle.line_parts.specs.Asks.{Asks, for_hint, is_sure}
@@ -218,10 +218,23 @@ module _ {X : Type 0} (e : Ghosts X) (old mid new : X) (frame : Frame e old mid)
     redraws = rises_twice before before times times (e.redraws old) (e.redraws mid) (e.redraws new) redraws drew.redraws;
   }
 
+  -- so is one behind another prompt
+  pub behind_then : (before times : ℕ) (prompt : List ℕ) → Redraws e before before old mid → DrewBehind e times prompt mid new
+      → DrewBehind e (before + times) prompt old new
+  behind_then before times prompt redraws drew = record {
+    shows = drew.shows;
+    other = drew.other;
+    lit = drew.lit ∙ lit_same (e.display old).surface.colors (e.display mid).surface.colors
+        ((e.environment old).lights (e.draft new).line.text (e.draft new).line.cursor Other) ((e.environment mid).lights (e.draft new).line.text (e.draft new).line.cursor Other)
+        (e.display old).lit (e.display mid).lit (ap (λ (s : Surface). s.colors) frame.surface)
+        (ap (λ (w : Environment). w.lights (e.draft new).line.text (e.draft new).line.cursor Other) frame.environment) lit;
+    redraws = rises_twice before before times times (e.redraws old) (e.redraws mid) (e.redraws new) redraws drew.redraws;
+  }
+
 -- a full redraw that nothing was drawn behind
-pub line_kept : {X : Type 0} (e : Ghosts X) (old mid new : X) (trailing : Option (List ℕ)) (kind : CmdKind) → DrewNothing e mid new
-    → (e.draft new).line ≡ (e.draft mid).line → DrewLine e 1 trailing kind old mid → DrewLine e 1 trailing kind old new
-line_kept e old mid new trailing kind undrew line drew = record {
+pub line_kept : {X : Type 0} (e : Ghosts X) (old mid new : X) (times : ℕ) (trailing : Option (List ℕ)) (kind : CmdKind) → DrewNothing e mid new
+    → (e.draft new).line ≡ (e.draft mid).line → DrewLine e times trailing kind old mid → DrewLine e times trailing kind old new
+line_kept e old mid new times trailing kind undrew line drew = record {
   shows = record {
     in_full =
         subst (λ (l : Line). ShowsInFull (e.display new) (e.display new).prompt_end l trailing) (sym line)
@@ -232,12 +245,12 @@ line_kept e old mid new trailing kind undrew line drew = record {
       subst (λ (l : Line). IsRight (e.display new) l) (sym line)
       (subst (λ (d : Display). IsRight d (e.draft mid).line) (sym undrew.display) drew.right);
   lit = ap (λ (d : Display). d.lit) undrew.display ∙ drew.lit ∙ ap (λ (l : Line). lit_after (e.environment old) (e.display old) l kind) (sym line);
-  redraws = rises_stays 1 1 (e.redraws old) (e.redraws mid) (e.redraws new) drew.redraws undrew.redraws;
+  redraws = rises_stays times times (e.redraws old) (e.redraws mid) (e.redraws new) drew.redraws undrew.redraws;
 }
 
 module _ {X : Type 0} (e : Ghosts X) where
   -- without colors the last answer of `highlight_char` stays
-  colorless : (w : Environment) (d : Display) (line : Line) (kind : CmdKind) → d.surface.colors ≡ false → lit_after w d line kind ≡ d.lit
+  pub colorless : (w : Environment) (d : Display) (line : Line) (kind : CmdKind) → d.surface.colors ≡ false → lit_after w d line kind ≡ d.lit
   colorless w d line kind none = ap (λ b. cond b (w.lights line.text line.cursor kind) d.lit) none
 
   -- a drawing that takes a hint away, where it draws anything
@@ -333,7 +346,7 @@ module _ {X : Type 0} (e : Ghosts X) (old mid new : X) (frame : Frame e old mid)
   twice_drawn true true stays first second =
       let s = stays refl in
       subst (λ (h : _). DrewLine e 1 (option_map (λ s. s.display) h) Other old new) (sym s.1)
-      (line_kept e old mid new (hint_shown (e.draft mid)) Other second s.0 first)
+      (line_kept e old mid new 1 (hint_shown (e.draft mid)) Other second s.0 first)
   twice_drawn false true stays first second = record { display = second.display ∙ first.display; redraws = second.redraws ∙ first.redraws }
   twice_drawn true false stays first second = line_then e old mid new frame (found_lit true first) 1 1 (hint_shown (e.draft new)) Other (found_redraws true first) second
   twice_drawn false false stays first second = line_then e old mid new frame (found_lit false first) 0 1 (hint_shown (e.draft new)) Other (found_redraws false first) second

@@ -1,5 +1,5 @@
 -- Facts on counts that are read.
-use Rattle.std.proofs.Common.{◌≡◌, ◌+◌, List, [], ◌∷◌, ◌++◌, append_assoc, map, length, true, false, Ok, Err, inl, inr, refl, sym, ◌∙◌, ap, arith}
+use Rattle.std.proofs.Common.{◌≡◌, ℕ, ◌+◌, List, [], ◌∷◌, ◌++◌, append_assoc, map, length, true, false, Ok, Err, inl, inr, refl, sym, ◌∙◌, ap, arith}
 use Rattle.std.specs.Prelude.{◌&&◌}
 use Rattle.std.specs.List.{list_all}
 use Rattle.std.proofs.lemmas.List.{append-nil, length-append, length-map, map-append}
@@ -8,9 +8,11 @@ use Rattle.line_config.specs.declared.config.EditMode.{EditMode}
 use Rattle.line_config.specs.declared.error.ReadlineError.{ReadlineError}
 use Rattle.line_parts.specs.Asks.{for_hint, is_sure}
 use Rattle.line_parts.specs.Environment.{Environment}
-use Rattle.line_keys.specs.Count.{IsCountOf, continues_count, count_of}
-use Rattle.line_keys.specs.Draft.{Draft, KeepsText, hinted}
-use Rattle.line_keys.specs.Drawing.{Refreshes, with_hint}
+use Rattle.line_parts.specs.declared.highlight.CmdKind.TheVariants.{Other}
+use Rattle.line_keys.specs.Count.{IsCountOf, continues_count, count_of, count_prompt}
+use Rattle.line_keys.specs.Display.{Surface}
+use Rattle.line_keys.specs.Draft.{Draft, KeepsText, hint_shown, hinted}
+use Rattle.line_keys.specs.Drawing.{DrewBehind, DrewLine, Refreshes, with_hint}
 use Rattle.line_keys.specs.EditorState.{Frame, Redraws}
 use Rattle.line_keys.specs.Item.{Item, key}
 use Rattle.line_keys.specs.declared.count.Count.{Count}
@@ -19,6 +21,7 @@ use Rattle.line_keys.specs.declared.editor_state.EditorState as editors
 use Rattle.line_keys.specs.declared.keys.KeyEvent.{KeyEvent}
 use Rattle.line_keys.specs.declared.tty.RawReader as readers
 use Rattle.line_editor.specs.Reading.{LeftByCut, ReadsCount, ReadsUnderCount}
+use Rattle.line_editor.proofs.CommandLemmas.{behind_then, colorless, line_then}
 use Rattle.line_editor.proofs.CountLemmas.{rises_twice}
 use Rattle.line_editor.proofs.DrawnLemmas.{frame_then}
 
@@ -63,6 +66,7 @@ module _ {X Y : Type 0} (e : editors.Ghosts X) (r : readers.Ghosts Y) (start : X
     pub own : r.own_binding reader' ≡ r.own_binding reader
     pub unread : r.failures reader' ≡ r.failures reader
     pub undrawn : e.failures now ≡ e.failures start
+    pub lit : (e.display start).surface.colors ≡ false → (e.display now).lit ≡ (e.display start).lit
     pub redraws : Redraws e (length more) (length more) start now
 
   -- a count begins with its first key
@@ -77,15 +81,21 @@ module _ {X Y : Type 0} (e : editors.Ghosts X) (r : readers.Ghosts Y) (start : X
     own = refl;
     unread = refl;
     undrawn = refl;
+    lit = λ none. refl;
     redraws = λ below. (omega arith, omega arith);
   }
+
+  -- a drawing behind a prompt, behind those of the keys so far
+  drawn_behind : (typed : TypedCount) (now : X) (reader' : Y) (c : Counting typed now reader') (next : X) (prompt : List ℕ)
+      → DrewBehind e 1 prompt now next → DrewBehind e (length (first ∷ c.more)) prompt start next
+  drawn_behind typed now reader' c next prompt drew =
+      let all : DrewBehind e (length c.more + 1) prompt start next = behind_then e start now next c.frame c.lit (length c.more) 1 prompt c.redraws drew in
+      record { shows = all.shows; other = all.other; lit = all.lit; redraws = λ below. let s = all.redraws (omega (arith, below)) in (omega (arith, s.0), omega (arith, s.1)) }
 
   -- reading goes wrong, or no item was left where one more was to be read
   pub count_fails : (typed : TypedCount) (now : X) (reader' : Y) → Counting typed now reader' → (f : ReadlineError) (next : X) (reader'' : Y)
       → ReadsUnderCount e r typed (Err f) now reader' next reader'' → ReadsCount e r style first (Err f) start reader next reader''
   count_fails typed now reader' c f next reader'' read =
-      let size : length (r.rest reader) ≡ length c.more + length (r.rest reader') =
-      ap length c.cut ∙ length-append (map key c.more) (r.rest reader') ∙ ap (λ n. n + length (r.rest reader')) (length-map c.more key) in
       record {
         read = λ no.
             let dry = read.took no in (
@@ -97,21 +107,11 @@ module _ {X Y : Type 0} (e : editors.Ghosts X) (r : readers.Ghosts Y) (start : X
                   continue = c.continue;
                   empty = dry.1.behind;
                 };
-                shows = read.shows (first ∷ c.more) c.counted no;
+                drew = drawn_behind typed now reader' c next (count_prompt (first ∷ c.more)) (read.drew (first ∷ c.more) c.counted no);
               },
             );
         draft = λ no. read.draft no ∙ asked_again (e.environment start) (e.environment now) (e.draft start) (e.draft now) c.frame.environment c.left;
         text = keeps_twice (e.environment start) (e.draft start) (e.draft now) (e.draft next) c.left read.text;
-        redraws = λ no.
-            let dry = (read.took no).1 in
-            let before : length (r.rest reader') ≡ 0 = ap length dry.before in
-            let behind : length (r.rest reader'') ≡ 0 = ap length dry.behind in
-            let drawn = rises_twice (length c.more) (length c.more) 1 1 (e.redraws start) (e.redraws now) (e.redraws next) c.redraws (read.redraws no) in
-            λ below.
-            let s = drawn (omega (arith, below, size, before, behind)) in
-            (omega (arith, s.0, size, before, behind), omega (arith, s.1, size, before, behind));
-        shows = tt;
-        right = tt;
         keeps = record {
           frame = frame_then e start now next c.frame read.keeps.frame;
           own = read.keeps.own ∙ c.own;
@@ -135,7 +135,15 @@ module _ {X Y : Type 0} (e : editors.Ghosts X) (r : readers.Ghosts Y) (start : X
         ∙ ap (λ t. t ++ r.rest reader'') (sym (map-append key c.more (k ∷ [])))
 
     drawn_on : Redraws e (length c.more + 1) (length c.more + 1) start next
-    drawn_on = rises_twice (length c.more) (length c.more) 1 1 (e.redraws start) (e.redraws now) (e.redraws next) c.redraws read.redraws
+    drawn_on =
+        rises_twice (length c.more) (length c.more) 1 1 (e.redraws start) (e.redraws now) (e.redraws next) c.redraws
+        (read.drew (first ∷ c.more) c.counted).redraws
+
+    lit_on : (e.display start).surface.colors ≡ false → (e.display next).lit ≡ (e.display start).lit
+    lit_on none =
+        (read.drew (first ∷ c.more) c.counted).lit
+        ∙ colorless e (e.environment now) (e.display now) (e.draft next).line Other (ap (λ (s : Surface). s.colors) c.frame.surface ∙ none)
+        ∙ c.lit none
 
     -- it goes on with the count
     pub counts_on : (typed' : TypedCount) → continues_count style k ≡ true
@@ -153,6 +161,7 @@ module _ {X Y : Type 0} (e : editors.Ghosts X) (r : readers.Ghosts Y) (start : X
       own = read.keeps.own ∙ c.own;
       unread = read.fails.quiet.0 ∙ c.unread;
       undrawn = read.fails.quiet.1 ∙ c.undrawn;
+      lit = lit_on;
       redraws =
           let size = length-append c.more (k ∷ []) in
           λ below. let s = drawn_on (omega (arith, below, size)) in (omega (arith, s.0, size), omega (arith, s.1, size));
@@ -169,26 +178,26 @@ module _ {X Y : Type 0} (e : editors.Ghosts X) (r : readers.Ghosts Y) (start : X
         let frame = frame_then e start now next c.frame read.keeps.frame in
         let draft : e.draft last ≡ hinted (e.environment start) (e.draft start) =
         refreshed.draft ∙ asked_again (e.environment start) (e.environment next) (e.draft start) (e.draft next) frame.environment (inr once) in
-        let size : length (r.rest reader) ≡ length c.more + length (key k ∷ r.rest reader'') =
-        ap length c.cut ∙ length-append (map key c.more) (r.rest reader') ∙ ap (λ n. n + length (r.rest reader')) (length-map c.more key)
-        ∙ ap (λ t. length c.more + length t) read.took in
+        let whole : DrewLine e (length c.more + 1 + 1) (hint_shown (e.draft last)) Other start last =
+        line_then e start next last frame lit_on (length c.more + 1) 1 (hint_shown (e.draft last)) Other drawn_on refreshed.drew in
         record {
           read = record {
-            more = c.more;
-            cut = c.cut ∙ ap (λ t. map key c.more ++ t) read.took;
-            continue = c.continue;
-            ends = ends;
-            counted = counted (first ∷ c.more) c.counted;
+            ends = record {
+              more = c.more;
+              cut = c.cut ∙ ap (λ t. map key c.more ++ t) read.took;
+              continue = c.continue;
+              ends = ends;
+              counted = counted (first ∷ c.more) c.counted;
+            };
+            drew = record {
+              shows = whole.shows;
+              right = whole.right;
+              lit = whole.lit;
+              redraws = λ below. let s = whole.redraws (omega (arith, below)) in (omega (arith, s.0), omega (arith, s.1));
+            };
           };
           draft = draft;
           text = keeps_by (e.environment start) (e.draft start) (e.draft last) draft;
-          redraws =
-              λ below.
-              let s = drawn_on (omega (arith, below, size)) in
-              let t = refreshed.drew.redraws (omega (arith, below, size, s.1)) in
-              (omega (arith, s.0, t.0, size), omega (arith, s.1, t.1, size));
-          shows = refreshed.drew.shows;
-          right = refreshed.drew.right;
           keeps = record {
             frame = frame_then e start next last frame refreshed.frame;
             own = read.keeps.own ∙ c.own;
@@ -206,9 +215,6 @@ module _ {X Y : Type 0} (e : editors.Ghosts X) (r : readers.Ghosts Y) (start : X
       draft = λ no. absurd (let is = refreshed.fails.faults in cc);
       text = keeps_twice (e.environment start) (e.draft start) (e.draft next) (e.draft last)
           (inr (read.draft ∙ asked_again (e.environment start) (e.environment now) (e.draft start) (e.draft now) c.frame.environment c.left)) refreshed.text;
-      redraws = λ no. absurd (let is = refreshed.fails.faults in cc);
-      shows = tt;
-      right = tt;
       keeps = record {
         frame = frame_then e start next last (frame_then e start now next c.frame read.keeps.frame) refreshed.frame;
         own = read.keeps.own ∙ c.own;

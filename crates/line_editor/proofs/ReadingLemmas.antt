@@ -13,21 +13,23 @@ use Rattle.line_config.specs.declared.error.ReadlineError.{ReadlineError}
 use Rattle.line_config.specs.declared.error.ReadlineError.TheVariants.{Eof, Interrupted, Io, Memory}
 use Rattle.line_keys.specs.Command.{Command, command_of}
 use Rattle.line_keys.specs.Count.{begins_count, count_of}
-use Rattle.line_keys.specs.Display.{Display, IsRight, ShowsInFull, Surface}
+use Rattle.line_keys.specs.Display.{Display, Surface}
 use Rattle.line_keys.specs.ShownLine.{KeepsDrawn}
 use Rattle.line_keys.specs.Draft.{Draft, KeepsLine, KeepsText, hint_shown, start_text}
-use Rattle.line_keys.specs.Drawing.{DrewNothing, Undrawn}
-use Rattle.line_keys.specs.EditorState.{Frame, HasRightLayout, Shows}
+use Rattle.line_keys.specs.Drawing.{DrewLine, DrewNothing, Undrawn}
+use Rattle.line_keys.specs.EditorState.{Frame, HasRightLayout}
 use Rattle.line_keys.specs.Item.{Item, ReadFault, key}
 use Rattle.line_keys.specs.declared.command.Cmd.{Cmd}
 use Rattle.line_keys.specs.declared.count.Count.{Count}
 use Rattle.line_keys.specs.declared.editor_state.EditorState as editors
 use Rattle.line_keys.specs.declared.keys.KeyEvent.{KeyEvent}
+use Rattle.line_parts.specs.declared.highlight.CmdKind.TheVariants.{Other}
 use Rattle.line_keys.specs.declared.tty.RawReader as readers
 use Rattle.line_editor.specs.Editor.{Ruler, grouped, own_ruler, ruler_of}
 use Rattle.line_editor.specs.Keymap.{KeyState, keymap_of}
 use Rattle.line_editor.specs.Phrase.{Keyed, LacksTail, after_count}
-use Rattle.line_editor.specs.Reading.{DrewCount, DrewCut, EitherRose, EndsBehind, HasRead, OnRead, OutOfItems, ReadsBehind, ReadsCommand, ReadsCount, ReadsPhrase, RedrawsItems, TakesItems}
+use Rattle.line_editor.specs.Reading.{DrewCount, DrewCut, EitherRose, EndsBehind, EndsCount, HasRead, OnRead, OutOfItems, ReadsBehind, ReadsCommand, ReadsCount, ReadsPhrase, RedrawsItems, TakesItems}
+use Rattle.line_editor.proofs.CommandLemmas.{line_kept}
 use Rattle.line_editor.proofs.CountLemmas.{rises_stays}
 use Rattle.line_editor.proofs.DrawnLemmas.{frame_then, hint_trails, keeps_then, stays_in_place}
 use Rattle.line_editor.proofs.PhraseLemmas.{inside-begins, is-count, is-no-count, keys-begin, nothing-begins}
@@ -83,21 +85,9 @@ count_behind : {X : Type 0} (e : editors.Ghosts X) (editor mid new : X) (typed :
     → DrewCount e typed editor mid → DrewCount e typed editor new
 count_behind e editor mid new [] undrew line hint drew = record { display = undrew.display ∙ drew.display; redraws = undrew.redraws ∙ drew.redraws }
 count_behind e editor mid new (first ∷ more) undrew line hint drew =
-    let trailing : Option (List ℕ) = hint_shown (e.draft mid) in
     let same : hint_shown (e.draft new) ≡ hint_shown (e.draft mid) = ap (λ h. option_map (λ s. s.display) h) hint in
-    record {
-      shows =
-          subst (λ t. Shows e new t) (sym same) (record {
-            in_full =
-                subst (λ (l : Line). ShowsInFull (e.display new) (e.display new).prompt_end l trailing) (sym line)
-                (subst (λ (d : Display). ShowsInFull d d.prompt_end (e.draft mid).line trailing) (sym undrew.display) drew.shows.in_full);
-            own_prompt = ap (λ (d : Display). d.layout.default_prompt) undrew.display ∙ drew.shows.own_prompt;
-          });
-      right =
-          subst (λ (l : Line). IsRight (e.display new) l) (sym line)
-          (subst (λ (d : Display). IsRight d (e.draft mid).line) (sym undrew.display) drew.right);
-      redraws = rises_stays (length (first ∷ more) + 1) (length (first ∷ more) + 1) (e.redraws editor) (e.redraws mid) (e.redraws new) drew.redraws undrew.redraws;
-    }
+    subst (λ t. DrewLine e (length (first ∷ more) + 1) t Other editor new) (sym same)
+    (line_kept e editor mid new (length (first ∷ more) + 1) (hint_shown (e.draft mid)) Other undrew line drew)
 
 -- what is read and then followed by a step that draws nothing and leaves the line and its hint
 pub phrase_behind : {X Y : Type 0} (e : editors.Ghosts X) (r : readers.Ghosts Y) (editor mid new : X) (keys keys' : KeyState) (reader reader' : Y) (command : Command) (draft : Draft)
@@ -242,9 +232,7 @@ module _ {X Y : Type 0} (e : editors.Ghosts X) (r : readers.Ghosts Y) (editor : 
         let inside = cut.inside in
         let items = took ∙ ap (λ t. key k ∷ t) inside.cut in
         let size = ap length items in
-        let same = length-map inside.more key in
-        let left : length (r.rest reader') ≡ 0 = ap length inside.empty in
-        let behind : length (r.rest mid) ≡ length inside.more = ap length inside.cut ∙ same in (
+        let same = length-map inside.more key in (
           (count.read no).0,
           record {
             begins = inside-begins _ _ _ _ k inside.more _ items begins inside.continue;
@@ -253,11 +241,7 @@ module _ {X Y : Type 0} (e : editors.Ghosts X) (r : readers.Ghosts Y) (editor : 
             uncounted = λ none. absurd (cc);
             within = omega (arith, size, same);
             drew = record {
-              counting = λ some is. (
-                cut.shows,
-                λ below.
-                    let s = count.redraws no (omega (arith, below, left, behind)) in (omega (arith, s.0, left, behind), omega (arith, s.1, left, behind)),
-              );
+              counting = λ some is. cut.drew;
               counted = λ other. elim other [ inl none ↦ absurd (cc) | inr not_all ↦ absurd (not_all items) ];
             };
           },
@@ -271,10 +255,9 @@ module _ {X Y : Type 0} (e : editors.Ghosts X) (r : readers.Ghosts Y) (editor : 
         let size = ap length (took ∙ ap (λ t. key k ∷ t) inside.cut) in
         let same = length-map inside.more key in
         let left : length (r.rest reader') ≡ 0 = ap length inside.empty in
-        let behind : length (r.rest mid) ≡ length inside.more = ap length inside.cut ∙ same in
         λ below.
-        let s = count.redraws no (omega (arith, below, left, behind, size, same)) in
-        (omega (arith, s.0), omega (arith, s.1, left, behind, size, same));
+        let s = (count.read no).1.drew.redraws (omega (arith, below, left, size, same)) in
+        (omega (arith, s.0), omega (arith, s.1, left, size, same));
     keeps = record {
       both = record { frame = count.keeps.frame; own = count.keeps.own ∙ own; counts = omega (arith, quiet, count.keeps.counts) };
       bound = refl;
@@ -286,33 +269,21 @@ module _ {X Y : Type 0} (e : editors.Ghosts X) (r : readers.Ghosts Y) (editor : 
   }
 
   module _ (count : Count) (last : KeyEvent) (editor' : X) (mid' : Y) (read : ReadsCount e r keys.input.style k (Ok (count, last)) editor mid editor' mid') (begins : begins_count keys.input.style keys.input.mode k ≡ true) where
-    size_is : length (r.rest reader) ≡ length (k ∷ read.read.more) + length (key last ∷ r.rest mid')
-    size_is =
-        let whole = ap length (took ∙ ap (λ t. key k ∷ t) read.read.cut) in
-        let behind = length-append (map key read.read.more) (key last ∷ r.rest mid') in
-        let same = length-map read.read.more key in
-        omega (arith, whole, behind, same)
+    abbrev count_keys : EndsCount r keys.input.style k mid mid' count last
+    count_keys = read.read.ends
 
-    -- a count was drawn, once for each of its keys and once more
-    drew_count : DrewCount e (k ∷ read.read.more) editor editor'
-    drew_count = record {
-      shows = read.shows;
-      right = read.right;
-      redraws =
-          let whole = ap length read.read.cut in
-          let behind = length-append (map key read.read.more) (key last ∷ r.rest mid') in
-          let same = length-map read.read.more key in
-          λ below.
-          let s = read.redraws (omega (arith, below, whole, behind, same)) in
-          (omega (arith, s.0, whole, behind, same), omega (arith, s.1, whole, behind, same));
-    }
+    size_is : length (r.rest reader) ≡ length (k ∷ count_keys.more) + length (key last ∷ r.rest mid')
+    size_is =
+        let whole = ap length (took ∙ ap (λ t. key k ∷ t) count_keys.cut) in
+        let behind = length-append (map key count_keys.more) (key last ∷ r.rest mid') in
+        let same = length-map count_keys.more key in
+        omega (arith, whole, behind, same)
 
     -- a count was read, the key that ends it, and what belongs to that
     phrase_counted : (reader' : Y) (command : Command)
         → ReadsBehind r mid' reader' (keymap_of keys (r.own_binding mid')) (e.draft editor') keys.input (Some count) last command
         → ReadsPhrase e r editor keys reader editor' reader' command (e.draft editor') keys
     phrase_counted reader' command behind =
-        let count_keys = read.read in
         let left : Draft = after_count (e.environment editor) (k ∷ count_keys.more) (e.draft editor) in
         let P : (KeyEvent → Option Command) → Type 0 = λ o. Keyed (keymap_of keys o) left keys.input (Some (count_of (k ∷ count_keys.more))) last behind.tail command in
         let Q : Count → Type 0 = λ n. Keyed (keymap_of keys (r.own_binding mid')) left keys.input (Some n) last behind.tail command in
@@ -331,15 +302,14 @@ module _ {X Y : Type 0} (e : editors.Ghosts X) (r : readers.Ghosts Y) (editor : 
             draft_left = read.draft;
             input_left = refl;
           };
-          drew = drew_count;
-          measured = λ indent. ruler_there e editor editor' indent read.keeps.frame read.right;
+          drew = read.read.drew;
+          measured = λ indent. ruler_there e editor editor' indent read.keeps.frame read.read.drew.right;
         }
 
     -- no more items were left of what belongs to the key that ends it
     counted_begun : (reader' : Y) → EndsBehind r mid' reader' (keymap_of keys (r.own_binding mid')) (e.draft editor') keys.input (Some count) last
         → OutOfItems e r editor keys reader editor' reader'
     counted_begun reader' ended =
-        let count_keys = read.read in
         let left : Draft = after_count (e.environment editor) (k ∷ count_keys.more) (e.draft editor) in
         let P : (KeyEvent → Option Command) → Type 0 = λ o. LacksTail (keymap_of keys o) left keys.input (Some (count_of (k ∷ count_keys.more))) last (r.rest mid') in
         let Q : Count → Type 0 = λ n. LacksTail (keymap_of keys (r.own_binding mid')) left keys.input (Some n) last (r.rest mid') in
@@ -355,9 +325,9 @@ module _ {X Y : Type 0} (e : editors.Ghosts X) (r : readers.Ghosts Y) (editor : 
           drew = record {
             counting = λ some is.
                 let all = ap length is in
-                let same = length-map (k ∷ read.read.more) key in
+                let same = length-map (k ∷ count_keys.more) key in
                 absurd (omega (arith, size_is, all, same));
-            counted = λ other. drew_count;
+            counted = λ other. read.read.drew;
           };
         }
 
@@ -370,7 +340,7 @@ module _ {X Y : Type 0} (e : editors.Ghosts X) (r : readers.Ghosts Y) (editor : 
     reads_counted result reader' quiet behind takes =
         let count_quiet = read.fails.quiet in
         let drew : RedrawsItems e r editor reader editor' reader' =
-        let c = drew_count.redraws in
+        let c = read.read.drew.redraws in
         λ below. let s = c (omega (arith, below, size_is, takes.fewer)) in (omega (arith, s.0), omega (arith, s.1, size_is, takes.fewer)) in
         record {
           read = counted_read result behind;
@@ -398,8 +368,8 @@ module _ {X Y : Type 0} (e : editors.Ghosts X) (r : readers.Ghosts Y) (editor : 
           phrase = phrase_counted reader' (command_of c) there;
           begun_there = refl;
           fewer = omega (arith, size_is, takes.fewer);
-          drawn = record { right = λ was. read.right; line = λ was. hint_trails e editor' read.shows };
-          in_place = λ at. read.shows.in_full.position;
+          drawn = record { right = λ was. read.read.drew.right; line = λ was. hint_trails e editor' read.read.drew.shows };
+          in_place = λ at. read.read.drew.shows.in_full.position;
         }
         counted_read (Err f) there = λ no. let b = there no in (b.0, counted_begun reader' b.1)
 

@@ -8,9 +8,10 @@ use Rattle.line_keys.specs.Item.{Item}
 use Rattle.line_editor.specs.Input.{Input}
 use Rattle.line_editor.specs.Keymap.{Keymap}
 use Rattle.line_editor.specs.Phrase.{IsBeginning}
-use Rattle.line_editor.specs.Run.{Run, End, Turn, CutShort, goes_on, ends, runs_dry, stopped, dry, kills_before, ready}
+use Rattle.line_editor.specs.Run.{Run, End, Turn, Turns, CutShort, first, none, goes_on, ends, runs_dry, stopped, dry, kills_before, ready}
 use Rattle.line_editor.specs.Editor.{Editor, Answer, Leaves, Ruler, grouped, proceeds}
 use Rattle.line_editor.specs.Step.{step}
+use Rattle.line_editor.proofs.TurnLaws.{turns-follow}
 
 -- what a command leaves that is executed where its phrase was read
 pub leaves-by : (ruler : Ruler) (environment environment' : Environment) (left : Editor) (input' : Input)
@@ -46,6 +47,14 @@ module _ (keymap keymap' : Keymap) (ruler ruler' : Ruler) (environment environme
   run-goes editor left last input input' input'' items more end answer proceeded turn run =
       let P : Answer → Type 0 = λ a. Turn keymap ruler environment editor input items left input' more a in
       goes_on (subst P proceeded (retold editor left input input' items more answer turn)) run
+
+  -- turns that proceed and one more behind them
+  pub turns-on : (start editor left : Editor) (begun input input' : Input) (all items more : List Item)
+      → Turns keymap ruler environment start begun all editor input items
+      → Turn keymap' ruler' environment' editor input items left input' more proceeds
+      → Turns keymap ruler environment start begun all left input' more
+  turns-on start editor left begun input input' all items more turns turn =
+      turns-follow keymap ruler environment start editor left begun input input' all items more turns (first (retold editor left input input' items more proceeds turn) none)
 
   -- a turn that doesn't proceed ends a run
   pub run-ends : (editor left : Editor) (input input' : Input) (items more : List Item) (answer answer' : Answer)

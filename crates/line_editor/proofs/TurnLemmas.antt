@@ -43,7 +43,7 @@ module _ {X : Type 0} (e : editors.Ghosts X) where
   drew_few times nothing old new few drew = stays_rises 3 (e.redraws old) (e.redraws new) drew.redraws
   drew_few times with_hint old new few drew = rises_more times times 3 (e.redraws old) (e.redraws new) few drew.redraws
   drew_few times (with_text trailing kind) old new few drew = rises_more times times 3 (e.redraws old) (e.redraws new) few drew.redraws
-  drew_few times (behind_prompt prompt) old new few drew = rises_more 1 1 3 (e.redraws old) (e.redraws new) (omega arith) drew.redraws
+  drew_few times (behind_prompt prompt) old new few drew = rises_more times times 3 (e.redraws old) (e.redraws new) few drew.redraws
   drew_few times (cursor kind) old new few drew = rises_more 0 1 3 (e.redraws old) (e.redraws new) (omega arith) (cursor_once kind old new drew)
   drew_few times (cursor_over line) old new few drew =
       rises_more 0 2 3 (e.redraws old) (e.redraws new) (omega arith)

@@ -19,13 +19,14 @@ use Rattle.line_editor.specs.Binding.{Bound, all_sure}
 use Rattle.line_editor.specs.Input.{Input}
 use Rattle.line_editor.specs.Keymap.{Keymap, keymap_of}
 use Rattle.line_editor.specs.Reading.{KeepsReading, LeftByCut, ruler_behind}
-use Rattle.line_editor.specs.Run.{CutShort, End, Run, stopped, dry}
-use Rattle.line_editor.specs.Runs.{Advances, NeedsMoreItems, Runs, RunsTo, Session, Stays, TakesTurn, editor_of, items_read, session}
+use Rattle.line_editor.specs.Run.{CutShort, End, Run, Turns, stopped, dry}
+use Rattle.line_editor.specs.Run as runs
+use Rattle.line_editor.specs.Runs.{Advances, NeedsMoreItems, Runs, RunsTo, Session, Stays, TakesTurn, TurnsTo, editor_of, items_read, session}
 use Rattle.line_editor.specs.Editor.{Answer, Editor, Ruler, proceeds, submitted, ended, interrupted, own_ruler, ruler_of}
 use Rattle.line_editor.specs.declared.run.Turned.{Turned}
 use Rattle.line_editor.proofs.AskedLemmas.{sure_all}
 use Rattle.line_editor.proofs.DrawnLemmas.{frame_then, hint_trails, line_stays}
-use Rattle.line_editor.proofs.RunLemmas.{run-goes, run-ends, run-dry}
+use Rattle.line_editor.proofs.RunLemmas.{run-goes, run-ends, run-dry, turns-on}
 
 -- a phrase that was cut short leaves what all changes taken back give
 start_of_cut : (environment : Environment) (draft left : Draft) → LeftByCut environment draft left
@@ -47,6 +48,7 @@ module _ {X Y : Type 0} (e : editors.Ghosts X) (r : readers.Ghosts Y) (indent : 
         → Run (keymap_of start.keys (r.own_binding start.reader)) (own_ruler (e.display start.state) indent) (e.environment start.state) (editor_of e now.state now.kills) now.keys.input (r.rest now.reader) last i end
         → Run (keymap_of start.keys (r.own_binding start.reader)) (own_ruler (e.display start.state) indent) (e.environment start.state)
         (record { draft = hinted (e.environment start.state) (e.draft start.state); kills = start.kills }) start.keys.input (r.rest start.reader) last i end
+    pub turned : TurnsTo e r indent start now
     pub keeps : KeepsReading e r start.state start.keys start.reader now.state now.keys now.reader
     pub unread : r.failures now.reader ≡ r.failures start.reader
     pub undrawn : e.failures now.state ≡ e.failures start.state
@@ -61,6 +63,10 @@ module _ {X Y : Type 0} (e : editors.Ghosts X) (r : readers.Ghosts Y) (indent : 
       → Underway (session now start.keys start.reader start.kills)
   begins now drew = record {
     goes_on = λ last i end run. subst (λ (d : Draft). Run (keymap_of start.keys (r.own_binding start.reader)) (own_ruler (e.display start.state) indent) (e.environment start.state) (record { draft = d; kills = start.kills }) start.keys.input (r.rest start.reader) last i end) drew.draft run;
+    turned =
+        let P : Draft → Type 0 = λ d. Turns (keymap_of start.keys (r.own_binding start.reader)) (own_ruler (e.display start.state) indent) (e.environment start.state)
+        (record { draft = d; kills = start.kills }) start.keys.input (r.rest start.reader) (editor_of e now start.kills) start.keys.input (r.rest start.reader) in
+        subst P drew.draft runs.none;
     keeps = record { both = record { frame = drew.frame; own = refl; counts = omega arith }; bound = refl };
     unread = refl;
     undrawn = drew.fails.quiet;
@@ -134,6 +140,7 @@ module _ {X Y : Type 0} (e : editors.Ghosts X) (r : readers.Ghosts Y) (indent : 
       pub proceeds_on : {turned : Turned} → Advances e r indent (Ok turned) now next → TakesTurn e r indent now next proceeds → Underway next
       proceeds_on advances turn = record {
         goes_on = λ last i end run. u.goes_on last i end (run-goes _ _ _ _ _ _ same_keymap (turn_ruler turn.turn.reads.typed turn.ruler turn.measured) u.keeps.both.frame.environment _ _ _ _ _ _ _ _ end proceeds refl turn.turn run);
+        turned = turns-on _ _ _ _ _ _ same_keymap (turn_ruler turn.turn.reads.typed turn.ruler turn.measured) u.keeps.both.frame.environment _ _ _ _ _ _ _ _ _ u.turned turn.turn;
         keeps = keeps_on advances.stays.keeps;
         unread = advances.stays.fails.quiet.0 ∙ u.unread;
         undrawn = advances.stays.fails.quiet.1 ∙ u.undrawn;
@@ -228,12 +235,13 @@ module _ {X Y : Type 0} (e : editors.Ghosts X) (r : readers.Ghosts Y) (indent : 
               record {
                 run = u.goes_on _ _ _ (subst Q (sym dry_up.input_left) (run-dry _ _ _ _ _ _ same_keymap same_ruler u.keeps.both.frame.environment _ _ _ _ dry_up.out.begins short));
                 drawn = record {
-                  found = now.state;
-                  typed = dry_up.out.begins.phrase.typed;
-                  within = dry_up.out.within;
+                  found = now;
+                  keeps = u.keeps;
+                  turns = u.turned;
+                  unread = refl;
                   right = u.right;
                   shown = u.shown;
-                  drew = dry_up.out.drew;
+                  needs = dry_up;
                   empty = λ none.
                       let n = dry_up.nothing_read none in (
                         subst S (sym n.0) (subst R (sym n.1.display) u.right),

@@ -147,7 +147,7 @@ abbrev pub once_for : Drawing → ℕ
 once_for nothing = 0
 once_for drawing = 1
 
--- how often a command draws the line that proceeds and leaves the kill ring: a newline takes the hint away first
+-- how often the line is drawn in full by a command that proceeds and leaves the kill ring: a newline takes the hint away first
 abbrev pub edited_times : Display → Draft → Command → ℕ
 edited_times display draft newline = once_for (unhinted_drawn display draft) + 1
 edited_times display draft command = 1
@@ -162,7 +162,8 @@ abbrev pub reply_times : Reply → ℕ → ℕ
 reply_times GoesOn times = times + 1
 reply_times reply times = times
 
--- how often a command draws the line in full, if it draws it: once for each of its steps that draws
+-- how often the line is drawn in full by a command that draws it: once for each of its steps that does. A cursor is no line:
+-- `DrewCursor` says how often it is drawn
 abbrev pub times_of : Display → Environment → Editor → Command → ℕ
 times_of display environment editor (replace movement text) =
     once_for (drawn_if (is_some (killed_range editor.draft.line movement))) + once_for (drawn_if (has_text text))

@@ -46,11 +46,11 @@ abbrev pub way_ends : Environment → SearchDirection → Draft → Bool
 way_ends environment Reverse draft = draft.index == 0
 way_ends environment Forward draft = is_at_end environment draft
 
--- who is asked on the way back in the history, and on the way on, where no line is looked up for the one that is being written;
--- nobody where the way ends
+-- who is asked on the way back in the history: nobody where it ends
 abbrev pub asked_back : Draft → Asks
 asked_back draft = if draft.index == 0 then nobody else for_line
 
+-- who is asked on the way on: the line that is being written is not looked up
 abbrev pub asked_on : Environment → Draft → Asks
 asked_on environment draft =
     if is_at_end environment draft then nobody

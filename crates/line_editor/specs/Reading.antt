@@ -10,10 +10,10 @@ use Rattle.line_parts.specs.Asks.{Asks, for_hint, is_sure}
 use Rattle.line_parts.specs.Environment.{Environment}
 use Rattle.line_keys.specs.Command.{Command, command_of}
 use Rattle.line_keys.specs.Count.{IsCountOf, continues_count, count_of, count_prompt}
-use Rattle.line_keys.specs.Display.{Display, ShowsInFull, corner}
-use Rattle.line_keys.specs.Draft.{Draft, KeepsLine, KeepsText, hint_shown, hinted, start_text}
-use Rattle.line_keys.specs.Drawing.{DrewNothing}
-use Rattle.line_keys.specs.EditorState.{Frame, HasRightLayout, IsInPlace, Redraws, Shows}
+use Rattle.line_keys.specs.Display.{Display}
+use Rattle.line_keys.specs.Draft.{Draft, KeepsLine, KeepsText, hinted, start_text}
+use Rattle.line_keys.specs.Drawing.{Drew, DrewNothing, behind_prompt, with_hint}
+use Rattle.line_keys.specs.EditorState.{Frame, IsInPlace, Redraws}
 use Rattle.line_keys.specs.ShownLine.{KeepsDrawn}
 use Rattle.line_keys.specs.declared.command.Cmd.{Cmd}
 use Rattle.line_keys.specs.Item.{Item, key}
@@ -128,26 +128,18 @@ OnRead (Ok value) Read Dry = Read value
 OnRead (Err error) Read Dry = is_fault error ≡ false → (error ≡ Eof) × Dry
 
 module _ {X : Type 0} (e : editors.Ghosts X) where
-  -- the line is shown behind the prompt of a count, with its hint
-  abbrev pub ShowsCount : List KeyEvent → X → Type 0
-  ShowsCount keys editor =
-      ShowsInFull (e.display editor) ((e.display editor).surface.measure (count_prompt keys) corner)
-      (e.draft editor).line (hint_shown (e.draft editor))
-
-  -- the line was drawn behind the own prompt with its hint, and so often in all
-  pub record DrewAgain (times : ℕ) (old new : X) : Type 0 where
-    pub shows : Shows e new (hint_shown (e.draft new))
-    pub right : HasRightLayout e new
-    pub redraws : Redraws e times times old new
+  -- what is drawn while a count is read: the line behind its prompt, once for each of its keys
+  abbrev pub DrewCounting : List KeyEvent → X → X → Type 0
+  DrewCounting keys old new = Drew e (length keys) (behind_prompt (count_prompt keys)) old new
 
   -- what is drawn of a count: nothing where none is typed; else the line once for each of its keys, and then behind the own prompt
   abbrev pub DrewCount : List KeyEvent → X → X → Type 0
   DrewCount [] old new = DrewNothing e old new
-  DrewCount (first ∷ more) old new = DrewAgain (length (first ∷ more) + 1) old new
+  DrewCount (first ∷ more) old new = Drew e (length (first ∷ more) + 1) with_hint old new
 
   -- what is drawn of a phrase that was cut short behind these items: where they end with the keys of a count, the count alone
   pub record DrewCut (typed : List KeyEvent) (items : List Item) (old new : X) : Type 0 where
-    pub counting : typed ≢ [] → items ≡ map key typed → ShowsCount typed new × Redraws e (length typed) (length typed) old new
+    pub counting : typed ≢ [] → items ≡ map key typed → DrewCounting typed old new
     pub counted : (typed ≡ []) ⊎ (items ≢ map key typed) → DrewCount typed old new
 
 module _ {X Y : Type 0} (e : editors.Ghosts X) (r : readers.Ghosts Y) where
@@ -193,25 +185,27 @@ module _ {X Y : Type 0} (e : editors.Ghosts X) (r : readers.Ghosts Y) where
     pub took : OnRead result (λ k. r.rest reader ≡ key k ∷ r.rest reader') (IsDry r reader reader')
     pub draft : UnlessFault result (e.draft editor' ≡ hinted (e.environment editor) (e.draft editor))
     pub text : KeepsText (e.draft editor) (e.draft editor')
-    pub shows : (keys : List KeyEvent) → IsCountOf typed keys → UnlessFault result (ShowsCount e keys editor')
-    pub redraws : UnlessFault result (Redraws e 1 1 editor editor')
+    pub drew : (keys : List KeyEvent) → IsCountOf typed keys
+        → UnlessFault result (Drew e 1 (behind_prompt (count_prompt keys)) editor editor')
     pub keeps : KeepsBoth editor reader editor' reader'
     pub fails : Fails (is_sure (e.sure editor) for_hint ≡ true) result editor reader editor' reader'
 
   -- the items ended in a count that began with a key, and it is shown
-  pub record CutInCount (style : EditMode) (first : KeyEvent) (reader : Y) (editor' : X) (reader' : Y) : Type 0 where
+  pub record CutInCount (style : EditMode) (first : KeyEvent) (editor : X) (reader : Y) (editor' : X) (reader' : Y) : Type 0 where
     pub inside : InsideCount r style reader reader'
-    pub shows : ShowsCount e (first ∷ inside.more) editor'
+    pub drew : DrewCounting e (first ∷ inside.more) editor editor'
+
+  -- a count that began with a key was read, and the key that ends it, and the line was drawn
+  pub record CountRead (style : EditMode) (first : KeyEvent) (editor : X) (reader : Y) (editor' : X) (reader' : Y) (count : Count) (last : KeyEvent) : Type 0 where
+    pub ends : EndsCount r style first reader reader' count last
+    pub drew : DrewCount e (first ∷ ends.more) editor editor'
 
   -- the rest of a count that began with a key was read, and the key that ends it; the line is drawn once for each key of the count,
   -- and at last again with its hint
   pub record ReadsCount (style : EditMode) (first : KeyEvent) (result : Result (Count × KeyEvent) ReadlineError) (editor : X) (reader : Y) (editor' : X) (reader' : Y) : Type 0 where
-    pub read : OnRead result (λ ended. EndsCount r style first reader reader' ended.0 ended.1) (CutInCount style first reader editor' reader')
+    pub read : OnRead result (λ ended. CountRead style first editor reader editor' reader' ended.0 ended.1) (CutInCount style first editor reader editor' reader')
     pub draft : UnlessFault result (e.draft editor' ≡ hinted (e.environment editor) (e.draft editor))
     pub text : KeepsText (e.draft editor) (e.draft editor')
-    pub redraws : UnlessFault result (Redraws e (1 + (length (r.rest reader) - length (r.rest reader'))) (1 + (length (r.rest reader) - length (r.rest reader'))) editor editor')
-    pub shows : OnOk result (Shows e editor' (hint_shown (e.draft editor')))
-    pub right : OnOk result (HasRightLayout e editor')
     pub keeps : KeepsBoth editor reader editor' reader'
     pub fails : Fails (is_sure (e.sure editor) for_hint ≡ true) result editor reader editor' reader'
 

@@ -13,14 +13,13 @@ use Rattle.line_keys.specs.EditorState.{Frame, HasRightLayout, IsAtEnd, IsInPlac
 use Rattle.line_keys.specs.Item.{Item}
 use Rattle.line_keys.specs.ShownLine.{GoesToEnd, HasShownEnd, KeepsDrawn, LosesHint, ShowsLine, ShowsNoHint}
 use Rattle.line_keys.specs.declared.editor_state.EditorState as editors
-use Rattle.line_keys.specs.declared.keys.KeyEvent.{KeyEvent}
 use Rattle.line_keys.specs.declared.tty.RawReader as readers
 use Rattle.line_editor.specs.Drawings.{asked_of, drawing_of, times_of}
 use Rattle.line_editor.specs.Editor.{Answer, Editor, Leaves, Ruler, ended, grouped, interrupted, own_ruler, proceeds, ruler_of, submitted}
 use Rattle.line_editor.specs.Input.{Input}
 use Rattle.line_editor.specs.Keymap.{KeyState, keymap_of}
-use Rattle.line_editor.specs.Reading.{DrewCount, DrewCut, FailsByReading, KeepsReading, OutOfItems, ruler_behind}
-use Rattle.line_editor.specs.Run.{End, Run, Turn, dry, kills_before, stopped}
+use Rattle.line_editor.specs.Reading.{DrewCount, FailsByReading, KeepsReading, OutOfItems, ruler_behind}
+use Rattle.line_editor.specs.Run.{End, Run, Turn, Turns, dry, kills_before, stopped}
 use Rattle.line_editor.specs.Status.{ComesTo}
 use Rattle.line_editor.specs.Step.{step}
 use Rattle.line_editor.specs.declared.command.Status.{Status}
@@ -43,8 +42,8 @@ module _ {X : Type 0} (e : editors.Ghosts X) where
   editor_of state kills = record { draft = e.draft state; kills = kills }
 
   -- what a call leaves that edits the line and kills or yanks: the editor, and what else such an edit leaves
-  pub record DoesWithKills {T : Type 0} (result : Result T ReadlineError) (state : X) (kills : Ring) (state' : X) (kills' : Ring) (left : Editor) (drawing : Drawing) (most : ℕ) : Type 0 where
-    pub does : Does e result state state' left.draft drawing most
+  pub record DoesWithKills {T : Type 0} (result : Result T ReadlineError) (state : X) (kills : Ring) (state' : X) (kills' : Ring) (left : Editor) (drawing : Drawing) (times : ℕ) : Type 0 where
+    pub does : Does e result state state' left.draft drawing times
     pub kills_left : OnOk result (kills' ≡ left.kills)
 
   -- from a state, an input and a kill ring the command leads to a state and a kill ring with this answer
@@ -146,28 +145,37 @@ module _ {X Y : Type 0} (e : editors.Ghosts X) (r : readers.Ghosts Y) where
       (record { draft = hinted (e.environment before.state) (e.draft before.state); kills = before.kills }) before.keys.input (r.rest before.reader)
       (editor_of e after.state after.kills) after.keys.input end
 
-  -- what is drawn where the items ran dry inside these: what was drawn for a count since the last turn, and else nothing
-  pub record DrawnDry (inside : List Item) (last : X) : Type 0 where
-    pub found : X
-    pub typed : List KeyEvent
-    pub within : length typed ≤ length inside
-    pub right : HasRightLayout e found
-    pub shown : ShowsLine e found
-    pub drew : DrewCut e typed inside found last
-    pub empty : inside ≡ [] → HasRightLayout e last × ShowsLine e last
+  -- once the hint was asked, turns that proceed lead to a session
+  abbrev pub TurnsTo : ℕ → Session X Y → Session X Y → Type 0
+  TurnsTo indent before after =
+      Turns (keymap_of before.keys (r.own_binding before.reader)) (own_ruler (e.display before.state) indent) (e.environment before.state)
+      (record { draft = hinted (e.environment before.state) (e.draft before.state); kills = before.kills }) before.keys.input (r.rest before.reader)
+      (editor_of e after.state after.kills) after.keys.input (r.rest after.reader)
+
+  -- what is drawn where the items ran dry inside these: turns had led to where the line was shown and the layout right, and from
+  -- there more items were needed
+  pub record DrawnDry (indent : ℕ) (before : Session X Y) (inside : List Item) (after : Session X Y) : Type 0 where
+    pub found : Session X Y
+    pub keeps : KeepsReading e r before.state before.keys before.reader found.state found.keys found.reader
+    pub turns : TurnsTo indent before found
+    pub unread : r.rest found.reader ≡ inside
+    pub right : HasRightLayout e found.state
+    pub shown : ShowsLine e found.state
+    pub needs : NeedsMoreItems found after
+    pub empty : inside ≡ [] → HasRightLayout e after.state × ShowsLine e after.state
 
   -- what is drawn at the end of a run: the line without a hint; the cursor at the end of what is shown; or where the items ran dry
-  abbrev pub DrawnAtEnd : End → X → Type 0
-  DrawnAtEnd (stopped proceeds rest) state = ⊥
-  DrawnAtEnd (stopped submitted rest) state = HasRightLayout e state × ShowsNoHint e state
-  DrawnAtEnd (stopped ended rest) state = HasRightLayout e state × ShowsNoHint e state
-  DrawnAtEnd (stopped interrupted rest) state = IsAtEnd e state × IsInPlace e state × HasShownEnd e state
-  DrawnAtEnd (dry inside) state = DrawnDry inside state
+  abbrev pub DrawnAtEnd : ℕ → Session X Y → End → Session X Y → Type 0
+  DrawnAtEnd indent before (stopped proceeds rest) after = ⊥
+  DrawnAtEnd indent before (stopped submitted rest) after = HasRightLayout e after.state × ShowsNoHint e after.state
+  DrawnAtEnd indent before (stopped ended rest) after = HasRightLayout e after.state × ShowsNoHint e after.state
+  DrawnAtEnd indent before (stopped interrupted rest) after = IsAtEnd e after.state × IsInPlace e after.state × HasShownEnd e after.state
+  DrawnAtEnd indent before (dry inside) after = DrawnDry indent before inside after
 
   -- a run that came to this end: it drew the line at least once, and at most four times more for each item read
   pub record Ran (indent : ℕ) (before after : Session X Y) (end : End) : Type 0 where
     pub run : RunsTo indent before after end
-    pub drawn : DrawnAtEnd end after.state
+    pub drawn : DrawnAtEnd indent before end after
     pub start : start_text (e.draft after.state) ≡ start_text (e.draft before.state)
     pub redraws : Redraws e 1 (1 + 4 * items_read before after) before.state after.state
 

@@ -12,7 +12,8 @@ use Rattle.line_parts.specs.declared.highlight.CmdKind.{CmdKind}
 use Rattle.line_parts.specs.declared.highlight.CmdKind.TheVariants.{MoveCursor, Other}
 
 -- what is drawn: nothing; the line in full with its hint; with another text behind it or none, for a kind that `highlight_char` is
--- told; with its hint behind another prompt; the cursor where the line's is; the same on the way to it; or the cursor at the end of what is shown
+-- told; with its hint behind another prompt; the cursor where the line's is; the cursor at a place on its way, and then where the
+-- line's is; or the cursor at the end of what is shown
 pub data Drawing : Type 0 where
   nothing : Drawing
   with_hint : Drawing
@@ -40,12 +41,12 @@ pub record DrewLine {X : Type 0} (e : Ghosts X) (times : ℕ) (trailing : Option
   pub lit : (e.display new).lit ≡ lit_after (e.environment old) (e.display old) (e.draft new).line kind
   pub redraws : Redraws e times times old new
 
--- the line was drawn in full once with its hint behind another prompt
-pub record DrewBehind {X : Type 0} (e : Ghosts X) (prompt : List ℕ) (old new : X) : Type 0 where
+-- the line was drawn in full with its hint behind another prompt, so often, and at last `highlight_char` was asked
+pub record DrewBehind {X : Type 0} (e : Ghosts X) (times : ℕ) (prompt : List ℕ) (old new : X) : Type 0 where
   pub shows : ShowsInFull (e.display new) ((e.display new).surface.measure prompt corner) (e.draft new).line (hint_shown (e.draft new))
   pub other : (e.display new).layout.default_prompt ≡ false
   pub lit : (e.display new).lit ≡ lit_after (e.environment old) (e.display old) (e.draft new).line Other
-  pub redraws : Redraws e 1 1 old new
+  pub redraws : Redraws e times times old new
 
 -- the cursor was drawn: the line in full with nothing behind it, or nothing, which is so where the kept cursor is the line's already;
 -- a line that changed has its cursor drawn
@@ -69,12 +70,12 @@ pub record DrewCursorAtEnd {X : Type 0} (e : Ghosts X) (old new : X) : Type 0 wh
   pub lit : (e.display new).lit ≡ (e.display old).lit
   pub redraws : e.redraws new ≡ e.redraws old
 
--- this was drawn; a line, with so many full redraws
+-- this was drawn: a line with so many full redraws, anything else as its own record says
 abbrev pub Drew : {X : Type 0} → Ghosts X → ℕ → Drawing → X → X → Type 0
 Drew e times nothing old new = DrewNothing e old new
 Drew e times with_hint old new = DrewLine e times (hint_shown (e.draft new)) Other old new
 Drew e times (with_text trailing kind) old new = DrewLine e times trailing kind old new
-Drew e times (behind_prompt prompt) old new = DrewBehind e prompt old new
+Drew e times (behind_prompt prompt) old new = DrewBehind e times prompt old new
 Drew e times (cursor kind) old new = DrewCursor e kind old new
 Drew e times (cursor_over line) old new = DrewCursorOver e line old new
 Drew e times cursor_to_end old new = DrewCursorAtEnd e old new
