@@ -6,8 +6,8 @@ use Rattle.std.proofs.lemmas.List.Elements.{filter-append}
 use Rattle.std.proofs.lemmas.Option.{get_or_from_slice_get, slice_get_within, slice_get_past}
 use Rattle.line_buffer.proofs.ListLemmas.{take_one_less}
 use Rattle.line_buffer.specs.Word.{kind_at, edges, nth, bytes_to, edge_before}
-use Rattle.line_buffer.specs.declared.words.Kind.TheVariants.{Gap}
-use Rattle.line_buffer.specs.declared.words.Kind.{Kind}
+use Rattle.line_buffer.specs.declared.word_edges.Kind.TheVariants.{Gap}
+use Rattle.line_buffer.specs.declared.word_edges.Kind.{Kind}
 
 -- the first m places at which there may be an edge, and those where there is one
 abbrev pub edges_to : (Kind → Kind → Bool) → List Kind → ℕ → List ℕ

@@ -5,8 +5,8 @@ use Rattle.std.specs.List.{concat, range_with_len, slice_get}
 use Rattle.std.proofs.lemmas.List.{length-map}
 use Rattle.line_buffer.proofs.ListLemmas.{drop_one_more, concat-cut}
 use Rattle.line_buffer.specs.Word.{kind_at, edges, nth, bytes_to, edge_bytes, edge_behind}
-use Rattle.line_buffer.specs.declared.words.Kind.TheVariants.{Gap}
-use Rattle.line_buffer.specs.declared.words.Kind.{Kind}
+use Rattle.line_buffer.specs.declared.word_edges.Kind.TheVariants.{Gap}
+use Rattle.line_buffer.specs.declared.word_edges.Kind.{Kind}
 
 -- the kind before a place, if there is one
 abbrev pub kind_before : List Kind → ℕ → Option Kind

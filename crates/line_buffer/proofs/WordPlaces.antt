@@ -8,7 +8,7 @@ use Rattle.unicode_segmentation.specs.Grapheme.{is_grapheme_break}
 use Rattle.line_buffer.proofs.ClusterLemmas.{boundary-bytes_to}
 use Rattle.line_buffer.specs.Cluster.{clusters}
 use Rattle.line_buffer.specs.Word.{bytes_to, edge_bytes, edge_behind_first, edges, nth}
-use Rattle.line_buffer.specs.declared.words.Kind.{Kind}
+use Rattle.line_buffer.specs.declared.word_edges.Kind.{Kind}
 
 pub some_same : {A : Type 0} {x y : A} → Some x ≡ Some y → x ≡ y
 some_same e = cc

@@ -17,12 +17,13 @@ abbrev pub newest_kind : List Entry → Option Taken
 newest_kind [] = None
 newest_kind (e ∷ entries) = Some (taken_kind e)
 
--- how many groups it begins, and how many it ends
+-- how many groups it begins
 abbrev pub opened_by : Taken → ℕ
 opened_by Kind.Begin = 1
 opened_by Kind.End = 0
 opened_by Kind.Change = 0
 
+-- how many groups it ends
 abbrev pub closed_by : Taken → ℕ
 closed_by Kind.Begin = 0
 closed_by Kind.End = 1

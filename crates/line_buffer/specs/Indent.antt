@@ -8,8 +8,8 @@ use Rattle.line_buffer.specs.Lines.{line_from}
 use Rattle.line_buffer.specs.Undo.{StillTells}
 use Rattle.line_buffer.specs.Line.{Line, is_no_newline, end_of_line, start_of_line, with_cursor}
 use Rattle.line_buffer.specs.Range.{range_of, unless_empty}
-use Rattle.line_buffer.specs.declared.keymap.Movement.{Movement}
-use Rattle.line_buffer.specs.declared.keymap.Movement.TheVariants.{BackwardWord, ForwardWord, LineUp, LineDown, WholeBuffer, BeginningOfBuffer, EndOfBuffer}
+use Rattle.line_buffer.specs.declared.movement.Movement.{Movement}
+use Rattle.line_buffer.specs.declared.movement.Movement.TheVariants.{BackwardWord, ForwardWord, LineUp, LineDown, WholeBuffer, BeginningOfBuffer, EndOfBuffer}
 
 -- the lines of a text, without their newlines
 abbrev pub lines : List ℕ → List (List ℕ)

@@ -5,9 +5,9 @@ use Rattle.line_buffer.specs.KillRing.{Ring, with_kept}
 use Rattle.line_buffer.specs.Line.{Line}
 use Rattle.line_buffer.specs.Range.{range_of, unless_empty}
 use Rattle.line_buffer.specs.Word.{or_else}
-use Rattle.line_buffer.specs.declared.keymap.CharSearch.TheVariants as Search
-use Rattle.line_buffer.specs.declared.keymap.Movement.{Movement}
-use Rattle.line_buffer.specs.declared.keymap.Movement.TheVariants.{WholeLine, BeginningOfLine, EndOfLine, BackwardWord, ViCharSearch, BackwardChar, ForwardChar, BeginningOfBuffer}
+use Rattle.line_buffer.specs.declared.movement.CharSearch.TheVariants as Search
+use Rattle.line_buffer.specs.declared.movement.Movement.{Movement}
+use Rattle.line_buffer.specs.declared.movement.Movement.TheVariants.{WholeLine, BeginningOfLine, EndOfLine, BackwardWord, ViCharSearch, BackwardChar, ForwardChar, BeginningOfBuffer}
 use Rattle.line_buffer.specs.declared.kill_ring.Mode.{Mode}
 use Rattle.line_buffer.specs.declared.kill_ring.Mode.TheVariants.{Append, Prepend}
 use Rattle.line_buffer.specs.declared.line_buffer.Direction.{Direction}

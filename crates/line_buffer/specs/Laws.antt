@@ -9,8 +9,8 @@ use Rattle.line_buffer.specs.Line.{Line, before, after}
 use Rattle.line_buffer.specs.Lines.{last_fitting}
 use Rattle.line_buffer.specs.Undo.{GroupsFit, NoGroupOpen, is_change, TellsOf, after_undo, all_taken_back}
 use Rattle.line_buffer.specs.Word.{begins_word, bytes_to, edges, kinds_of, nth, word_back, word_edge, word_on}
-use Rattle.line_buffer.specs.declared.keymap.At.{At}
-use Rattle.line_buffer.specs.declared.keymap.Word.{Word}
+use Rattle.line_buffer.specs.declared.movement.At.{At}
+use Rattle.line_buffer.specs.declared.movement.Word.{Word}
 use Rattle.line_buffer.specs.declared.kill_ring.Mode.{Mode}
 
 -- entries that tell how a text came from another give that one when all are taken back

@@ -8,10 +8,11 @@ pub record Line : Type 0 where
   pub text : List ℕ
   pub cursor : ℕ
 
--- the text before the cursor, and the text from it on
+-- the text before the cursor
 abbrev pub before : Line → List ℕ
 before l = take l.cursor l.text
 
+-- the text from the cursor on
 abbrev pub after : Line → List ℕ
 after l = drop l.cursor l.text
 
@@ -41,6 +42,7 @@ abbrev pub without : Line → Option (ℕ × ℕ) → Line
 without l None = l
 without l (Some r) = record { text = remove_range l.text r.0 r.1; cursor = r.0 }
 
+-- whether a byte is no newline
 abbrev pub is_no_newline : ℕ → Bool
 is_no_newline b = not (b == 10)
 

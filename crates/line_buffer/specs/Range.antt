@@ -5,10 +5,10 @@ use Rattle.line_buffer.specs.Line.{Line, start_of_line, end_of_line}
 use Rattle.line_buffer.specs.Lines.{lines_up, lines_down}
 use Rattle.line_buffer.specs.Search.{behind_char, found_on, search_place}
 use Rattle.line_buffer.specs.Word.{word_back, word_on}
-use Rattle.line_buffer.specs.declared.keymap.CharSearch.{CharSearch}
-use Rattle.line_buffer.specs.declared.keymap.CharSearch.TheVariants.{Forward, ForwardBefore, Backward, BackwardAfter}
-use Rattle.line_buffer.specs.declared.keymap.Movement.{Movement}
-use Rattle.line_buffer.specs.declared.keymap.Movement.TheVariants.{WholeLine, BeginningOfLine, EndOfLine, BackwardWord, ForwardWord, ViCharSearch, ViFirstPrint, BackwardChar, ForwardChar, LineUp, LineDown, WholeBuffer, BeginningOfBuffer, EndOfBuffer}
+use Rattle.line_buffer.specs.declared.movement.CharSearch.{CharSearch}
+use Rattle.line_buffer.specs.declared.movement.CharSearch.TheVariants.{Forward, ForwardBefore, Backward, BackwardAfter}
+use Rattle.line_buffer.specs.declared.movement.Movement.{Movement}
+use Rattle.line_buffer.specs.declared.movement.Movement.TheVariants.{WholeLine, BeginningOfLine, EndOfLine, BackwardWord, ForwardWord, ViCharSearch, ViFirstPrint, BackwardChar, ForwardChar, LineUp, LineDown, WholeBuffer, BeginningOfBuffer, EndOfBuffer}
 
 -- from a place before the cursor to the cursor
 abbrev pub up_to_cursor : Line → Option ℕ → Option (ℕ × ℕ)

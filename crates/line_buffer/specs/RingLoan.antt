@@ -6,5 +6,5 @@ use Rattle.line_buffer.specs.KillRing.{Ring}
 use Rattle.line_buffer.specs.contracts.kill_ring.KillRing.{the_row}
 
 -- the lent ring ends as this one
-abbrev pub EndsAs : MutBor Ring → Ring → Fml
-EndsAs lent ring = Rests the_row lent (λ left. left ≡ ring)
+abbrev pub LoanEndsAs : MutBor Ring → Ring → Fml
+LoanEndsAs lent ring = Rests the_row lent (λ left. left ≡ ring)

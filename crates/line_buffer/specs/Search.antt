@@ -8,8 +8,8 @@ use Rattle.line_buffer.specs.Line.{Line, before, after}
 use Rattle.line_buffer.specs.Lines.{last_fitting}
 use Rattle.line_buffer.specs.Word.{bytes_to}
 use Rattle.line_buffer.specs.Yank.{is_boundary}
-use Rattle.line_buffer.specs.declared.keymap.CharSearch.{CharSearch}
-use Rattle.line_buffer.specs.declared.keymap.CharSearch.TheVariants.{Forward, ForwardBefore, Backward, BackwardAfter}
+use Rattle.line_buffer.specs.declared.movement.CharSearch.{CharSearch}
+use Rattle.line_buffer.specs.declared.movement.CharSearch.TheVariants.{Forward, ForwardBefore, Backward, BackwardAfter}
 
 -- the same search in the other direction
 abbrev pub opposite : CharSearch → CharSearch

@@ -7,8 +7,8 @@ use Rattle.line_buffer.specs.Character.{is_alphanumeric_cluster}
 use Rattle.line_buffer.specs.Cluster.{clusters, place_back, place_on}
 use Rattle.line_buffer.specs.Line.{Line, after, replaced_in, with_cursor}
 use Rattle.line_buffer.specs.Word.{bytes_to, word_back, word_on}
-use Rattle.line_buffer.specs.declared.keymap.At.TheVariants.{AfterEnd}
-use Rattle.line_buffer.specs.declared.keymap.Word.TheVariants.{Emacs}
+use Rattle.line_buffer.specs.declared.movement.At.TheVariants.{AfterEnd}
+use Rattle.line_buffer.specs.declared.movement.Word.TheVariants.{Emacs}
 use Rattle.line_buffer.specs.declared.line_buffer.WordAction.TheVariants.{Capitalize, Lowercase, Uppercase}
 use Rattle.line_buffer.specs.declared.line_buffer.WordAction.{WordAction}
 
@@ -23,6 +23,7 @@ pub record Parts : Type 0 where
 abbrev pub exchanged : List ℕ → Parts → List ℕ
 exchanged text p = slice_range text p.from2 p.to2 ++ (slice_range text p.to1 p.from2 ++ slice_range text p.from1 p.to1)
 
+-- two parts of a text, by the start and the end of each
 abbrev pub parts : ℕ → ℕ → ℕ → ℕ → Parts
 parts from1 to1 from2 to2 = record { from1 = from1; to1 = to1; from2 = from2; to2 = to2 }
 
@@ -30,6 +31,7 @@ parts from1 to1 from2 to2 = record { from1 = from1; to1 = to1; from2 = from2; to
 abbrev pub with_exchanged : Line → Parts → Line
 with_exchanged l p = replaced_in l p.from1 p.to2 (exchanged l.text p)
 
+-- the changes once this exchange of two parts was told
 abbrev pub with_exchange : List ℕ → Parts → List Entry → List Entry
 with_exchange text p entries = with_replace p.from1 (slice_range text p.from1 p.to2) (exchanged text p) entries
 
@@ -50,6 +52,7 @@ chars_beside l place =
 abbrev pub chars_exchanged : Line → Line
 chars_exchanged l = if has_two_chars l then with_exchanged l (chars_beside l (between_chars l)) else l
 
+-- the changes once this exchange was told, where there is one
 abbrev pub with_chars_exchanged : Line → List Entry → List Entry
 with_chars_exchanged l entries = if has_two_chars l then with_exchange l.text (chars_beside l (between_chars l)) entries else entries
 
@@ -77,6 +80,7 @@ are_apart p = not ((p.from1 == p.from2) || nat_lt p.from2 p.to1)
 abbrev pub words_exchanged : Line → ℕ → Line
 words_exchanged l n = if are_apart (words_beside l n) then with_exchanged l (words_beside l n) else with_cursor l (words_beside l n).to1
 
+-- the changes once the exchange of the words was told, where there are two
 abbrev pub with_words_exchanged : Line → ℕ → List Entry → List Entry
 with_words_exchanged l n entries = if are_apart (words_beside l n) then with_exchange l.text (words_beside l n) entries else entries
 
@@ -101,15 +105,17 @@ abbrev pub with_cased : WordAction → Line → Option ℕ → Line
 with_cased action l None = l
 with_cased action l (Some from) = replaced_in l from (word_end_from l from 1) (cased action (slice_range l.text from (word_end_from l from 1)))
 
+-- the changes once the change of these letters was told
 abbrev pub with_case : WordAction → Line → Option ℕ → List Entry → List Entry
 with_case action l None entries = entries
 with_case action l (Some from) entries =
     let word = slice_range l.text from (word_end_from l from 1) in
     with_replace from word (cased action word) entries
 
--- the same of the next word, if there is one
+-- the line with the letters of the next word changed, if there is one
 abbrev pub word_cased : WordAction → Line → Line
 word_cased action l = with_cased action l (next_alphanumeric l)
 
+-- the changes once the change of the next word was told
 abbrev pub with_word_cased : WordAction → Line → List Entry → List Entry
 with_word_cased action l entries = with_case action l (next_alphanumeric l) entries

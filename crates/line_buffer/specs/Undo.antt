@@ -59,10 +59,12 @@ pub record Tells (entries : List Entry) (text : List ℕ) : Type 0 where
   pub start : List ℕ
   pub told : TellsOf entries text start
 
+-- whether the entry begins a group
 abbrev pub is_begin : Entry → Bool
 is_begin begins = true
 is_begin _ = false
 
+-- whether the entry ends a group
 abbrev pub is_end : Entry → Bool
 is_end ends = true
 is_end _ = false
@@ -81,10 +83,11 @@ is_step entries k = nat_le (count_by is_end (take k entries)) (count_by is_begin
 abbrev pub steps_len : List Entry → ℕ → ℕ
 steps_len entries n = unwrap_or (nth (filter (is_step entries) (range_with_len 1 (length entries))) (max n 1)) (length entries)
 
--- the entries of the newest n steps, and the changes without these
+-- the entries of the newest n steps
 abbrev pub newest_steps : ℕ → List Entry → List Entry
 newest_steps n entries = take (steps_len entries n) entries
 
+-- the changes without the newest n steps
 abbrev pub without_steps : ℕ → Changes → Changes
 without_steps n c = with_entries c (drop (steps_len c.entries n) c.entries)
 

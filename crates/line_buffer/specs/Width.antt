@@ -13,6 +13,7 @@ columns_as_one cs = str_width false cs
 abbrev pub columns_of_char : ℕ → ℕ
 columns_of_char c = unwrap_or (char_width false c) 0
 
+-- whether a character is the zero width joiner
 abbrev pub is_joiner : ℕ → Bool
 is_joiner c = c == 0x200D
 

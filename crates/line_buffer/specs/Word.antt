@@ -5,14 +5,14 @@ use Rattle.std.specs.List.{concat, list_all, range_with_len, slice_get}
 use Rattle.line_buffer.specs.Character.{is_alphanumeric}
 use Rattle.line_buffer.specs.Cluster.{clusters}
 use Rattle.line_buffer.specs.Line.{Line, before, after}
-use Rattle.line_buffer.specs.declared.keymap.At.{At}
-use Rattle.line_buffer.specs.declared.keymap.At.TheVariants.{Start, BeforeEnd, AfterEnd}
-use Rattle.line_buffer.specs.declared.keymap.Word.TheVariants.{Big, Emacs, Vi}
-use Rattle.line_buffer.specs.declared.keymap.Word.{Word}
-use Rattle.line_buffer.specs.declared.words.Edge.TheVariants.{Begin, End}
-use Rattle.line_buffer.specs.declared.words.Edge.{Edge}
-use Rattle.line_buffer.specs.declared.words.Kind.TheVariants.{Gap, Inside, Mark}
-use Rattle.line_buffer.specs.declared.words.Kind.{Kind}
+use Rattle.line_buffer.specs.declared.movement.At.{At}
+use Rattle.line_buffer.specs.declared.movement.At.TheVariants.{Start, BeforeEnd, AfterEnd}
+use Rattle.line_buffer.specs.declared.movement.Word.TheVariants.{Big, Emacs, Vi}
+use Rattle.line_buffer.specs.declared.movement.Word.{Word}
+use Rattle.line_buffer.specs.declared.word_edges.Edge.TheVariants.{Begin, End}
+use Rattle.line_buffer.specs.declared.word_edges.Edge.{Edge}
+use Rattle.line_buffer.specs.declared.word_edges.Kind.TheVariants.{Gap, Inside, Mark}
+use Rattle.line_buffer.specs.declared.word_edges.Kind.{Kind}
 
 -- all characters of the cluster are white space
 abbrev pub is_blank : List ℕ → Bool
@@ -32,9 +32,11 @@ kind_of Big cluster = if is_blank cluster then Gap else Inside
 kind_of Emacs cluster = if is_made_of is_alphanumeric cluster then Inside else Gap
 kind_of Vi cluster = if is_blank cluster then Gap else if is_made_of is_vi_letter cluster then Inside else Mark
 
+-- what each of a list of clusters is to words
 abbrev pub kinds_of : Word → List (List ℕ) → List Kind
 kinds_of word cs = map (kind_of word) cs
 
+-- the kind at a place in a list; a gap past its end
 abbrev pub kind_at : List Kind → ℕ → Kind
 kind_at kinds i = slice_index_or kinds i Gap
 
@@ -101,11 +103,12 @@ edge_between End = ends_word
 abbrev pub edge_bytes : List (List ℕ) → ℕ → ℕ × ℕ
 edge_bytes cs i = (bytes_to cs (i - 1), bytes_to cs i)
 
--- the same where there is a cluster before, or behind
+-- an edge before a cluster of the new kind, where there is a cluster before it
 abbrev pub edge_behind : (Kind → Kind → Bool) → Option Kind → Kind → Bool
 edge_behind test None new = false
 edge_behind test (Some old) new = test old new
 
+-- an edge behind a cluster of the old kind, where there is a cluster behind it
 abbrev pub edge_before : (Kind → Kind → Bool) → Kind → Option Kind → Bool
 edge_before test old None = false
 edge_before test old (Some new) = test old new

@@ -35,9 +35,11 @@ popped l size = without l (Some (l.cursor - size, l.cursor))
 abbrev pub line_yank_popped : Line → ℕ → List ℕ → Line
 line_yank_popped l size t = if can_pop l size then line_yanked (popped l size) t 1 else l
 
+-- whether the text that comes in changes the line; none where the bytes cannot go
 abbrev pub yank_pops : Line → ℕ → List ℕ → Option Bool
 yank_pops l size t = if can_pop l size then yanks (popped l size) t else None
 
+-- the changes once both were told: the bytes that went, and the text that came in
 abbrev pub with_yank_pop : Line → ℕ → List ℕ → List Entry → List Entry
 with_yank_pop l size t entries =
     if can_pop l size then with_yank (l.cursor - size) t 1 (with_delete (l.cursor - size) (slice_range l.text (l.cursor - size) l.cursor) entries)

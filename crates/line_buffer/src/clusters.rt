@@ -8,7 +8,7 @@ ghost use Rattle.line_buffer.specs.Line.{is_no_newline};
 ghost use Rattle.line_buffer.specs.Transpose.{first_alphanumeric};
 ghost use Rattle.line_buffer.specs.Lines.{line_above, next_line};
 
-use crate::keymap::RepeatCount;
+use crate::movement::RepeatCount;
 use unicode_segmentation::UnicodeSegmentation;
 
 /// Returns the text behind its first `n` clusters.

@@ -46,7 +46,7 @@ impl Model for KillRing {
 
 impl KillRing {
     ghost use Rattle.std.specs.Borrow.{sem};
-    ghost use Rattle.line_buffer.specs.RingLoan.{EndsAs};
+    ghost use Rattle.line_buffer.specs.RingLoan.{LoanEndsAs};
 
     /// Returns a ring of `size` slots that holds nothing yet. It grows from `alloc`.
     pub fn new(alloc: Global, size: usize) -> KillRing
@@ -92,7 +92,7 @@ impl KillRing {
     /// Gives the text of the current slot, and records that it was yanked. `None` where nothing is
     /// held; then nothing changes.
     pub fn yank(&mut self) -> Option<&str>
-        ensures* ring { sem 𝓛 (EndsAs self.entry (after_yank self.entry.now)) }
+        ensures* ring { sem 𝓛 (LoanEndsAs self.entry (after_yank self.entry.now)) }
         ensures answer { option_copied result ≡ yanked_text self.entry.now }
     {
         self.record_yank();
@@ -103,7 +103,7 @@ impl KillRing {
     /// the bytes of the yank before and the text that is there now, which is recorded as yanked.
     /// `None` where the last action was no yank or nothing is held; then nothing changes.
     pub fn yank_pop(&mut self) -> Option<(usize, &str)>
-        ensures* ring { sem 𝓛 (EndsAs self.entry (after_yank_pop self.entry.now)) }
+        ensures* ring { sem 𝓛 (LoanEndsAs self.entry (after_yank_pop self.entry.now)) }
         ensures answer { option_map (λ popped. (popped.0, popped.1.now)) result
             ≡ yank_popped self.entry.now }
     {

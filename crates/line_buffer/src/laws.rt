@@ -2,10 +2,10 @@
 ghost use Rattle.line_buffer.specs.Comparison.{ClonesAreSame, IsOnlyDefault, IsReadingOrder, IsSameness};
 ghost use Rattle.line_buffer.specs.Laws.{ClosedGroupIsOneStep, KilledIsYanked, KillsInARowAreYanked, KillsInARowShareASlot, LastFittingIsLast, NoneCountedNoneOpen, PlacesAreBetweenClusters, TakingAllBack, UndoingStepByStep, YankPopsComeRound};
 
-use crate::keymap::{At, CharSearch, Movement, Word};
 use crate::kill_ring::Mode;
 use crate::layout::{GraphemeClusterMode, Position};
 use crate::line_buffer::{Direction, WordAction};
+use crate::movement::{At, CharSearch, Movement, Word};
 
 /// Taking back a whole list of changes gives the text that it tells of.
 pub fn taking_all_back()

@@ -2,19 +2,19 @@
 //! texts that were killed, and the places and widths of a layout.
 #![tactic(auto)]
 
+mod char_search;
 mod clusters;
-pub mod keymap;
 pub mod kill_ring;
 pub mod laws;
 pub mod layout;
 pub mod line_buffer;
+pub mod movement;
 mod seams;
-mod search;
 pub mod undo;
-mod words;
+mod word_edges;
 
-pub use keymap::{At, CharSearch, Movement, RepeatCount, Word};
 pub use kill_ring::{KillRing, Mode};
 pub use layout::{GraphemeClusterMode, Layout, Position, Unit};
 pub use line_buffer::{Direction, LineBuffer, OutOfMemory, WordAction};
+pub use movement::{At, CharSearch, Movement, RepeatCount, Word};
 pub use undo::Changeset;

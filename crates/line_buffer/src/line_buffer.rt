@@ -11,7 +11,7 @@ mod motions;
 mod transposes;
 
 use crate::clusters::{first_len, first_line_len, last_line_start, last_start};
-use crate::keymap::RepeatCount;
+use crate::movement::RepeatCount;
 use std::alloc::{AllocError, AllocFailed, Global};
 use std::error::Error;
 use std::fmt::{self, Display, Formatter};
@@ -126,6 +126,13 @@ impl LineBuffer {
         ensures boundary { IsCharBoundary self.now.text result }
     {
         self.pos
+    }
+
+    /// Does nothing. Its contract gives a proof that the cursor is on a boundary of the text.
+    pub(crate) fn cursor_is_on_boundary(&self)
+        ensures { IsCharBoundary self.now.text self.now.cursor }
+    {
+        let _ = &self.pos;
     }
 
     /// Returns the length of the text in bytes.

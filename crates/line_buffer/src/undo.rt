@@ -7,8 +7,8 @@ ghost use Rattle.line_buffer.specs.Undo.{GroupsFit, KeepsToldAnywhere, Tells, Un
 
 mod list;
 
-use crate::keymap::RepeatCount;
 use crate::line_buffer::{LineBuffer, OutOfMemory};
+use crate::movement::RepeatCount;
 use list::ChangeList;
 use std::alloc::Global;
 use std::marker::Model;

@@ -9,7 +9,7 @@ use Rattle.line_keys.specs.Command.{accept_line, accept_or_insert_line, end_of_f
 use Rattle.line_keys.specs.Display.{Display, Surface}
 use Rattle.line_keys.specs.Draft.{Draft, hint_shown, in_group, out_of_group, unhinted}
 use Rattle.line_keys.specs.Drawing.{Does, DoesAsking, Drawing, Drew, DrewLine, Undrawn, nothing, with_hint, with_text}
-use Rattle.line_keys.specs.EditorState.{Frame}
+use Rattle.line_keys.specs.Frame.{Frame}
 use Rattle.line_keys.specs.ShownLine.{LosesHint, ShowsNoHint}
 use Rattle.line_keys.specs.declared.editor_state.EditorState.{Ghosts}
 use Rattle.line_parts.specs.Asks.{Asks, for_hint, for_verdict, is_sure, nobody}
@@ -20,12 +20,12 @@ use Rattle.line_parts.specs.declared.highlight.CmdKind.TheVariants.{ForcedRefres
 use Rattle.line_editor.specs.Accept.{accepted, answer_at_end, replied, reply_to, unhinted_by, validated}
 use Rattle.line_editor.specs.Drawings.{asked_for_reply, asked_of, once_for, reply_drawn, reply_times, unhinted_drawn, validated_drawn, validated_times, verdict_drawn}
 use Rattle.line_editor.specs.Editor.{Answer, proceeds, submitted}
-use Rattle.line_editor.specs.Edits.{typed_in}
+use Rattle.line_editor.specs.DraftEdits.{typed_in}
 use Rattle.line_editor.specs.Input.{Input}
-use Rattle.line_editor.specs.Runs.{DrawnAfter, Executed, Executes, editor_of}
+use Rattle.line_editor.specs.Outcomes.{DrawnAfter, Executed, Executes, editor_of}
 use Rattle.line_editor.specs.declared.command.Reply.{Reply}
 use Rattle.line_editor.specs.declared.command.Reply.TheVariants.{GoesOn, Stays, Submits}
-use Rattle.line_editor.specs.Verdict.{draws_verdict, draws_verdict_on, kind_of_verdict}
+use Rattle.line_editor.specs.DrawnVerdict.{draws_verdict, draws_verdict_on, kind_of_verdict}
 use Rattle.line_editor.proofs.AskedLemmas.{fails_more, sure_all}
 use Rattle.line_editor.proofs.CommandLemmas.{editor_with, executed_wrong, fails_then, line_kept, line_then, perhaps_lit, perhaps_redraws, twice_at_most}
 use Rattle.line_editor.proofs.CountLemmas.{rises_twice, rises_within}

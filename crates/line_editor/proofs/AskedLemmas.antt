@@ -4,7 +4,7 @@ use Rattle.std.specs.Prelude.{ℕ, ◌&&◌, ◌||◌}
 use Rattle.line_config.specs.declared.error.ReadlineError.{ReadlineError}
 use Rattle.line_keys.specs.Draft.{Draft}
 use Rattle.line_keys.specs.Drawing.{DoesAsking, Drawing, asked_by, drawn_if}
-use Rattle.line_keys.specs.EditorState.{FailsByParty}
+use Rattle.line_keys.specs.Frame.{FailsByParty}
 use Rattle.line_keys.specs.declared.editor_state.EditorState.{Ghosts}
 use Rattle.line_parts.specs.Asks.{Asks, Sureness, for_all, for_hint, for_line, for_look_up, for_verdict, is_sure, nobody}
 use Rattle.line_parts.specs.History.{Found}

@@ -5,17 +5,18 @@ use Rattle.std.specs.Prelude.{◌||◌, ◌==◌, if◌then◌else◌, length, n
 use Rattle.line_buffer.specs.Kill.{killed_range}
 use Rattle.line_buffer.specs.KillRing.{Ring, after_yank_pop}
 use Rattle.line_buffer.specs.Line.{Line, ends_in_white_space}
-use Rattle.line_buffer.specs.declared.keymap.Movement.{Movement}
-use Rattle.line_buffer.specs.declared.keymap.Movement.TheVariants as By
+use Rattle.line_buffer.specs.declared.movement.Movement.{Movement}
+use Rattle.line_buffer.specs.declared.movement.Movement.TheVariants as By
 use Rattle.line_config.specs.declared.error.ReadlineError.{ReadlineError}
 use Rattle.line_config.specs.Error.{Rose, is_io, max_count}
 use Rattle.line_keys.specs.Command.{Command, accept_line, accept_or_insert_line, command_of, end_of_file, interrupt, kill, newline, replace, vi_yank_to, yank, yank_pop}
-use Rattle.line_keys.specs.declared.command.Anchor.{Anchor}
-use Rattle.line_keys.specs.declared.command.Cmd.{Cmd}
+use Rattle.line_keys.specs.declared.cmd.Anchor.{Anchor}
+use Rattle.line_keys.specs.declared.cmd.Cmd.{Cmd}
 use Rattle.line_keys.specs.Display.{Display, IsRight, ShowsInFull, Surface, lit_after}
 use Rattle.line_keys.specs.Draft.{Draft, hint_shown, start_text, unhinted}
 use Rattle.line_keys.specs.Drawing.{Does, DoesAsking, Drawing, Drew, DrewBehind, DrewLine, DrewNothing, Refreshes, asked_by, drawn_if, edit_drawn, ShowsChange, nothing, with_hint, with_text}
-use Rattle.line_keys.specs.EditorState.{FailsByParty, Frame, Redraws}
+use Rattle.line_keys.specs.Frame.{FailsByParty, Frame}
+use Rattle.line_keys.specs.ShownLine.{Redraws}
 use Rattle.line_keys.specs.declared.editor_state.EditorState.{Ghosts}
 use Rattle.line_parts.specs.Asks.{Asks, for_hint, is_sure}
 use Rattle.line_parts.specs.Environment.{Environment, verdict_on}
@@ -27,9 +28,9 @@ use Rattle.line_state.specs.Edited.{pops_text}
 use Rattle.line_editor.specs.Accept.{reply_to}
 use Rattle.line_editor.specs.Drawings.{asked_of, drawing_of, edited_asked, edited_drawn, edited_times, has_text, once_for, pop_drawn, reply_times, times_of, unhinted_drawn, validated_times, verdict_drawn}
 use Rattle.line_editor.specs.Editor.{Editor, Ruler, Step, edited_of, measuring, proceeding, ruler_of, with_draft}
-use Rattle.line_editor.specs.Edits.{after_edit, kill_popped, killed_by, popped_in, replaced_by, text_inserted}
+use Rattle.line_editor.specs.DraftEdits.{after_edit, kill_popped, killed_by, popped_in, replaced_by, text_inserted}
 use Rattle.line_editor.specs.Input.{Input}
-use Rattle.line_editor.specs.Runs.{DoesWithKills, Executed, Executes, editor_of}
+use Rattle.line_editor.specs.Outcomes.{DoesWithKills, Executed, Executes, editor_of}
 use Rattle.line_editor.specs.Status.{answer_at, answer_of}
 use Rattle.line_editor.specs.Step.{edited_by, step}
 use Rattle.line_editor.specs.declared.command.Reply.{Reply}

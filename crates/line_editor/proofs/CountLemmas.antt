@@ -1,6 +1,6 @@
 -- Facts on counts of full redraws.
 use Rattle.std.proofs.Common.{◌≡◌, ℕ, ◌+◌, ◌≤◌, arith, subst, sym}
-use Rattle.line_keys.specs.EditorState.{Rises}
+use Rattle.line_keys.specs.ShownLine.{Rises}
 
 -- a count that stays rises by at most any number
 pub stays_rises : (most old new : ℕ) → new ≡ old → Rises 0 most old new

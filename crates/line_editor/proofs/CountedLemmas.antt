@@ -13,13 +13,14 @@ use Rattle.line_keys.specs.Count.{IsCountOf, continues_count, count_of, count_pr
 use Rattle.line_keys.specs.Display.{Surface}
 use Rattle.line_keys.specs.Draft.{Draft, KeepsText, hint_shown, hinted}
 use Rattle.line_keys.specs.Drawing.{DrewBehind, DrewLine, Refreshes, with_hint}
-use Rattle.line_keys.specs.EditorState.{Frame, Redraws}
+use Rattle.line_keys.specs.Frame.{Frame}
+use Rattle.line_keys.specs.ShownLine.{Redraws}
 use Rattle.line_keys.specs.Item.{Item, key}
 use Rattle.line_keys.specs.declared.count.Count.{Count}
 use Rattle.line_keys.specs.declared.count.TypedCount.{TypedCount}
 use Rattle.line_keys.specs.declared.editor_state.EditorState as editors
 use Rattle.line_keys.specs.declared.keys.KeyEvent.{KeyEvent}
-use Rattle.line_keys.specs.declared.tty.RawReader as readers
+use Rattle.line_keys.specs.declared.raw_reader.RawReader as readers
 use Rattle.line_editor.specs.Reading.{LeftByCut, ReadsCount, ReadsUnderCount}
 use Rattle.line_editor.proofs.CommandLemmas.{behind_then, colorless, line_then}
 use Rattle.line_editor.proofs.CountLemmas.{rises_twice}

@@ -6,11 +6,12 @@ use Rattle.line_buffer.specs.Kill.{ring_with_killed}
 use Rattle.line_buffer.specs.KillRing.{Ring}
 use Rattle.line_buffer.specs.Line.{Line}
 use Rattle.line_buffer.specs.Undo.{first_text}
-use Rattle.line_buffer.specs.declared.keymap.Movement.{Movement}
+use Rattle.line_buffer.specs.declared.movement.Movement.{Movement}
 use Rattle.line_keys.specs.Display.{Display, HasCursorAt, lit_after}
 use Rattle.line_keys.specs.Draft.{Draft, hinted, hint_shown, start_text}
-use Rattle.line_keys.specs.Drawing.{Does, DoesAsking, Drew, DrewCursor, DrewLine, DrewNothing, ShowsEdit, Undrawn, cursor, drawn_if, edit_drawn, nothing, with_hint}
-use Rattle.line_keys.specs.EditorState.{FailsByParty, HasCursorDrawn}
+use Rattle.line_keys.specs.Drawing.{Does, DoesAsking, Drew, DrewCursor, DrewLine, DrewNothing, Refreshes, ShowsEdit, Undrawn, cursor, drawn_if, edit_drawn, nothing, with_hint}
+use Rattle.line_keys.specs.Frame.{FailsByParty}
+use Rattle.line_keys.specs.ShownLine.{HasCursorDrawn}
 use Rattle.line_keys.specs.declared.editor_state.EditorState.{Ghosts}
 use Rattle.line_parts.specs.Asks.{Asks, for_hint, is_sure, nobody}
 use Rattle.line_parts.specs.Environment.{Environment}
@@ -18,8 +19,8 @@ use Rattle.line_parts.specs.declared.highlight.CmdKind.{CmdKind}
 use Rattle.line_parts.specs.declared.highlight.CmdKind.TheVariants.{MoveCursor, Other}
 use Rattle.line_state.specs.Edited.{Edited, without_range}
 use Rattle.line_editor.specs.Editor.{edited_of, with_edited}
-use Rattle.line_editor.specs.Edits.{after_edit, killed_by}
-use Rattle.line_editor.specs.Runs.{DoesWithKills, editor_of}
+use Rattle.line_editor.specs.DraftEdits.{after_edit, killed_by}
+use Rattle.line_editor.specs.Outcomes.{DoesWithKills, editor_of}
 use Rattle.line_editor.proofs.DrawnLemmas.{drawn_stays, frame_then, hint_trails, keeps_move, keeps_then}
 
 -- what leaves all but the draft draws nothing
@@ -39,6 +40,10 @@ nothing_drawn e old new environment loan display sure failures redraws = record 
     failures = omega (arith, failures);
   };
 }
+
+-- the hint was asked again, and the line drawn in full with it
+abbrev pub Redrawn : {X T : Type 0} → Ghosts X → Result T ReadlineError → X → X → Type 0
+Redrawn e r mid new = Refreshes e r mid new (hinted (e.environment mid) (e.draft mid)) with_hint
 
 -- two steps that draw nothing are one
 pub undrawn_twice : {X : Type 0} (e : Ghosts X) (old mid new : X) → Undrawn e old mid → Undrawn e mid new → Undrawn e old new
@@ -89,7 +94,7 @@ module _ {X : Type 0} (e : Ghosts X) (old mid new : X) (undrawn : Undrawn e old 
 
   module _ (made : Draft) (draft : e.draft mid ≡ made) (first : start_text made ≡ start_text (e.draft old)) (hint : made.hint ≡ (e.draft old).hint) where
     -- an edit that was reported
-    pub done_reported : {T : Type 0} (r : Result T ReadlineError) → ShowsEdit e true r mid new
+    pub done_reported : {T : Type 0} (r : Result T ReadlineError) → Redrawn e r mid new
         → Does e r old new (hinted (e.environment old) made) with_hint 1
     done_reported (Err er) shows =
         record { draft = tt; start = tt; drew = tt; keeps = tt; change = tt; frame = frame_then e old mid new undrawn.frame shows.frame; fails = fails_after for_hint (Err er) shows.fails }
@@ -128,7 +133,8 @@ module _ {X : Type 0} (e : Ghosts X) (old mid new : X) (undrawn : Undrawn e old 
     done_either : {T : Type 0} (r : Result T ReadlineError) (reported : Bool)
         → (reported ≡ false → made.line.text ≡ (e.draft old).line.text) → ShowsEdit e reported r mid new
         → Does e r old new (if reported then hinted (e.environment old) made else made) (edit_drawn reported) 1
-    done_either r true text shows = done_reported r shows
+    done_either r true text shows =
+        done_reported r (record { draft = shows.draft; text = shows.text; drew = shows.drew; frame = shows.frame; fails = shows.fails })
     done_either r false text shows = done_unreported r (text refl) shows
 
 -- an edit that is shown: reported or not, the draft is drawn
@@ -148,7 +154,7 @@ edit_done e r old mid new made left reported rep undrawn draft same first hint a
 pub edit_reported : {X T : Type 0} (e : Ghosts X) (r : Result T ReadlineError) (old mid new : X) (made left : Draft)
     → Undrawn e old mid → e.draft mid ≡ made → made ≡ left
     → start_text made ≡ start_text (e.draft old) → made.hint ≡ (e.draft old).hint
-    → ShowsEdit e true r mid new
+    → Redrawn e r mid new
     → Does e r old new (hinted (e.environment old) left) with_hint 1
 edit_reported e r old mid new made left undrawn draft same first hint shows =
     let P : Draft → Type 0 = λ d. Does e r old new (hinted (e.environment old) d) with_hint 1 in
@@ -169,7 +175,7 @@ line_done e r old mid new edited left reported rep undrawn draft same first answ
 pub line_reported : {X T : Type 0} (e : Ghosts X) (r : Result T ReadlineError) (old mid new : X) (edited left : Edited)
     → Undrawn e old mid → e.draft mid ≡ with_edited (e.draft old) edited → edited ≡ left
     → first_text edited.changes edited.line ≡ start_text (e.draft old)
-    → ShowsEdit e true r mid new
+    → Redrawn e r mid new
     → Does e r old new (after_edit (e.environment old) true left (e.draft old)) with_hint 1
 line_reported e r old mid new edited left undrawn draft same first shows =
     edit_reported e r old mid new (with_edited (e.draft old) edited) (with_edited (e.draft old) left) undrawn draft
@@ -236,7 +242,7 @@ pub kill_done : {X T : Type 0} (e : Ghosts X) (r : Result T ReadlineError) (old 
     → is_some range ≡ true → Undrawn e old mid → e.draft mid ≡ with_edited (e.draft old) edited
     → edited ≡ without_range range (edited_of (e.draft old)) → first_text edited.changes edited.line ≡ start_text (e.draft old)
     → kills' ≡ ring_with_killed (e.draft old).line movement range kills
-    → ShowsEdit e true r mid new
+    → Redrawn e r mid new
     → DoesWithKills e r old kills new kills' (killed_by (e.environment old) movement (editor_of e old kills) range) (drawn_if (is_some range)) 1
 kill_done e r old mid new kills kills' movement None edited found undrawn draft same first ring shows = absurd (cc)
 kill_done e (Ok x) old mid new kills kills' movement (Some range) edited found undrawn draft same first ring shows =

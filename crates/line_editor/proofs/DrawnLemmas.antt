@@ -4,7 +4,8 @@ use Rattle.line_buffer.specs.Line.{Line}
 use Rattle.line_keys.specs.Display.{Display, HasCursorAt, ShowsInFull, IsRight, ShowsText, shown_end}
 use Rattle.line_keys.specs.Draft.{Draft, hint_shown}
 use Rattle.line_keys.specs.Drawing.{DrewCursor, DrewNothing}
-use Rattle.line_keys.specs.EditorState.{Shows, Frame, HasCursorDrawn, IsInPlace}
+use Rattle.line_keys.specs.Frame.{Frame}
+use Rattle.line_keys.specs.ShownLine.{Shows, HasCursorDrawn, IsInPlace}
 use Rattle.line_keys.specs.ShownLine.{KeepsDrawn, LosesHint, MayTrail, ShowsLine, ShowsNoHint}
 use Rattle.line_keys.specs.declared.editor_state.EditorState.{Ghosts}
 use Rattle.line_parts.specs.Environment.{Environment, verdict_on}

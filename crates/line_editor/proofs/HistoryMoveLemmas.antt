@@ -11,8 +11,8 @@ use Rattle.std.proofs.lemmas.Str.{IsCharBoundary-from_take}
 use Rattle.line_config.specs.declared.error.ReadlineError.{ReadlineError}
 use Rattle.line_config.specs.Error.{Rose}
 use Rattle.line_keys.specs.Draft.{Draft, start_text}
-use Rattle.line_keys.specs.Drawing.{Does, DoesAsking, DrewNothing, Paints, ShowsEdit, Undrawn, drawn_if, nothing, with_hint}
-use Rattle.line_keys.specs.EditorState.{FailsByParty, FailsByRenderer, Frame}
+use Rattle.line_keys.specs.Drawing.{Does, DoesAsking, DrewNothing, Paints, Undrawn, drawn_if, nothing, with_hint}
+use Rattle.line_keys.specs.Frame.{FailsByParty, FailsByRenderer, Frame}
 use Rattle.line_keys.specs.declared.editor_state.EditorState.{Ghosts}
 use Rattle.line_parts.specs.Asks.{Asks, for_hint, for_line, for_look_up, nobody}
 use Rattle.line_parts.specs.History.{Found, behind_start, entry_at, line_at, starting_with}
@@ -25,12 +25,12 @@ use Rattle.line_buffer.specs.Line.{Line, before, with_cursor, end_of_line}
 use Rattle.line_buffer.specs.Undo.{first_text}
 use Rattle.line_state.specs.Edited.{Edited, in_one_group, with_update_to}
 use Rattle.line_editor.specs.Editor.{edited_of, with_edited}
-use Rattle.line_editor.specs.Edits.{completed, with_completion}
-use Rattle.line_editor.specs.HistoryMoves.{asked_for, asked_in_search, at_index, come_back, search_beside, search_of, searched, found_shown, line_shown, restored, saved_at_end, showing}
+use Rattle.line_editor.specs.DraftEdits.{completed, with_completion}
+use Rattle.line_editor.specs.HistoryMoves.{asked_for, asked_in_search, at_index, come_back, search_beside, search_of, search_shown, found_shown, line_shown, restored, saved_at_end, showing}
 use Rattle.line_buffer.proofs.SearchLemmas.{front_range}
 use Rattle.line_state.proofs.EditedLemmas.{first_moved}
 use Rattle.line_editor.proofs.AskedLemmas.{does_more, sure_hint}
-use Rattle.line_editor.proofs.DoneLemmas.{does_after, edit_reported, undrawn_twice}
+use Rattle.line_editor.proofs.DoneLemmas.{Redrawn, does_after, edit_reported, undrawn_twice}
 use Rattle.line_editor.proofs.DrawnLemmas.{drawn_stays, frame_then}
 
 -- all stays
@@ -64,7 +64,7 @@ pub shown_in_group : {X T : Type 0} (e : Ghosts X) (r : Result T ReadlineError) 
     → Undrawn e old mid → e.draft mid ≡ at_index at (with_edited (e.draft old) edited) → at ≡ index
     → edited ≡ in_one_group (with_update_to text cursor) (edited_of (e.draft old))
     → first_text edited.changes edited.line ≡ start_text (e.draft old)
-    → ShowsEdit e true r mid new
+    → Redrawn e r mid new
     → Does e r old new (showing (e.environment old) text cursor (at_index index (e.draft old))) with_hint 1
 shown_in_group e r old mid new text cursor index at edited undrawn draft place same first shows =
     edit_reported e r old mid new (at_index at (with_edited (e.draft old) edited))
@@ -86,7 +86,7 @@ some_entry x y e = ap (λ o. elim o as (λ _. List ℕ) [ None ↦ x.entry | Som
 pub came_back : {X T : Type 0} (e : Ghosts X) (r : Result T ReadlineError) (old back mid new : X) (at : ℕ)
     → Undrawn e old back → e.draft back ≡ restored (e.draft old) → start_text (e.draft back) ≡ start_text (e.draft old)
     → Undrawn e back mid → e.draft mid ≡ at_index at (e.draft back) → at ≡ length (e.environment old).lines
-    → ShowsEdit e true r mid new
+    → Redrawn e r mid new
     → Does e r old new (come_back (e.environment old) (e.draft old)) with_hint 1
 came_back e r old back mid new at first draft start second draft' place shows =
     edit_reported e r old mid new (at_index at (e.draft back)) (at_index (length (e.environment old).lines) (restored (e.draft old)))
@@ -239,7 +239,7 @@ pub hint_taken : {X T U : Type 0} (e : Ghosts X) (r : Result T ReadlineError) (o
     → is_some hint ≡ true → (e.draft old).hint ≡ option_map as_text hint
     → e.draft mid ≡ with_edited (e.draft old) (with_completion (option_and_then (λ h. h.completion) (option_map as_text hint))
     (record (edited_of (e.draft old)) { line = with_cursor (e.draft old).line (end_of_line (e.draft old).line) }))
-    → start_text (e.draft mid) ≡ start_text (e.draft old) → Undrawn e old mid → ShowsEdit e true r mid new
+    → start_text (e.draft mid) ≡ start_text (e.draft old) → Undrawn e old mid → Redrawn e r mid new
     → Does e r old new (completed (e.environment old) (option_map as_text hint) (e.draft old)) (drawn_if (is_some (option_map as_text hint))) 1
 hint_taken e r old mid new as_text None some is draft first undrawn shows = absurd (cc)
 hint_taken e r old mid new as_text (Some hint) some is draft first undrawn shows =
@@ -261,7 +261,7 @@ pub search_back : {X T : Type 0} (e : Ghosts X) (r : Result T ReadlineError) (ol
     → DoesAsking e (asked_for (starting_with (e.environment old).lines (before (e.draft old).line) (at - 1) dir)) r old new
     (found_shown (e.environment old) (starting_with (e.environment old).lines (before (e.draft old).line) (at - 1) dir) (at_index (at - 1) (e.draft old)))
     (drawn_if (is_some (starting_with (e.environment old).lines (before (e.draft old).line) (at - 1) dir))) 1
-    → DoesAsking e (asked_in_search (e.environment old) dir (e.draft old)) r old new (searched (e.environment old) dir (e.draft old)) (drawn_if (is_some (search_of (e.environment old) dir (e.draft old)))) 1
+    → DoesAsking e (asked_in_search (e.environment old) dir (e.draft old)) r old new (search_shown (e.environment old) dir (e.draft old)) (drawn_if (is_some (search_of (e.environment old) dir (e.draft old)))) 1
 search_back e r old new Forward at is same away edit = absurd (cc)
 search_back e r old new Reverse at is same away edit =
     search_goes e r old new ((e.draft old).index == 0) (asked_for (search_beside (e.environment old) Reverse (e.draft old))) (search_beside (e.environment old) Reverse (e.draft old))
@@ -276,7 +276,7 @@ pub search_on : {X T : Type 0} (e : Ghosts X) (r : Result T ReadlineError) (old 
     → DoesAsking e (asked_for (starting_with (e.environment old).lines (before (e.draft old).line) (at + 1) dir)) r old new
     (found_shown (e.environment old) (starting_with (e.environment old).lines (before (e.draft old).line) (at + 1) dir) (at_index (at + 1) (e.draft old)))
     (drawn_if (is_some (starting_with (e.environment old).lines (before (e.draft old).line) (at + 1) dir))) 1
-    → DoesAsking e (asked_in_search (e.environment old) dir (e.draft old)) r old new (searched (e.environment old) dir (e.draft old)) (drawn_if (is_some (search_of (e.environment old) dir (e.draft old)))) 1
+    → DoesAsking e (asked_in_search (e.environment old) dir (e.draft old)) r old new (search_shown (e.environment old) dir (e.draft old)) (drawn_if (is_some (search_of (e.environment old) dir (e.draft old)))) 1
 search_on e r old new Reverse at end is same ends away edit = absurd (cc)
 search_on e r old new Forward at end is same ends away edit =
     search_goes e r old new ((e.draft old).index == length (e.environment old).lines) (asked_for (search_beside (e.environment old) Forward (e.draft old))) (search_beside (e.environment old) Forward (e.draft old))

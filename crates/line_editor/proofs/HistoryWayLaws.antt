@@ -6,21 +6,21 @@ use Rattle.line_buffer.specs.Kill.{killed_range}
 use Rattle.line_buffer.specs.KillRing.{Ring, yank_popped, yanked_text}
 use Rattle.line_buffer.specs.Line.{Line, ends_in_white_space}
 use Rattle.line_buffer.specs.Lines.{down_by, up_by}
-use Rattle.line_buffer.specs.declared.keymap.Movement.{Movement}
-use Rattle.line_buffer.specs.declared.keymap.Movement.TheVariants.{LineDown, LineUp}
+use Rattle.line_buffer.specs.declared.movement.Movement.{Movement}
+use Rattle.line_buffer.specs.declared.movement.Movement.TheVariants.{LineDown, LineUp}
 use Rattle.line_parts.specs.Environment.{Environment, verdict_on}
 use Rattle.line_parts.specs.Hint.{Suggestion}
 use Rattle.line_parts.specs.Verdict.{Verdict, incomplete, invalid, valid}
 use Rattle.line_state.specs.Edited.{Edited, with_text, yanked_at}
 use Rattle.line_keys.specs.Command.{Command, accept_line, accept_or_insert_line, beginning_of_history, capitalize_word, complete_hint, downcase_word, end_of_history, history_search_backward, history_search_forward, insert, kill, line_down_or_next_history, line_up_or_previous_history, next_history, overwrite, previous_history, replace, replace_char, transpose_chars, transpose_words, undo, upcase_word, yank, yank_pop}
 use Rattle.line_keys.specs.Draft.{Draft, in_group, out_of_group, unhinted}
-use Rattle.line_keys.specs.declared.command.Anchor.{Anchor}
+use Rattle.line_keys.specs.declared.cmd.Anchor.{Anchor}
 use Rattle.line_editor.specs.Accept.{replied, reply_to, unhinted_by, validated}
 use Rattle.line_editor.specs.declared.command.Reply.{Reply}
 use Rattle.line_editor.specs.declared.command.Reply.TheVariants as reply
 use Rattle.line_editor.specs.Editor.{Editor, Ruler, edited_of, measuring}
-use Rattle.line_editor.specs.Edits.{after_edit, completed, cursor_moved, kill_popped, kill_yanked, killed_by, perhaps_inserted, replaced_by, typed_in}
-use Rattle.line_editor.specs.HistoryMoves.{come_back, first_shown, is_at_end, line_shown, next_shown, previous_shown, saved_at_end}
+use Rattle.line_editor.specs.DraftEdits.{after_edit, completed, cursor_moved, kill_popped, kill_yanked, killed_by, perhaps_inserted, replaced_by, typed_in}
+use Rattle.line_editor.specs.HistoryMoves.{come_back, first_shown, is_own_line, line_shown, next_shown, previous_shown, saved_at_end}
 use Rattle.line_editor.specs.Input.{Input, is_vi_command}
 use Rattle.line_editor.specs.Laws.{ComingBack, after_commands, searches}
 use Rattle.line_editor.specs.Run.{ready}
@@ -110,10 +110,10 @@ accepted_stays reply.GoesOn old left longer stay edited = edited
 
 -- ---- the moves in the history
 
-saved_off_end : (environment : Environment) (draft : Draft) → is_at_end environment draft ≡ false → (saved_at_end environment draft).saved ≡ draft.saved
+saved_off_end : (environment : Environment) (draft : Draft) → is_own_line environment draft ≡ false → (saved_at_end environment draft).saved ≡ draft.saved
 saved_off_end environment draft away = ap (λ b. (cond b (record draft { saved = draft.line }) draft).saved) away
 
-saved_on_end : (environment : Environment) (draft : Draft) → is_at_end environment draft ≡ true → (saved_at_end environment draft).saved ≡ draft.line
+saved_on_end : (environment : Environment) (draft : Draft) → is_own_line environment draft ≡ true → (saved_at_end environment draft).saved ≡ draft.line
 saved_on_end environment draft at = ap (λ b. (cond b (record draft { saved = draft.line }) draft).saved) at
 
 -- one of two drafts on a way
@@ -139,7 +139,7 @@ first_way environment draft within =
 
 -- the line behind this one is shown, or the saved line comes back from the last
 shown_further_on : (environment : Environment) (draft : Draft) (at last : Bool) → draft.index ≤ length environment.lines
-    → is_at_end environment draft ≡ at → (draft.index + 1 == length environment.lines) ≡ last
+    → is_own_line environment draft ≡ at → (draft.index + 1 == length environment.lines) ≡ last
     → Way environment draft (cond at draft (cond last (come_back environment draft) (line_shown environment (draft.index + 1) draft)))
 shown_further_on environment draft true last within end next = stays (record { saved = refl; index = refl })
 shown_further_on environment draft false true within end next = back refl refl
@@ -150,7 +150,7 @@ shown_further_on environment draft false false within end next =
 
 next_way : (environment : Environment) (draft : Draft) → draft.index ≤ length environment.lines → Way environment draft (next_shown environment draft)
 next_way environment draft within =
-    shown_further_on environment draft (is_at_end environment draft) (draft.index + 1 == length environment.lines) within refl refl
+    shown_further_on environment draft (is_own_line environment draft) (draft.index + 1 == length environment.lines) within refl refl
 
 -- ---- each command
 
@@ -163,7 +163,7 @@ step_way ruler environment input draft kills previous_history none within = prev
 step_way ruler environment input draft kills next_history none within = next_way environment draft within
 step_way ruler environment input draft kills beginning_of_history none within = first_way environment draft within
 step_way ruler environment input draft kills end_of_history none within =
-    either_way (is_at_end environment draft) environment draft draft (come_back environment draft)
+    either_way (is_own_line environment draft) environment draft draft (come_back environment draft)
     (stays (record { saved = refl; index = refl })) (back refl refl)
 step_way ruler environment input draft kills (line_up_or_previous_history n) none within =
     either_way (is_some (up_by (measuring ruler) draft.line n)) environment draft (cursor_moved ruler (LineUp n) draft) (previous_shown environment draft)
@@ -210,20 +210,20 @@ record IsAway (environment : Environment) (line : Line) (draft : Draft) : Type 0
 
 -- a way from the end to a line of the history saves the line
 leaves_end : (environment : Environment) (old new : Draft) → Way environment old new
-    → is_at_end environment old ≡ true → is_at_end environment new ≡ false → IsAway environment old.line new
+    → is_own_line environment old ≡ true → is_own_line environment new ≡ false → IsAway environment old.line new
 leaves_end environment old new (stays same) at off =
     absurd (eqb-false new.index (length environment.lines) off (same.index ∙ eqb-true old.index (length environment.lines) at))
 leaves_end environment old new (shown saved below) at off = record { saved = saved ∙ saved_on_end environment old at; before_end = below }
 leaves_end environment old new (back line index) at off = absurd (eqb-false new.index (length environment.lines) off index)
 
 -- the history's end is elsewhere
-is_off : (environment : Environment) (line : Line) (draft : Draft) → IsAway environment line draft → is_at_end environment draft ≡ false
+is_off : (environment : Environment) (line : Line) (draft : Draft) → IsAway environment line draft → is_own_line environment draft ≡ false
 is_off environment line draft away = let below : draft.index < length environment.lines = away.before_end in
     ne_eqb draft.index (length environment.lines) (λ same. omega (arith, same, below))
 
 -- a way that does not come to the end keeps what is saved
 stays_away : (environment : Environment) (line : Line) (old new : Draft) → Way environment old new
-    → IsAway environment line old → is_at_end environment new ≡ false → IsAway environment line new
+    → IsAway environment line old → is_own_line environment new ≡ false → IsAway environment line new
 stays_away environment line old new (stays same) away off =
     let below : old.index < length environment.lines = away.before_end in
     record { saved = same.saved ∙ away.saved; before_end = omega (arith, same.index, below) }
@@ -233,7 +233,7 @@ stays_away environment line old new (back line' index) away off = absurd (eqb-fa
 
 -- a way to the end brings back what is saved
 comes_to_end : (environment : Environment) (line : Line) (old new : Draft) → Way environment old new
-    → IsAway environment line old → is_at_end environment new ≡ true → new.line ≡ line
+    → IsAway environment line old → is_own_line environment new ≡ true → new.line ≡ line
 comes_to_end environment line old new (stays same) away at =
     let below : old.index < length environment.lines = away.before_end in
     let end : new.index ≡ length environment.lines = eqb-true new.index (length environment.lines) at in
@@ -258,8 +258,8 @@ module _ (ruler : Ruler) (environment : Environment) where
   comes_back : (line : Line) (editor : Editor) (between : List (Input × Command)) (last : Input × Command)
       → IsAway environment line editor.draft
       → list_any (λ next. searches next.1) (between ++ last ∷ []) ≡ false
-      → ((k : ℕ) → k ≤ length between → is_at_end environment (after_commands ruler environment editor (take k between)).draft ≡ false)
-      → is_at_end environment (after_commands ruler environment editor (between ++ last ∷ [])).draft ≡ true
+      → ((k : ℕ) → k ≤ length between → is_own_line environment (after_commands ruler environment editor (take k between)).draft ≡ false)
+      → is_own_line environment (after_commands ruler environment editor (between ++ last ∷ [])).draft ≡ true
       → (after_commands ruler environment editor (between ++ last ∷ [])).draft.line ≡ line
   comes_back line editor [] last away none off at =
       let below : editor.draft.index < length environment.lines = away.before_end in
@@ -270,7 +270,7 @@ module _ (ruler : Ruler) (environment : Environment) where
       let apart = neither (searches next.1) (list_any (λ next. searches next.1) (more ++ last ∷ [])) none in
       let below : editor.draft.index < length environment.lines = away.before_end in
       let within : editor.draft.index ≤ length environment.lines = omega (arith, below) in
-      let next_off : is_at_end environment (after_one editor next).draft ≡ false = off 1 (omega arith) in
+      let next_off : is_own_line environment (after_one editor next).draft ≡ false = off 1 (omega arith) in
       comes_back line (after_one editor next) more last
       (stays_away environment line editor.draft (after_one editor next).draft (step_way ruler environment next.0 editor.draft editor.kills next.1 apart.0 within) away next_off)
       apart.1 (λ k few. off (suc k) (omega (arith, few))) at

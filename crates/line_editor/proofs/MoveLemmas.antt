@@ -5,8 +5,8 @@ use Rattle.line_buffer.specs.Changes.{Entry}
 use Rattle.line_buffer.specs.Line.{Line, after, moved_to}
 use Rattle.line_buffer.specs.Undo.{all_taken_back, first_text, taken_back, text_before}
 use Rattle.line_buffer.specs.Word.{word_on}
-use Rattle.line_buffer.specs.declared.keymap.At.TheVariants.{Start}
-use Rattle.line_buffer.specs.declared.keymap.Word.TheVariants.{Big}
+use Rattle.line_buffer.specs.declared.movement.At.TheVariants.{Start}
+use Rattle.line_buffer.specs.declared.movement.Word.TheVariants.{Big}
 use Rattle.line_config.specs.declared.error.ReadlineError.{ReadlineError}
 use Rattle.line_keys.specs.Draft.{Draft, start_text}
 use Rattle.line_keys.specs.Drawing.{Does, DoesAsking, Drawing, DrawsCursor, DrewCursor, MovesTo, Undrawn, cursor_over, drawn_if}

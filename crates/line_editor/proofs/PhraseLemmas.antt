@@ -1,7 +1,7 @@
 -- Facts on phrases.
 use Rattle.std.proofs.Common.{◌≡◌, ℕ, Bool, true, false, not, append_assoc, List, [], ◌∷◌, ◌++◌, map, Option, Some, None, refl, sym, ◌∙◌, ap, subst}
 use Rattle.line_parts.specs.Environment.{Environment}
-use Rattle.line_buffer.specs.declared.keymap.CharSearch.{CharSearch}
+use Rattle.line_buffer.specs.declared.movement.CharSearch.{CharSearch}
 use Rattle.line_config.specs.declared.config.EditMode.{EditMode}
 use Rattle.line_config.specs.declared.config.EditMode.TheVariants.{Emacs, Vi}
 use Rattle.line_keys.specs.Command.{Command, insert, unknown}
@@ -15,7 +15,7 @@ use Rattle.line_keys.specs.Table.{Meaning, gives, has_second, pastes, row_of, se
 use Rattle.line_keys.specs.Key.{event}
 use Rattle.line_keys.specs.declared.keys.KeyCode.TheVariants.{Enter}
 use Rattle.line_keys.specs.declared.keys.TheConstants.Modifiers.{NONE}
-use Rattle.line_keys.specs.declared.keymap.InputMode.{InputMode}
+use Rattle.line_keys.specs.declared.refresher.InputMode.{InputMode}
 use Rattle.line_keys.specs.declared.keys.KeyEvent.{KeyEvent}
 use Rattle.line_keys.specs.declared.count.Count.{Count}
 use Rattle.line_editor.specs.Input.{Input}

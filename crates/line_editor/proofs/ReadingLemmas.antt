@@ -17,18 +17,19 @@ use Rattle.line_keys.specs.Display.{Display, Surface}
 use Rattle.line_keys.specs.ShownLine.{KeepsDrawn}
 use Rattle.line_keys.specs.Draft.{Draft, KeepsLine, KeepsText, hint_shown, start_text}
 use Rattle.line_keys.specs.Drawing.{DrewLine, DrewNothing, Undrawn}
-use Rattle.line_keys.specs.EditorState.{Frame, HasRightLayout}
+use Rattle.line_keys.specs.Frame.{Frame}
+use Rattle.line_keys.specs.ShownLine.{HasRightLayout}
 use Rattle.line_keys.specs.Item.{Item, ReadFault, key}
-use Rattle.line_keys.specs.declared.command.Cmd.{Cmd}
+use Rattle.line_keys.specs.declared.cmd.Cmd.{Cmd}
 use Rattle.line_keys.specs.declared.count.Count.{Count}
 use Rattle.line_keys.specs.declared.editor_state.EditorState as editors
 use Rattle.line_keys.specs.declared.keys.KeyEvent.{KeyEvent}
 use Rattle.line_parts.specs.declared.highlight.CmdKind.TheVariants.{Other}
-use Rattle.line_keys.specs.declared.tty.RawReader as readers
+use Rattle.line_keys.specs.declared.raw_reader.RawReader as readers
 use Rattle.line_editor.specs.Editor.{Ruler, grouped, own_ruler, ruler_of}
 use Rattle.line_editor.specs.Keymap.{KeyState, keymap_of}
 use Rattle.line_editor.specs.Phrase.{Keyed, LacksTail, after_count}
-use Rattle.line_editor.specs.Reading.{DrewCount, DrewCut, EitherRose, EndsBehind, EndsCount, HasRead, OnRead, OutOfItems, ReadsBehind, ReadsCommand, ReadsCount, ReadsPhrase, RedrawsItems, TakesItems}
+use Rattle.line_editor.specs.Reading.{DrewCount, DrewCut, EitherRose, EndsBehindKey, EndsCount, HasRead, OnRead, OutOfItems, ReadsBehind, ReadsCommand, ReadsCount, ReadsPhrase, RedrawsItems, TakesItems}
 use Rattle.line_editor.proofs.CommandLemmas.{line_kept}
 use Rattle.line_editor.proofs.CountLemmas.{rises_stays}
 use Rattle.line_editor.proofs.DrawnLemmas.{frame_then, hint_trails, keeps_then, stays_in_place}
@@ -169,7 +170,7 @@ module _ {X Y : Type 0} (e : editors.Ghosts X) (r : readers.Ghosts Y) (editor : 
 
   -- such a key was read, and no more items were left of what belongs to it
   phrase_begun : (reader' : Y) → begins_count keys.input.style keys.input.mode k ≡ false
-      → EndsBehind r mid reader' (keymap_of keys (r.own_binding mid)) (e.draft editor) keys.input None k
+      → EndsBehindKey r mid reader' (keymap_of keys (r.own_binding mid)) (e.draft editor) keys.input None k
       → OutOfItems e r editor keys reader editor reader'
   phrase_begun reader' begins ended =
       let P : (KeyEvent → Option Command) → Type 0 = λ o. LacksTail (keymap_of keys o) (e.draft editor) keys.input None k (r.rest mid) in
@@ -185,7 +186,7 @@ module _ {X Y : Type 0} (e : editors.Ghosts X) (r : readers.Ghosts Y) (editor : 
   -- what a command without a count leaves
   pub reads_plainly : (result : Result Cmd ReadlineError) (reader' : Y) → begins_count keys.input.style keys.input.mode k ≡ false → r.failures mid ≡ r.failures reader
       → OnRead result (λ c. ReadsBehind r mid reader' (keymap_of keys (r.own_binding mid)) (e.draft editor) keys.input None k (command_of c))
-      (EndsBehind r mid reader' (keymap_of keys (r.own_binding mid)) (e.draft editor) keys.input None k)
+      (EndsBehindKey r mid reader' (keymap_of keys (r.own_binding mid)) (e.draft editor) keys.input None k)
       → TakesItems r keys.bound result mid reader'
       → ReadsCommand e r (λ command draft. draft) result editor keys reader editor keys reader'
   reads_plainly result reader' begins quiet read takes =
@@ -210,7 +211,7 @@ module _ {X Y : Type 0} (e : editors.Ghosts X) (r : readers.Ghosts Y) (editor : 
     where
       plain_read : (result : Result Cmd ReadlineError)
           → OnRead result (λ c. ReadsBehind r mid reader' (keymap_of keys (r.own_binding mid)) (e.draft editor) keys.input None k (command_of c))
-          (EndsBehind r mid reader' (keymap_of keys (r.own_binding mid)) (e.draft editor) keys.input None k)
+          (EndsBehindKey r mid reader' (keymap_of keys (r.own_binding mid)) (e.draft editor) keys.input None k)
           → OnRead result (λ c. HasRead e r (λ command draft. draft) (command_of c) editor keys reader editor keys reader') (OutOfItems e r editor keys reader editor reader')
       plain_read (Ok c) behind = record {
         draft = e.draft editor;
@@ -307,7 +308,7 @@ module _ {X Y : Type 0} (e : editors.Ghosts X) (r : readers.Ghosts Y) (editor : 
         }
 
     -- no more items were left of what belongs to the key that ends it
-    counted_begun : (reader' : Y) → EndsBehind r mid' reader' (keymap_of keys (r.own_binding mid')) (e.draft editor') keys.input (Some count) last
+    counted_begun : (reader' : Y) → EndsBehindKey r mid' reader' (keymap_of keys (r.own_binding mid')) (e.draft editor') keys.input (Some count) last
         → OutOfItems e r editor keys reader editor' reader'
     counted_begun reader' ended =
         let left : Draft = after_count (e.environment editor) (k ∷ count_keys.more) (e.draft editor) in
@@ -334,7 +335,7 @@ module _ {X Y : Type 0} (e : editors.Ghosts X) (r : readers.Ghosts Y) (editor : 
     -- what a command behind a count leaves
     pub reads_counted : (result : Result Cmd ReadlineError) (reader' : Y) → r.failures mid ≡ r.failures reader
         → OnRead result (λ c. ReadsBehind r mid' reader' (keymap_of keys (r.own_binding mid')) (e.draft editor') keys.input (Some count) last (command_of c))
-        (EndsBehind r mid' reader' (keymap_of keys (r.own_binding mid')) (e.draft editor') keys.input (Some count) last)
+        (EndsBehindKey r mid' reader' (keymap_of keys (r.own_binding mid')) (e.draft editor') keys.input (Some count) last)
         → TakesItems r keys.bound result mid' reader'
         → ReadsCommand e r (λ command draft. draft) result editor keys reader editor' keys reader'
     reads_counted result reader' quiet behind takes =
@@ -361,7 +362,7 @@ module _ {X Y : Type 0} (e : editors.Ghosts X) (r : readers.Ghosts Y) (editor : 
       where
         counted_read : (result : Result Cmd ReadlineError)
             → OnRead result (λ c. ReadsBehind r mid' reader' (keymap_of keys (r.own_binding mid')) (e.draft editor') keys.input (Some count) last (command_of c))
-            (EndsBehind r mid' reader' (keymap_of keys (r.own_binding mid')) (e.draft editor') keys.input (Some count) last)
+            (EndsBehindKey r mid' reader' (keymap_of keys (r.own_binding mid')) (e.draft editor') keys.input (Some count) last)
             → OnRead result (λ c. HasRead e r (λ command draft. draft) (command_of c) editor keys reader editor' keys reader') (OutOfItems e r editor keys reader editor' reader')
         counted_read (Ok c) there = record {
           draft = e.draft editor';

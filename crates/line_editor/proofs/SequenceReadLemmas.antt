@@ -5,7 +5,7 @@ use Rattle.std.proofs.lemmas.List.{append-nil, map-append}
 use Rattle.line_keys.specs.Command.{Command}
 use Rattle.line_keys.specs.Item.{key}
 use Rattle.line_keys.specs.declared.keys.KeyEvent.{KeyEvent}
-use Rattle.line_keys.specs.declared.tty.RawReader as readers
+use Rattle.line_keys.specs.declared.raw_reader.RawReader as readers
 use Rattle.line_editor.specs.Reading.{EndsInSequence, IsAnswered, IsInVain}
 use Rattle.line_editor.specs.Sequence.{IsReadOn, Sequences, sequence_command}
 use Rattle.line_editor.proofs.SequenceLemmas.{is_sequence, none_read, read_further}

@@ -1,21 +1,21 @@
 -- Facts on what is read behind a key.
 use Rattle.std.proofs.Common.{◌≡◌, ℕ, ◌++◌, List, [], ◌∷◌, map, Option, Some, None, Result, Ok, Err, refl, sym, ◌∙◌, ap, subst}
 use Rattle.std.specs.Prelude.{slice_get}
-use Rattle.line_buffer.specs.declared.keymap.CharSearch.{CharSearch}
+use Rattle.line_buffer.specs.declared.movement.CharSearch.{CharSearch}
 use Rattle.line_config.specs.declared.error.ReadlineError.{ReadlineError}
 use Rattle.line_keys.specs.Command.{Command, command_of}
 use Rattle.line_keys.specs.Draft.{Draft}
 use Rattle.line_keys.specs.Item.{key}
 use Rattle.line_keys.specs.Table.{Meaning, has_second, pastes, row_of, searches, unlisted}
-use Rattle.line_keys.specs.declared.command.Cmd.{Cmd}
+use Rattle.line_keys.specs.declared.cmd.Cmd.{Cmd}
 use Rattle.line_keys.specs.declared.count.Count.{Count}
 use Rattle.line_keys.specs.declared.keys.KeyEvent.{KeyEvent}
-use Rattle.line_keys.specs.declared.tty.RawReader as readers
+use Rattle.line_keys.specs.declared.raw_reader.RawReader as readers
 use Rattle.line_editor.specs.Binding.{Bound}
 use Rattle.line_editor.specs.Input.{Input}
 use Rattle.line_editor.specs.Keymap.{Keymap, bound_command, count_or_one, on_line}
 use Rattle.line_editor.specs.Phrase.{LacksItems, Tailed}
-use Rattle.line_editor.specs.Reading.{EndsBehind, EndsInSequence, EndsInTail, IsInVain, OnRead, ReadsBehind, ReadsTail}
+use Rattle.line_editor.specs.Reading.{EndsBehindKey, EndsInSequence, EndsInTail, IsInVain, OnRead, ReadsBehind, ReadsTail}
 use Rattle.line_editor.specs.Sequence.{Sequenced, Sequences, sequences_of}
 use Rattle.line_editor.proofs.PhraseLemmas.{bound-read, own-read, paste-lacks, row-lacks, row-read, search-lacks, second-lacks, seconds-lack, sequence-lacks}
 use Rattle.line_editor.proofs.SequenceLemmas.{goes_on}
@@ -103,7 +103,7 @@ module _ {Y : Type 0} (r : readers.Ghosts Y) (keymap : Keymap) (draft : Draft) (
     }
 
     -- and where no item is left it lacks items
-    pub ends_row : EndsInTail r reader next (sequences_of keymap.bound draft input count) k meaning → EndsBehind r reader next keymap draft input typed k
+    pub ends_row : EndsInTail r reader next (sequences_of keymap.bound draft input count) k meaning → EndsBehindKey r reader next keymap draft input typed k
     ends_row ended = record {
       empty = ended.empty;
       lacks =
@@ -114,6 +114,6 @@ module _ {Y : Type 0} (r : readers.Ghosts Y) (keymap : Keymap) (draft : Draft) (
     -- both, by what came of reading it
     pub row_on : (result : Result Cmd ReadlineError)
         → OnRead result (λ c. ReadsTail r reader next (sequences_of keymap.bound draft input count) k meaning (command_of c)) (EndsInTail r reader next (sequences_of keymap.bound draft input count) k meaning)
-        → OnRead result (λ c. ReadsBehind r reader next keymap draft input typed k (command_of c)) (EndsBehind r reader next keymap draft input typed k)
+        → OnRead result (λ c. ReadsBehind r reader next keymap draft input typed k (command_of c)) (EndsBehindKey r reader next keymap draft input typed k)
     row_on (Ok c) read = behind_row (command_of c) read
     row_on (Err f) read = λ no. let ended = read no in (ended.0, ends_row ended.1)

@@ -9,11 +9,12 @@ use Rattle.line_keys.specs.Command.{command_of}
 use Rattle.line_parts.specs.declared.highlight.CmdKind.{CmdKind}
 use Rattle.line_parts.specs.declared.highlight.CmdKind.TheVariants.{MoveCursor}
 use Rattle.line_keys.specs.Drawing.{Drawing, Drew, DrewCursor, ShowsChange, behind_prompt, cursor, cursor_over, cursor_to_end, nothing, with_hint, with_text}
-use Rattle.line_keys.specs.EditorState.{Frame, IsInPlace, Redraws}
+use Rattle.line_keys.specs.Frame.{Frame}
+use Rattle.line_keys.specs.ShownLine.{IsInPlace, Redraws}
 use Rattle.line_keys.specs.ShownLine.{KeepsDrawn}
-use Rattle.line_keys.specs.declared.command.Cmd.{Cmd}
+use Rattle.line_keys.specs.declared.cmd.Cmd.{Cmd}
 use Rattle.line_keys.specs.declared.editor_state.EditorState as editors
-use Rattle.line_keys.specs.declared.tty.RawReader as readers
+use Rattle.line_keys.specs.declared.raw_reader.RawReader as readers
 use Rattle.line_editor.specs.Drawings.{drawing_of, times_of}
 use Rattle.line_parts.specs.Asks.{for_all, for_hint, is_sure}
 use Rattle.line_editor.proofs.AskedLemmas.{sure_all}
@@ -21,7 +22,7 @@ use Rattle.line_editor.specs.Editor.{Answer, ended, grouped, interrupted, procee
 use Rattle.line_editor.specs.Keymap.{KeyState}
 use Rattle.line_editor.specs.Reading.{KeepsReading, ReadsCommand}
 use Rattle.line_editor.specs.Run.{kills_before}
-use Rattle.line_editor.specs.Runs.{Advances, AdvancesTo, DrawnAfter, DrewFor, Executed, Executes, TakesTurn, editor_of, session}
+use Rattle.line_editor.specs.Outcomes.{Advances, AdvancesTo, DrawnAfter, DrewFor, Executed, Executes, TakesTurn, editor_of, session}
 use Rattle.line_editor.specs.declared.command.Status.{Status}
 use Rattle.line_editor.specs.declared.run.Turned.{Turned}
 use Rattle.line_editor.specs.declared.run.Turned.TheVariants as turned

@@ -10,18 +10,18 @@ use Rattle.line_parts.specs.Environment.{Environment}
 use Rattle.line_keys.specs.Display.{Display, IsRight, Surface}
 use Rattle.line_keys.specs.Draft.{Draft, hinted, start_text}
 use Rattle.line_keys.specs.Drawing.{Refreshes, with_hint}
-use Rattle.line_keys.specs.EditorState.{HasRightLayout, Redraws}
+use Rattle.line_keys.specs.ShownLine.{HasRightLayout, Redraws}
 use Rattle.line_keys.specs.ShownLine.{ShowsLine}
 use Rattle.line_keys.specs.declared.keys.KeyEvent.{KeyEvent}
 use Rattle.line_keys.specs.declared.editor_state.EditorState as editors
-use Rattle.line_keys.specs.declared.tty.RawReader as readers
+use Rattle.line_keys.specs.declared.raw_reader.RawReader as readers
 use Rattle.line_editor.specs.Binding.{Bound, all_sure}
 use Rattle.line_editor.specs.Input.{Input}
 use Rattle.line_editor.specs.Keymap.{Keymap, keymap_of}
 use Rattle.line_editor.specs.Reading.{KeepsReading, LeftByCut, ruler_behind}
 use Rattle.line_editor.specs.Run.{CutShort, End, Run, Turns, stopped, dry}
 use Rattle.line_editor.specs.Run as runs
-use Rattle.line_editor.specs.Runs.{Advances, NeedsMoreItems, Runs, RunsTo, Session, Stays, TakesTurn, TurnsTo, editor_of, items_read, session}
+use Rattle.line_editor.specs.Outcomes.{Advances, NeedsMoreItems, Runs, RunsTo, Session, Stays, TakesTurn, TurnsTo, editor_of, items_read, session}
 use Rattle.line_editor.specs.Editor.{Answer, Editor, Ruler, proceeds, submitted, ended, interrupted, own_ruler, ruler_of}
 use Rattle.line_editor.specs.declared.run.Turned.{Turned}
 use Rattle.line_editor.proofs.AskedLemmas.{sure_all}

@@ -9,7 +9,7 @@ use Rattle.line_keys.specs.Draft.{Draft}
 use Rattle.line_parts.specs.Environment.{Environment}
 use Rattle.line_state.specs.Edited.{Edited, undone}
 use Rattle.line_editor.specs.Editor.{edited_of}
-use Rattle.line_editor.specs.Edits.{after_edit}
+use Rattle.line_editor.specs.DraftEdits.{after_edit}
 use Rattle.line_editor.specs.Laws.{EnoughUndo}
 
 -- where one more number is tested before others

@@ -7,11 +7,11 @@ use Rattle.line_keys.specs.Draft.{Draft, unhinted, in_group, out_of_group}
 use Rattle.line_parts.specs.Environment.{Environment, verdict_on}
 use Rattle.line_parts.specs.Verdict.{Verdict, incomplete, invalid, valid}
 use Rattle.line_editor.specs.Editor.{Answer, ended, proceeds, submitted}
-use Rattle.line_editor.specs.Edits.{typed_in}
+use Rattle.line_editor.specs.DraftEdits.{typed_in}
 use Rattle.line_editor.specs.declared.command.Reply.{Reply}
 use Rattle.line_editor.specs.declared.command.Reply.TheVariants.{GoesOn, Stays, Submits}
 
--- a verdict other than that the line goes on takes the hint away
+-- the hint is taken away by a verdict, but for an incomplete one
 abbrev pub unhinted_by : Verdict → Draft → Draft
 unhinted_by incomplete draft = draft
 unhinted_by _ draft = unhinted draft
@@ -30,6 +30,7 @@ reply_to (invalid (Some message)) may = Stays
 reply_to (invalid None) may = GoesOn
 reply_to incomplete may = GoesOn
 
+-- the draft and the answer of a reply, from the draft it leaves and from that with a newline
 abbrev pub replied : Reply → Draft → Draft → Draft × Answer
 replied Submits left longer = (left, submitted)
 replied Stays left longer = (left, proceeds)

@@ -8,8 +8,8 @@ use Rattle.line_buffer.specs.Line.{Line, ends_in_white_space, start_of_line, wit
 use Rattle.line_buffer.specs.Lines.{down_by, up_by}
 use Rattle.line_buffer.specs.Transpose.{are_apart, has_two_chars, next_alphanumeric, words_beside}
 use Rattle.line_buffer.specs.Undo.{is_change, newest_steps}
-use Rattle.line_buffer.specs.declared.keymap.Movement.{Movement}
-use Rattle.line_buffer.specs.declared.keymap.Movement.TheVariants.{ViFirstPrint}
+use Rattle.line_buffer.specs.declared.movement.Movement.{Movement}
+use Rattle.line_buffer.specs.declared.movement.Movement.TheVariants.{ViFirstPrint}
 use Rattle.line_keys.specs.Command.{Command, accept_line, accept_or_insert_line, beginning_of_history, capitalize_word, clear_screen, complete_hint, dedent, downcase_word, end_of_file, end_of_history, history_search_backward, history_search_forward, indent, insert, interrupt, kill, line_down_or_next_history, line_up_or_previous_history, move, newline, next_history, overwrite, previous_history, repaint, replace, replace_char, self_insert, transpose_chars, transpose_words, undo, upcase_word, yank, yank_pop}
 use Rattle.line_keys.specs.Display.{Display}
 use Rattle.line_keys.specs.Draft.{Draft, unhinted}
@@ -23,7 +23,7 @@ use Rattle.line_state.specs.Edited.{pops_text}
 use Rattle.line_editor.specs.Accept.{reply_to}
 use Rattle.line_editor.specs.Editor.{Editor}
 use Rattle.line_editor.specs.HistoryMoves.{asked_back, asked_in_search, asked_on, asked_to_end, search_of, way_ends}
-use Rattle.line_editor.specs.Verdict.{draws_verdict, kind_of_verdict}
+use Rattle.line_editor.specs.DrawnVerdict.{draws_verdict, kind_of_verdict}
 use Rattle.line_editor.specs.declared.command.Reply.{Reply}
 use Rattle.line_editor.specs.declared.command.Reply.TheVariants.{GoesOn}
 
@@ -57,11 +57,12 @@ abbrev pub has_text : Option (List ℕ) → Bool
 has_text None = false
 has_text (Some text) = not (length text == 0)
 
--- a yank of a text, where there is one, and a text in place of a yanked one
+-- what is drawn of a yank: nothing where there is no text to yank
 abbrev pub yank_drawn : Option (List ℕ) → Drawing
 yank_drawn None = nothing
 yank_drawn (Some text) = edit_drawn (not (length text == 0))
 
+-- what is drawn of a text in place of a yanked one: nothing where there is none
 abbrev pub pop_drawn : Line → Option (ℕ × List ℕ) → Drawing
 pop_drawn line None = nothing
 pop_drawn line (Some popped) = edit_drawn (pops_text line popped.0 popped.1)

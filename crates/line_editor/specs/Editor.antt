@@ -73,10 +73,11 @@ measuring ruler = record {
   has_info = false;
 }
 
--- the line of a draft with its changes, and a draft with another one
+-- the line of a draft with its changes
 abbrev pub edited_of : Draft → Edited
 edited_of draft = record { line = draft.line; changes = draft.changes }
 
+-- a draft with another line and its changes
 abbrev pub with_edited : Draft → Edited → Draft
 with_edited draft edited = record draft { line = edited.line; changes = edited.changes }
 

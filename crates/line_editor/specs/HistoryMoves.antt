@@ -9,19 +9,19 @@ use Rattle.line_parts.specs.declared.history.SearchDirection.{SearchDirection}
 use Rattle.line_parts.specs.declared.history.SearchDirection.TheVariants.{Forward, Reverse}
 use Rattle.line_state.specs.Edited.{in_one_group, with_update_to}
 use Rattle.line_editor.specs.Editor.{edited_of, with_edited}
-use Rattle.line_editor.specs.Edits.{after_edit}
+use Rattle.line_editor.specs.DraftEdits.{after_edit}
 
 -- a draft at another history index
 abbrev pub at_index : ℕ → Draft → Draft
 at_index index draft = record draft { index = index }
 
 -- whether it is the line that is being written, which comes after the history's last
-abbrev pub is_at_end : Environment → Draft → Bool
-is_at_end environment draft = draft.index == length environment.lines
+abbrev pub is_own_line : Environment → Draft → Bool
+is_own_line environment draft = draft.index == length environment.lines
 
 -- the line is saved where it is the one that is being written
 abbrev pub saved_at_end : Environment → Draft → Draft
-saved_at_end environment draft = if is_at_end environment draft then record draft { saved = draft.line } else draft
+saved_at_end environment draft = if is_own_line environment draft then record draft { saved = draft.line } else draft
 
 -- a text of the history takes the line's place as one group of changes, with the cursor at a place in it
 abbrev pub showing : Environment → List ℕ → ℕ → Draft → Draft
@@ -44,7 +44,7 @@ come_back environment draft = hinted environment (at_index (length environment.l
 -- whether there is no line further back in the history, or further on
 abbrev pub way_ends : Environment → SearchDirection → Draft → Bool
 way_ends environment Reverse draft = draft.index == 0
-way_ends environment Forward draft = is_at_end environment draft
+way_ends environment Forward draft = is_own_line environment draft
 
 -- who is asked on the way back in the history: nobody where it ends
 abbrev pub asked_back : Draft → Asks
@@ -53,19 +53,20 @@ asked_back draft = if draft.index == 0 then nobody else for_line
 -- who is asked on the way on: the line that is being written is not looked up
 abbrev pub asked_on : Environment → Draft → Asks
 asked_on environment draft =
-    if is_at_end environment draft then nobody
+    if is_own_line environment draft then nobody
     else if draft.index + 1 == length environment.lines then for_hint
     else for_line
 
 -- who is asked on the way back to the line that is being written
 abbrev pub asked_to_end : Environment → Draft → Asks
-asked_to_end environment draft = if is_at_end environment draft then nobody else for_hint
+asked_to_end environment draft = if is_own_line environment draft then nobody else for_hint
 
--- to the history's line before this one, or to the first
+-- to the history's line before this one
 abbrev pub previous_shown : Environment → Draft → Draft
 previous_shown environment draft =
     if draft.index == 0 then draft else line_shown environment (draft.index - 1) (saved_at_end environment draft)
 
+-- to the history's first line
 abbrev pub first_shown : Environment → Draft → Draft
 first_shown environment draft =
     if draft.index == 0 then draft else line_shown environment 0 (saved_at_end environment draft)
@@ -73,12 +74,13 @@ first_shown environment draft =
 -- to the line behind this one, or to the one that is being written
 abbrev pub next_shown : Environment → Draft → Draft
 next_shown environment draft =
-    if is_at_end environment draft then draft
+    if is_own_line environment draft then draft
     else if draft.index + 1 == length environment.lines then come_back environment draft
     else line_shown environment (draft.index + 1) draft
 
+-- to the line that is being written
 abbrev pub end_shown : Environment → Draft → Draft
-end_shown environment draft = if is_at_end environment draft then draft else come_back environment draft
+end_shown environment draft = if is_own_line environment draft then draft else come_back environment draft
 
 -- what a search found is shown, with the cursor behind the matched text; where it found nothing all stays
 abbrev pub found_shown : Environment → Option Found → Draft → Draft
@@ -101,17 +103,18 @@ search_of environment direction draft =
     if way_ends environment direction draft then None else search_beside environment direction draft
 
 -- the index goes one line back or on, and what is found from there is shown; at the history's ends nothing happens
-abbrev pub searched : Environment → SearchDirection → Draft → Draft
-searched environment direction draft =
+abbrev pub search_shown : Environment → SearchDirection → Draft → Draft
+search_shown environment direction draft =
     if way_ends environment direction draft then draft
     else found_shown environment (search_beside environment direction draft)
     (at_index (index_beside direction draft.index) draft)
 
--- who is asked in a search: nobody at the history's ends, and for a hint only where a line is found
+-- who is asked for what a search finds: for a hint only where a line is found
 abbrev pub asked_for : Option Found → Asks
 asked_for None = for_look_up
 asked_for (Some found) = for_line
 
+-- who is asked in a search: nobody at the history's ends
 abbrev pub asked_in_search : Environment → SearchDirection → Draft → Asks
 asked_in_search environment direction draft =
     if way_ends environment direction draft then nobody else asked_for (search_beside environment direction draft)

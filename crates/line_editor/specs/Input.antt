@@ -1,11 +1,11 @@
 -- What reading keys remembers between commands.
 use Rattle.std.specs.Prelude.{Bool, true, false, Option, None}
-use Rattle.line_buffer.specs.declared.keymap.CharSearch.{CharSearch}
+use Rattle.line_buffer.specs.declared.movement.CharSearch.{CharSearch}
 use Rattle.line_config.specs.declared.config.EditMode.{EditMode}
 use Rattle.line_config.specs.declared.config.EditMode.TheVariants.{Vi}
 use Rattle.line_keys.specs.Command as Commands
-use Rattle.line_keys.specs.declared.keymap.InputMode.{InputMode}
-use Rattle.line_keys.specs.declared.keymap.InputMode.TheVariants.{Command, Insert}
+use Rattle.line_keys.specs.declared.refresher.InputMode.{InputMode}
+use Rattle.line_keys.specs.declared.refresher.InputMode.TheVariants.{Command, Insert}
 
 -- the style of editing, the mode of the Vi style, its last change and its last search for a character
 pub record Input : Type 0 where

@@ -5,7 +5,7 @@ use Rattle.line_editor.specs.Binding.{bound_of}
 use Rattle.line_editor.specs.Input.{Input}
 use Rattle.line_editor.specs.Keymap.{KeyState}
 use Rattle.line_editor.specs.declared.binding.ConditionalEventHandler as handlers
-use Rattle.line_editor.specs.declared.keymap.InputState.{InputState}
+use Rattle.line_editor.specs.declared.input_state.InputState.{InputState}
 
 module _ {X : Type 0} {P : X → Type 0} where
   -- the input value that it keeps

@@ -9,8 +9,8 @@ use Rattle.line_keys.specs.Draft.{Draft}
 use Rattle.line_keys.specs.Redo.{bound_anew}
 use Rattle.line_keys.specs.Table.{Meaning, one, row_of}
 use Rattle.line_keys.specs.declared.count.Count.{Count}
-use Rattle.line_keys.specs.declared.keymap.InputMode.{InputMode}
-use Rattle.line_keys.specs.declared.keymap.InputMode.TheVariants.{Insert, Replace}
+use Rattle.line_keys.specs.declared.refresher.InputMode.{InputMode}
+use Rattle.line_keys.specs.declared.refresher.InputMode.TheVariants.{Insert, Replace}
 use Rattle.line_keys.specs.declared.keys.KeyEvent.{KeyEvent}
 use Rattle.line_editor.specs.Binding.{Bound, Handler, answers, handler_of}
 use Rattle.line_editor.specs.Event.{Chord, each_key, keys}
@@ -87,6 +87,7 @@ first_source (Some command) _ meaning = by_binding command
 first_source None (Some command) meaning = by_reader command
 first_source None None meaning = by_table meaning
 
+-- where the command of a key comes from, under the count that was typed
 abbrev pub source_of : Keymap → Draft → Input → Option Count → KeyEvent → Source
 source_of keymap draft input typed key =
     first_source (bound_command keymap draft input typed key) (on_line draft.line.text (keymap.own key))

@@ -6,16 +6,16 @@ use Rattle.line_keys.specs.Command.{Command, history_search_backward, history_se
 use Rattle.line_keys.specs.Draft.{Draft, KeepsText, start_text}
 use Rattle.line_keys.specs.Item.{Item}
 use Rattle.line_keys.specs.declared.editor_state.EditorState as editors
-use Rattle.line_keys.specs.declared.tty.RawReader as readers
+use Rattle.line_keys.specs.declared.raw_reader.RawReader as readers
 use Rattle.line_parts.specs.Environment.{Environment}
 use Rattle.line_editor.specs.Event.{Chord, same_chord}
-use Rattle.line_editor.specs.HistoryMoves.{is_at_end}
+use Rattle.line_editor.specs.HistoryMoves.{is_own_line}
 use Rattle.line_editor.specs.Input.{Input}
 use Rattle.line_editor.specs.Keymap.{Keymap, keymap_of}
 use Rattle.line_editor.specs.Phrase.{Phrase}
 use Rattle.line_editor.specs.Reading.{LeftByCut}
 use Rattle.line_editor.specs.Run.{End, Run, Turn, Turns, commands_in, keys_in, ready, stopped, unread}
-use Rattle.line_editor.specs.Runs.{RunsTo, Session, editor_of}
+use Rattle.line_editor.specs.Outcomes.{RunsTo, Session, editor_of}
 use Rattle.line_editor.specs.Step.{step}
 use Rattle.line_editor.specs.Editor.{Editor, Answer, Ruler}
 
@@ -112,9 +112,9 @@ after_commands ruler environment editor (next ∷ more) = after_commands ruler e
 abbrev pub ComingBack : Type 0
 ComingBack = (ruler : Ruler) (environment : Environment) (editor : Editor) (first last : Input × Command) (between : List (Input × Command))
     → list_any (λ next. searches next.1) (first ∷ between ++ last ∷ []) ≡ false
-    → is_at_end environment editor.draft ≡ true
-    → ((k : ℕ) → k ≤ length between → is_at_end environment (after_commands ruler environment editor (first ∷ take k between)).draft ≡ false)
-    → is_at_end environment (after_commands ruler environment editor (first ∷ between ++ last ∷ [])).draft ≡ true
+    → is_own_line environment editor.draft ≡ true
+    → ((k : ℕ) → k ≤ length between → is_own_line environment (after_commands ruler environment editor (first ∷ take k between)).draft ≡ false)
+    → is_own_line environment (after_commands ruler environment editor (first ∷ between ++ last ∷ [])).draft ≡ true
     → (after_commands ruler environment editor (first ∷ between ++ last ∷ [])).draft.line ≡ editor.draft.line
 
 module _ {X Y X' Y' : Type 0} (e : editors.Ghosts X) (r : readers.Ghosts Y) (e' : editors.Ghosts X') (r' : readers.Ghosts Y') where

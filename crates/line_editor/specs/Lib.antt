@@ -1,7 +1,7 @@
 pub mod Accept
 pub mod Asked
 pub mod Editor
-pub mod Edits
+pub mod DraftEdits
 pub mod HistoryMoves
 pub mod Event
 pub mod Moment
@@ -13,10 +13,10 @@ pub mod InputState
 pub mod Keymap
 pub mod Phrase
 pub mod Sequence
-pub mod Verdict
+pub mod DrawnVerdict
 pub mod Run
 pub mod Drawings
-pub mod Runs
+pub mod Outcomes
 pub mod Status
 pub mod Step
 pub mod Laws

@@ -2,7 +2,7 @@
 use Rattle.std.specs.Prelude.{ℕ, Bool, List, Option, is_some, option_map, option_and_then}
 use Rattle.line_config.specs.declared.config.EditMode.{EditMode}
 use Rattle.line_keys.specs.Draft.{Draft}
-use Rattle.line_keys.specs.declared.keymap.InputMode.{InputMode}
+use Rattle.line_keys.specs.declared.refresher.InputMode.{InputMode}
 use Rattle.line_editor.specs.Input.{Input}
 use Rattle.line_editor.specs.declared.binding.EventContext.{EventContext}
 

@@ -1,7 +1,7 @@
 -- Phrases: the items that one command is read from.
 use Rattle.std.specs.Prelude.{◌≡◌, ◌≢◌, ℕ, true, if◌then◌else◌, List, [], ◌∷◌, ◌++◌, map, Option, Some, None, option_map, unwrap_or}
-use Rattle.line_buffer.specs.declared.keymap.CharSearch.{CharSearch}
-use Rattle.line_buffer.specs.declared.keymap.Movement.TheVariants.{ViCharSearch}
+use Rattle.line_buffer.specs.declared.movement.CharSearch.{CharSearch}
+use Rattle.line_buffer.specs.declared.movement.Movement.TheVariants.{ViCharSearch}
 use Rattle.line_parts.specs.Environment.{Environment}
 use Rattle.line_keys.specs.Command.{Command, insert, move, unknown}
 use Rattle.line_keys.specs.Count.{char_of, count_of, is_count_before, is_with}

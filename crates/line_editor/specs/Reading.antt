@@ -13,12 +13,13 @@ use Rattle.line_keys.specs.Count.{IsCountOf, continues_count, count_of, count_pr
 use Rattle.line_keys.specs.Display.{Display}
 use Rattle.line_keys.specs.Draft.{Draft, KeepsLine, KeepsText, hinted, start_text}
 use Rattle.line_keys.specs.Drawing.{Drew, DrewNothing, behind_prompt, with_hint}
-use Rattle.line_keys.specs.EditorState.{Frame, IsInPlace, Redraws}
+use Rattle.line_keys.specs.Frame.{Frame}
+use Rattle.line_keys.specs.ShownLine.{IsInPlace, Redraws}
 use Rattle.line_keys.specs.ShownLine.{KeepsDrawn}
-use Rattle.line_keys.specs.declared.command.Cmd.{Cmd}
+use Rattle.line_keys.specs.declared.cmd.Cmd.{Cmd}
 use Rattle.line_keys.specs.Item.{Item, key}
 use Rattle.line_keys.specs.declared.editor_state.EditorState as editors
-use Rattle.line_keys.specs.declared.tty.RawReader as readers
+use Rattle.line_keys.specs.declared.raw_reader.RawReader as readers
 use Rattle.line_editor.specs.Editor.{Ruler, own_ruler, ruler_of}
 use Rattle.line_keys.specs.Table.{Meaning}
 use Rattle.line_keys.specs.declared.count.Count.{Count}
@@ -29,7 +30,7 @@ use Rattle.line_editor.specs.Binding.{Bound, all_sure}
 use Rattle.line_editor.specs.Keymap.{KeyState, Keymap, keymap_of}
 use Rattle.line_editor.specs.Phrase.{IsBeginning, Keyed, LacksItems, LacksTail, Phrase, Tailed}
 use Rattle.line_editor.specs.Sequence.{IsReadOn, Sequenced, Sequences, sequence_command}
-use Rattle.line_editor.specs.declared.keymap.Sequence.{Sequence}
+use Rattle.line_editor.specs.declared.input_state.sequences.Sequence.{Sequence}
 
 -- the failures of the one or of the other party rose, where both counts can
 abbrev pub EitherRose : ℕ → ℕ → ℕ → ℕ → Type 0
@@ -84,12 +85,13 @@ module _ {Y : Type 0} (r : readers.Ghosts Y) where
     pub cut : r.rest reader ≡ tail ++ r.rest reader'
     pub keyed : Keyed keymap draft input typed last tail command
 
-  -- all items that were left are read, and more are to be read behind a key of this meaning, or whatever it is bound to
+  -- all items that were left are read, and more are to be read behind a key of this meaning
   pub record EndsInTail (reader reader' : Y) (sequences : Sequences) (last : KeyEvent) (meaning : Meaning) : Type 0 where
     pub empty : r.rest reader' ≡ []
     pub lacks : LacksItems sequences last meaning (r.rest reader)
 
-  pub record EndsBehind (reader reader' : Y) (keymap : Keymap) (draft : Draft) (input : Input) (typed : Option Count) (last : KeyEvent) : Type 0 where
+  -- all items that were left are read, and more are to be read behind a key, whatever it is bound to
+  pub record EndsBehindKey (reader reader' : Y) (keymap : Keymap) (draft : Draft) (input : Input) (typed : Option Count) (last : KeyEvent) : Type 0 where
     pub empty : r.rest reader' ≡ []
     pub lacks : LacksTail keymap draft input typed last (r.rest reader)
 
@@ -171,6 +173,7 @@ module _ {X Y : Type 0} (e : editors.Ghosts X) (r : readers.Ghosts Y) where
   abbrev pub AreSure : Asks → X → KeyState → Type 0
   AreSure asks editor keys = (is_sure (e.sure editor) asks ≡ true) × (all_sure keys.bound ≡ true)
 
+  -- how a call may fail that reads keys by the bindings and asks these of the parties
   abbrev pub FailsByReading : {T : Type 0} → Asks → Result T ReadlineError → X → KeyState → Y → X → Y → Type 0
   FailsByReading asks result editor keys reader editor' reader' = Fails (AreSure asks editor keys) result editor reader editor' reader'
 

@@ -65,11 +65,12 @@ pub data Run (keymap : Keymap) (ruler : Ruler) (environment : Environment) : Edi
       → CutShort environment editor last
       → Run keymap ruler environment editor input items last input (dry items)
 
--- how many of the items are keys
+-- whether an item is a key
 abbrev pub is_key : Item → Bool
 is_key (key _) = true
 is_key (paste _) = false
 
+-- how many of the items are keys
 abbrev pub keys_in : List Item → ℕ
 keys_in items = count_by is_key items
 

@@ -3,25 +3,26 @@ use Rattle.std.specs.Prelude.{ℕ, true, false, if◌then◌else◌, is_some}
 use Rattle.line_buffer.specs.Kill.{killed_range}
 use Rattle.line_buffer.specs.KillRing.{yank_popped, yanked_text}
 use Rattle.line_buffer.specs.Lines.{down_by, up_by}
-use Rattle.line_buffer.specs.declared.keymap.Movement.TheVariants.{LineDown, LineUp}
+use Rattle.line_buffer.specs.declared.movement.Movement.TheVariants.{LineDown, LineUp}
 use Rattle.line_buffer.specs.declared.line_buffer.WordAction.TheVariants.{Capitalize, Lowercase, Uppercase}
 use Rattle.line_keys.specs.Command.{Command, accept_line, accept_or_insert_line, beginning_of_history, capitalize_word, clear_screen, complete_hint, dedent, downcase_word, end_of_file, end_of_history, history_search_backward, history_search_forward, indent, insert, interrupt, kill, line_down_or_next_history, line_up_or_previous_history, move, newline, next_history, overwrite, previous_history, repaint, replace, replace_char, self_insert, transpose_chars, transpose_words, undo, upcase_word, vi_yank_to, yank, yank_pop}
 use Rattle.line_keys.specs.Draft.{Draft, hinted, unhinted}
-use Rattle.line_keys.specs.declared.command.Anchor.TheVariants.{Before}
+use Rattle.line_keys.specs.declared.cmd.Anchor.TheVariants.{Before}
 use Rattle.line_parts.specs.Environment.{Environment}
 use Rattle.line_parts.specs.declared.history.SearchDirection.TheVariants.{Forward, Reverse}
 use Rattle.line_editor.specs.Accept.{accepted, answer_at_end, validated}
 use Rattle.line_editor.specs.Editor.{Editor, Ruler, Step, interrupted, measuring, proceeding, submitted, with_draft}
-use Rattle.line_editor.specs.Edits.{chars_transposed, char_replaced, completed, copied_to, cursor_moved, kill_popped, kill_yanked, killed_by, lines_shifted, overwritten, replaced_by, steps_undone, text_of, typed_in, word_changed, words_transposed, yanked_in}
-use Rattle.line_editor.specs.HistoryMoves.{end_shown, first_shown, next_shown, previous_shown, searched}
+use Rattle.line_editor.specs.DraftEdits.{chars_transposed, char_replaced, completed, copied_to, cursor_moved, kill_popped, kill_yanked, killed_by, lines_shifted, overwritten, replaced_by, steps_undone, text_of, typed_in, word_changed, words_transposed, yanked_in}
+use Rattle.line_editor.specs.HistoryMoves.{end_shown, first_shown, next_shown, previous_shown, search_shown}
 use Rattle.line_editor.specs.Input.{Input}
 
--- the cursor goes up so many lines, or from the first line to the history's line before this one; or down
+-- the cursor goes up so many lines, or from the first line to the history's line before this one
 abbrev pub up_or_previous : Ruler → Environment → ℕ → Draft → Draft
 up_or_previous ruler environment n draft =
     if is_some (up_by (measuring ruler) draft.line n) then cursor_moved ruler (LineUp n) draft
     else previous_shown environment draft
 
+-- the cursor goes down so many lines, or from the last line to the history's line behind this one
 abbrev pub down_or_next : Ruler → Environment → ℕ → Draft → Draft
 down_or_next ruler environment n draft =
     if is_some (down_by (measuring ruler) draft.line n) then cursor_moved ruler (LineDown n) draft
@@ -49,8 +50,8 @@ edited_by ruler environment input draft previous_history = previous_shown enviro
 edited_by ruler environment input draft next_history = next_shown environment draft
 edited_by ruler environment input draft beginning_of_history = first_shown environment draft
 edited_by ruler environment input draft end_of_history = end_shown environment draft
-edited_by ruler environment input draft history_search_backward = searched environment Reverse draft
-edited_by ruler environment input draft history_search_forward = searched environment Forward draft
+edited_by ruler environment input draft history_search_backward = search_shown environment Reverse draft
+edited_by ruler environment input draft history_search_forward = search_shown environment Forward draft
 edited_by ruler environment input draft complete_hint = completed environment draft.hint draft
 edited_by ruler environment input draft clear_screen = hinted environment draft
 edited_by ruler environment input draft repaint = hinted environment draft

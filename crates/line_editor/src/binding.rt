@@ -10,9 +10,9 @@ ghost use Rattle.line_keys.specs.Key.{normalized};
 
 use line_buffer::RepeatCount;
 use line_config::{EditMode, Result};
-use line_keys::command::Cmd;
-use line_keys::keymap::{InputMode, Refresher};
+use line_keys::cmd::Cmd;
 use line_keys::keys::KeyEvent;
+use line_keys::refresher::{InputMode, Refresher};
 use std::alloc::Global;
 
 /// What a command can be bound to.

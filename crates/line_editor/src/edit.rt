@@ -4,17 +4,18 @@ ghost use Rattle.std.specs.Borrow.{GName};
 ghost use Rattle.line_config.specs.Error.{MemoryOnly};
 ghost use Rattle.line_editor.specs.Editor.{Begins};
 ghost use Rattle.line_editor.specs.Info.{shown_info};
-ghost use Rattle.line_keys.specs.Display.{lit_after, undrawn};
+ghost use Rattle.line_keys.specs.Display.{lit_after, never_drawn};
 ghost use Rattle.line_keys.specs.Draft.{empty_draft, hinted, KeepsText};
 ghost use Rattle.line_keys.specs.Drawing.{Paints, ShowsEdit, Undrawn};
-ghost use Rattle.line_keys.specs.EditorState.{FailsOnlyIf, Frame, Shows};
+ghost use Rattle.line_keys.specs.Frame.{FailsOnlyIf, Frame};
+ghost use Rattle.line_keys.specs.ShownLine.{Shows};
 ghost use Rattle.line_parts.specs.Asks.{for_hint, is_sure};
 ghost use Rattle.line_parts.specs.Helped.{environment_by, sure_by};
 ghost use Rattle.line_parts.specs.Hint.{suggestion_of};
 
 mod drawing;
 mod hints;
-mod history;
+mod history_moves;
 mod inserts;
 mod kills;
 mod moves;
@@ -25,7 +26,7 @@ mod words;
 use line_buffer::{Layout, LineBuffer};
 use line_config::{Prompt, Result};
 use line_keys::editor_state::EditorState;
-use line_keys::keymap::{Invoke, Refresher};
+use line_keys::refresher::{Invoke, Refresher};
 use line_parts::consulted::Consulted;
 use line_parts::parties::Parties;
 use line_parts::{CmdKind, Context, Helper, Hint, History};
@@ -128,7 +129,7 @@ impl<'out, 'prompt, W: Renderer, H: Helper, P: Prompt, S: History> State<
             (environment_by H.hint_at H.verdict_at H.lights helper.entry
             (S.lines ctx.entry.history))
             (sure_by H.Hinter.sure H.Validator.sure (S.sure ctx.entry.history) helper.entry)
-            (undrawn (W.surface out.old) (W.screen out.old) (P.raw_text prompt.now))
+            (never_drawn (W.surface out.old) (W.screen out.old) (P.raw_text prompt.now))
             (W.failures out.old) (W.redraws out.old) out.entry.ghost_name) }
     {
         Ok(State {
@@ -163,7 +164,7 @@ impl<'out, 'prompt, W: Renderer, H: Helper, P: Prompt, S: History> State<
             (environment_by H.hint_at H.verdict_at H.lights helper.entry
             (S.lines ctx.entry.history))
             (sure_by H.Hinter.sure H.Validator.sure (S.sure ctx.entry.history) helper.entry)
-            (undrawn (W.surface out.old) (W.screen out.old) (P.raw_text prompt.now))
+            (never_drawn (W.surface out.old) (W.screen out.old) (P.raw_text prompt.now))
             (W.failures out.old) (W.redraws out.old) out.entry.ghost_name) }
         ensures memory { MemoryOnly result }
     {
@@ -196,6 +197,16 @@ impl<'out, 'prompt, W: Renderer, H: Helper, P: Prompt, S: History> State<
         ensures { result.now ≡ (⟦<Self as EditorState>⟧.display self.now).layout }
     {
         self.view.layout()
+    }
+
+    /// Returns the renderer, as the last drawing left it.
+    pub fn out(&self) -> &W
+        ensures surface { W.surface result.now ≡ (⟦<Self as EditorState>⟧.display self.now).surface }
+        ensures screen { W.screen result.now ≡ (⟦<Self as EditorState>⟧.display self.now).screen }
+        ensures redraws { W.redraws result.now ≡ ⟦<Self as EditorState>⟧.redraws self.now }
+        ensures failures { W.failures result.now ≡ ⟦<Self as EditorState>⟧.failures self.now }
+    {
+        self.view.out()
     }
 
     /// Returns the history index: which line of the history is edited. For the line that is being written it is the number
@@ -248,7 +259,7 @@ impl<'out, 'prompt, W: Renderer, H: Helper, P: Prompt, S: History> State<
     {
         if self.view.colors_enabled() {
             let lit = self.parties.highlight_char(self.edited.line(), kind);
-            self.view.set_lit(lit);
+            self.view.set_highlight_char(lit);
         }
     }
 

@@ -2,19 +2,19 @@
 ghost use Rattle.std.specs.Prelude.{◌≡◌};
 ghost use Rattle.line_editor.specs.InputState.{keys_of};
 ghost use Rattle.line_editor.specs.Run.{kills_before};
-ghost use Rattle.line_editor.specs.Runs.{Advances, Runs, session};
+ghost use Rattle.line_editor.specs.Outcomes.{Advances, Runs, session};
 ghost use Rattle.line_keys.specs.Command.{command_of};
 
 use crate::binding::ConditionalEventHandler;
 use crate::command::{Status, execute};
 use crate::edit::State;
-use crate::keymap::InputState;
+use crate::input_state::InputState;
 use line_buffer::KillRing;
 use line_config::{Config, Prompt, ReadlineError, Result};
-use line_keys::command::Cmd;
+use line_keys::cmd::Cmd;
 use line_keys::editor_state::EditorState;
-use line_keys::keymap::Refresher;
-use line_keys::tty::RawReader;
+use line_keys::raw_reader::RawReader;
+use line_keys::refresher::Refresher;
 use line_parts::{Helper, History};
 use line_state::Renderer;
 

@@ -7,7 +7,7 @@ use Rattle.std.proofs.lemmas.List.Elements.{filter_map-append}
 use Rattle.std.proofs.lemmas.List.Folds.{find-append}
 use Rattle.std.proofs.lemmas.List.Sums.{fold-append}
 use Rattle.std.proofs.lemmas.Bool.Decides.{nat_tests}
-use Rattle.line_keys.specs.Count.{IsCountOf, beginnings, count_by, count_of, digit_of, digits_of, is_minus, magnitude, number_of, written}
+use Rattle.line_keys.specs.Count.{IsCountOf, beginnings, count_by, count_of, digit_of, digits_of, is_minus, magnitude, number_of, decimal_value}
 use Rattle.line_keys.specs.declared.count.Count.{Count}
 use Rattle.line_keys.specs.declared.count.TypedCount.{TypedCount}
 use Rattle.std.specs.List.{cons_option}
@@ -23,18 +23,18 @@ beginnings-append (y ∷ ys) x =
 
 -- what the beginnings of a list write
 abbrev pub readings : List ℕ → List ℕ
-readings digits = map written (beginnings digits)
+readings digits = map decimal_value (beginnings digits)
 
 -- whether a number is at least 1000
 abbrev pub is_large : ℕ → Bool
 is_large number = nat_le 1000 number
 
-readings-append : (ds : List ℕ) (d : ℕ) → readings (ds ++ d ∷ []) ≡ readings ds ++ (written (ds ++ d ∷ []) ∷ [])
-readings-append ds d = ap (λ z. map written z) (beginnings-append ds d) ∙ map-append written (beginnings ds) ((ds ++ d ∷ []) ∷ [])
+readings-append : (ds : List ℕ) (d : ℕ) → readings (ds ++ d ∷ []) ≡ readings ds ++ (decimal_value (ds ++ d ∷ []) ∷ [])
+readings-append ds d = ap (λ z. map decimal_value z) (beginnings-append ds d) ∙ map-append decimal_value (beginnings ds) ((ds ++ d ∷ []) ∷ [])
 
 -- a digit more writes ten times the number, and the digit
-written-append : (ds : List ℕ) (d : ℕ) → written (ds ++ d ∷ []) ≡ written ds * 10 + d
-written-append ds d = fold-append (λ number digit. number * 10 + digit) 0 ds (d ∷ [])
+decimal_value-append : (ds : List ℕ) (d : ℕ) → decimal_value (ds ++ d ∷ []) ≡ decimal_value ds * 10 + d
+decimal_value-append ds d = fold-append (λ number digit. number * 10 + digit) 0 ds (d ∷ [])
 
 -- where nothing behind an element is found, it fails
 none-fails : (b : Bool) (x : ℕ) → cond b (Some x) None ≡ None → b ≡ false
@@ -79,25 +79,25 @@ found-large (x ∷ xs) m e = first-large (is_large x) x m (find is_large xs) ref
 with-found : (found : Option ℕ) (ds : List ℕ) (d : ℕ) → find is_large (readings ds) ≡ found
     → magnitude (ds ++ d ∷ []) ≡ (if nat_lt (magnitude ds) 1000 then magnitude ds * 10 + d else magnitude ds)
 with-found (Some m) ds d e =
-    let before : magnitude ds ≡ m = ap (λ o. unwrap_or o (written ds)) e in
+    let before : magnitude ds ≡ m = ap (λ o. unwrap_or o (decimal_value ds)) e in
     let behind : find is_large (readings (ds ++ d ∷ [])) ≡ Some m =
-    ap (λ z. find is_large z) (readings-append ds d) ∙ find-append is_large (readings ds) (written (ds ++ d ∷ []) ∷ [])
-    ∙ ap (λ o. option_or o (find is_large (written (ds ++ d ∷ []) ∷ []))) e in
-    let after : magnitude (ds ++ d ∷ []) ≡ m = ap (λ o. unwrap_or o (written (ds ++ d ∷ []))) behind in
+    ap (λ z. find is_large z) (readings-append ds d) ∙ find-append is_large (readings ds) (decimal_value (ds ++ d ∷ []) ∷ [])
+    ∙ ap (λ o. option_or o (find is_large (decimal_value (ds ++ d ∷ []) ∷ []))) e in
+    let after : magnitude (ds ++ d ∷ []) ≡ m = ap (λ o. unwrap_or o (decimal_value (ds ++ d ∷ []))) behind in
     let large : nat_le 1000 m ≡ true = found-large (readings ds) m e in
     let small : nat_lt m 1000 ≡ false = grind (arith, nat_tests) in
     after ∙ sym (ap (λ n. if nat_lt n 1000 then n * 10 + d else n) before ∙ ap (λ b. if b then m * 10 + d else m) small)
 with-found None ds d e =
-    let before : magnitude ds ≡ written ds = ap (λ o. unwrap_or o (written ds)) e in
-    let fails : is_large (written ds) ≡ false = whole-fails written ds e in
-    let small : nat_lt (written ds) 1000 ≡ true = grind (arith, nat_tests) in
-    let behind : find is_large (readings (ds ++ d ∷ [])) ≡ find is_large (written (ds ++ d ∷ []) ∷ []) =
-    ap (λ z. find is_large z) (readings-append ds d) ∙ find-append is_large (readings ds) (written (ds ++ d ∷ []) ∷ [])
-    ∙ ap (λ o. option_or o (find is_large (written (ds ++ d ∷ []) ∷ []))) e in
-    let after : magnitude (ds ++ d ∷ []) ≡ written (ds ++ d ∷ []) =
-    ap (λ o. unwrap_or o (written (ds ++ d ∷ []))) behind ∙ found-or-own (is_large (written (ds ++ d ∷ []))) (written (ds ++ d ∷ [])) in
-    after ∙ written-append ds d
-    ∙ sym (ap (λ n. if nat_lt n 1000 then n * 10 + d else n) before ∙ ap (λ b. if b then written ds * 10 + d else written ds) small)
+    let before : magnitude ds ≡ decimal_value ds = ap (λ o. unwrap_or o (decimal_value ds)) e in
+    let fails : is_large (decimal_value ds) ≡ false = whole-fails decimal_value ds e in
+    let small : nat_lt (decimal_value ds) 1000 ≡ true = grind (arith, nat_tests) in
+    let behind : find is_large (readings (ds ++ d ∷ [])) ≡ find is_large (decimal_value (ds ++ d ∷ []) ∷ []) =
+    ap (λ z. find is_large z) (readings-append ds d) ∙ find-append is_large (readings ds) (decimal_value (ds ++ d ∷ []) ∷ [])
+    ∙ ap (λ o. option_or o (find is_large (decimal_value (ds ++ d ∷ []) ∷ []))) e in
+    let after : magnitude (ds ++ d ∷ []) ≡ decimal_value (ds ++ d ∷ []) =
+    ap (λ o. unwrap_or o (decimal_value (ds ++ d ∷ []))) behind ∙ found-or-own (is_large (decimal_value (ds ++ d ∷ []))) (decimal_value (ds ++ d ∷ [])) in
+    after ∙ decimal_value-append ds d
+    ∙ sym (ap (λ n. if nat_lt n 1000 then n * 10 + d else n) before ∙ ap (λ b. if b then decimal_value ds * 10 + d else decimal_value ds) small)
 
 pub magnitude-append : (ds : List ℕ) (d : ℕ)
     → magnitude (ds ++ d ∷ []) ≡ (if nat_lt (magnitude ds) 1000 then magnitude ds * 10 + d else magnitude ds)

@@ -1,9 +1,9 @@
 -- Commands as values: what is compared of a text is its bytes, and not the memory that holds them.
 use Rattle.std.specs.Prelude.{ℕ, Bool, true, false, List, Option, option_map, string_bytes}
-use Rattle.line_buffer.specs.declared.keymap.Movement.{Movement}
-use Rattle.line_buffer.specs.declared.keymap.Movement.TheVariants.{BackwardChar, ForwardChar}
-use Rattle.line_keys.specs.declared.command.Anchor.{Anchor}
-use Rattle.line_keys.specs.declared.command.Cmd.{Cmd}
+use Rattle.line_buffer.specs.declared.movement.Movement.{Movement}
+use Rattle.line_buffer.specs.declared.movement.Movement.TheVariants.{BackwardChar, ForwardChar}
+use Rattle.line_keys.specs.declared.cmd.Anchor.{Anchor}
+use Rattle.line_keys.specs.declared.cmd.Cmd.{Cmd}
 
 -- a command; a text is the list of its bytes
 pub data Command : Type 0 where

@@ -8,8 +8,8 @@ use Rattle.line_keys.specs.Key.{bits_of}
 use Rattle.line_keys.specs.Table.{one}
 use Rattle.line_keys.specs.declared.count.Count.{Count}
 use Rattle.line_keys.specs.declared.count.TypedCount.{TypedCount}
-use Rattle.line_keys.specs.declared.keymap.InputMode.{InputMode}
-use Rattle.line_keys.specs.declared.keymap.InputMode.TheVariants.{Command}
+use Rattle.line_keys.specs.declared.refresher.InputMode.{InputMode}
+use Rattle.line_keys.specs.declared.refresher.InputMode.TheVariants.{Command}
 use Rattle.line_keys.specs.declared.keys.KeyCode.{KeyCode}
 use Rattle.line_keys.specs.declared.keys.KeyCode.TheVariants.{Char}
 use Rattle.line_keys.specs.declared.keys.KeyEvent.{KeyEvent}
@@ -29,21 +29,24 @@ is_with mods key = bits_of key.1 == bits_of mods
 abbrev pub digit_value : ℕ → Option ℕ
 digit_value c = if nat_le 48 c && nat_le c 57 then Some (c - 48) else None
 
--- the digit of a key
+-- the digit of a key code, if it is one
 abbrev pub digit_by_code : KeyCode → Option ℕ
 digit_by_code (Char c) = digit_value c
 digit_by_code _ = None
 
+-- the digit of a key, whatever its modifiers, if it is one
 abbrev pub digit_of : KeyEvent → Option ℕ
 digit_of key = digit_by_code key.0
 
--- a digit, a digit from 1 on, and the minus sign
+-- whether a key is a digit
 abbrev pub is_digit : KeyEvent → Bool
 is_digit key = is_some (digit_of key)
 
+-- whether a key is a digit from 1 on
 abbrev pub is_first_digit : KeyEvent → Bool
 is_first_digit key = nat_le 1 (unwrap_or (digit_of key) 0)
 
+-- whether a key is the minus sign
 abbrev pub is_minus : KeyEvent → Bool
 is_minus key = unwrap_or (char_of key.0) 0 == 45
 
@@ -65,8 +68,8 @@ is_count_before style mode (first ∷ more) last =
     begins_count style mode first && list_all (continues_count style) more && not (continues_count style last)
 
 -- the number that digits write
-abbrev pub written : List ℕ → ℕ
-written digits = fold (λ number digit. number * 10 + digit) 0 digits
+abbrev pub decimal_value : List ℕ → ℕ
+decimal_value digits = fold (λ number digit. number * 10 + digit) 0 digits
 
 -- the beginnings of a list, the empty one first
 abbrev pub beginnings : List ℕ → List (List ℕ)
@@ -75,7 +78,7 @@ beginnings (x ∷ xs) = [] ∷ map (λ beginning. x ∷ beginning) (beginnings x
 
 -- the number of a count: what the shortest beginning of its digits writes that writes at least 1000, or else all of them
 abbrev pub magnitude : List ℕ → ℕ
-magnitude digits = unwrap_or (find (λ number. nat_le 1000 number) (map written (beginnings digits))) (written digits)
+magnitude digits = unwrap_or (find (λ number. nat_le 1000 number) (map decimal_value (beginnings digits))) (decimal_value digits)
 
 -- the number of the digits of a count, if it has digits
 abbrev pub number_of : List ℕ → Option ℕ

@@ -38,8 +38,8 @@ abbrev pub corner : Position
 corner = record { row = 0; col = 0 }
 
 -- nothing is drawn yet: of the kept layout only the prompt's end and the mode are set
-abbrev pub undrawn : Surface → Screen → List ℕ → Display
-undrawn surface screen prompt = record {
+abbrev pub never_drawn : Surface → Screen → List ℕ → Display
+never_drawn surface screen prompt = record {
   surface = surface;
   prompt_end = surface.measure prompt corner;
   layout = record {

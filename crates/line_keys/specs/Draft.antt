@@ -37,10 +37,11 @@ hint_shown draft = option_map (λ hint. hint.display) draft.hint
 abbrev pub unhinted : Draft → Draft
 unhinted draft = record draft { hint = None }
 
--- a group of changes is opened, or every open one is closed
+-- a group of changes is opened
 abbrev pub in_group : Draft → Draft
 in_group draft = record draft { changes = begun draft.changes }
 
+-- every open group of changes is closed
 abbrev pub out_of_group : Draft → Draft
 out_of_group draft = record draft { changes = ended draft.changes }
 

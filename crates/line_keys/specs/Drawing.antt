@@ -4,7 +4,8 @@ use Rattle.line_buffer.specs.Line.{Line}
 use Rattle.line_config.specs.declared.error.ReadlineError.{ReadlineError}
 use Rattle.line_keys.specs.Display.{HasCursorAt, IsRight, ShowsInFull, ShowsText, corner, lit_after}
 use Rattle.line_keys.specs.Draft.{Draft, KeepsText, hint_shown, hinted, start_text}
-use Rattle.line_keys.specs.EditorState.{FailsByParty, FailsByRenderer, Frame, HasCursorDrawn, HasRightLayout, Redraws, Shows}
+use Rattle.line_keys.specs.Frame.{FailsByParty, FailsByRenderer, Frame}
+use Rattle.line_keys.specs.ShownLine.{HasCursorDrawn, HasRightLayout, Redraws, Shows}
 use Rattle.line_keys.specs.ShownLine.{KeepsDrawn}
 use Rattle.line_keys.specs.declared.editor_state.EditorState.{Ghosts}
 use Rattle.line_parts.specs.Asks.{Asks, for_hint, nobody}

@@ -7,7 +7,7 @@ pub mod Table
 pub mod Row
 pub mod Draft
 pub mod Display
-pub mod EditorState
+pub mod Frame
 pub mod ShownLine
 pub mod Drawing
 pub use Rattle.line_parts.specs.Shown

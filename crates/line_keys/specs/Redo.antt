@@ -1,7 +1,7 @@
 -- Commands that are done again.
 use Rattle.std.specs.Prelude.{ℕ, ◌==◌, Bool, true, false, if◌then◌else◌, min, List, length, Option, Some, None, unwrap_or, option_map}
-use Rattle.line_buffer.specs.declared.keymap.Movement.{Movement}
-use Rattle.line_buffer.specs.declared.keymap.Movement.TheVariants.{BackwardChar, BackwardWord, ForwardChar, ForwardWord, LineDown, LineUp, ViCharSearch}
+use Rattle.line_buffer.specs.declared.movement.Movement.{Movement}
+use Rattle.line_buffer.specs.declared.movement.Movement.TheVariants.{BackwardChar, BackwardWord, ForwardChar, ForwardWord, LineDown, LineUp, ViCharSearch}
 use Rattle.line_keys.specs.Command.{Command, dedent, indent, insert, kill, move, replace, replace_char, self_insert, vi_yank_to, yank}
 
 -- the commands that change the line or copy from it, and can be done again

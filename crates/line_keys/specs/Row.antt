@@ -1,7 +1,7 @@
 -- What the code's rows mean.
 use Rattle.std.specs.Prelude.{ℕ}
-use Rattle.line_buffer.specs.declared.keymap.CharSearch.{CharSearch}
-use Rattle.line_buffer.specs.declared.keymap.CharSearch.TheVariants.{Backward, BackwardAfter, Forward, ForwardBefore}
+use Rattle.line_buffer.specs.declared.movement.CharSearch.{CharSearch}
+use Rattle.line_buffer.specs.declared.movement.CharSearch.TheVariants.{Backward, BackwardAfter, Forward, ForwardBefore}
 use Rattle.line_keys.specs.Command.{command_of}
 use Rattle.line_keys.specs.Table as table
 use Rattle.line_keys.specs.Table.{gives, has_second, pastes, searches, second_at, unlisted}

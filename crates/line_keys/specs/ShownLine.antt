@@ -1,11 +1,54 @@
--- What stays shown of the line, and what may stand behind it.
-use Rattle.std.specs.Prelude.{◌≡◌, ◌⊎◌, true, List, Option, None, ℕ}
-use Rattle.line_keys.specs.Display.{shown_end}
+-- What is shown of the line: by a kept layout, with what may stand behind it, and in how many full redraws.
+use Rattle.std.specs.Prelude.{◌≡◌, ◌⊎◌, ◌+◌, ◌≤◌, true, if◌then◌else◌, List, Option, None, ℕ}
+use Rattle.line_buffer.specs.declared.layout.Layout.{Layout}
+use Rattle.line_config.specs.Error.{max_count}
+use Rattle.line_keys.specs.Display.{HasCursorAt, IsFullRedraw, IsRight, ShowsInFull, shown_end}
 use Rattle.line_keys.specs.Draft.{Draft, hint_shown}
-use Rattle.line_keys.specs.EditorState.{IsAtEnd, IsInPlace, KeepsLayoutRight, Shows}
 use Rattle.line_keys.specs.declared.editor_state.EditorState.{Ghosts}
 use Rattle.line_parts.specs.Environment.{Environment, verdict_on}
 use Rattle.line_parts.specs.Verdict.{message_of}
+
+-- the kept layout is right for the line
+abbrev pub HasRightLayout : {X : Type 0} → Ghosts X → X → Type 0
+HasRightLayout e editor = IsRight (e.display editor) (e.draft editor).line
+
+-- a kept layout that was right is right
+abbrev pub KeepsLayoutRight : {X : Type 0} → Ghosts X → X → X → Type 0
+KeepsLayoutRight e old new = HasRightLayout e old → HasRightLayout e new
+
+-- the kept cursor is that of a full redraw of the line
+abbrev pub HasCursorDrawn : {X : Type 0} → Ghosts X → X → Type 0
+HasCursorDrawn e editor = HasCursorAt (e.display editor) (e.draft editor).line
+
+-- the kept cursor is at the end of what is shown
+abbrev pub IsAtEnd : {X : Type 0} → Ghosts X → X → Type 0
+IsAtEnd e editor = (e.display editor).layout.cursor ≡ (e.display editor).layout.end
+
+-- the renderer stands at the kept cursor
+abbrev pub IsInPlace : {X : Type 0} → Ghosts X → X → Type 0
+IsInPlace e editor = (e.display editor).screen.position ≡ (e.display editor).layout.cursor
+
+-- the line was drawn in full behind the editor's own prompt, with a trailing text if there is one
+pub record Shows {X : Type 0} (e : Ghosts X) (editor : X) (trailing : Option (List ℕ)) : Type 0 where
+  pub in_full : ShowsInFull (e.display editor) (e.display editor).prompt_end (e.draft editor).line trailing
+  pub own_prompt : (e.display editor).layout.default_prompt ≡ true
+
+-- what stands behind a line that is drawn by a kept layout: the hint where the layout has an info, and else nothing
+abbrev pub info_kept : Layout → Draft → Option (List ℕ)
+info_kept layout draft = if layout.has_info then hint_shown draft else None
+
+-- the kept layout is that of a full redraw of the line behind the own prompt, with its hint or with nothing as the layout has it
+pub record ShowsByLayout {X : Type 0} (e : Ghosts X) (editor : X) : Type 0 where
+  pub layout : IsFullRedraw (e.display editor).surface (e.display editor).prompt_end (e.draft editor).line (info_kept (e.display editor).layout (e.draft editor)) (e.display editor).layout
+  pub own_prompt : (e.display editor).layout.default_prompt ≡ true
+
+-- a count of full redraws rose by at least so many and at most so many, where it can
+abbrev pub Rises : ℕ → ℕ → ℕ → ℕ → Type 0
+Rises least most old new = old + most ≤ max_count → (old + least ≤ new) × (new ≤ old + most)
+
+-- so many full redraws were made, at least and at most
+abbrev pub Redraws : {X : Type 0} → Ghosts X → ℕ → ℕ → X → X → Type 0
+Redraws e least most old new = Rises least most (e.redraws old) (e.redraws new)
 
 -- a text may trail the line: its hint, its verdict's message, or none
 abbrev pub MayTrail : Environment → Draft → Option (List ℕ) → Type 0

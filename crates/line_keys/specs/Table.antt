@@ -1,21 +1,21 @@
 -- The tables of keys: for a style of editing and a mode, what each key stands for.
 use Rattle.std.specs.Prelude.{ℕ, Bool, true, ◌==◌, ◌&&◌, not, if◌then◌else◌, List, [], ◌∷◌, length, find, Option, Some, None, is_some, option_map}
-use Rattle.line_buffer.specs.declared.keymap.At.TheVariants.{AfterEnd}
-use Rattle.line_buffer.specs.declared.keymap.CharSearch.{CharSearch}
-use Rattle.line_buffer.specs.declared.keymap.CharSearch.TheVariants.{Backward, ForwardBefore}
-use Rattle.line_buffer.specs.declared.keymap.Movement.{Movement}
-use Rattle.line_buffer.specs.declared.keymap.Movement.TheVariants.{BackwardChar, BackwardWord, BeginningOfLine, EndOfLine, ForwardChar, ForwardWord}
-use Rattle.line_buffer.specs.declared.keymap.Word.{Word}
-use Rattle.line_buffer.specs.declared.keymap.Word.TheVariants.{Big}
-use Rattle.line_buffer.specs.declared.keymap.Word.TheVariants as words
+use Rattle.line_buffer.specs.declared.movement.At.TheVariants.{AfterEnd}
+use Rattle.line_buffer.specs.declared.movement.CharSearch.{CharSearch}
+use Rattle.line_buffer.specs.declared.movement.CharSearch.TheVariants.{Backward, ForwardBefore}
+use Rattle.line_buffer.specs.declared.movement.Movement.{Movement}
+use Rattle.line_buffer.specs.declared.movement.Movement.TheVariants.{BackwardChar, BackwardWord, BeginningOfLine, EndOfLine, ForwardChar, ForwardWord}
+use Rattle.line_buffer.specs.declared.movement.Word.{Word}
+use Rattle.line_buffer.specs.declared.movement.Word.TheVariants.{Big}
+use Rattle.line_buffer.specs.declared.movement.Word.TheVariants as words
 use Rattle.line_config.specs.declared.config.EditMode.{EditMode}
 use Rattle.line_config.specs.declared.config.EditMode.TheVariants.{Emacs, Vi}
 use Rattle.line_keys.specs.Command.{Command, abort, accept_or_insert_line, beginning_of_history, capitalize_word, clear_screen, complete, complete_backward, complete_hint, downcase_word, end_of_file, end_of_history, forward_search_history, kill, line_down_or_next_history, line_up_or_previous_history, move, next_history, noop, previous_history, quoted_insert, reverse_search_history, self_insert, transpose_chars, transpose_words, undo, unknown, upcase_word, yank, yank_pop}
 use Rattle.line_keys.specs.Draft.{Draft}
 use Rattle.line_keys.specs.Key.{bits_of}
-use Rattle.line_keys.specs.declared.command.Anchor.TheVariants.{Before}
+use Rattle.line_keys.specs.declared.cmd.Anchor.TheVariants.{Before}
 use Rattle.line_keys.specs.declared.count.Count.{Count}
-use Rattle.line_keys.specs.declared.keymap.InputMode.{InputMode}
+use Rattle.line_keys.specs.declared.refresher.InputMode.{InputMode}
 use Rattle.line_keys.specs.declared.keys.KeyCode.{KeyCode}
 use Rattle.line_keys.specs.declared.keys.KeyCode.TheVariants.{Backspace, BackTab, BracketedPasteStart, Char, Delete, Down, End, Enter, Esc, Home, Left, Right, Tab, UnknownEscSeq, Up}
 use Rattle.line_keys.specs.declared.keys.KeyEvent.{KeyEvent}
@@ -51,10 +51,11 @@ pub record Row : Type 0 where
 abbrev pub meaning_row : (Count → Meaning) → Row
 meaning_row means = record { guard = any_line; means = means }
 
--- a row of a command by the count, and of one whatever the count
+-- a row of a command by the count
 abbrev pub row : (Count → Command) → Row
 row command = meaning_row (λ count. gives (command count))
 
+-- a row of one command, whatever the count
 abbrev pub always : Command → Row
 always command = row (λ _. command)
 
@@ -74,47 +75,53 @@ first_for draft rows = find (λ r. holds r.guard draft) rows
 abbrev pub row_at : Rows → ℕ → Draft → Option Row
 row_at rows c draft = option_map (λ entry. entry.1) (find (λ entry. (entry.0 == c) && holds entry.1.guard draft) rows)
 
--- what a count gives, and what a negative one does
-abbrev pub turned : {X : Type 0} → (ℕ → X) → (ℕ → X) → Count → X
-turned forth back count = if count.positive then forth count.n else back count.n
+-- by the sign of the count one thing or the other, for its number
+abbrev pub by_sign : {X : Type 0} → (ℕ → X) → (ℕ → X) → Count → X
+by_sign forth back count = if count.positive then forth count.n else back count.n
 
--- movements that a negative count turns round: by characters, by words, and to an end of the line
+-- clusters on, or back for a negative count
 abbrev pub chars_on : Count → Movement
-chars_on = turned (λ n. ForwardChar n) (λ n. BackwardChar n)
+chars_on = by_sign (λ n. ForwardChar n) (λ n. BackwardChar n)
 
+-- clusters back, or on for a negative count
 abbrev pub chars_back : Count → Movement
-chars_back = turned (λ n. BackwardChar n) (λ n. ForwardChar n)
+chars_back = by_sign (λ n. BackwardChar n) (λ n. ForwardChar n)
 
+-- to the ends of words on, or to the starts of words back for a negative count
 abbrev pub words_on : Word → Count → Movement
-words_on word = turned (λ n. ForwardWord n AfterEnd word) (λ n. BackwardWord n word)
+words_on word = by_sign (λ n. ForwardWord n AfterEnd word) (λ n. BackwardWord n word)
 
+-- to the starts of words back, or to the ends of words on for a negative count
 abbrev pub words_back : Word → Count → Movement
-words_back word = turned (λ n. BackwardWord n word) (λ n. ForwardWord n AfterEnd word)
+words_back word = by_sign (λ n. BackwardWord n word) (λ n. ForwardWord n AfterEnd word)
 
+-- to the end of the line, or to its start for a negative count
 abbrev pub to_end : Count → Movement
-to_end = turned (λ _. EndOfLine) (λ _. BeginningOfLine)
+to_end = by_sign (λ _. EndOfLine) (λ _. BeginningOfLine)
 
+-- to the start of the line, or to its end for a negative count
 abbrev pub to_start : Count → Movement
-to_start = turned (λ _. BeginningOfLine) (λ _. EndOfLine)
+to_start = by_sign (λ _. BeginningOfLine) (λ _. EndOfLine)
 
--- moves and kills of these
+-- moves by a movement
 abbrev pub moves : (Count → Movement) → Row
 moves movement = row (λ count. move (movement count))
 
+-- kills what a movement covers
 abbrev pub kills : (Count → Movement) → Row
 kills movement = row (λ count. kill (movement count))
 
 -- a search for the character that is typed next, and the opposite one for a negative count
 abbrev pub search : (ℕ → CharSearch) → (ℕ → CharSearch) → Row
-search forth back = meaning_row (λ count. searches count.n (turned (λ _. forth) (λ _. back) count))
+search forth back = meaning_row (λ count. searches count.n (by_sign (λ _. forth) (λ _. back) count))
 
 -- Emacs: a plain character inserts itself
 abbrev pub typed_row : ℕ → Row
-typed_row c = row (turned (λ n. self_insert n c) (λ _. unknown))
+typed_row c = row (by_sign (λ n. self_insert n c) (λ _. unknown))
 
 -- Emacs: completes, and the other way round for a negative count
 abbrev pub completes : Row
-completes = row (turned (λ _. complete) (λ _. complete_backward))
+completes = row (by_sign (λ _. complete) (λ _. complete_backward))
 
 -- Emacs: what the second key of C-X means: C-G and Esc, C-U, and Backspace
 abbrev pub second_row : KeyCode → ℕ → Count → Command
@@ -128,6 +135,7 @@ second_row Backspace mods count =
     if mods == bits_of NONE then kill (to_start count) else unknown
 second_row _ mods count = unknown
 
+-- Emacs: what the second key of C-X means, under the count
 abbrev pub second_at : Count → KeyEvent → Command
 second_at count key = second_row key.0 (bits_of key.1) count
 
@@ -180,13 +188,14 @@ emacs_plain_rows BackTab = always complete_backward ∷ []
 emacs_plain_rows Tab = completes ∷ []
 emacs_plain_rows _ = []
 
--- Emacs: with Alt, and with Ctrl
+-- Emacs: the other keys, with Alt
 abbrev pub emacs_alt_key_rows : KeyCode → List Row
 emacs_alt_key_rows Backspace = kills (words_back words.Emacs) ∷ []
 emacs_alt_key_rows Left = moves (words_back words.Emacs) ∷ []
 emacs_alt_key_rows Right = moves (words_on words.Emacs) ∷ []
 emacs_alt_key_rows _ = []
 
+-- Emacs: the other keys, with Ctrl
 abbrev pub emacs_ctrl_key_rows : KeyCode → List Row
 emacs_ctrl_key_rows Left = moves (words_back words.Emacs) ∷ []
 emacs_ctrl_key_rows Right = moves (words_on words.Emacs) ∷ []
@@ -225,7 +234,7 @@ common_ctrl_rows style =
     ∷ (85, kills to_start)
     ∷ (86, always quoted_insert)
     ∷ (87, kills (words_back Big))
-    ∷ (89, row (turned (λ n. yank n Before) (λ _. unknown)))
+    ∷ (89, row (by_sign (λ n. yank n Before) (λ _. unknown)))
     ∷ (95, row (λ count. undo count.n))
     ∷ []
 

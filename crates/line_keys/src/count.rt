@@ -5,8 +5,8 @@ ghost use Rattle.line_keys.specs.Count.{IsCountOf, begins_count, continues_count
 ghost use Rattle.line_keys.specs.Table.{one};
 ghost use Rattle.line_keys.specs.declared.keys.KeyEvent.{KeyEvent};
 
-use crate::keymap::InputMode;
 use crate::keys::{KeyCode, KeyEvent, Modifiers};
+use crate::refresher::InputMode;
 use line_buffer::RepeatCount;
 use line_config::{EditMode, Result};
 use std::alloc::Global;

@@ -2,19 +2,19 @@
 //! the bindings of a program.
 #![tactic(auto)]
 
-pub mod command;
+pub mod cmd;
 pub mod count;
 pub mod editor_state;
-pub mod keymap;
 pub mod keys;
 pub mod laws;
+pub mod raw_reader;
 pub mod redo;
+pub mod refresher;
 pub mod tables;
-pub mod tty;
 
-pub use command::{Anchor, Cmd};
+pub use cmd::{Anchor, Cmd};
 pub use count::Count;
-pub use keymap::{InputMode, Invoke, Refresher};
 pub use keys::{KeyCode, KeyEvent, Modifiers};
+pub use raw_reader::RawReader;
+pub use refresher::{InputMode, Invoke, Refresher};
 pub use tables::{Meaning, SearchKind, meaning_of_key, second_key};
-pub use tty::RawReader;

@@ -5,8 +5,8 @@ ghost use Rattle.line_config.specs.Error.{MemoryOnly};
 ghost use Rattle.line_keys.specs.Command.{command_of};
 ghost use Rattle.line_keys.specs.Redo.{bound_anew, counted_anew, replaced_again, with_count};
 
-use crate::command::Cmd;
-use crate::keymap::Refresher;
+use crate::cmd::Cmd;
+use crate::refresher::Refresher;
 use line_buffer::{Movement, RepeatCount};
 use line_config::Result;
 

@@ -3,13 +3,13 @@ ghost use Rattle.std.specs.Prelude.{◌≡◌, ◌==◌, if◌then◌else◌, tr
 ghost use Rattle.line_keys.specs.Command.{accept_or_insert_line, command_of, complete, complete_backward, unknown, yank};
 ghost use Rattle.line_keys.specs.Key.{bits_of};
 ghost use Rattle.line_keys.specs.Row.{meaning_of, search_for};
-ghost use Rattle.line_keys.specs.Table.{chars_back, chars_on, common_ctrl_rows, common_row, emacs_alt_rows, emacs_ctrl_alt_rows, emacs_ctrl_rows, emacs_row, row_at, row_of, second_at, searches, deletes, gives, to_end, to_start, turned, typed_row, words_back, words_on};
-ghost use Rattle.line_keys.specs.declared.command.Anchor.TheVariants.{Before};
+ghost use Rattle.line_keys.specs.Table.{chars_back, chars_on, common_ctrl_rows, common_row, emacs_alt_rows, emacs_ctrl_alt_rows, emacs_ctrl_rows, emacs_row, row_at, row_of, second_at, searches, deletes, gives, to_end, to_start, by_sign, typed_row, words_back, words_on};
+ghost use Rattle.line_keys.specs.declared.cmd.Anchor.TheVariants.{Before};
 
-use crate::command::{Anchor, Cmd};
+use crate::cmd::{Anchor, Cmd};
 use crate::count::Count;
-use crate::keymap::{InputMode, Refresher};
 use crate::keys::{KeyCode as K, KeyEvent, KeyEvent as E, Modifiers as M};
+use crate::refresher::{InputMode, Refresher};
 use line_buffer::{At, CharSearch, Movement, RepeatCount, Word};
 use line_config::EditMode;
 
@@ -234,7 +234,7 @@ pub fn second_key(key: KeyEvent, count: Count) -> Cmd
 // Returns the search of one kind, or of the other for a negative count.
 fn search(forth: SearchKind, back: SearchKind, count: Count) -> Option<Meaning>
     ensures { option_map meaning_of result ≡ Some (searches count.n
-        (turned (λ _. λ c. search_for forth c) (λ _. λ c. search_for back c) count)) }
+        (by_sign (λ _. λ c. search_for forth c) (λ _. λ c. search_for back c) count)) }
 {
     let kind = if count.positive { forth } else { back };
     Some(Meaning::Search(count.n, kind))
@@ -265,7 +265,7 @@ fn accept() -> Cmd
 
 // Returns the command that completes, on or back.
 fn complete(count: Count) -> Cmd
-    ensures { command_of result ≡ turned (λ _. complete) (λ _. complete_backward) count }
+    ensures { command_of result ≡ by_sign (λ _. complete) (λ _. complete_backward) count }
 {
     if count.positive {
         return Cmd::Complete;
@@ -275,7 +275,7 @@ fn complete(count: Count) -> Cmd
 
 // Returns the command that yanks, or none for a negative count.
 fn yank(count: Count) -> Cmd
-    ensures { command_of result ≡ turned (λ n. yank n Before) (λ _. unknown) count }
+    ensures { command_of result ≡ by_sign (λ n. yank n Before) (λ _. unknown) count }
 {
     if count.positive {
         return Cmd::Yank(count.n, Anchor::Before);

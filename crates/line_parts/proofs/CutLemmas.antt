@@ -2,7 +2,7 @@
 use Rattle.std.proofs.Common.{◌≡◌, ℕ, Bool, true, List, [], ◌∷◌, ◌++◌, length, drop, refl, sym, ap, ◌∙◌, append_assoc}
 use Rattle.std.proofs.Math.Seq.{drop-append_seam}
 use Rattle.std.specs.List.{concat, list_all}
-use Rattle.line_parts.specs.Pieces.{is_made_of}
+use Rattle.line_parts.specs.Pieces.{is_made_of_pieces}
 use Rattle.line_parts.proofs.PieceLemmas.{both, made_pieces}
 
 -- what stands behind two equal fronts of one text is the same
@@ -35,7 +35,7 @@ module _ (is_piece : List ℕ → Bool) where
       (ap (λ l. l ++ concat ps) same ∙ ap (λ l. q ++ l) rest.0, rest.1)
 
   -- where no piece goes on, a text is cut in one way
-  pub cut_one_way : Apart → (a b s t : List ℕ) → is_made_of is_piece a ≡ true → is_made_of is_piece b ≡ true → Stops s → Stops t
+  pub cut_one_way : Apart → (a b s t : List ℕ) → is_made_of_pieces is_piece a ≡ true → is_made_of_pieces is_piece b ≡ true → Stops s → Stops t
       → a ++ s ≡ b ++ t → (a ≡ b) × (s ≡ t)
   cut_one_way apart a b s t ha hb ss st e =
       let one = made_pieces is_piece a ha in

@@ -5,7 +5,7 @@ use Rattle.std.proofs.lemmas.Bool.{cases_Bool, both_ways}
 use Rattle.std.proofs.lemmas.List.{take_rest, take-append-drop, length-take, get_or-take, get_or-drop, drop_more, take_all, drop_all}
 use Rattle.std.proofs.lemmas.List.Elements.{All-head, All-tail}
 use Rattle.memchr.specs.Find.{is_byte, is_byte2, Passes, NoneBefore, Nowhere}
-use Rattle.line_parts.specs.HistoryText.{escaped_byte, escaped, Says, unescaped, as_it_stands}
+use Rattle.line_parts.specs.HistoryText.{escaped_byte, escaped_line, Says, unescaped, as_it_stands}
 
 -- what stands before the rest of a line: a backslash, or nothing
 abbrev pub behind : Bool → List ℕ → List ℕ
@@ -50,30 +50,30 @@ none_is_not_some : {X : Type 0} (x : X) → ◌≡◌ {A = Option X} None (Some 
 none_is_not_some x e = cc
 
 -- what is undone is written so
-pub undone : (s : Bool) (line : List ℕ) → All (λ b. b ≢ 10) line → MatchOption (undo s line) ⊤ (λ t. escaped t ≡ behind s line)
+pub undone : (s : Bool) (line : List ℕ) → All (λ b. b ≢ 10) line → MatchOption (undo s line) ⊤ (λ t. escaped_line t ≡ behind s line)
 undone false [] lacks = refl
 undone true [] lacks = tt
 undone false (b ∷ bs) lacks =
     let later = All-tail (λ b. b ≢ 10) b bs lacks in
     ⊎_elim
     (λ yes. rw (yes, is_92 b yes) (undone true bs later))
-    (λ other. rw other (MatchOption-map (λ t. escaped t ≡ bs) (λ t. escaped t ≡ b ∷ bs) (λ t. b ∷ t) (undo false bs)
+    (λ other. rw other (MatchOption-map (λ t. escaped_line t ≡ bs) (λ t. escaped_line t ≡ b ∷ bs) (λ t. b ∷ t) (undo false bs)
     (λ t h. rw (escaped_byte-plain b other (not_10 b (All-head (λ b. b ≢ 10) b bs lacks))) (ap (λ r. b ∷ r) h)) (undone false bs later)))
     (cases_Bool (eqb b 92))
 undone true (b ∷ bs) lacks =
     let later = All-tail (λ b. b ≢ 10) b bs lacks in
     ⊎_elim
-    (λ yes. rw (yes, is_92 b yes) (MatchOption-map (λ t. escaped t ≡ bs) (λ t. escaped t ≡ 92 ∷ 92 ∷ bs) (λ t. 92 ∷ t) (undo false bs)
+    (λ yes. rw (yes, is_92 b yes) (MatchOption-map (λ t. escaped_line t ≡ bs) (λ t. escaped_line t ≡ 92 ∷ 92 ∷ bs) (λ t. 92 ∷ t) (undo false bs)
     (λ t h. ap (λ r. 92 ∷ 92 ∷ r) h) (undone false bs later)))
     (λ other. rw other (⊎_elim
-    (λ yes. rw (yes, is_110 b yes) (MatchOption-map (λ t. escaped t ≡ bs) (λ t. escaped t ≡ 92 ∷ 110 ∷ bs) (λ t. 10 ∷ t) (undo false bs)
+    (λ yes. rw (yes, is_110 b yes) (MatchOption-map (λ t. escaped_line t ≡ bs) (λ t. escaped_line t ≡ 92 ∷ 110 ∷ bs) (λ t. 10 ∷ t) (undo false bs)
     (λ t h. ap (λ r. 92 ∷ 110 ∷ r) h) (undone false bs later)))
     (λ bad. rw bad tt)
     (cases_Bool (eqb b 110))))
     (cases_Bool (eqb b 92))
 
 -- what is written is undone
-pub undo-escaped : (t : List ℕ) → undo false (escaped t) ≡ Some t
+pub undo-escaped : (t : List ℕ) → undo false (escaped_line t) ≡ Some t
 undo-escaped [] = refl
 undo-escaped (b ∷ bs) = ⊎_elim
     (λ yes. rw (is_92 b yes) (ap (option_map (λ t. 92 ∷ t)) (undo-escaped bs)))
@@ -87,30 +87,30 @@ neither : (b : ℕ) → (is_byte2 92 10 b ≡ true → ⊥) → (eqb b 92 ≡ fa
 neither b plain = (grind arith, grind arith)
 
 -- bytes that need no escape are written as they are
-pub escaped-run : (xs : List ℕ) (i : ℕ) → i ≤ length xs → ((k : ℕ) → k < i → is_byte2 92 10 (get_or xs k 0) ≡ true → ⊥) → escaped xs ≡ take i xs ++ escaped (drop i xs)
-escaped-run xs zero le plain = refl
-escaped-run [] (suc i) le plain = refl
-escaped-run (b ∷ bs) (suc i) le plain =
+pub escaped_line-run : (xs : List ℕ) (i : ℕ) → i ≤ length xs → ((k : ℕ) → k < i → is_byte2 92 10 (get_or xs k 0) ≡ true → ⊥) → escaped_line xs ≡ take i xs ++ escaped_line (drop i xs)
+escaped_line-run xs zero le plain = refl
+escaped_line-run [] (suc i) le plain = refl
+escaped_line-run (b ∷ bs) (suc i) le plain =
     let first = neither b (plain 0 (omega arith)) in
-    rw (escaped_byte-plain b first.0 first.1) (ap (λ r. b ∷ r) (escaped-run bs i (omega arith) (λ k lt. plain (suc k) (omega arith))))
+    rw (escaped_byte-plain b first.0 first.1) (ap (λ r. b ∷ r) (escaped_line-run bs i (omega arith) (λ k lt. plain (suc k) (omega arith))))
 
-escaped-at : (xs : List ℕ) (i : ℕ) → i < length xs → escaped (drop i xs) ≡ escaped_byte (get_or xs i 0) ++ escaped (drop (i + 1) xs)
-escaped-at xs i lt = rw (drop_more xs i 0) refl
+escaped_line-at : (xs : List ℕ) (i : ℕ) → i < length xs → escaped_line (drop i xs) ≡ escaped_byte (get_or xs i 0) ++ escaped_line (drop (i + 1) xs)
+escaped_line-at xs i lt = rw (drop_more xs i 0) refl
 
 -- a text that grew by a run and by an escape lacks what is behind them
-pub pushed_hit : (whole old run new xs : List ℕ) (i : ℕ) → NoneBefore (Passes (is_byte2 92 10) xs) 0 (length xs) i → whole ≡ old ++ escaped xs → run ≡ old ++ take i xs → new ≡ run ++ escaped_byte (get_or xs i 0) → whole ≡ new ++ escaped (take (length xs - (i + 1)) (drop (i + 1) xs))
+pub pushed_hit : (whole old run new xs : List ℕ) (i : ℕ) → NoneBefore (Passes (is_byte2 92 10) xs) 0 (length xs) i → whole ≡ old ++ escaped_line xs → run ≡ old ++ take i xs → new ≡ run ++ escaped_byte (get_or xs i 0) → whole ≡ new ++ escaped_line (take (length xs - (i + 1)) (drop (i + 1) xs))
 pushed_hit whole old run new xs i hit is_whole is_run is_new =
     let lt : i < length xs = hit.high in
-    let pieces = escaped-run xs i (omega arith) (λ k lt. hit.before k (omega arith) lt) in
-    let rest = escaped-at xs i lt in
+    let pieces = escaped_line-run xs i (omega arith) (λ k lt. hit.before k (omega arith) lt) in
+    let rest = escaped_line-at xs i lt in
     rw (take_rest xs (i + 1), is_new, is_run, is_whole, pieces, rest) (simp append_assoc)
 
 -- a text that grew by all that is left, and by a line feed
-pub pushed_none : (start line old run new xs : List ℕ) → Nowhere (Passes (is_byte2 92 10) xs) 0 (length xs) → start ++ escaped line ≡ old ++ escaped xs → run ≡ old ++ xs → new ≡ run ++ 10 ∷ [] → new ≡ start ++ (escaped line ++ 10 ∷ [])
+pub pushed_none : (start line old run new xs : List ℕ) → Nowhere (Passes (is_byte2 92 10) xs) 0 (length xs) → start ++ escaped_line line ≡ old ++ escaped_line xs → run ≡ old ++ xs → new ≡ run ++ 10 ∷ [] → new ≡ start ++ (escaped_line line ++ 10 ∷ [])
 pushed_none start line old run new xs none is_whole is_run is_new =
-    let pieces = escaped-run xs (length xs) (omega arith) (λ k lt. none k (omega arith) lt) in
-    let same : escaped xs ≡ xs = rw (take_all (length xs) xs (omega arith), drop_all (length xs) xs (omega arith)) at pieces ∙ append-nil xs in
-    rw (is_new, is_run) (rw (← append_assoc start (escaped line) (10 ∷ [])) (rw (is_whole, same) refl))
+    let pieces = escaped_line-run xs (length xs) (omega arith) (λ k lt. none k (omega arith) lt) in
+    let same : escaped_line xs ≡ xs = rw (take_all (length xs) xs (omega arith), drop_all (length xs) xs (omega arith)) at pieces ∙ append-nil xs in
+    rw (is_new, is_run) (rw (← append_assoc start (escaped_line line) (10 ∷ [])) (rw (is_whole, same) refl))
 
 map-map : {X Y Z : Type 0} (f : Y → Z) (g : X → Y) (h : X → Z) → ((x : X) → f (g x) ≡ h x) → (o : Option X) → option_map f (option_map g o) ≡ option_map h o
 map-map f g h same None = refl

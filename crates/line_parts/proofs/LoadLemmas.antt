@@ -11,7 +11,7 @@ use Rattle.std.proofs.lemmas.Bool.{cases_Bool, both_ways}
 use Rattle.std.proofs.lemmas.List.Elements.{filter-append, All-same, All-head, All-tail, All-cons, All-nil, All-append, All-take}
 use Rattle.std.proofs.lemmas.Slice.Eq.{bytes_eq-Decides}
 use Rattle.line_parts.specs.History.{FiledHistory, all_filed, all_taken, filed, leaves_out, settled}
-use Rattle.line_parts.specs.HistoryText.{escaped, escaped_byte, header, is_some_text, lines_of, takes_all, Adds, AddsBeginning, AddsSome, Begins, GoesOn, IsHistoryText, Loads, LoadsBeginning, Says, SaysLines, unescaped, as_it_stands, with_header, without_header}
+use Rattle.line_parts.specs.HistoryText.{escaped_line, escaped_byte, header, is_some_text, lines_of, takes_all, AddsLines, AddsBeginning, AddsSome, ReadsHeader, GoesOn, IsHistoryText, Loads, LoadsBeginning, Says, SaysLines, unescaped, as_it_stands, with_header, without_header}
 use Rattle.line_parts.proofs.LinesLemmas.{lines_of-first, trimmed}
 use Rattle.line_parts.proofs.EscapeLemmas.{undo, undone, undo-escaped}
 
@@ -83,9 +83,9 @@ escaped_byte-lacks b = ⊎_elim
     (cases_Bool (eqb b 92))
 
 -- no line feed stands in a written line
-pub escaped-lacks : (t : List ℕ) → All (λ b. b ≢ 10) (escaped t)
-escaped-lacks [] = All-nil (λ b. b ≢ 10)
-escaped-lacks (b ∷ bs) = All-append (λ b. b ≢ 10) (escaped_byte b) (escaped bs) (escaped_byte-lacks b) (escaped-lacks bs)
+pub escaped_line-lacks : (t : List ℕ) → All (λ b. b ≢ 10) (escaped_line t)
+escaped_line-lacks [] = All-nil (λ b. b ≢ 10)
+escaped_line-lacks (b ∷ bs) = All-append (λ b. b ≢ 10) (escaped_byte b) (escaped_line bs) (escaped_byte-lacks b) (escaped_line-lacks bs)
 
 is_10 : (b : ℕ) → eqb b 10 ≡ true → b ≡ 10
 is_10 b p = grind arith
@@ -103,14 +103,14 @@ lacks_or_not (b ∷ bs) = ⊎_elim
 none_is_not_some : {X : Type 0} (x : X) → ◌≡◌ {A = Option X} None (Some x) → ⊥
 none_is_not_some x e = cc
 
-says_by : (line : List ℕ) (o : Option (List ℕ)) → undo false line ≡ o → MatchOption (undo false line) ⊤ (λ t. escaped t ≡ line) → (t : List ℕ) × Says line t
+says_by : (line : List ℕ) (o : Option (List ℕ)) → undo false line ≡ o → MatchOption (undo false line) ⊤ (λ t. escaped_line t ≡ line) → (t : List ℕ) × Says line t
 says_by line None e h = (line, as_it_stands (λ other same. none_is_not_some other (sym e ∙ ap (undo false) (sym same) ∙ undo-escaped other)) refl)
 says_by line (Some t) e h = (t, unescaped (rw e at h))
 
 pub says_some : (line : List ℕ) → (t : List ℕ) × Says line t
 says_some line = ⊎_elim
     (λ (lacks : All (λ b. b ≢ 10) line). says_by line (undo false line) refl (undone false line lacks))
-    (λ (has : All (λ b. b ≢ 10) line → ⊥). (line, as_it_stands (λ other e. has (All-same (λ b. b ≢ 10) line (escaped other) (sym e) (escaped-lacks other))) refl))
+    (λ (has : All (λ b. b ≢ 10) line → ⊥). (line, as_it_stands (λ other e. has (All-same (λ b. b ≢ 10) line (escaped_line other) (sym e) (escaped_line-lacks other))) refl))
     (lacks_or_not line)
 
 says_all : (ws : List (List ℕ)) → (ls : List (List ℕ)) × AllZip Says ws ls
@@ -123,11 +123,11 @@ says_lines false ws = (filter is_some_text ws, refl)
 
 -- ---- lines that are added
 
-pub adds_none : (headed : Bool) (h : FiledHistory) → Adds headed [] h h true
+pub adds_none : (headed : Bool) (h : FiledHistory) → AddsLines headed [] h h true
 adds_none true h = record { lines = []; says = tt; added = refl; takes = refl }
 adds_none false h = record { lines = []; says = refl; added = refl; takes = refl }
 
-pub adds_more : (headed : Bool) (vs ws : List (List ℕ)) (old mid new : FiledHistory) (t u : Bool) → Adds headed vs old mid t → Adds headed ws mid new u → Adds headed (vs ++ ws) old new (t && u)
+pub adds_more : (headed : Bool) (vs ws : List (List ℕ)) (old mid new : FiledHistory) (t u : Bool) → AddsLines headed vs old mid t → AddsLines headed ws mid new u → AddsLines headed (vs ++ ws) old new (t && u)
 adds_more headed vs ws old mid new t u a b = record {
   lines = a.lines ++ b.lines;
   says = SaysLines-append headed vs ws a.lines b.lines a.says b.says;
@@ -135,7 +135,7 @@ adds_more headed vs ws old mid new t u a b = record {
   takes = rw (a.takes, b.takes, a.added) (sym (takes_all-append old a.lines b.lines));
 }
 
-pub adds_beginning : (headed : Bool) (vs ws : List (List ℕ)) (old new : FiledHistory) (t : Bool) → Adds headed vs old new t → AddsBeginning headed (vs ++ ws) old new
+pub adds_beginning : (headed : Bool) (vs ws : List (List ℕ)) (old new : FiledHistory) (t : Bool) → AddsLines headed vs old new t → AddsBeginning headed (vs ++ ws) old new
 adds_beginning headed vs ws old new t a = let more = says_lines headed ws in record {
   lines = a.lines;
   unread = more.0;
@@ -154,16 +154,16 @@ takes_one : (h : FiledHistory) (t : List ℕ) → takes_all h (t ∷ []) ≡ not
 takes_one h t = takes_all-cons h t [] ∙ and_true (not (leaves_out h.rules h.lines t))
 
 -- an empty line adds nothing
-pub adds_empty : (headed : Bool) (w : List ℕ) (h : FiledHistory) → length w ≡ 0 → Adds headed (w ∷ []) h h true
+pub adds_empty : (headed : Bool) (w : List ℕ) (h : FiledHistory) → length w ≡ 0 → AddsLines headed (w ∷ []) h h true
 adds_empty true [] h e = record { lines = []; says = tt; added = refl; takes = refl }
 adds_empty false [] h e = record { lines = []; says = refl; added = refl; takes = refl }
 adds_empty headed (x ∷ xs) h e = absurd (omega (arith, e))
 
 -- one line as it stands, and one by its escapes
-pub adds_plain : (w : List ℕ) (old new : FiledHistory) (taken : Bool) → 0 < length w → new ≡ filed old w → taken ≡ not (leaves_out old.rules old.lines w) → Adds false (w ∷ []) old new taken
+pub adds_plain : (w : List ℕ) (old new : FiledHistory) (taken : Bool) → 0 < length w → new ≡ filed old w → taken ≡ not (leaves_out old.rules old.lines w) → AddsLines false (w ∷ []) old new taken
 adds_plain w old new taken lt e t = record { lines = w ∷ []; says = rw (some_text w lt) refl; added = e; takes = t ∙ sym (takes_one old w) }
 
-pub adds_says : (w text : List ℕ) (old new : FiledHistory) (taken : Bool) → 0 < length w → Says w text → new ≡ filed old text → taken ≡ not (leaves_out old.rules old.lines text) → Adds true (w ∷ []) old new taken
+pub adds_says : (w text : List ℕ) (old new : FiledHistory) (taken : Bool) → 0 < length w → Says w text → new ≡ filed old text → taken ≡ not (leaves_out old.rules old.lines text) → AddsLines true (w ∷ []) old new taken
 adds_says w text old new taken lt says e t = record { lines = text ∷ []; says = rw (some_text w lt) (says, tt); added = e; takes = t ∙ sym (takes_one old text) }
 
 -- ---- a line that was read
@@ -199,7 +199,7 @@ plain_cut mid line plain is = ⊎_elim
 -- these lines of a text were added, and it goes on with the rest
 pub record Loading (headed : Bool) (text rest : Option (List ℕ)) (old now : FiledHistory) (taken : Bool) : Type 0 where
   pub written : List (List ℕ)
-  pub adds : Adds headed written old now taken
+  pub adds : AddsLines headed written old now taken
   pub goes_on : GoesOn text rest written
 
 goes_on-none : (text : Option (List ℕ)) → GoesOn text text []
@@ -215,14 +215,14 @@ goes_on-more (Some t) (Some m) (Some r) vs ws h k = rw (h, k) (sym (append_assoc
 pub loading_none : (headed : Bool) (text : Option (List ℕ)) (h : FiledHistory) → Loading headed text text h h true
 loading_none headed text h = record { written = []; adds = adds_none headed h; goes_on = goes_on-none text }
 
-pub loading_more : (headed : Bool) (text mid rest : Option (List ℕ)) (old now new : FiledHistory) (line : List ℕ) (t u : Bool) → Loading headed text mid old now t → GoesOn mid rest (line ∷ []) → Adds headed (line ∷ []) now new u → Loading headed text rest old new (t && u)
+pub loading_more : (headed : Bool) (text mid rest : Option (List ℕ)) (old now new : FiledHistory) (line : List ℕ) (t u : Bool) → Loading headed text mid old now t → GoesOn mid rest (line ∷ []) → AddsLines headed (line ∷ []) now new u → Loading headed text rest old new (t && u)
 loading_more headed text mid rest old now new line t u l k a = record {
   written = l.written ++ line ∷ [];
   adds = adds_more headed l.written (line ∷ []) old now new t u l.adds a;
   goes_on = goes_on-more text mid rest l.written (line ∷ []) l.goes_on k;
 }
 
-pub loading_ended : (headed : Bool) (text rest : Option (List ℕ)) (old now : FiledHistory) (t : Bool) → Loading headed text rest old now t → IfSome rest (λ r. lines_of r ≡ []) → IfSome text (λ x. Adds headed (lines_of x) old now t)
+pub loading_ended : (headed : Bool) (text rest : Option (List ℕ)) (old now : FiledHistory) (t : Bool) → Loading headed text rest old now t → IfSome rest (λ r. lines_of r ≡ []) → IfSome text (λ x. AddsLines headed (lines_of x) old now t)
 loading_ended headed None rest old now t l ends = tt
 loading_ended headed (Some x) None old now t l ends = absurd l.goes_on
 loading_ended headed (Some x) (Some r) old now t l ends = rw (l.goes_on, ends, append-nil l.written) l.adds
@@ -268,7 +268,7 @@ no_first None rest line k other = tt
 no_first (Some t) None line k other = absurd k
 no_first (Some t) (Some r) line k other = λ more e. other (same_first (sym k ∙ e))
 
-pub begins_empty : (text rest : Option (List ℕ)) (h : FiledHistory) → GoesOn text rest [] → IfSome text (λ t. lines_of t ≡ []) → Begins text rest h h false
+pub begins_empty : (text rest : Option (List ℕ)) (h : FiledHistory) → GoesOn text rest [] → IfSome text (λ t. lines_of t ≡ []) → ReadsHeader text rest h h false
 begins_empty text rest h k ended = record {
   firsts = [];
   goes_on = k;
@@ -277,7 +277,7 @@ begins_empty text rest h k ended = record {
   added = λ _. refl;
 }
 
-pub begins_header : (text rest : Option (List ℕ)) (line : List ℕ) (h : FiledHistory) → GoesOn text rest (line ∷ []) → line ≡ header → Begins text rest h h true
+pub begins_header : (text rest : Option (List ℕ)) (line : List ℕ) (h : FiledHistory) → GoesOn text rest (line ∷ []) → line ≡ header → ReadsHeader text rest h h true
 begins_header text rest line h k e = record {
   firsts = line ∷ [];
   goes_on = k;
@@ -286,7 +286,7 @@ begins_header text rest line h k e = record {
   added = λ e. not_false e;
 }
 
-pub begins_line : (text rest : Option (List ℕ)) (line : List ℕ) (old new : FiledHistory) → GoesOn text rest (line ∷ []) → line ≢ header → 0 < length line → new ≡ filed old line → Begins text rest old new false
+pub begins_line : (text rest : Option (List ℕ)) (line : List ℕ) (old new : FiledHistory) → GoesOn text rest (line ∷ []) → line ≢ header → 0 < length line → new ≡ filed old line → ReadsHeader text rest old new false
 begins_line text rest line old new k other lt e = record {
   firsts = line ∷ [];
   goes_on = k;
@@ -295,7 +295,7 @@ begins_line text rest line old new k other lt e = record {
   added = λ _. rw (some_text line lt) e;
 }
 
-pub begins_blank : (text rest : Option (List ℕ)) (line : List ℕ) (h : FiledHistory) → GoesOn text rest (line ∷ []) → length line ≡ 0 → Begins text rest h h false
+pub begins_blank : (text rest : Option (List ℕ)) (line : List ℕ) (h : FiledHistory) → GoesOn text rest (line ∷ []) → length line ≡ 0 → ReadsHeader text rest h h false
 begins_blank text rest [] h k e = record {
   firsts = [] ∷ [];
   goes_on = k;
@@ -307,7 +307,7 @@ begins_blank text rest (x ∷ xs) h k e = absurd (omega (arith, e))
 
 -- ---- a whole text
 
-loads_all : (text : List ℕ) (rest : Option (List ℕ)) (headed taken : Bool) (old mid new final : FiledHistory) → Begins (Some text) rest old mid headed → IfSome rest (λ r. Adds headed (lines_of r) mid new taken) → final ≡ settled new → Loads text old final (headed && taken)
+loads_all : (text : List ℕ) (rest : Option (List ℕ)) (headed taken : Bool) (old mid new final : FiledHistory) → ReadsHeader (Some text) rest old mid headed → IfSome rest (λ r. AddsLines headed (lines_of r) mid new taken) → final ≡ settled new → Loads text old final (headed && taken)
 loads_all text None headed taken old mid new final b a e = absurd b.goes_on
 loads_all text (Some r) true taken old mid new final b a e = let first = b.with_header refl in record {
   headed = true;
@@ -324,15 +324,15 @@ loads_all text (Some r) false taken old mid new final b a e = let firsts = filte
   answers = refl;
 }
 
-pub loads_known : (text rest : Option (List ℕ)) (headed taken : Bool) (old mid new final : FiledHistory) → Begins text rest old mid headed → IfSome rest (λ r. Adds headed (lines_of r) mid new taken) → final ≡ settled new → IfSome text (λ t. Loads t old final (headed && taken))
+pub loads_known : (text rest : Option (List ℕ)) (headed taken : Bool) (old mid new final : FiledHistory) → ReadsHeader text rest old mid headed → IfSome rest (λ r. AddsLines headed (lines_of r) mid new taken) → final ≡ settled new → IfSome text (λ t. Loads t old final (headed && taken))
 loads_known None rest headed taken old mid new final b a e = tt
 loads_known (Some t) rest headed taken old mid new final b a e = loads_all t rest headed taken old mid new final b a e
 
-pub loads_headed : (text rest : Option (List ℕ)) (headed taken : Bool) (old mid new final : FiledHistory) → headed ≡ true → Begins text rest old mid headed → IfSome rest (λ r. Adds headed (lines_of r) mid new taken) → final ≡ settled new → IfSome text (λ t. Loads t old final taken)
+pub loads_headed : (text rest : Option (List ℕ)) (headed taken : Bool) (old mid new final : FiledHistory) → headed ≡ true → ReadsHeader text rest old mid headed → IfSome rest (λ r. AddsLines headed (lines_of r) mid new taken) → final ≡ settled new → IfSome text (λ t. Loads t old final taken)
 loads_headed text rest true taken old mid new final h b a e = loads_known text rest true taken old mid new final b a e
 loads_headed text rest false taken old mid new final h b a e = not_true h
 
-pub loads_bare : (text rest : Option (List ℕ)) (headed taken : Bool) (old mid new final : FiledHistory) → headed ≡ false → Begins text rest old mid headed → IfSome rest (λ r. Adds headed (lines_of r) mid new taken) → final ≡ settled new → IfSome text (λ t. Loads t old final false)
+pub loads_bare : (text rest : Option (List ℕ)) (headed taken : Bool) (old mid new final : FiledHistory) → headed ≡ false → ReadsHeader text rest old mid headed → IfSome rest (λ r. AddsLines headed (lines_of r) mid new taken) → final ≡ settled new → IfSome text (λ t. Loads t old final false)
 loads_bare text rest true taken old mid new final h b a e = not_false h
 loads_bare text rest false taken old mid new final h b a e = loads_known text rest false taken old mid new final b a e
 
@@ -341,7 +341,7 @@ pub at_err : {T E P : Type 0} (r : Result T E) → P → OnErr r P
 at_err (Ok x) p = tt
 at_err (Err e) p = p
 
-begins_all : (text : List ℕ) (rest : Option (List ℕ)) (headed : Bool) (old mid new : FiledHistory) → Begins (Some text) rest old mid headed → IfSome rest (λ r. AddsBeginning headed (lines_of r) mid new) → LoadsBeginning text old new
+begins_all : (text : List ℕ) (rest : Option (List ℕ)) (headed : Bool) (old mid new : FiledHistory) → ReadsHeader (Some text) rest old mid headed → IfSome rest (λ r. AddsBeginning headed (lines_of r) mid new) → LoadsBeginning text old new
 begins_all text None headed old mid new b a = absurd b.goes_on
 begins_all text (Some r) true old mid new b a = let first = b.with_header refl in record {
   headed = true;
@@ -358,7 +358,7 @@ begins_all text (Some r) false old mid new b a = let firsts = filter is_some_tex
   added = a.added ∙ ap (λ h. all_filed h a.lines) (b.added refl) ∙ sym (all_filed-append old firsts a.lines);
 }
 
-pub begins_known : (text rest : Option (List ℕ)) (headed : Bool) (old mid new : FiledHistory) → Begins text rest old mid headed → IfSome rest (λ r. AddsBeginning headed (lines_of r) mid new) → IfSome text (λ t. LoadsBeginning t old new)
+pub begins_known : (text rest : Option (List ℕ)) (headed : Bool) (old mid new : FiledHistory) → ReadsHeader text rest old mid headed → IfSome rest (λ r. AddsBeginning headed (lines_of r) mid new) → IfSome text (λ t. LoadsBeginning t old new)
 begins_known None rest headed old mid new b a = tt
 begins_known (Some t) rest headed old mid new b a = begins_all t rest headed old mid new b a
 
@@ -388,11 +388,11 @@ nothing_read (Some t) old new e = let all = reading t in record {
 pub adds_some_none : (old new : FiledHistory) → new ≡ old → AddsSome old new
 adds_some_none old new e = record { lines = []; added = e }
 
-begins_some : (text rest : Option (List ℕ)) (headed : Bool) (old new : FiledHistory) → Begins text rest old new headed → AddsSome old new
+begins_some : (text rest : Option (List ℕ)) (headed : Bool) (old new : FiledHistory) → ReadsHeader text rest old new headed → AddsSome old new
 begins_some text rest true old new b = record { lines = []; added = (b.with_header refl).1 }
 begins_some text rest false old new b = record { lines = filter is_some_text b.firsts; added = b.added refl }
 
-pub adds_some_more : (text rest : Option (List ℕ)) (headed : Bool) (old mid new : FiledHistory) → Begins text rest old mid headed → AddsSome mid new → AddsSome old new
+pub adds_some_more : (text rest : Option (List ℕ)) (headed : Bool) (old mid new : FiledHistory) → ReadsHeader text rest old mid headed → AddsSome mid new → AddsSome old new
 adds_some_more text rest headed old mid new b a = let first = begins_some text rest headed old mid b in record {
   lines = first.lines ++ a.lines;
   added = a.added ∙ ap (λ h. all_filed h a.lines) first.added ∙ sym (all_filed-append old first.lines a.lines);

@@ -6,7 +6,7 @@ use Rattle.std.proofs.lemmas.List.{get_or-drop, get_or-reverse, get_or-take, len
 use Rattle.std.proofs.lemmas.List.Sums.{count_by_more_no, count_by_more_yes, sum_by-append}
 use Rattle.line_parts.proofs.HistoryLemmas.{least_below_is, none_below}
 use Rattle.line_parts.specs.Brackets.{is_bracket, is_close, is_open, partner}
-use Rattle.line_parts.specs.Match.{is_even, led_away, match_of, nearest_even, place_away}
+use Rattle.line_parts.specs.BracketMatch.{is_even, led_away, match_of, nearest_even, place_away}
 
 -- ---- the bytes that lead away
 

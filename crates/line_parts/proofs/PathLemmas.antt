@@ -16,10 +16,10 @@ use Rattle.line_parts.specs.Completed.{Listed, PathBefore, breaks_word, listed_o
 use Rattle.line_parts.specs.declared.completion.filename.Entry.{Entry}
 use Rattle.line_parts.specs.declared.completion.pair.Pair.{Pair}
 use Rattle.line_parts.specs.Escape.{is_word_piece, offset_at, on_chars, unescaped, word_start}
-use Rattle.line_parts.specs.Pieces.{is_made_of}
+use Rattle.line_parts.specs.Pieces.{is_made_of_pieces}
 use Rattle.line_parts.specs.Quoting.{OpensAt, backslash, open_quote}
-use Rattle.line_parts.specs.declared.completion.words.Quote.{Quote}
-use Rattle.line_parts.specs.declared.completion.words.Quote.TheVariants as quote
+use Rattle.line_parts.specs.declared.completion.escapes.Quote.{Quote}
+use Rattle.line_parts.specs.declared.completion.escapes.Quote.TheVariants as quote
 use Rattle.line_parts.proofs.PieceLemmas.{and, both, made_nil, made_append, made_one, made_pieces}
 
 scalars_behind : (k : ℕ) (cs : List ℕ) → scalars cs ≡ true → scalars (drop k cs) ≡ true
@@ -57,7 +57,7 @@ no_breaks is_break (piece ∷ pieces) h =
     one (c ∷ d ∷ []) pass = absurd (true≢false (sym pass))
     one (c ∷ d ∷ e ∷ cs) pass = absurd (true≢false (sym pass))
 
-made_plain : (is_break : ℕ → Bool) (cs : List ℕ) → list_all (λ c. not (is_break c)) cs ≡ true → is_made_of (is_word_piece None is_break) cs ≡ true
+made_plain : (is_break : ℕ → Bool) (cs : List ℕ) → list_all (λ c. not (is_break c)) cs ≡ true → is_made_of_pieces (is_word_piece None is_break) cs ≡ true
 made_plain is_break [] h = made_nil (is_word_piece None is_break)
 made_plain is_break (c ∷ cs) h =
     let parts = both (not (is_break c)) (list_all (λ d. not (is_break d)) cs) h in
@@ -68,9 +68,9 @@ both_ways true b f g = sym (f refl)
 both_ways false true f g = g refl
 both_ways false false f g = refl
 
-unescaped_word : (is_break : ℕ → Bool) (cs : List ℕ) → is_made_of (is_word_piece None is_break) cs ≡ list_all (λ c. not (is_break c)) cs
+unescaped_word : (is_break : ℕ → Bool) (cs : List ℕ) → is_made_of_pieces (is_word_piece None is_break) cs ≡ list_all (λ c. not (is_break c)) cs
 unescaped_word is_break cs =
-    both_ways (is_made_of (is_word_piece None is_break) cs) (list_all (λ c. not (is_break c)) cs)
+    both_ways (is_made_of_pieces (is_word_piece None is_break) cs) (list_all (λ c. not (is_break c)) cs)
     (λ made. let cut = made_pieces (is_word_piece None is_break) cs made in
     ap (list_all (λ c. not (is_break c))) (sym cut.whole) ∙ no_breaks is_break cut.pieces cut.passes)
     (made_plain is_break cs)
@@ -83,7 +83,7 @@ same_prefix p q same (x ∷ xs) =
 -- the name in a path begins where its last word does, where `/` breaks words
 pub name_is_word : (cs : List ℕ) → word_start None (λ c. c == 47) cs ≡ name_start cs
 name_is_word cs =
-    same_prefix (λ place. not (is_made_of (is_word_piece None (λ c. c == 47)) (drop place cs))) (λ place. not (list_all (λ c. not (c == 47)) (drop place cs)))
+    same_prefix (λ place. not (is_made_of_pieces (is_word_piece None (λ c. c == 47)) (drop place cs))) (λ place. not (list_all (λ c. not (c == 47)) (drop place cs)))
     (λ place. ap not (unescaped_word (λ c. c == 47) (drop place cs))) (range_with_len 0 (length cs))
 
 -- a path where no quote stands open: its last word

@@ -3,7 +3,7 @@ use Rattle.std.proofs.Common.{◌≡◌, ℕ, Bool, true, false, true≢false, �
 use Rattle.std.specs.Bool.{⊤}
 use Rattle.std.specs.List.{concat, flat_map, list_all, list_any}
 use Rattle.std.proofs.lemmas.List.Folds.{list_all-append, list_any-append}
-use Rattle.line_parts.specs.Pieces.{cuts, is_made_of, put_before}
+use Rattle.line_parts.specs.Pieces.{cuts, is_made_of_pieces, put_before}
 
 pub either : (a b : Bool) → (a || b) ≡ true → (a ≡ true) ⊎ (b ≡ true)
 either true b h = inl refl
@@ -89,24 +89,24 @@ some_pieces is_piece ([] ∷ pieces) none pass = absurd (true≢false (sym (both
 some_pieces is_piece ((c ∷ cs) ∷ pieces) none pass = some_pieces is_piece pieces none (both (is_piece (c ∷ cs)) (list_all is_piece pieces) pass).1
 
 -- the pieces of a text that is made of them
-pub made_pieces : (is_piece : List ℕ → Bool) (text : List ℕ) → is_made_of is_piece text ≡ true → Cut (list_all is_piece) text
-unfolding is_made_of
+pub made_pieces : (is_piece : List ℕ → Bool) (text : List ℕ) → is_made_of_pieces is_piece text ≡ true → Cut (list_all is_piece) text
+unfolding is_made_of_pieces
 made_pieces is_piece text h = cut_of (list_all is_piece) text h
 
 -- a text of such pieces is made of them
-pub made_of_pieces : (is_piece : List ℕ → Bool) (pieces : List (List ℕ)) → is_piece [] ≡ false → list_all is_piece pieces ≡ true → is_made_of is_piece (concat pieces) ≡ true
-unfolding is_made_of
+pub made_of_pieces : (is_piece : List ℕ → Bool) (pieces : List (List ℕ)) → is_piece [] ≡ false → list_all is_piece pieces ≡ true → is_made_of_pieces is_piece (concat pieces) ≡ true
+unfolding is_made_of_pieces
 made_of_pieces is_piece pieces none pass = is_cut pieces (some_pieces is_piece pieces none pass) (list_all is_piece) pass
 
-pub made_nil : (is_piece : List ℕ → Bool) → is_made_of is_piece [] ≡ true
-unfolding is_made_of
+pub made_nil : (is_piece : List ℕ → Bool) → is_made_of_pieces is_piece [] ≡ true
+unfolding is_made_of_pieces
 made_nil is_piece = refl
 
 pub concat-append : (xs ys : List (List ℕ)) → concat (xs ++ ys) ≡ concat xs ++ concat ys
 concat-append [] ys = refl
 concat-append (x ∷ xs) ys = ap (λ t. x ++ t) (concat-append xs ys) ∙ sym (append_assoc x (concat xs) (concat ys))
 
-pub made_append : (is_piece : List ℕ → Bool) (xs ys : List ℕ) → is_piece [] ≡ false → is_made_of is_piece xs ≡ true → is_made_of is_piece ys ≡ true → is_made_of is_piece (xs ++ ys) ≡ true
+pub made_append : (is_piece : List ℕ → Bool) (xs ys : List ℕ) → is_piece [] ≡ false → is_made_of_pieces is_piece xs ≡ true → is_made_of_pieces is_piece ys ≡ true → is_made_of_pieces is_piece (xs ++ ys) ≡ true
 made_append is_piece xs ys none front rest =
     let a = made_pieces is_piece xs front in
     let b = made_pieces is_piece ys rest in
@@ -114,7 +114,7 @@ made_append is_piece xs ys none front rest =
     let made = made_of_pieces is_piece (a.pieces ++ b.pieces) none pass in
     rw (concat-append a.pieces b.pieces, a.whole, b.whole) at made
 
-pub made_one : (is_piece : List ℕ → Bool) (piece : List ℕ) → is_piece [] ≡ false → is_piece piece ≡ true → is_made_of is_piece piece ≡ true
+pub made_one : (is_piece : List ℕ → Bool) (piece : List ℕ) → is_piece [] ≡ false → is_piece piece ≡ true → is_made_of_pieces is_piece piece ≡ true
 made_one is_piece piece none pass =
     let made = made_of_pieces is_piece (piece ∷ []) none (and (is_piece piece) true pass refl) in
     rw (append-nil piece) at made

@@ -13,8 +13,8 @@ use Rattle.std.specs.List.{list_all}
 use Rattle.line_parts.specs.CompletionLaws.{OneQuoteIsOpen}
 use Rattle.line_parts.specs.History.{last_of}
 use Rattle.line_parts.specs.Quoting.{backslash, double, BeginsClosed, IsUnpaired, OpensAt, ends_in, is_bare, is_closed, is_closed_piece, is_double_piece, is_inside, is_quoted, is_unclosed, open_quote, single, without_last}
-use Rattle.line_parts.specs.declared.completion.words.Quote.{Quote}
-use Rattle.line_parts.specs.declared.completion.words.Quote.TheVariants as quote
+use Rattle.line_parts.specs.declared.completion.escapes.Quote.{Quote}
+use Rattle.line_parts.specs.declared.completion.escapes.Quote.TheVariants as quote
 use Rattle.line_parts.proofs.CutLemmas.{Apart, Stops, cut_one_way}
 use Rattle.line_parts.proofs.HistoryLemmas.{least_below_is, none_below}
 use Rattle.line_parts.proofs.PieceLemmas.{and, both, either, left, made_append, made_nil, made_one, right}

@@ -5,10 +5,10 @@ use Rattle.std.specs.List.{AllZip}
 use Rattle.std.proofs.lemmas.Bool.{cases_Bool}
 use Rattle.std.proofs.lemmas.List.Elements.{All-head, All-tail, All-nil, All-cons, All-append}
 use Rattle.line_parts.specs.History.{FiledHistory, HistoryRules, all_filed, filed, last_of, leaves_out, settled}
-use Rattle.line_parts.specs.HistoryText.{EndsPlain, Loads, escaped, escaped_byte, header, is_some_text, lines_of, saved, without_return, written, IsHistoryText, Says, unescaped, as_it_stands, with_header, without_header}
+use Rattle.line_parts.specs.HistoryText.{EndsPlain, Loads, escaped_line, escaped_byte, header, is_some_text, lines_of, saved, without_return, written, IsHistoryText, Says, unescaped, as_it_stands, with_header, without_header}
 use Rattle.line_parts.proofs.EscapeLemmas.{undo, undo-escaped}
 use Rattle.line_parts.proofs.LinesLemmas.{lines_of-more}
-use Rattle.line_parts.proofs.LoadLemmas.{escaped-lacks}
+use Rattle.line_parts.proofs.LoadLemmas.{escaped_line-lacks}
 
 is_92 : (b : ℕ) → eqb b 92 ≡ true → b ≡ 92
 is_92 b p = grind arith
@@ -31,7 +31,7 @@ header-lacks = let P : ℕ → Type 0 = λ b. b ≢ 10 in
 
 written-append : (xs ys : List (List ℕ)) → written (xs ++ ys) ≡ written xs ++ written ys
 written-append [] ys = refl
-written-append (x ∷ xs) ys = ap (λ t. (escaped x ++ 10 ∷ []) ++ t) (written-append xs ys) ∙ sym (append_assoc (escaped x ++ 10 ∷ []) (written xs) (written ys))
+written-append (x ∷ xs) ys = ap (λ t. (escaped_line x ++ 10 ∷ []) ++ t) (written-append xs ys) ∙ sym (append_assoc (escaped_line x ++ 10 ∷ []) (written xs) (written ys))
 
 last-append : (xs ys : List ℕ) → 0 < length ys → last_of 1 (xs ++ ys) ≡ last_of 1 ys
 last-append [] ys lt = refl
@@ -45,30 +45,30 @@ escaped_byte-some b = ⊎_elim
     (λ other. rw other (⊎_elim (λ yes. rw yes (omega arith)) (λ plain. rw plain (omega arith)) (cases_Bool (eqb b 10))))
     (cases_Bool (eqb b 92))
 
-escaped-some : (t : List ℕ) → 0 < length t → 0 < length (escaped t)
-escaped-some [] lt = absurd (omega (arith, lt))
-escaped-some (b ∷ bs) lt = omega (arith, escaped_byte-some b, length-append (escaped_byte b) (escaped bs))
+escaped_line-some : (t : List ℕ) → 0 < length t → 0 < length (escaped_line t)
+escaped_line-some [] lt = absurd (omega (arith, lt))
+escaped_line-some (b ∷ bs) lt = omega (arith, escaped_byte-some b, length-append (escaped_byte b) (escaped_line bs))
 
 -- a written line ends in a carriage return only where the line does
-escaped-end : (t : List ℕ) → bytes_eq (last_of 1 (escaped t)) (13 ∷ []) ≡ bytes_eq (last_of 1 t) (13 ∷ [])
-escaped-end [] = refl
-escaped-end (b ∷ []) = ⊎_elim
+escaped_line-end : (t : List ℕ) → bytes_eq (last_of 1 (escaped_line t)) (13 ∷ []) ≡ bytes_eq (last_of 1 t) (13 ∷ [])
+escaped_line-end [] = refl
+escaped_line-end (b ∷ []) = ⊎_elim
     (λ yes. rw (is_92 b yes) refl)
     (λ other. rw other (⊎_elim (λ yes. rw (yes, is_10 b yes) refl) (λ plain. rw plain refl) (cases_Bool (eqb b 10))))
     (cases_Bool (eqb b 92))
-escaped-end (b ∷ c ∷ cs) =
-    ap (λ l. bytes_eq l (13 ∷ [])) (last-append (escaped_byte b) (escaped (c ∷ cs)) (escaped-some (c ∷ cs) (omega arith))) ∙ escaped-end (c ∷ cs)
+escaped_line-end (b ∷ c ∷ cs) =
+    ap (λ l. bytes_eq l (13 ∷ [])) (last-append (escaped_byte b) (escaped_line (c ∷ cs)) (escaped_line-some (c ∷ cs) (omega arith))) ∙ escaped_line-end (c ∷ cs)
     ∙ ap (λ l. bytes_eq l (13 ∷ [])) (sym (last-append (b ∷ []) (c ∷ cs) (omega arith)))
 
-kept-whole : (t : List ℕ) → EndsPlain t → without_return (escaped t) ≡ escaped t
-kept-whole t plain = ap (λ b. if b then take (length (escaped t) - 1) (escaped t) else escaped t) (escaped-end t ∙ plain)
+kept-whole : (t : List ℕ) → EndsPlain t → without_return (escaped_line t) ≡ escaped_line t
+kept-whole t plain = ap (λ b. if b then take (length (escaped_line t) - 1) (escaped_line t) else escaped_line t) (escaped_line-end t ∙ plain)
 
 some_text : (w : List ℕ) → 0 < length w → is_some_text w ≡ true
 some_text w lt = grind arith
 
-first_written : (z : List ℕ) (zs : List (List ℕ)) → EndsPlain z → lines_of (written (z ∷ zs)) ≡ escaped z ∷ lines_of (written zs)
+first_written : (z : List ℕ) (zs : List (List ℕ)) → EndsPlain z → lines_of (written (z ∷ zs)) ≡ escaped_line z ∷ lines_of (written zs)
 first_written z zs plain =
-    ap lines_of (append_assoc (escaped z) (10 ∷ []) (written zs)) ∙ lines_of-more (escaped z) (written zs) (escaped-lacks z)
+    ap lines_of (append_assoc (escaped_line z) (10 ∷ []) (written zs)) ∙ lines_of-more (escaped_line z) (written zs) (escaped_line-lacks z)
     ∙ ap (λ l. l ∷ lines_of (written zs)) (kept-whole z plain)
 
 says_written : (zs : List (List ℕ)) → All EndsPlain zs → AllZip Says (filter is_some_text (lines_of (written zs))) (filter is_some_text zs)
@@ -76,7 +76,7 @@ says_written [] plain = tt
 says_written ([] ∷ zs) plain =
     rw (first_written [] zs (All-head EndsPlain [] zs plain)) (says_written zs (All-tail EndsPlain [] zs plain))
 says_written ((b ∷ bs) ∷ zs) plain =
-    rw (first_written (b ∷ bs) zs (All-head EndsPlain (b ∷ bs) zs plain), some_text (escaped (b ∷ bs)) (escaped-some (b ∷ bs) (omega arith)), some_text (b ∷ bs) (omega arith))
+    rw (first_written (b ∷ bs) zs (All-head EndsPlain (b ∷ bs) zs plain), some_text (escaped_line (b ∷ bs)) (escaped_line-some (b ∷ bs) (omega arith)), some_text (b ∷ bs) (omega arith))
     (unescaped refl, says_written zs (All-tail EndsPlain (b ∷ bs) zs plain))
 
 pub saved_is_read : (xs ys : List (List ℕ)) → All EndsPlain xs → All EndsPlain ys → IsHistoryText (saved xs ++ written ys) true (filter is_some_text (xs ++ ys))

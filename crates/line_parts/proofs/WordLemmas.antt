@@ -7,8 +7,8 @@ use Rattle.std.specs.Str.{IsUtf8, NoCharPasses, NonePass, chars}
 use Rattle.std.proofs.lemmas.Bool.{cases_Bool}
 use Rattle.std.proofs.lemmas.Str.{IsUtf8-past_char, IsUtf8-string_bytes, len_utf8_bounds, length-encode, chars-encodes, chars-nil, chars_past_char, encodes-append, encodes-chars, encodes_same, scalars-chars}
 use Rattle.line_parts.specs.Escape.{escaped, escaped_char, is_escape, on_chars, unescaped}
-use Rattle.line_parts.specs.declared.completion.words.Quote.{Quote}
-use Rattle.line_parts.specs.declared.completion.words.Quote.TheVariants as quote
+use Rattle.line_parts.specs.declared.completion.escapes.Quote.{Quote}
+use Rattle.line_parts.specs.declared.completion.escapes.Quote.TheVariants as quote
 use Rattle.line_parts.proofs.PieceLemmas.{and, both}
 
 same_self : (n : ℕ) → eqb n n ≡ true

@@ -12,15 +12,15 @@ use Rattle.std.proofs.lemmas.List.FromFn.{get_or-range_with_len, length-range_wi
 use Rattle.std.proofs.lemmas.List.Sums.{position_or_len_is}
 use Rattle.line_parts.specs.Quoting.{ends_in}
 use Rattle.line_parts.specs.Escape.{escaped, escaped_char, is_escape, is_word_piece, offset_at, word_start}
-use Rattle.line_parts.specs.Pieces.{is_made_of}
-use Rattle.line_parts.specs.declared.completion.words.Quote.TheVariants as quote
+use Rattle.line_parts.specs.Pieces.{is_made_of_pieces}
+use Rattle.line_parts.specs.declared.completion.escapes.Quote.TheVariants as quote
 use Rattle.line_parts.proofs.WordLemmas.{is_same}
 use Rattle.line_parts.proofs.PieceLemmas.{and, both, made_append, made_nil, made_one, made_pieces}
 
 -- a text of whole characters is made of pieces of a word
 pub record WordBehind (escape : Option ℕ) (is_break : ℕ → Bool) (tail : List ℕ) : Type 0 where
   pub utf8 : IsUtf8 tail
-  pub word : is_made_of (is_word_piece escape is_break) (chars tail) ≡ true
+  pub word : is_made_of_pieces (is_word_piece escape is_break) (chars tail) ≡ true
 
 -- whether characters, read from the last one back, are pieces of a word
 abbrev back_word : Option ℕ → (ℕ → Bool) → List ℕ → Bool
@@ -85,7 +85,7 @@ module _ (escape : Option ℕ) (is_break : ℕ → Bool) where
       ∙ back_append (reverse (concat pieces)) (reverse piece) (back_pieces pieces parts.1) (back_piece piece parts.0)
 
   -- what is made of pieces of a word is so from its end back
-  back_made : (cs : List ℕ) → is_made_of (is_word_piece escape is_break) cs ≡ true → back_word escape is_break (reverse cs) ≡ true
+  back_made : (cs : List ℕ) → is_made_of_pieces (is_word_piece escape is_break) cs ≡ true → back_word escape is_break (reverse cs) ≡ true
   back_made cs made =
       let cut = made_pieces (is_word_piece escape is_break) cs made in
       ap (λ t. back_word escape is_break (reverse t)) (sym cut.whole) ∙ back_pieces cut.pieces cut.passes
@@ -100,8 +100,8 @@ module _ (escape : Option ℕ) (is_break : ℕ → Bool) where
       true≢false (sym (both (is_escape escape d) (back_word escape is_break ds) (sym (back_break c d ds breaks) ∙ h)).0 ∙ alone d ds refl)
 
   -- no word begins before it
-  no_word_before : (front : List ℕ) (c : ℕ) (tail : List ℕ) → is_break c ≡ true → NotEscaped front → is_made_of (is_word_piece escape is_break) tail ≡ true
-      → is_made_of (is_word_piece escape is_break) (front ++ c ∷ tail) ≡ true → ⊥
+  no_word_before : (front : List ℕ) (c : ℕ) (tail : List ℕ) → is_break c ≡ true → NotEscaped front → is_made_of_pieces (is_word_piece escape is_break) tail ≡ true
+      → is_made_of_pieces (is_word_piece escape is_break) (front ++ c ∷ tail) ≡ true → ⊥
   unfolding NotEscaped
   no_word_before front c tail breaks alone word made =
       let all = back_made (front ++ c ∷ tail) made in
@@ -121,10 +121,10 @@ module _ (escape : Option ℕ) (is_break : ℕ → Bool) where
   false_if true h = absurd (h refl)
   false_if false h = refl
 
-  word_start_is : (cs : List ℕ) (place : ℕ) → place ≤ length cs → ((k : ℕ) → k < place → is_made_of (is_word_piece escape is_break) (drop k cs) ≡ true → ⊥)
-      → is_made_of (is_word_piece escape is_break) (drop place cs) ≡ true → word_start escape is_break cs ≡ place
+  word_start_is : (cs : List ℕ) (place : ℕ) → place ≤ length cs → ((k : ℕ) → k < place → is_made_of_pieces (is_word_piece escape is_break) (drop k cs) ≡ true → ⊥)
+      → is_made_of_pieces (is_word_piece escape is_break) (drop place cs) ≡ true → word_start escape is_break cs ≡ place
   word_start_is cs place within below here =
-      let passes : ℕ → Bool = λ k. is_made_of (is_word_piece escape is_break) (drop k cs) in
+      let passes : ℕ → Bool = λ k. is_made_of_pieces (is_word_piece escape is_break) (drop k cs) in
       let numbers : List ℕ = range_with_len 0 (length cs) in
       let len : length numbers ≡ length cs = length-range_with_len 0 (length cs) in
       let number : (k : ℕ) → k < length cs → get_or numbers k 0 ≡ k = λ k lt. get_or-range_with_len 0 (length cs) k 0 lt ∙ zero-add k in
@@ -133,19 +133,19 @@ module _ (escape : Option ℕ) (is_break : ℕ → Bool) where
       (λ lt. ap passes (number place (omega (arith, lt, len))) ∙ here)
 
   -- the last word begins behind a break character that is not escaped
-  pub starts_behind : (front : List ℕ) (c : ℕ) (tail : List ℕ) → is_break c ≡ true → NotEscaped front → is_made_of (is_word_piece escape is_break) tail ≡ true
+  pub starts_behind : (front : List ℕ) (c : ℕ) (tail : List ℕ) → is_break c ≡ true → NotEscaped front → is_made_of_pieces (is_word_piece escape is_break) tail ≡ true
       → word_start escape is_break (front ++ c ∷ tail) ≡ length front + 1
   starts_behind front c tail breaks alone word =
       word_start_is (front ++ c ∷ tail) (length front + 1) (omega (arith, length-append front (c ∷ tail)))
       (λ k lt made. no_word_before (drop k front) c tail breaks (still_alone front k alone) word
-      (ap (is_made_of (is_word_piece escape is_break)) (sym (drop-append-le k front (c ∷ tail) (omega (arith, lt)))) ∙ made))
-      (ap (is_made_of (is_word_piece escape is_break)) (drop_behind front c tail) ∙ word)
+      (ap (is_made_of_pieces (is_word_piece escape is_break)) (sym (drop-append-le k front (c ∷ tail) (omega (arith, lt)))) ∙ made))
+      (ap (is_made_of_pieces (is_word_piece escape is_break)) (drop_behind front c tail) ∙ word)
 
   -- or with the text
-  pub starts_at_start : (cs : List ℕ) → is_made_of (is_word_piece escape is_break) cs ≡ true → word_start escape is_break cs ≡ 0
-  starts_at_start cs word = word_start_is cs 0 (omega arith) (λ k lt made. absurd (omega (arith, lt))) (ap (is_made_of (is_word_piece escape is_break)) (drop_zero cs) ∙ word)
+  pub starts_at_start : (cs : List ℕ) → is_made_of_pieces (is_word_piece escape is_break) cs ≡ true → word_start escape is_break cs ≡ 0
+  starts_at_start cs word = word_start_is cs 0 (omega arith) (λ k lt made. absurd (omega (arith, lt))) (ap (is_made_of_pieces (is_word_piece escape is_break)) (drop_zero cs) ∙ word)
 
-made_escaped : (escape : ℕ) (is_break : ℕ → Bool) (cs : List ℕ) → is_made_of (is_word_piece (Some escape) is_break) (flat_map (escaped_char escape is_break) cs) ≡ true
+made_escaped : (escape : ℕ) (is_break : ℕ → Bool) (cs : List ℕ) → is_made_of_pieces (is_word_piece (Some escape) is_break) (flat_map (escaped_char escape is_break) cs) ≡ true
 made_escaped escape is_break [] = made_nil (is_word_piece (Some escape) is_break)
 made_escaped escape is_break (c ∷ cs) =
     let is_piece : List ℕ → Bool = is_word_piece (Some escape) is_break in
@@ -184,7 +184,7 @@ pub record BackTo (Answers : (ℕ → Bool) → Type 0) (escape : Option ℕ) (t
   pub rest_utf8 : IsUtf8 rest
   pub utf8 : IsUtf8 tail
   pub splits : text ≡ rest ++ tail
-  pub word : (is_break : ℕ → Bool) → Answers is_break → is_made_of (is_word_piece escape is_break) (chars tail) ≡ true
+  pub word : (is_break : ℕ → Bool) → Answers is_break → is_made_of_pieces (is_word_piece escape is_break) (chars tail) ≡ true
 
 -- one more character from the end
 pub last_char : (c : ℕ) (rest more : List ℕ) → IsUtf8 rest → IsUtf8 more → rest ≡ more ++ encode c → (chars rest ≡ chars more ++ c ∷ []) × IsScalar c × IsUtf8 (encode c)
@@ -227,7 +227,7 @@ module _ (Answers : (ℕ → Bool) → Type 0) (escape : Option ℕ) (text rest 
     rest_utf8 = utf8;
     utf8 = IsUtf8-nil;
     splits = sym (append-nil text);
-    word = λ is_break answers. ap (is_made_of (is_word_piece escape is_break)) chars-nil ∙ made_nil (is_word_piece escape is_break);
+    word = λ is_break answers. ap (is_made_of_pieces (is_word_piece escape is_break)) chars-nil ∙ made_nil (is_word_piece escape is_break);
   }
 
   -- past a character that breaks no words
@@ -242,7 +242,7 @@ module _ (Answers : (ℕ → Bool) → Type 0) (escape : Option ℕ) (text rest 
         splits = so.splits ∙ ap (λ t. t ++ so.tail) is ∙ append_assoc more (encode c) so.tail;
         word = λ is_break known.
             let is_piece : List ℕ → Bool = is_word_piece escape is_break in
-            ap (is_made_of is_piece) (chars-append (encode c) so.tail last.2 ∙ ap (λ t. t ++ chars so.tail) (one_char c last.1))
+            ap (is_made_of_pieces is_piece) (chars-append (encode c) so.tail last.2 ∙ ap (λ t. t ++ chars so.tail) (one_char c last.1))
             ∙ made_append is_piece (c ∷ []) (chars so.tail) refl (made_one is_piece (c ∷ []) refl (ap not (sym (answers is_break known last.1) ∙ other))) (so.word is_break known);
       }
 
@@ -263,7 +263,7 @@ module _ (Answers : (ℕ → Bool) → Type 0) (escape : Option ℕ) (text rest 
         splits = so.splits ∙ ap (λ t. t ++ so.tail) (is ∙ ap (λ t. t ++ encode c) is_more ∙ append_assoc behind (encode d) (encode c)) ∙ append_assoc behind (encode d ++ encode c) so.tail;
         word = λ is_break known.
             let is_piece : List ℕ → Bool = is_word_piece escape is_break in
-            ap (is_made_of is_piece) pair
+            ap (is_made_of_pieces is_piece) pair
             ∙ made_append is_piece (d ∷ c ∷ []) (chars so.tail) refl
             (made_one is_piece (d ∷ c ∷ []) refl (and (is_escape escape d) (is_break c) escapes (sym (answers is_break known last.1) ∙ here))) (so.word is_break known);
       }
@@ -291,7 +291,7 @@ module _ (Answers : (ℕ → Bool) → Type 0) (escape : Option ℕ) (text rest 
   word_whole so none is_break known =
       let all : text ≡ so.tail = so.splits ∙ ap (λ t. t ++ so.tail) none in
       let start : word_start escape is_break (chars text) ≡ 0 =
-      starts_at_start escape is_break (chars text) (ap (λ t. is_made_of (is_word_piece escape is_break) (chars t)) all ∙ so.word is_break known) in
+      starts_at_start escape is_break (chars text) (ap (λ t. is_made_of_pieces (is_word_piece escape is_break) (chars t)) all ∙ so.word is_break known) in
       sym (ap (offset_at (chars text)) start ∙ ap (λ t. length (encodes t)) (take_zero (chars text)))
 
   pub boundary_behind : BackTo Answers escape text rest → IsCharBoundary text (length rest)

@@ -9,8 +9,8 @@ use Rattle.std.specs.List.{list_all, list_any, position_or_len, range_with_len, 
 use Rattle.line_parts.specs.Candidate.{Completion, Offer}
 use Rattle.line_parts.specs.Escape.{escaped, offset_at, on_chars, unescaped, word_start}
 use Rattle.line_parts.specs.Quoting.{backslash, open_quote}
-use Rattle.line_parts.specs.declared.completion.words.Quote.{Quote}
-use Rattle.line_parts.specs.declared.completion.words.Quote.TheVariants as quote
+use Rattle.line_parts.specs.declared.completion.escapes.Quote.{Quote}
+use Rattle.line_parts.specs.declared.completion.escapes.Quote.TheVariants as quote
 use Rattle.line_parts.specs.declared.completion.filename.Entry.{Entry}
 use Rattle.line_parts.specs.declared.completion.filename.FilenameCompleter.{FilenameCompleter}
 
@@ -59,6 +59,7 @@ pub record Listed : Type 0 where
   pub name : List ℕ
   pub folder : Bool
 
+-- what a lister answers, as it is listed here
 abbrev pub listed_of : Entry → Listed
 listed_of entry = record { name = string_bytes entry.name; folder = entry.folder }
 

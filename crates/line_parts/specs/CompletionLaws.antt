@@ -8,8 +8,8 @@ use Rattle.line_parts.specs.Completed.{InOrder, in_order}
 use Rattle.line_parts.specs.Escape.{escaped, on_chars, unescaped, word_start}
 use Rattle.line_parts.specs.Prefix.{IsCommonStart}
 use Rattle.line_parts.specs.Quoting.{ends_in, is_closed, is_unclosed}
-use Rattle.line_parts.specs.declared.completion.words.Quote.{Quote}
-use Rattle.line_parts.specs.declared.completion.words.Quote.TheVariants as quote
+use Rattle.line_parts.specs.declared.completion.escapes.Quote.{Quote}
+use Rattle.line_parts.specs.declared.completion.escapes.Quote.TheVariants as quote
 
 -- an escaped text, unescaped again, is the text, where the escape character is a break character
 abbrev pub EscapedIsUnescaped : Type 0

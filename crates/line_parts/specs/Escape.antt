@@ -5,9 +5,9 @@ use Rattle.std.specs.Prelude.{chars, encode_utf8_all}
 use Rattle.std.specs.Char.{IsScalar}
 use Rattle.std.specs.Fn.{Shared}
 use Rattle.std.specs.List.{flat_map, position_or_len, range_with_len}
-use Rattle.line_parts.specs.Pieces.{is_made_of}
-use Rattle.line_parts.specs.declared.completion.words.Quote.{Quote}
-use Rattle.line_parts.specs.declared.completion.words.Quote.TheVariants as quote
+use Rattle.line_parts.specs.Pieces.{is_made_of_pieces}
+use Rattle.line_parts.specs.declared.completion.escapes.Quote.{Quote}
+use Rattle.line_parts.specs.declared.completion.escapes.Quote.TheVariants as quote
 
 -- each call of a closure answers by this test
 abbrev pub AnswersBy : {F : Type 0} → Shared F (ℕ × Unit {0}) Bool → F → (ℕ → Bool) → Type 0
@@ -56,5 +56,5 @@ is_word_piece escape is_break (c ∷ d ∷ e ∷ cs) = false
 -- where the last word begins: the least place from which the text is made of pieces of a word
 abbrev pub word_start : Option ℕ → (ℕ → Bool) → List ℕ → ℕ
 word_start escape is_break cs =
-    position_or_len (λ place. is_made_of (is_word_piece escape is_break) (drop place cs))
+    position_or_len (λ place. is_made_of_pieces (is_word_piece escape is_break) (drop place cs))
     (range_with_len 0 (length cs))

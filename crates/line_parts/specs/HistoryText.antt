@@ -15,12 +15,12 @@ escaped_byte b =
     else b ∷ []
 
 -- a line as it is written
-abbrev pub escaped : List ℕ → List ℕ
-escaped line = flat_map escaped_byte line
+abbrev pub escaped_line : List ℕ → List ℕ
+escaped_line line = flat_map escaped_byte line
 
 -- lines as they are written, a line feed behind each
 abbrev pub written : List (List ℕ) → List ℕ
-written lines = flat_map (λ line. escaped line ++ 10 ∷ []) lines
+written lines = flat_map (λ line. escaped_line line ++ 10 ∷ []) lines
 
 -- the first line of a text with escapes: `#V2`
 abbrev pub header : List ℕ
@@ -46,8 +46,8 @@ lines_of text = let pieces = slice_split is_newline text in
 
 -- a line with escapes says the text that is written so; where there is none, it says itself
 pub data Says (line text : List ℕ) : Type 0 where
-  unescaped : escaped text ≡ line → Says line text
-  as_it_stands : ((other : List ℕ) → escaped other ≢ line) → text ≡ line → Says line text
+  unescaped : escaped_line text ≡ line → Says line text
+  as_it_stands : ((other : List ℕ) → escaped_line other ≢ line) → text ≡ line → Says line text
 
 -- a text has the header or has it not, and says these lines: with the header by escapes, without
 -- it each as it stands; empty lines say nothing
@@ -88,7 +88,7 @@ pub record LoadsBeginning (text : List ℕ) (old new : FiledHistory) : Type 0 wh
   pub added : new ≡ all_filed old lines
 
 -- a history after what written lines say was added, and whether all of it was taken
-pub record Adds (headed : Bool) (written : List (List ℕ)) (old new : FiledHistory) (taken : Bool) : Type 0 where
+pub record AddsLines (headed : Bool) (written : List (List ℕ)) (old new : FiledHistory) (taken : Bool) : Type 0 where
   pub lines : List (List ℕ)
   pub says : SaysLines headed written lines
   pub added : new ≡ all_filed old lines
@@ -117,7 +117,7 @@ GoesOn text rest firsts =
     IfSome text (λ t. MatchOption rest ⊥ (λ r. lines_of t ≡ firsts ++ lines_of r))
 
 -- the header was read from the front of a text, or else the first line, if there is one, was added
-pub record Begins (text rest : Option (List ℕ)) (old new : FiledHistory) (headed : Bool) : Type 0 where
+pub record ReadsHeader (text rest : Option (List ℕ)) (old new : FiledHistory) (headed : Bool) : Type 0 where
   pub firsts : List (List ℕ)
   pub goes_on : GoesOn text rest firsts
   pub with_header : headed ≡ true → (firsts ≡ header ∷ []) × (new ≡ old)

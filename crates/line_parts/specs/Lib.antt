@@ -17,7 +17,7 @@ pub mod HistoryLaws
 pub mod HistoryPlace
 pub mod HistoryText
 pub mod HistoryTextLaws
-pub mod Match
+pub mod BracketMatch
 pub mod Pieces
 pub mod Prefix
 pub mod Quoting

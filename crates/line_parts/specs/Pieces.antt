@@ -14,5 +14,5 @@ cuts [] = [] ∷ []
 cuts (c ∷ cs) = flat_map (put_before c) (cuts cs)
 
 -- whether a text can be cut into pieces that all pass
-unfoldable pub is_made_of : (List ℕ → Bool) → List ℕ → Bool
-is_made_of is_piece text = list_any (list_all is_piece) (cuts text)
+unfoldable pub is_made_of_pieces : (List ℕ → Bool) → List ℕ → Bool
+is_made_of_pieces is_piece text = list_any (list_all is_piece) (cuts text)

@@ -3,17 +3,19 @@ use Rattle.std.specs.Prelude.{◌≡◌, ◌≢◌, ◌⊎◌, ℕ, ◌+◌, ◌
 use Rattle.std.specs.Prelude.{List, [], ◌∷◌, ◌++◌, length, take, drop, Option, None, Some, bytes_eq}
 use Rattle.std.specs.List.{list_all}
 use Rattle.line_parts.specs.History.{last_of, least_below}
-use Rattle.line_parts.specs.Pieces.{is_made_of}
-use Rattle.line_parts.specs.declared.completion.words.Quote.{Quote}
-use Rattle.line_parts.specs.declared.completion.words.Quote.TheVariants as quote
+use Rattle.line_parts.specs.Pieces.{is_made_of_pieces}
+use Rattle.line_parts.specs.declared.completion.escapes.Quote.{Quote}
+use Rattle.line_parts.specs.declared.completion.escapes.Quote.TheVariants as quote
 
--- the quotes and the backslash
+-- the double quote
 abbrev pub double : ℕ
 double = 34
 
+-- the single quote
 abbrev pub single : ℕ
 single = 39
 
+-- the backslash
 abbrev pub backslash : ℕ
 backslash = 92
 
@@ -35,7 +37,7 @@ is_double_piece (c ∷ d ∷ e ∷ cs) = false
 
 -- whether a text can stand in quotes of a kind
 abbrev pub is_inside : Quote → List ℕ → Bool
-is_inside quote.Double cs = is_made_of is_double_piece cs
+is_inside quote.Double cs = is_made_of_pieces is_double_piece cs
 is_inside quote.Single cs = list_all (λ c. not (c == single)) cs
 is_inside quote.None cs = false
 
@@ -57,7 +59,7 @@ is_closed_piece cs = is_bare cs || is_quoted quote.Double double cs || is_quoted
 
 -- whether each quote of a text is closed: it is made of such pieces
 abbrev pub is_closed : List ℕ → Bool
-is_closed = is_made_of is_closed_piece
+is_closed = is_made_of_pieces is_closed_piece
 
 -- whether a text is a quote of a kind that never closes: in double quotes a last backslash may
 -- stand alone

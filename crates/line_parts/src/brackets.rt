@@ -2,8 +2,8 @@
 ghost use Rattle.std.specs.Prelude.{◌≡◌, ◌≢◌, ◌<◌, ◌+◌, ◌-◌, true, length, IfSome, if◌then◌else◌};
 ghost use Rattle.std.specs.Prelude.{slice_index};
 ghost use Rattle.line_parts.specs.Brackets.{is_bracket, is_close, is_open, partner};
-ghost use Rattle.line_parts.specs.Match.{bracket_at, has_room, looked_at, match_of};
-ghost use Rattle.line_parts.specs.Match.{under_or_before};
+ghost use Rattle.line_parts.specs.BracketMatch.{bracket_at, has_room, looked_at, match_of};
+ghost use Rattle.line_parts.specs.BracketMatch.{under_or_before};
 
 // A bracket, and the place where it was seen.
 #[derive(Clone, Copy)]

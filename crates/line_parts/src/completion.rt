@@ -5,23 +5,23 @@ ghost use Rattle.line_buffer.specs.Undo.{StillTellsOrGone};
 ghost use Rattle.line_config.specs.Error.{IoOnlyIf, FaultsOnly};
 ghost use Rattle.line_config.specs.Usual.{IsUsualOrOwn};
 
-mod ends;
+mod chars;
+mod escapes;
 mod filename;
 mod pair;
 mod paths;
 mod prefix;
 mod quotes;
-mod words;
 
 use crate::context::Context;
 use crate::history::History;
+pub use escapes::{Quote, escape, extract_word, unescape};
 pub use filename::{Entry, FilenameCompleter, Lister};
 use line_buffer::{Changeset, LineBuffer};
 use line_config::Result;
 pub use pair::Pair;
 pub use prefix::longest_common_prefix;
 use std::alloc::Global;
-pub use words::{Quote, escape, extract_word, unescape};
 
 /// A text that may complete a part of the line.
 pub trait Candidate {

@@ -6,7 +6,7 @@ ghost use Rattle.std.specs.Cow.{cow_str_bytes};
 ghost use Rattle.line_config.specs.Error.{IoOnlyIf, FaultsOnly, MemoryOnly};
 ghost use Rattle.line_config.specs.declared.config.CompletionType.{CompletionType};
 ghost use Rattle.line_config.specs.Usual.{IsUsualOrOwn};
-ghost use Rattle.line_parts.specs.Match.{lit_at, lit_place, remembered, with_match_lit};
+ghost use Rattle.line_parts.specs.BracketMatch.{lit_at, lit_place, remembered, with_match_lit};
 ghost use Rattle.line_parts.specs.declared.highlight.CmdKind.{CmdKind};
 
 use crate::brackets::{Seen, find_match, look_at};

@@ -1,4 +1,4 @@
--- What is said of a drawn line by what contracts see of it.
+-- What contracts see of what is drawn of a line.
 use Rattle.std.specs.Prelude.{◌≡◌, ◌≤◌, Bool, true, List, ℕ, Option, Result, OnOk}
 use Rattle.line_buffer.specs.Line.{Line}
 use Rattle.line_buffer.specs.declared.layout.Layout.{Layout}
@@ -6,7 +6,7 @@ use Rattle.line_buffer.specs.declared.layout.Position.{Position}
 use Rattle.line_config.specs.Error.{IsOneMore, Rose}
 use Rattle.line_config.specs.declared.error.ReadlineError.{ReadlineError}
 use Rattle.line_keys.specs.Display.{IsFullRedraw, ShowsInFull, corner}
-use Rattle.line_keys.specs.EditorState.{FailsOnlyIf}
+use Rattle.line_keys.specs.Frame.{FailsOnlyIf}
 use Rattle.line_state.specs.declared.drawn.Drawn.{Ghosts}
 
 -- what no drawing changes: whose loan the renderer is, the surface and the prompt's end; the count of failures never falls

@@ -2,8 +2,8 @@
 use Rattle.std.specs.Prelude.{◌≡◌, ℕ, min, Bool, true, false, List, length, ◌==◌, ◌&&◌, if◌then◌else◌, Option, Some, None, encode_utf8, Result, IfOk, OnOk, OnErr, is_some, not}
 use Rattle.std.specs.List.{repeat}
 use Rattle.line_buffer.specs.Changes.{Changes, Entry, begun, ended, no_changes, with_entries, with_insert, with_replaced, with_typed, with_update}
-use Rattle.line_keys.specs.declared.command.Anchor.{Anchor}
-use Rattle.line_keys.specs.declared.command.Anchor.TheVariants.{After, Before}
+use Rattle.line_keys.specs.declared.cmd.Anchor.{Anchor}
+use Rattle.line_keys.specs.declared.cmd.Anchor.TheVariants.{After, Before}
 use Rattle.line_buffer.specs.Cluster.{clusters, place_back, place_on}
 use Rattle.line_buffer.specs.Edit.{on_entries}
 use Rattle.line_buffer.specs.Indent.{indented, indented_range, with_indents}
@@ -12,7 +12,7 @@ use Rattle.line_buffer.specs.Line.{Line, after, inserted_at, inserted_at_cursor,
 use Rattle.line_buffer.specs.Transpose.{chars_exchanged, with_chars_exchanged, with_word_cased, with_words_exchanged, word_cased, words_exchanged}
 use Rattle.line_buffer.specs.Undo.{all_taken_back, first_text, newest_steps, without_steps}
 use Rattle.line_buffer.specs.Yank.{can_pop, line_yank_popped, line_yanked, with_yank, with_yank_pop}
-use Rattle.line_buffer.specs.declared.keymap.Movement.{Movement}
+use Rattle.line_buffer.specs.declared.movement.Movement.{Movement}
 use Rattle.line_buffer.specs.declared.line_buffer.WordAction.{WordAction}
 
 -- a line, and the changes that led to it
@@ -107,11 +107,12 @@ abbrev pub with_char_for : ℕ → ℕ → Edited → Edited
 with_char_for c n e = in_one_group
     (with_copies_to c (min n (length (clusters (after e.line)))) (place_on e.line n)) e
 
--- the clusters before and at the cursor change places; or two words do
+-- the clusters before and at the cursor change places
 abbrev pub with_chars_swapped : Edited → Edited
 with_chars_swapped e = in_one_group
     (λ e. edited_to (chars_exchanged e.line) (with_chars_exchanged e.line) e) e
 
+-- two words change places
 abbrev pub with_words_swapped : ℕ → Edited → Edited
 with_words_swapped n e = in_one_group
     (λ e. edited_to (words_exchanged e.line n) (with_words_exchanged e.line n) e) e

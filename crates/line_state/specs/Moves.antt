@@ -5,10 +5,10 @@ use Rattle.line_buffer.specs.Line.{Line, after, moved_to, with_cursor, start_of_
 use Rattle.line_buffer.specs.Lines.{down_by, up_by}
 use Rattle.line_buffer.specs.Search.{search_place}
 use Rattle.line_buffer.specs.Word.{word_back, word_on}
-use Rattle.line_buffer.specs.declared.keymap.At.TheVariants.{Start}
-use Rattle.line_buffer.specs.declared.keymap.Movement.{Movement}
-use Rattle.line_buffer.specs.declared.keymap.Movement.TheVariants as By
-use Rattle.line_buffer.specs.declared.keymap.Word.TheVariants.{Big}
+use Rattle.line_buffer.specs.declared.movement.At.TheVariants.{Start}
+use Rattle.line_buffer.specs.declared.movement.Movement.{Movement}
+use Rattle.line_buffer.specs.declared.movement.Movement.TheVariants as By
+use Rattle.line_buffer.specs.declared.movement.Word.TheVariants.{Big}
 use Rattle.line_buffer.specs.declared.layout.Layout.{Layout}
 use Rattle.line_parts.specs.History.{begins_blank}
 

@@ -1,4 +1,4 @@
--- The characters that take one column on every terminal.
+-- Printable ASCII, of which each character takes one column, and newlines between it.
 use Rattle.std.specs.Prelude.{◌≡◌, ◌⊎◌, ℕ, ◌<◌, ◌≤◌}
 
 -- printable ASCII

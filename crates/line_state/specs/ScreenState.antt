@@ -1,4 +1,4 @@
--- What is said of a renderer by what contracts see of it.
+-- What contracts see of a screen, and when it shows what it is handed.
 use Rattle.std.specs.Prelude.{◌≡◌, ℕ, ◌+◌, ◌++◌, ◌∷◌, ◌<◌, [], Bool, true, List, Option, IfSome, Result}
 use Rattle.line_buffer.specs.Line.{Line}
 use Rattle.line_buffer.specs.declared.layout.Layout.{Layout}

@@ -7,9 +7,9 @@ ghost use Rattle.line_buffer.specs.Range.{range_of, text_in, unless_empty};
 ghost use Rattle.line_buffer.specs.Undo.{is_change, newest_steps};
 ghost use Rattle.line_state.specs.Edited.{EditsTo, Finds, undone, with_copies, without_range};
 
-mod exchanges;
 mod moves;
-mod texts;
+mod replacements;
+mod yanks;
 
 use line_buffer::{Changeset, KillRing, LineBuffer, Movement, OutOfMemory, RepeatCount};
 use std::alloc::Global;

@@ -3,12 +3,12 @@
 
 pub mod drawn;
 pub mod edited_line;
+pub mod renderer;
 pub mod screen_state;
-pub mod tty;
 pub mod view;
 
 pub use drawn::Drawn;
 pub use edited_line::EditedLine;
+pub use renderer::Renderer;
 pub use screen_state::ScreenState;
-pub use tty::Renderer;
 pub use view::{RefreshKind, View};

@@ -1,12 +1,12 @@
 //! What is drawn of a line: the renderer, the prompt, and the layout that is kept of them.
 ghost use Rattle.std.specs.Prelude.{◌≡◌, ◌↔◌, if◌then◌else◌, Some, None, ℕ, Bool, true, false, List, Option, is_some, option_map, IsOk, OnOk, OnErr, IsTrue};
 ghost use Rattle.line_buffer.specs.declared.layout.Position.{Position};
-ghost use Rattle.line_keys.specs.Display.{GoesToShownEnd, corner, cursor_position, undrawn};
+ghost use Rattle.line_keys.specs.Display.{GoesToShownEnd, corner, cursor_position, never_drawn};
 ghost use Rattle.line_state.specs.Drawn.{ColorsAreOn, DrawsInFull, DrawsNoneInFull, RedrawsKept, cleared};
 
 use crate::drawn::Drawn;
+use crate::renderer::Renderer;
 use crate::screen_state::ScreenState;
-use crate::tty::Renderer;
 use line_buffer::{Layout, LineBuffer, Position};
 use line_config::{Prompt, Result};
 use line_parts::Highlighter;
@@ -86,7 +86,7 @@ impl<'out, 'prompt, W: Renderer, P: Prompt> View<'out, 'prompt, W, P> {
     /// Returns the view of a renderer and a prompt, with nothing drawn yet.
     pub fn new(out: &'out mut W, prompt: &'prompt P) -> Self
         ensures display { ⟦<Self as Drawn>⟧.display result
-            ≡ undrawn (W.surface out.old) (W.screen out.old) (P.raw_text prompt.now) }
+            ≡ never_drawn (W.surface out.old) (W.screen out.old) (P.raw_text prompt.now) }
         ensures redraws { ⟦<Self as Drawn>⟧.redraws result ≡ W.redraws out.old }
         ensures failures { ⟦<Self as Drawn>⟧.failures result ≡ W.failures out.old }
         ensures loan { ⟦<Self as Drawn>⟧.loan result ≡ out.entry.ghost_name }
@@ -281,20 +281,30 @@ impl<'out, 'prompt, W: Renderer, P: Prompt> View<'out, 'prompt, W, P> {
     }
 
     /// Returns whether characters are highlighted that the next drawing has to show without their colors.
-    pub fn is_lit(&self) -> bool
+    pub fn highlight_char(&self) -> bool
         ensures { result ≡ (⟦<Self as Drawn>⟧.display self.now).lit }
     {
         self.highlight_char
     }
 
     /// Keeps whether characters are highlighted.
-    pub fn set_lit(&mut self, lit: bool)
+    pub fn set_highlight_char(&mut self, lit: bool)
         ensures display { let d = ⟦<Self as Drawn>⟧.display in
             d self.new ≡ record (d self.old) { lit = lit } }
         ensures stays { let d = ⟦<Self as Drawn>⟧ in (d.redraws self.new ≡ d.redraws self.old)
             × (d.failures self.new ≡ d.failures self.old) × (d.loan self.new ≡ d.loan self.old) }
     {
         self.highlight_char = lit;
+    }
+
+    /// Returns the renderer, as the last drawing left it.
+    pub fn out(&self) -> &W
+        ensures surface { W.surface result.now ≡ (⟦<Self as Drawn>⟧.display self.now).surface }
+        ensures screen { W.screen result.now ≡ (⟦<Self as Drawn>⟧.display self.now).screen }
+        ensures redraws { W.redraws result.now ≡ ⟦<Self as Drawn>⟧.redraws self.now }
+        ensures failures { W.failures result.now ≡ ⟦<Self as Drawn>⟧.failures self.now }
+    {
+        &*self.out
     }
 
     /// Returns the kept layout: where the prompt ends, and where the cursor and the end of what is shown are.

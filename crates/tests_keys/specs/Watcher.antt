@@ -3,8 +3,8 @@ use Rattle.std.specs.Prelude.{Bool, true, false, ◌==◌, ◌&&◌, if◌then�
 use Rattle.line_config.specs.declared.config.EditMode.{EditMode}
 use Rattle.line_config.specs.declared.config.EditMode.TheVariants.{Emacs, Vi}
 use Rattle.line_keys.specs.Command.{Command, insert, noop}
-use Rattle.line_keys.specs.declared.keymap.InputMode.{InputMode}
-use Rattle.line_keys.specs.declared.keymap.InputMode.TheVariants.{Insert}
+use Rattle.line_keys.specs.declared.refresher.InputMode.{InputMode}
+use Rattle.line_keys.specs.declared.refresher.InputMode.TheVariants.{Insert}
 use Rattle.line_editor.specs.Asked.{Asked}
 use Rattle.line_editor.specs.Event.{event_keys}
 use Rattle.tests_keys.specs.declared.watcher.Watcher.{Watcher}

@@ -1,15 +1,15 @@
 //! Examples of definitions: what they say of fixed values, worked out by hand. No call is made here.
 ghost use Rattle.std.specs.Prelude.{◌≡◌, ℕ, [], ◌∷◌, None, Some, true, false};
-ghost use Rattle.line_buffer.specs.declared.keymap.Movement.TheVariants.{BackwardChar, BeginningOfLine, EndOfLine, ForwardChar, ForwardWord, LineDown, WholeLine};
-ghost use Rattle.line_buffer.specs.declared.keymap.At.TheVariants.{AfterEnd};
+ghost use Rattle.line_buffer.specs.declared.movement.Movement.TheVariants.{BackwardChar, BeginningOfLine, EndOfLine, ForwardChar, ForwardWord, LineDown, WholeLine};
+ghost use Rattle.line_buffer.specs.declared.movement.At.TheVariants.{AfterEnd};
 ghost use Rattle.line_config.specs.declared.config.EditMode.TheVariants as styles;
 ghost use Rattle.line_keys.specs.Command.{abort, accept_line, insert, kill, move, replace, replace_char, self_insert, undo, unknown, yank, yank_pop};
 ghost use Rattle.line_keys.specs.Count.{begins_count, continues_count, count_of, is_count_before};
 ghost use Rattle.line_keys.specs.Key.{event};
 ghost use Rattle.line_keys.specs.Redo.{bound_anew, redone};
 ghost use Rattle.line_keys.specs.Table.{one, second_at};
-ghost use Rattle.line_keys.specs.declared.command.Anchor.TheVariants.{Before};
-ghost use Rattle.line_keys.specs.declared.keymap.InputMode.TheVariants as modes;
+ghost use Rattle.line_keys.specs.declared.cmd.Anchor.TheVariants.{Before};
+ghost use Rattle.line_keys.specs.declared.refresher.InputMode.TheVariants as modes;
 ghost use Rattle.line_keys.specs.declared.keys.KeyCode.TheVariants.{Backspace, Char, Enter, Esc};
 ghost use Rattle.line_keys.specs.declared.keys.TheConstants.Modifiers.{ALT, CTRL, NONE};
 

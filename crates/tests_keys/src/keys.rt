@@ -2,9 +2,9 @@
 
 use bitflags::Flags;
 use line_editor::binding::{Event, EventHandler};
-use line_keys::command::Cmd;
-use line_keys::keymap::Invoke;
+use line_keys::cmd::Cmd;
 use line_keys::keys::{KeyCode as K, KeyEvent, Modifiers as M};
+use line_keys::refresher::Invoke;
 use std::alloc::Global;
 use std::collections::HashMap;
 use std::process::Abort;

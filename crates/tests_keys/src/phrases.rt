@@ -1,7 +1,7 @@
 //! Examples of phrases: what the definitions say of fixed keys, worked out by hand. No call is made here.
 ghost use Rattle.std.specs.Prelude.{◌≡◌, [], ◌∷◌, None, Some, false, true};
-ghost use Rattle.line_buffer.specs.declared.keymap.CharSearch.TheVariants.{Backward, Forward};
-ghost use Rattle.line_buffer.specs.declared.keymap.Movement.TheVariants.{BackwardChar, ViCharSearch};
+ghost use Rattle.line_buffer.specs.declared.movement.CharSearch.TheVariants.{Backward, Forward};
+ghost use Rattle.line_buffer.specs.declared.movement.Movement.TheVariants.{BackwardChar, ViCharSearch};
 ghost use Rattle.line_config.specs.declared.config.EditMode.TheVariants as styles;
 ghost use Rattle.line_config.specs.declared.config.EditMode.TheVariants.{Emacs};
 ghost use Rattle.line_editor.specs.Binding.{answers, handler_of, leads_on};
@@ -16,7 +16,7 @@ ghost use Rattle.line_keys.specs.Item.{key, paste};
 ghost use Rattle.line_keys.specs.Key.{event};
 ghost use Rattle.line_keys.specs.Table.{gives, one, row_of, searches, unlisted};
 ghost use Rattle.line_keys.specs.declared.keys.KeyCode.TheVariants.{BracketedPasteStart, Char, Enter, F};
-ghost use Rattle.line_keys.specs.declared.keymap.InputMode.TheVariants as modes;
+ghost use Rattle.line_keys.specs.declared.refresher.InputMode.TheVariants as modes;
 ghost use Rattle.line_keys.specs.declared.keys.KeyEvent.{KeyEvent};
 ghost use Rattle.line_keys.specs.declared.keys.TheConstants.Modifiers.{ALT, CTRL, NONE};
 ghost use Rattle.line_parts.specs.Environment.{Environment};

@@ -6,8 +6,8 @@ ghost use Rattle.tests_keys.specs.Watcher.{never_fails, watched};
 use line_buffer::RepeatCount;
 use line_config::{EditMode, ReadlineError, Result};
 use line_editor::binding::{ConditionalEventHandler, Event, EventContext};
-use line_keys::command::Cmd;
-use line_keys::keymap::InputMode;
+use line_keys::cmd::Cmd;
+use line_keys::refresher::InputMode;
 use std::alloc::Global;
 use std::io::{Error, ErrorKind};
 

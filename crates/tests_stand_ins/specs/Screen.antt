@@ -10,5 +10,5 @@ after_byte columns p byte =
     if byte == 10 then record { row = next_row p.row; col = 0 } else next_column columns p
 
 -- where a text ends that begins at the origin
-unfoldable pub measured : ℕ → List ℕ → Position → Position
-measured columns text origin = fold (after_byte columns) origin text
+unfoldable pub measured_by_bytes : ℕ → List ℕ → Position → Position
+measured_by_bytes columns text origin = fold (after_byte columns) origin text

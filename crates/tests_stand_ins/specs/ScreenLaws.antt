@@ -6,7 +6,7 @@ use Rattle.std.proofs.lemmas.List.Sums.{fold-append}
 use Rattle.line_buffer.specs.declared.layout.Position.{Position}
 use Rattle.line_state.specs.Printable.{IsPrintable, IsPrintableOrNewline}
 use Rattle.line_keys.specs.Display.{next_column}
-use Rattle.tests_stand_ins.specs.Screen.{after_byte, measured}
+use Rattle.tests_stand_ins.specs.Screen.{after_byte, measured_by_bytes}
 
 after_byte-below : (columns : ℕ) (p : Position) (byte : ℕ) → 0 < columns
     → (after_byte columns p byte).col < columns
@@ -19,27 +19,27 @@ fold-below columns (b ∷ bs) p below =
     fold-below columns bs (after_byte columns p b) (after_byte-below columns p b (omega arith))
 
 -- from a place on a row, each text ends on a row
-pub measured-below : (columns : ℕ) (text : List ℕ) (origin : Position) → origin.col < columns
-    → (measured columns text origin).col < columns
-unfolding measured
-measured-below columns text origin below = fold-below columns text origin below
+pub measured_by_bytes-below : (columns : ℕ) (text : List ℕ) (origin : Position) → origin.col < columns
+    → (measured_by_bytes columns text origin).col < columns
+unfolding measured_by_bytes
+measured_by_bytes-below columns text origin below = fold-below columns text origin below
 
 after_byte-printable : (columns : ℕ) (p : Position) (c : ℕ) → IsPrintable c
     → after_byte columns p c ≡ next_column columns p
 after_byte-printable columns p c print = grind (arith, nat_tests)
 
 -- a printable ASCII character takes one column
-pub measured-push : (columns : ℕ) (text : List ℕ) (c : ℕ) (origin : Position) → origin.col < columns
+pub measured_by_bytes-push : (columns : ℕ) (text : List ℕ) (c : ℕ) (origin : Position) → origin.col < columns
     → All IsPrintableOrNewline text → IsPrintable c
-    → measured columns (text ++ c ∷ []) origin ≡ next_column columns (measured columns text origin)
-unfolding measured
-measured-push columns text c origin below all print =
+    → measured_by_bytes columns (text ++ c ∷ []) origin ≡ next_column columns (measured_by_bytes columns text origin)
+unfolding measured_by_bytes
+measured_by_bytes-push columns text c origin below all print =
     fold-append (after_byte columns) origin text (c ∷ [])
     ∙ after_byte-printable columns (fold (after_byte columns) origin text) c print
 
 -- from a place with room on the row, it goes one column on
-pub measured-one : (columns c : ℕ) (place : Position) → place.col + 1 < columns → IsPrintable c
-    → measured columns (c ∷ []) place ≡ record { row = place.row; col = place.col + 1 }
-unfolding measured
-measured-one columns c place room print =
+pub measured_by_bytes-one : (columns c : ℕ) (place : Position) → place.col + 1 < columns → IsPrintable c
+    → measured_by_bytes columns (c ∷ []) place ≡ record { row = place.row; col = place.col + 1 }
+unfolding measured_by_bytes
+measured_by_bytes-one columns c place room print =
     after_byte-printable columns place c print ∙ grind (arith, nat_tests)

@@ -41,10 +41,10 @@ impl ScreenState for Broken {
     ghost use Rattle.std.specs.Prelude.{[], false};
     ghost use Rattle.line_buffer.specs.declared.layout.GraphemeClusterMode.TheVariants.{Unicode};
     ghost use Rattle.line_keys.specs.Display.{corner};
-    ghost use Rattle.tests_stand_ins.specs.Screen.{measured};
+    ghost use Rattle.tests_stand_ins.specs.Screen.{measured_by_bytes};
 
     ghost surface = { λ _. record {
-      measure = measured 80;
+      measure = measured_by_bytes 80;
       columns = 80;
       colors = false;
       mode = Unicode;
@@ -128,7 +128,7 @@ impl Renderer for Broken {
         Err(ReadlineError::Io(self.cause()))
     }
 
-    ghost column_below = { λ _. laws.measured-below 80 };
+    ghost column_below = { λ _. laws.measured_by_bytes-below 80 };
 
-    ghost one_column = { λ _. laws.measured-push 80 };
+    ghost one_column = { λ _. laws.measured_by_bytes-push 80 };
 }

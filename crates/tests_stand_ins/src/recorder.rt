@@ -2,7 +2,7 @@
 ghost use Rattle.std.specs.Prelude.{◌≡◌, ◌≤◌, ◌<◌, string_bytes, OnOk};
 ghost use Rattle.line_config.specs.Error.{FaultsOnly};
 ghost use Rattle.line_config.specs.Failures.{CountsFailures};
-ghost use Rattle.tests_stand_ins.specs.Screen.{after_byte, measured};
+ghost use Rattle.tests_stand_ins.specs.Screen.{after_byte, measured_by_bytes};
 
 use crate::typist::Typist;
 use line_buffer::{GraphemeClusterMode, Layout, LineBuffer, Position, Unit};
@@ -161,9 +161,9 @@ fn shown<'l, H: Highlighter>(
 }
 
 /// Where the text ends that begins at `origin`.
-#[tactic(auto, unfolding(crate::specs::Screen::measured))]
+#[tactic(auto, unfolding(crate::specs::Screen::measured_by_bytes))]
 pub(crate) fn measured(columns: Unit, text: &str, origin: Position) -> Position
-    ensures { result ≡ measured columns text.now origin }
+    ensures { result ≡ measured_by_bytes columns text.now origin }
 {
     let mut place = origin;
     for byte in text.as_bytes() {
@@ -190,10 +190,10 @@ fn after_byte(columns: Unit, place: Position, byte: u8) -> Position
 
 impl ScreenState for Recorder {
     ghost use Rattle.line_buffer.specs.declared.layout.GraphemeClusterMode.TheVariants.{Unicode};
-    ghost use Rattle.tests_stand_ins.specs.Screen.{measured};
+    ghost use Rattle.tests_stand_ins.specs.Screen.{measured_by_bytes};
 
     ghost surface = { λ r. record {
-      measure = measured r.columns;
+      measure = measured_by_bytes r.columns;
       columns = r.columns;
       colors = r.colors;
       mode = Unicode;
@@ -325,7 +325,7 @@ impl Renderer for Recorder {
         self.note("show what was held back")
     }
 
-    ghost column_below = { λ r. laws.measured-below r.columns };
+    ghost column_below = { λ r. laws.measured_by_bytes-below r.columns };
 
-    ghost one_column = { λ r. laws.measured-push r.columns };
+    ghost one_column = { λ r. laws.measured_by_bytes-push r.columns };
 }

@@ -3,9 +3,9 @@ ghost use Rattle.std.specs.Prelude.{◌≡◌, ◌≤◌};
 ghost use Rattle.line_config.specs.Error.{Rose};
 
 use line_config::ReadlineError;
-use line_keys::command::Cmd;
+use line_keys::cmd::Cmd;
 use line_keys::keys::{KeyCode, KeyEvent, Modifiers};
-use line_keys::tty::RawReader;
+use line_keys::raw_reader::RawReader;
 use std::alloc::{AllocError, Global};
 use std::collections::VecDeque;
 use std::io;

@@ -9,7 +9,7 @@ ghost use Rattle.line_buffer.specs.Yank.{with_yank, with_yank_pop, line_yank_pop
 ghost use Rattle.line_buffer.specs.Line.{is_at_end, inserted_at, inserted_at_cursor, replaced_in};
 
 use super::{LineBuffer, OutOfMemory};
-use crate::keymap::RepeatCount;
+use crate::movement::RepeatCount;
 use crate::undo::Changeset;
 use std::alloc::Global;
 use std::ops::Range;
@@ -106,7 +106,7 @@ impl LineBuffer {
             (inserted_at self.old place text.now)
             (on_entries (with_insert place text.now)) }
     {
-        let _ = &self.pos;
+        self.cursor_is_on_boundary();
         changes.insert_str(place, text)?;
         self.buf.insert_str(place, text)?;
         Ok(())
@@ -145,7 +145,7 @@ impl LineBuffer {
             (line_yanked self.old text.now n)
             (on_entries (with_yank self.old.cursor text.now n)) }
     {
-        let _ = &self.pos;
+        self.cursor_is_on_boundary();
         if text.is_empty() {
             return Ok(None);
         }

@@ -10,7 +10,7 @@ ghost use Rattle.line_buffer.specs.Lines.{line_from};
 
 use super::{LineBuffer, OutOfMemory};
 use crate::clusters::{first_line_len, last_line_start};
-use crate::keymap::Movement;
+use crate::movement::Movement;
 use crate::undo::Changeset;
 use std::alloc::Global;
 

@@ -11,8 +11,8 @@ ghost use Rattle.line_buffer.specs.Undo.{KeepsFront};
 ghost use Rattle.line_buffer.specs.Range.{from_cursor, range_of, text_in, unless_empty, up_to_cursor};
 
 use super::{Direction, LineBuffer, OutOfMemory};
-use crate::keymap::{CharSearch, Movement, RepeatCount};
 use crate::kill_ring::{KillRing, Mode};
+use crate::movement::{CharSearch, Movement, RepeatCount};
 use crate::undo::Changeset;
 
 impl LineBuffer {
@@ -82,7 +82,7 @@ impl LineBuffer {
             Edits result self.old self.new changes.old changes.new
             (without self.old range) (with_killed self.old range) }
     {
-        let _ = &self.pos;
+        self.cursor_is_on_boundary();
         let outcome = match self.from_cursor(self.next_pos(n)) {
             Some((from, to)) => self.take_range(from, to, changes),
             None => Ok(None),
@@ -119,7 +119,7 @@ impl LineBuffer {
         ensures edit { EditsIfOk result self.old self.new changes.old changes.new
             (without self.old (Some (from, to))) (with_killed self.old (Some (from, to))) }
     {
-        let _ = &self.pos;
+        self.cursor_is_on_boundary();
         let text = self.copy_range(from, to)?;
         self.delete_range(from, to, changes)?;
         Ok(Some(text))
@@ -214,7 +214,7 @@ impl LineBuffer {
         ensures cursor { IsCharBoundary self.now.text self.now.cursor }
         ensures range { IsRangeIfAny result self.now (killed_range self.now mvt.now) }
     {
-        let _ = &self.pos;
+        self.cursor_is_on_boundary();
         match self.range(mvt) {
             Some((from, to)) if from != to => Some((from, to)),
             _ => self.neighbour(mvt),

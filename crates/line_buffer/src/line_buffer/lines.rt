@@ -7,8 +7,8 @@ ghost use Rattle.line_buffer.specs.Lines.{column_in, columns_before, down_by, fi
 
 use super::LineBuffer;
 use crate::clusters::{first_line_len, line_above, next_line};
-use crate::keymap::RepeatCount;
 use crate::layout::{Layout, Unit};
+use crate::movement::RepeatCount;
 use unicode_segmentation::UnicodeSegmentation;
 
 impl LineBuffer {
@@ -18,7 +18,7 @@ impl LineBuffer {
         ensures offset { IsOffset result self.now.text (lines_above n self.now.text start) }
         ensures up { result ≤ start }
     {
-        let _ = &self.pos;
+        self.cursor_is_on_boundary();
         let mut place = start;
         for _ in 0..n {
             let Some(above) = line_above(self.text_to(place)) else {
@@ -52,7 +52,7 @@ impl LineBuffer {
         ensures offset { IsOffset result self.now.text (line_stop self.now.text start) }
         ensures down { start ≤ result }
     {
-        let _ = &self.pos;
+        self.cursor_is_on_boundary();
         match next_line(self.text_from(start)) {
             Some(bytes) => start + bytes,
             None => self.buf.len(),

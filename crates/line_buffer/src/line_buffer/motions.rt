@@ -8,10 +8,10 @@ ghost use Rattle.line_buffer.specs.Search.{behind_char, char_before, found_back,
 ghost use Rattle.line_buffer.specs.Word.{word_back, word_on};
 
 use super::LineBuffer;
+use crate::char_search::{nth_char, nth_char_back};
 use crate::clusters::first_len;
-use crate::keymap::{At, CharSearch, RepeatCount, Word};
-use crate::search::{nth_char, nth_char_back};
-use crate::words::{nth_start_back, on_by_words};
+use crate::movement::{At, CharSearch, RepeatCount, Word};
+use crate::word_edges::{nth_start_back, on_by_words};
 
 impl LineBuffer {
     /// Returns the place of a movement on by `n` words.

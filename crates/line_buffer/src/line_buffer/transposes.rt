@@ -10,7 +10,7 @@ ghost use Rattle.line_buffer.specs.Word.{word_back, word_on};
 
 use super::{LineBuffer, OutOfMemory, WordAction};
 use crate::clusters::{first_alphanumeric, first_len, has_two_clusters};
-use crate::keymap::{At, RepeatCount, Word};
+use crate::movement::{At, RepeatCount, Word};
 use crate::undo::Changeset;
 use std::alloc::Global;
 
@@ -28,7 +28,7 @@ impl LineBuffer {
         ensures edit { Edits result self.old self.new changes.old changes.new
             (chars_exchanged self.old) (on_entries (with_chars_exchanged self.old)) }
     {
-        let _ = &self.pos;
+        self.cursor_is_on_boundary();
         if self.pos == 0 || !has_two_clusters(self.as_str()) {
             return Ok(false);
         }
@@ -69,7 +69,7 @@ impl LineBuffer {
             (with_exchanged self.old (parts from1 to1 from2 to2))
             (on_entries (with_exchange self.old.text (parts from1 to1 from2 to2))) }
     {
-        let _ = &self.pos;
+        self.cursor_is_on_boundary();
         let mut text = self.copy_range(from2, to2)?;
         text.push_str(&self.buf.as_str()[to1..from2])?;
         text.push_str(&self.buf.as_str()[from1..to1])?;

@@ -7,8 +7,8 @@ ghost use Rattle.line_buffer.specs.Undo.{KeepsToldAnywhere, Tells, all_taken_bac
 ghost use Rattle.line_buffer.specs.Changes.{without_begins, ends, last_insert_of, newest_begins, inserted, deleted, replaced, no_changes, with_entries, begun, ended, closed, adds_end, with_insert, with_joined_insert, with_joined_delete, with_delete, with_replace, with_typed};
 
 use crate::clusters::{is_alphanumeric, is_one_alphanumeric};
-use crate::keymap::RepeatCount;
 use crate::line_buffer::{LineBuffer, OutOfMemory};
+use crate::movement::RepeatCount;
 use std::alloc::Global;
 use std::marker::Model;
 

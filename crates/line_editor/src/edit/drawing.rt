@@ -2,13 +2,13 @@
 ghost use Rattle.std.specs.Prelude.{◌≡◌, ◌&&◌, true, false, is_some, OnOk, OnErr};
 ghost use Rattle.line_keys.specs.Draft.{hint_shown, hinted};
 ghost use Rattle.line_keys.specs.Drawing.{Does, Paints, with_hint};
-ghost use Rattle.line_keys.specs.EditorState.{Shows, ShowsByLayout, info_kept};
+ghost use Rattle.line_keys.specs.ShownLine.{Shows, ShowsByLayout, info_kept};
 ghost use Rattle.line_state.specs.Drawn.{cleared};
 
 use crate::edit::{Info, State, info_text};
 use line_config::{Prompt, Result};
 use line_keys::editor_state::EditorState;
-use line_keys::keymap::Refresher;
+use line_keys::refresher::Refresher;
 use line_parts::{Helper, History};
 use line_state::{RefreshKind, Renderer};
 use std::fmt::{self, Debug, Formatter};

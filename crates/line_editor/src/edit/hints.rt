@@ -1,15 +1,16 @@
 //! The hint, put into the line.
 ghost use Rattle.std.specs.Prelude.{◌≡◌, is_some, option_and_then, option_map, OnOk};
 ghost use Rattle.line_editor.specs.Editor.{with_edited};
-ghost use Rattle.line_editor.specs.Edits.{completed, with_completion_at_end};
+ghost use Rattle.line_editor.specs.DraftEdits.{completed, with_completion_at_end};
 ghost use Rattle.line_keys.specs.Draft.{start_text};
 ghost use Rattle.line_keys.specs.Drawing.{Does, DrewNothing, drawn_if};
-ghost use Rattle.line_keys.specs.EditorState.{FailsByRenderer, Frame};
+ghost use Rattle.line_keys.specs.Frame.{FailsByRenderer, Frame};
 ghost use Rattle.line_parts.specs.Hint.{suggestion_of};
 
 use crate::edit::State;
 use line_config::{Prompt, Result};
 use line_keys::editor_state::EditorState;
+use line_keys::refresher::Refresher;
 use line_parts::{Helper, Hint, History};
 use line_state::Renderer;
 
@@ -43,7 +44,7 @@ impl<'out, 'prompt, W: Renderer, H: Helper, P: Prompt, S: History> State<
             return Ok(());
         }
         self.yank_hint()?;
-        self.show_edit(true)
+        self.refresh_line()
     }
 
     // Puts what the hint completes the line with at the end of the cursor's line. There is a beep where it completes nothing.

@@ -1,18 +1,18 @@
 //! What puts text into the line.
 ghost use Rattle.std.specs.Prelude.{◌≡◌, ◌==◌, ◌&&◌, not, is_some, length};
 ghost use Rattle.line_buffer.specs.Cluster.{place_on};
-ghost use Rattle.line_editor.specs.Edits.{char_replaced, overwritten, popped_in, text_inserted, typed_in, yanked_in};
+ghost use Rattle.line_editor.specs.DraftEdits.{char_replaced, overwritten, popped_in, text_inserted, typed_in, yanked_in};
 ghost use Rattle.line_editor.specs.InputState.{input_of};
 ghost use Rattle.line_keys.specs.Drawing.{Does, drawn_if, edit_drawn, with_hint};
 ghost use Rattle.line_state.specs.Edited.{pops_text};
 
 use crate::edit::State;
-use crate::keymap::InputState;
+use crate::input_state::InputState;
 use line_buffer::RepeatCount;
 use line_config::{Prompt, Result};
-use line_keys::command::Anchor;
+use line_keys::cmd::Anchor;
 use line_keys::editor_state::EditorState;
-use line_keys::keymap::Refresher;
+use line_keys::refresher::Refresher;
 use line_parts::{Helper, History};
 use line_state::Renderer;
 
@@ -33,7 +33,7 @@ impl<'out, 'prompt, W: Renderer, H: Helper, P: Prompt, S: History> State<
             (typed_in (e.environment self.old) n c (e.draft self.old)) with_hint 1 }
     {
         self.edited.insert(c, n)?;
-        self.show_edit(true)
+        self.refresh_line()
     }
 
     /// Inserts a text at the cursor, which stays before it. The empty text changes nothing.
@@ -50,7 +50,7 @@ impl<'out, 'prompt, W: Renderer, H: Helper, P: Prompt, S: History> State<
             return Ok(());
         }
         self.edited.insert_text(text)?;
-        self.show_edit(true)
+        self.refresh_line()
     }
 
     /// Puts a character in place of each of `n` clusters from the cursor on, or of as many as there are. The cursor is then

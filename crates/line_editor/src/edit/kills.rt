@@ -3,17 +3,18 @@ ghost use Rattle.std.specs.Prelude.{◌+◌, ◌||◌, is_some, option_map};
 ghost use Rattle.line_buffer.specs.Kill.{killed_range};
 ghost use Rattle.line_buffer.specs.KillRing.{yank_popped, yanked_text};
 ghost use Rattle.line_editor.specs.Drawings.{has_text, once_for, pop_drawn, yank_drawn};
-ghost use Rattle.line_editor.specs.Edits.{copied_to, kill_popped, kill_yanked, killed_by, replaced_by, text_of};
+ghost use Rattle.line_editor.specs.DraftEdits.{copied_to, kill_popped, kill_yanked, killed_by, replaced_by, text_of};
 ghost use Rattle.line_editor.specs.InputState.{input_of};
-ghost use Rattle.line_editor.specs.Runs.{DoesWithKills, editor_of};
+ghost use Rattle.line_editor.specs.Outcomes.{DoesWithKills, editor_of};
 ghost use Rattle.line_keys.specs.Drawing.{drawn_if, nothing};
 
 use crate::edit::State;
-use crate::keymap::InputState;
+use crate::input_state::InputState;
 use line_buffer::{KillRing, Mode, Movement, RepeatCount};
 use line_config::{Prompt, Result};
-use line_keys::command::Anchor;
+use line_keys::cmd::Anchor;
 use line_keys::editor_state::EditorState;
+use line_keys::refresher::Refresher;
 use line_parts::{Helper, History};
 use line_state::Renderer;
 
@@ -39,7 +40,7 @@ impl<'out, 'prompt, W: Renderer, H: Helper, P: Prompt, S: History> State<
             (editor_of e self.old kill_ring.old) range) (drawn_if (is_some range)) 1 }
     {
         if self.edited.kill(movement, kill_ring)? {
-            return self.show_edit(true);
+            return self.refresh_line();
         }
         Ok(())
     }

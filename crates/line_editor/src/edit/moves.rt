@@ -5,12 +5,12 @@ ghost use Rattle.line_buffer.specs.Line.{moved_to, with_cursor, start_of_line, e
 ghost use Rattle.line_buffer.specs.Lines.{down_by, up_by};
 ghost use Rattle.line_buffer.specs.Search.{search_place};
 ghost use Rattle.line_buffer.specs.Word.{word_back, word_on};
-ghost use Rattle.line_buffer.specs.declared.keymap.Movement.TheVariants.{LineDown, LineUp};
+ghost use Rattle.line_buffer.specs.declared.movement.Movement.TheVariants.{LineDown, LineUp};
 ghost use Rattle.line_editor.specs.Drawings.{move_drawn};
 ghost use Rattle.line_editor.specs.HistoryMoves.{asked_back, asked_on, next_shown, previous_shown, way_ends};
 ghost use Rattle.line_keys.specs.Display.{GoesToShownEnd};
 ghost use Rattle.line_keys.specs.Drawing.{Does, DoesAsking, DrawsCursor, MovesTo, Paints, Undrawn, cursor, drawn_if};
-ghost use Rattle.line_keys.specs.EditorState.{IsAtEnd};
+ghost use Rattle.line_keys.specs.ShownLine.{IsAtEnd};
 ghost use Rattle.line_keys.specs.ShownLine.{HasShownEnd, ShowsLine};
 ghost use Rattle.line_parts.specs.Asks.{nobody};
 ghost use Rattle.line_parts.specs.declared.highlight.CmdKind.TheVariants.{MoveCursor};

@@ -11,12 +11,12 @@ ghost use Rattle.line_keys.specs.ShownLine.{KeepsDrawn};
 
 use crate::binding::ConditionalEventHandler;
 use crate::edit::State;
-use crate::keymap::InputState;
+use crate::input_state::InputState;
 use line_config::{Prompt, Result};
-use line_keys::command::Cmd;
+use line_keys::cmd::Cmd;
 use line_keys::editor_state::EditorState;
-use line_keys::keymap::Refresher;
-use line_keys::tty::RawReader;
+use line_keys::raw_reader::RawReader;
+use line_keys::refresher::Refresher;
 use line_parts::{Helper, History};
 use line_state::Renderer;
 

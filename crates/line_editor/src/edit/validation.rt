@@ -4,7 +4,7 @@ ghost use Rattle.line_buffer.specs.Changes.{adds_end};
 ghost use Rattle.line_buffer.specs.Line.{ends_in_white_space};
 ghost use Rattle.line_editor.specs.Accept.{unhinted_by, validated};
 ghost use Rattle.line_editor.specs.Drawings.{unhinted_drawn, verdict_drawn};
-ghost use Rattle.line_editor.specs.Verdict.{draws_verdict_on, kind_of_verdict};
+ghost use Rattle.line_editor.specs.DrawnVerdict.{draws_verdict_on, kind_of_verdict};
 ghost use Rattle.line_keys.specs.Draft.{in_group, out_of_group, unhinted};
 ghost use Rattle.line_keys.specs.Drawing.{DoesAsking, nothing, with_text};
 ghost use Rattle.line_keys.specs.ShownLine.{LosesHint, ShowsNoHint};
@@ -15,7 +15,7 @@ ghost use Rattle.line_parts.specs.Verdict.{message_of, verdict_of};
 use crate::edit::State;
 use line_config::{Prompt, Result};
 use line_keys::editor_state::EditorState;
-use line_keys::keymap::Refresher;
+use line_keys::refresher::Refresher;
 use line_parts::{CmdKind, Helper, History, ValidationResult};
 use line_state::Renderer;
 
@@ -102,7 +102,7 @@ impl<'out, 'prompt, W: Renderer, H: Helper, P: Prompt, S: History> State<
             (unhinted_drawn (e.display self.old) d) 1 }
         ensures loses { OnOk result (LosesHint ⟦<Self as EditorState>⟧ self.old self.new) }
     {
-        if self.has_hint() || self.view.is_lit() || !self.is_default_prompt() {
+        if self.has_hint() || self.view.highlight_char() || !self.is_default_prompt() {
             self.refresh_line_with_msg(None, CmdKind::ForcedRefresh)?;
         }
         Ok(())

@@ -3,13 +3,14 @@ ghost use Rattle.std.specs.Prelude.{◌≡◌, Bool, is_some};
 ghost use Rattle.std.specs.List.{list_any};
 ghost use Rattle.line_buffer.specs.Transpose.{are_apart, has_two_chars, next_alphanumeric, words_beside};
 ghost use Rattle.line_buffer.specs.Undo.{is_change, newest_steps};
-ghost use Rattle.line_editor.specs.Edits.{chars_transposed, lines_shifted, steps_undone, word_changed, words_transposed};
+ghost use Rattle.line_editor.specs.DraftEdits.{chars_transposed, lines_shifted, steps_undone, word_changed, words_transposed};
 ghost use Rattle.line_keys.specs.Drawing.{Does, edit_drawn, with_hint};
 
 use crate::edit::State;
 use line_buffer::{Movement, RepeatCount, WordAction};
 use line_config::{Prompt, Result};
 use line_keys::editor_state::EditorState;
+use line_keys::refresher::Refresher;
 use line_parts::{Helper, History};
 use line_state::Renderer;
 
@@ -76,7 +77,7 @@ impl<'out, 'prompt, W: Renderer, H: Helper, P: Prompt, S: History> State<
             with_hint 1 }
     {
         self.edited.indent(mvt, usize::from(amount), dedent)?;
-        self.show_edit(true)
+        self.refresh_line()
     }
 
     // Takes `n` steps back, one for `n` = 0.

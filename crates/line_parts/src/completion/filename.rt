@@ -7,9 +7,9 @@ ghost use Rattle.line_parts.specs.Candidate.{pair_offer};
 ghost use Rattle.line_config.specs.Error.{FaultsOnly, IoOnlyIf};
 
 use crate::completion::Completer;
+use crate::completion::escapes::Quote;
 use crate::completion::pair::Pair;
 use crate::completion::paths::{candidates, path_before, split_path};
-use crate::completion::words::Quote;
 use crate::context::Context;
 use crate::history::History;
 use line_config::Result;

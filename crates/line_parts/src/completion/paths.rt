@@ -7,10 +7,10 @@ ghost use Rattle.line_parts.specs.Candidate.{pair_offer};
 ghost use Rattle.line_parts.specs.Completed.{breaks_in, breaks_word, is_special, listed_of, name_start, offered, offered_for, path_before};
 ghost use Rattle.line_parts.specs.Escape.{offset_at};
 
+use crate::completion::escapes::{Quote, escape, extract_word, unescape};
 use crate::completion::filename::Entry;
 use crate::completion::pair::Pair;
 use crate::completion::quotes::find_unclosed_quote;
-use crate::completion::words::{Quote, escape, extract_word, unescape};
 use line_config::Result;
 use std::alloc::Global;
 use std::borrow::CowStr;

@@ -6,7 +6,7 @@ ghost use Rattle.std.specs.Str.{IsUtf8};
 ghost use Rattle.line_parts.specs.Prefix.{IsCommonStart, IsLongestCommon, some_text};
 
 use crate::completion::Candidate;
-use crate::completion::ends::split_first;
+use crate::completion::chars::split_first;
 
 // Returns what stands behind the first character of two texts, where that is the same.
 fn strip_same<'a, 'b>(one: &'a str, other: &'b str) -> Option<(&'a str, &'b str)>

@@ -2,10 +2,10 @@
 ghost use Rattle.std.specs.Prelude.{◌≡◌, ℕ, ◌++◌, ◌∷◌, chars, IfSome, List, MatchOption, None, true};
 ghost use Rattle.std.specs.Str.{IsUtf8};
 ghost use Rattle.line_parts.specs.Quoting.{BeginsClosed, IsUnpaired, OpensAt, double, is_inside, is_unclosed, open_quote, single};
-ghost use Rattle.line_parts.specs.declared.completion.words.Quote.TheVariants as quote;
+ghost use Rattle.line_parts.specs.declared.completion.escapes.Quote.TheVariants as quote;
 
-use crate::completion::ends::split_first;
-use crate::completion::words::Quote;
+use crate::completion::chars::split_first;
+use crate::completion::escapes::Quote;
 
 // Returns what stands behind the double quote that closes, in a text that stands in double quotes.
 fn behind_double(text: &str) -> Option<&str>

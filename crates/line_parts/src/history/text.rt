@@ -13,8 +13,8 @@ ghost use Rattle.memchr.specs.Find.{is_byte2};
 ghost use Rattle.std.specs.Io.{StopsAt};
 ghost use Rattle.std.specs.Io.KnownBytes.{append_known, Appends};
 ghost use Rattle.line_parts.specs.History.{filed, leaves_out, settled};
-ghost use Rattle.line_parts.specs.HistoryText.{escaped_byte, escaped, lines_of, to_save, written};
-ghost use Rattle.line_parts.specs.HistoryText.{Adds, AddsBeginning, AddsSome, Begins, FilesSome};
+ghost use Rattle.line_parts.specs.HistoryText.{escaped_byte, escaped_line, lines_of, to_save, written};
+ghost use Rattle.line_parts.specs.HistoryText.{AddsLines, AddsBeginning, AddsSome, ReadsHeader, FilesSome};
 ghost use Rattle.line_parts.specs.HistoryText.{GoesOn, Loads, LoadsBeginning, Says, StopsReading};
 
 use crate::history::{FileHistory, History};
@@ -36,7 +36,7 @@ fn push_escape(text: &mut Vec<u8>, byte: u8) -> Result<()>
 
 /// Puts a line behind a text, with its escapes and a line feed.
 fn push_line(text: &mut Vec<u8>, line: &str) -> Result<()>
-    ensures text { OnOk result (text.new.items ≡ text.old.items ++ (escaped line.now ++ 10 ∷ [])) }
+    ensures text { OnOk result (text.new.items ≡ text.old.items ++ (escaped_line line.now ++ 10 ∷ [])) }
     ensures faults { MemoryOnly result }
 {
     let mut rest = line.as_bytes();
@@ -230,7 +230,7 @@ impl FileHistory {
     #[tactic(auto, using(crate::proofs::LoadLemmas::adds_empty, crate::proofs::LoadLemmas::adds_plain, crate::proofs::LoadLemmas::adds_says))]
     fn load_line(&mut self, line: &[u8], headed: bool, text: &mut Vec<u8>) -> Result<bool>
         requires { All (λ b. b ≢ 10) line.now }
-        ensures adds { IfOk result (Adds headed (line.now ∷ []) self.old self.new) }
+        ensures adds { IfOk result (AddsLines headed (line.now ∷ []) self.old self.new) }
         ensures unchanged { OnErr result (self.new ≡ self.old) }
         ensures kind { IoOnlyOfKind result (λ kind. kind ≡ InvalidData) }
         ensures faults { FaultsOnly result }
@@ -251,7 +251,7 @@ impl FileHistory {
     #[tactic(auto, using(crate::proofs::LoadLemmas::begins_empty, crate::proofs::LoadLemmas::begins_header, crate::proofs::LoadLemmas::begins_line, crate::proofs::LoadLemmas::begins_blank))]
     fn load_first<B: BufRead>(&mut self, reader: &mut B) -> Result<bool>
         ensures begins { IfOk result
-            (Begins (B.remaining reader.old) (B.remaining reader.new) self.old self.new) }
+            (ReadsHeader (B.remaining reader.old) (B.remaining reader.new) self.old self.new) }
         ensures unchanged { OnErr result (self.new ≡ self.old) }
         ensures kind { IoOnlyOfKind result StopsReading }
         ensures faults { FaultsOnly result }
@@ -273,7 +273,7 @@ impl FileHistory {
     #[tactic(auto, using(crate::proofs::LoadLemmas::loading_none, crate::proofs::LoadLemmas::loading_more, crate::proofs::LoadLemmas::loading_ended, crate::proofs::LoadLemmas::loading_beginning, crate::proofs::LoadLemmas::loading_some))]
     fn load_rest<B: BufRead>(&mut self, reader: &mut B, headed: bool) -> Result<bool>
         ensures all { IfOk result (λ taken. IfSome (B.remaining reader.old)
-            (λ text. Adds headed (lines_of text) self.old self.new taken)) }
+            (λ text. AddsLines headed (lines_of text) self.old self.new taken)) }
         ensures beginning { OnErr result (IfSome (B.remaining reader.old)
             (λ text. AddsBeginning headed (lines_of text) self.old self.new)) }
         ensures some { AddsSome self.old self.new }

@@ -6,7 +6,7 @@ use line_buffer::At::*;
 use line_buffer::CharSearch as Search;
 use line_buffer::Movement::*;
 use line_buffer::Word::*;
-use line_keys::command::Anchor::*;
+use line_keys::cmd::Anchor::*;
 use std::test::Fail;
 
 /// What a command leaves at the start of several lines.

@@ -5,7 +5,7 @@ use super::Step::*;
 use super::{Outcome, PLAIN, Place, Setup, Step, edits, leaving};
 use line_buffer::Movement::*;
 use line_buffer::Unit;
-use line_keys::command::Anchor;
+use line_keys::cmd::Anchor;
 use std::alloc::Global;
 use std::process::Abort;
 use std::test::Fail;

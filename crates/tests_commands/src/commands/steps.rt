@@ -2,7 +2,7 @@
 
 use line_buffer::{Movement, RepeatCount};
 use line_config::Result;
-use line_keys::command::{Anchor, Cmd};
+use line_keys::cmd::{Anchor, Cmd};
 use std::alloc::Global;
 
 /// A command, named as the editor names it; or a call of the state or of the kill ring.

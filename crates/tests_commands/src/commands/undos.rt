@@ -4,7 +4,7 @@ use super::Step::*;
 use super::{Case, Step, leaves};
 use line_buffer::Movement::*;
 use line_buffer::Word::*;
-use line_keys::command::Anchor;
+use line_keys::cmd::Anchor;
 use std::test::Fail;
 
 const A: Step = SelfInsert(1, 'a');

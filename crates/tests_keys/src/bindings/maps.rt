@@ -2,7 +2,7 @@
 
 use super::{Bindings, On, To, command, event};
 use line_editor::binding::{Event, EventHandler};
-use line_keys::command::Cmd;
+use line_keys::cmd::Cmd;
 use line_keys::keys::{KeyCode, KeyEvent, Modifiers};
 use std::alloc::Global;
 use std::process::Abort;

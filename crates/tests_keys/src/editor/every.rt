@@ -4,7 +4,7 @@ use line_buffer::{GraphemeClusterMode, KillRing};
 use line_config::{Config, ReadlineError, Result};
 use line_editor::Bindings;
 use line_editor::edit::State;
-use line_editor::keymap::InputState;
+use line_editor::input_state::InputState;
 use line_editor::run::run;
 use line_keys::keys::{KeyCode as K, KeyEvent, Modifiers as M};
 use line_parts::{Context, MemHistory};

@@ -1,6 +1,6 @@
 use Rattle.std.proofs.Common.{◌<◌, sym, ◌∙◌, length}
 use Rattle.line_parts.proofs.MatchLemmas.{counts_other, counts_own, counts_partner, counts_start, led_byte, led_length, match_found, no_match}
-use Rattle.line_parts.specs.Match.{led_away}
+use Rattle.line_parts.specs.BracketMatch.{led_away}
 use Rattle.line_parts.proofs.brackets.find_match.Goals as goal
 use Rattle.line_parts.proofs.brackets.find_match.Goals.{then-line-at, else-line-at+then-line-at-2+else-unmatched-eq0, else-line-at+else-line-at-2}
 

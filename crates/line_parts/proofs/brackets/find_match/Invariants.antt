@@ -1,5 +1,5 @@
 use Rattle.line_parts.proofs.MatchLemmas.{Counts}
-use Rattle.line_parts.specs.Match.{led_away}
+use Rattle.line_parts.specs.BracketMatch.{led_away}
 use Rattle.line_parts.proofs.brackets.find_match.Given as goal
 
 abbrev pub invariant-loop-distance : goal.invariant-loop-distance

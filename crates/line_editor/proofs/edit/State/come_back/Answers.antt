@@ -11,4 +11,4 @@ returns g c =
     came_back _ _ c.args.self.now _ _ _ _ back.undrawn back.draft back.start
     (nothing_drawn _ _ _ set.environment refl refl set.sure refl refl) refl
     (set.index ∙ c.len-end.ensures ∙ ap length c.history.ensures.lines ∙ ap (λ (w : Environment). length w.lines) back.undrawn.frame.environment)
-    c.show_edit.ensures
+    c.refresh_line.ensures

@@ -9,7 +9,7 @@ returns-then-branch g c =
     let found = kill.finds.answer in
     kill_done _ _ c.args.self.now _ _ _ _ c.args.movement.now
     (killed_range c.args.self.now.edited.line c.args.movement.now) _ (cc) (nothing_drawn _ _ _ refl refl refl refl refl refl) refl kill.finds.edit.edited kill.finds.edit.first kill.ring
-    c.show_edit.ensures
+    c.refresh_line.ensures
 
 pub returns : goal.returns
 returns g c =

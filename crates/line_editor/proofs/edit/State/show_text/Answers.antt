@@ -8,4 +8,4 @@ returns g c =
     let edit = c.in_ok-update_in_group.ensures in
     shown_in_group _ _ c.args.self.now _ _ _ _ _ _ _
     (nothing_drawn _ _ _ c.set_history_index.ensures.environment refl refl c.set_history_index.ensures.sure refl refl)
-    refl c.set_history_index.ensures.index edit.edited edit.first c.show_edit.ensures
+    refl c.set_history_index.ensures.index edit.edited edit.first c.refresh_line.ensures

@@ -1,5 +1,5 @@
 use Rattle.std.proofs.Common.{refl}
-use Rattle.line_editor.specs.Edits.{typed_in}
+use Rattle.line_editor.specs.DraftEdits.{typed_in}
 use Rattle.line_editor.proofs.CommandLemmas.{typed_behind}
 use Rattle.line_editor.proofs.edit.State.type_newline.Goals as goal
 

@@ -1,5 +1,5 @@
 use Rattle.std.proofs.Common.{lt_trans, rules}
-use Rattle.line_parts.specs.declared.completion.words.Quote.TheVariants as quote
+use Rattle.line_parts.specs.declared.completion.escapes.Quote.TheVariants as quote
 use Rattle.line_parts.proofs.QuoteLemmas.{closes, double_cut, double_more, double_open, double_pair, double_start, is_nothing}
 use Rattle.line_parts.proofs.WordLemmas.{shorter_by}
 use Rattle.line_parts.proofs.completion.quotes.behind_double.Goals as goal

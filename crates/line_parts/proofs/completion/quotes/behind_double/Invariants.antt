@@ -1,5 +1,5 @@
 use Rattle.std.proofs.Common.{length}
-use Rattle.line_parts.specs.declared.completion.words.Quote.TheVariants as quote
+use Rattle.line_parts.specs.declared.completion.escapes.Quote.TheVariants as quote
 use Rattle.line_parts.proofs.QuoteLemmas.{Inside}
 use Rattle.line_parts.proofs.completion.quotes.behind_double.Given as goal
 

@@ -1,4 +1,4 @@
-use Rattle.line_parts.specs.declared.completion.words.Quote.TheVariants as quote
+use Rattle.line_parts.specs.declared.completion.escapes.Quote.TheVariants as quote
 use Rattle.line_parts.proofs.QuoteLemmas.{closes, single_more, single_open, single_start}
 use Rattle.line_parts.proofs.WordLemmas.{shorter_by}
 use Rattle.line_parts.proofs.completion.quotes.behind_single.Goals as goal

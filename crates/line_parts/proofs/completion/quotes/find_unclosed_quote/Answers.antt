@@ -1,5 +1,5 @@
 use Rattle.std.proofs.Common.{rules}
-use Rattle.line_parts.specs.declared.completion.words.Quote.TheVariants as quote
+use Rattle.line_parts.specs.declared.completion.escapes.Quote.TheVariants as quote
 use Rattle.line_parts.proofs.QuoteLemmas.{closed_more, closed_shorter, closed_start, found_open, none_at_backslash, none_at_end, unpaired_double, unpaired_single}
 use Rattle.line_parts.proofs.completion.quotes.find_unclosed_quote.Goals as goal
 

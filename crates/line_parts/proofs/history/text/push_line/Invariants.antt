@@ -1,9 +1,9 @@
 use Rattle.std.proofs.Common.{◌≡◌, ◌++◌, length}
-use Rattle.line_parts.specs.HistoryText.{escaped}
+use Rattle.line_parts.specs.HistoryText.{escaped_line}
 use Rattle.line_parts.proofs.history.text.push_line.Given as goal
 
 abbrev pub invariant-loop-at : goal.invariant-loop-at
-invariant-loop-at l = l.fn.text.items ++ escaped l.line ≡ l.text.items ++ escaped l.rest
+invariant-loop-at l = l.fn.text.items ++ escaped_line l.line ≡ l.text.items ++ escaped_line l.rest
 
 abbrev pub decreases-loop-at : goal.decreases-loop-at
 decreases-loop-at l = length l.rest

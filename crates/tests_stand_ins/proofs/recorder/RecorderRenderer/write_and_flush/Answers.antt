@@ -1,8 +1,8 @@
-use Rattle.tests_stand_ins.specs.ScreenLaws.{measured-one}
+use Rattle.tests_stand_ins.specs.ScreenLaws.{measured_by_bytes-one}
 use Rattle.tests_stand_ins.proofs.recorder.RecorderRenderer.write_and_flush.Goals as goal
 
 pub returns-clause-shown : goal.returns-clause-shown
 returns-clause-shown c = λ ch e print room.
-    let one = measured-one c.args.self.now.columns ch c.args.self.now.place room.1 print in
+    let one = measured_by_bytes-one c.args.self.now.columns ch c.args.self.now.place room.1 print in
     let noted = c.in_ok-note.ensures in
     cc (c.in_ok-push_str.ensures.bytes, noted.columns, noted.place, noted.text, noted.origin)

@@ -1,0 +1,282 @@
+//! Moves in the history.
+ghost use Rattle.std.specs.Prelude.{◌≡◌, ◌+◌, ◌≤◌, IsCharBoundary, false, if◌then◌else◌, not, is_some, length, OnOk, OnErr};
+ghost use Rattle.line_buffer.specs.Line.{before};
+ghost use Rattle.line_config.specs.Error.{MemoryOnly};
+ghost use Rattle.line_editor.specs.HistoryMoves.{asked_back, asked_for, asked_in_search, asked_on, asked_to_end, at_index, come_back, end_shown, first_shown, found_shown, line_shown, next_shown, previous_shown, restored, saved_at_end, search_of, search_shown, showing, way_ends};
+ghost use Rattle.line_keys.specs.Draft.{start_text};
+ghost use Rattle.line_keys.specs.Drawing.{Does, DoesAsking, DrewNothing, Paints, Undrawn, drawn_if, with_hint};
+ghost use Rattle.line_parts.specs.Asks.{for_line};
+ghost use Rattle.line_parts.specs.History.{starting_with};
+ghost use Rattle.line_parts.specs.declared.history.SearchDirection.TheVariants.{Forward, Reverse};
+
+use crate::edit::State;
+use line_buffer::LineBuffer;
+use line_config::{Prompt, Result};
+use line_keys::editor_state::EditorState;
+use line_keys::refresher::Refresher;
+use line_parts::history::SearchDirection;
+use line_parts::{Helper, History};
+use line_state::Renderer;
+
+impl<'out, 'prompt, W: Renderer, H: Helper, P: Prompt, S: History> State<
+    'out,
+    'prompt,
+    W,
+    H,
+    P,
+    S,
+> {
+    /// Saves the line and its cursor, for the way back from the history.
+    ///
+    /// # Errors
+    /// That memory ran out. All then stays, the saved line too.
+    pub fn backup(&mut self) -> Result<()>
+        ensures draft { let d = ⟦<Self as EditorState>⟧.draft in OnOk result
+            (d self.new ≡ record (d self.old) { saved = (d self.old).line }) }
+        ensures err { let d = ⟦<Self as EditorState>⟧.draft in
+            OnErr result (d self.new ≡ d self.old) }
+        ensures undrawn { Undrawn ⟦<Self as EditorState>⟧ self.old self.new }
+        ensures memory { MemoryOnly result }
+    {
+        let line = self.edited.line();
+        self.saved_line_for_history = LineBuffer::init(self.alloc, line.as_str(), line.pos())?;
+        Ok(())
+    }
+
+    /// Puts the saved line in place of the line, with its cursor. Nothing is drawn.
+    ///
+    /// # Errors
+    /// That memory ran out.
+    pub fn restore(&mut self) -> Result<()>
+        ensures draft { let d = ⟦<Self as EditorState>⟧.draft in OnOk result
+            (d self.new ≡ restored (d self.old)) }
+        ensures start { let d = ⟦<Self as EditorState>⟧.draft in OnOk result
+            (start_text (d self.new) ≡ start_text (d self.old)) }
+        ensures undrawn { Undrawn ⟦<Self as EditorState>⟧ self.old self.new }
+        ensures memory { MemoryOnly result }
+    {
+        let saved = &self.saved_line_for_history;
+        Ok(self.edited.update(saved.as_str(), saved.pos())?)
+    }
+
+    /// Shows the line of the history before this one where `prev` is true, and else the one behind it: behind the last one
+    /// stands the line that is being written. At the history's ends, and in an empty history, nothing happens.
+    ///
+    /// # Errors
+    /// Those of the parties and of the renderer, and that memory ran out.
+    pub fn edit_history_next(&mut self, prev: bool) -> Result<()>
+        ensures { let e = ⟦<Self as EditorState>⟧ in
+            let w = e.environment self.old in let d = e.draft self.old in
+            let dir = if prev then Reverse else Forward in
+            DoesAsking e (if prev then asked_back d else asked_on w d) result self.old self.new
+            (if prev then previous_shown w d else next_shown w d)
+            (drawn_if (not (way_ends w dir d))) 1 }
+    {
+        if prev {
+            return self.show_previous();
+        }
+        self.show_next()
+    }
+
+    /// Shows the first line of the history where `first` is true, or else comes back to the line that is being written.
+    /// Nothing happens where that line is shown already, and in an empty history.
+    ///
+    /// # Errors
+    /// Those of the parties and of the renderer, and that memory ran out.
+    pub fn edit_history(&mut self, first: bool) -> Result<()>
+        ensures { let e = ⟦<Self as EditorState>⟧ in
+            let w = e.environment self.old in let d = e.draft self.old in
+            let dir = if first then Reverse else Forward in
+            DoesAsking e (if first then asked_back d else asked_to_end w d)
+            result self.old self.new
+            (if first then first_shown w d else end_shown w d)
+            (drawn_if (not (way_ends w dir d))) 1 }
+    {
+        if first {
+            return self.show_first();
+        }
+        self.show_end()
+    }
+
+    /// Goes one line back in the history, or on, and from there to the nearest line that begins with the text before the
+    /// cursor. That line is shown, with the cursor behind that text. Where there is none the index has moved, and there
+    /// is a beep. At the history's ends there is only a beep.
+    ///
+    /// # Errors
+    /// Those of the parties and of the renderer, and that memory ran out.
+    pub fn edit_history_search(&mut self, dir: SearchDirection) -> Result<()>
+        ensures { let e = ⟦<Self as EditorState>⟧ in
+            let w = e.environment self.old in let d = e.draft self.old in
+            DoesAsking e (asked_in_search w dir d) result self.old self.new
+            (search_shown w dir d) (drawn_if (is_some (search_of w dir d))) 1 }
+    {
+        let index = self.place();
+        match dir {
+            SearchDirection::Reverse => {
+                if index == 0 {
+                    return self.beep();
+                }
+                self.search_from(index - 1, dir)
+            }
+            SearchDirection::Forward => {
+                if index == self.parties.history().len() {
+                    return self.beep();
+                }
+                self.search_from(index + 1, dir)
+            }
+        }
+    }
+
+    // Shows the line of the history before this one, if there is one.
+    #[tactic(auto, using(crate::proofs::HistoryMoveLemmas::way_stays, crate::proofs::HistoryMoveLemmas::way_goes))]
+    fn show_previous(&mut self) -> Result<()>
+        ensures { let e = ⟦<Self as EditorState>⟧ in
+            let w = e.environment self.old in let d = e.draft self.old in
+            DoesAsking e (asked_back d) result self.old self.new (previous_shown w d)
+            (drawn_if (not (way_ends w Reverse d))) 1 }
+    {
+        let index = self.place();
+        if index == 0 {
+            return Ok(());
+        }
+        self.leave_for(index - 1)
+    }
+
+    // Shows the line behind this one, if there is one: behind the history's last stands the one that is being written.
+    #[tactic(auto, using(crate::proofs::HistoryMoveLemmas::way_stays, crate::proofs::HistoryMoveLemmas::way_goes))]
+    fn show_next(&mut self) -> Result<()>
+        ensures { let e = ⟦<Self as EditorState>⟧ in
+            let w = e.environment self.old in let d = e.draft self.old in
+            DoesAsking e (asked_on w d) result self.old self.new (next_shown w d)
+            (drawn_if (not (way_ends w Forward d))) 1 }
+    {
+        let index = self.place();
+        let end = self.parties.history().len();
+        if index == end {
+            return Ok(());
+        }
+        if index + 1 == end {
+            return self.come_back();
+        }
+        self.show_line(index + 1)
+    }
+
+    // Shows the first line of the history, if it is not shown already.
+    #[tactic(auto, using(crate::proofs::HistoryMoveLemmas::way_stays, crate::proofs::HistoryMoveLemmas::way_goes))]
+    fn show_first(&mut self) -> Result<()>
+        ensures { let e = ⟦<Self as EditorState>⟧ in
+            let w = e.environment self.old in let d = e.draft self.old in
+            DoesAsking e (asked_back d) result self.old self.new (first_shown w d)
+            (drawn_if (not (way_ends w Reverse d))) 1 }
+    {
+        if self.place() == 0 {
+            return Ok(());
+        }
+        self.leave_for(0)
+    }
+
+    // Comes back to the line that is being written, if it is not shown already.
+    #[tactic(auto, using(crate::proofs::HistoryMoveLemmas::way_stays, crate::proofs::HistoryMoveLemmas::way_goes))]
+    fn show_end(&mut self) -> Result<()>
+        ensures { let e = ⟦<Self as EditorState>⟧ in
+            let w = e.environment self.old in let d = e.draft self.old in
+            DoesAsking e (asked_to_end w d) result self.old self.new (end_shown w d)
+            (drawn_if (not (way_ends w Forward d))) 1 }
+    {
+        if self.place() == self.parties.history().len() {
+            return Ok(());
+        }
+        self.come_back()
+    }
+
+    // Beeps. Nothing is drawn.
+    pub(crate) fn beep(&mut self) -> Result<()>
+        ensures drew { DrewNothing ⟦<Self as EditorState>⟧ self.old self.new }
+        ensures paints { Paints ⟦<Self as EditorState>⟧ false result self.old self.new }
+    {
+        self.view.beep()
+    }
+
+    // Saves the line where it is the one that is being written.
+    fn save_at_end(&mut self) -> Result<()>
+        ensures draft { let e = ⟦<Self as EditorState>⟧ in OnOk result
+            (e.draft self.new ≡ saved_at_end (e.environment self.old) (e.draft self.old)) }
+        ensures undrawn { Undrawn ⟦<Self as EditorState>⟧ self.old self.new }
+        ensures memory { MemoryOnly result }
+    {
+        if self.place() == self.parties.history().len() {
+            self.backup()?;
+        }
+        Ok(())
+    }
+
+    // Saves the line where it is the one that is being written, and shows the one of the history at an index.
+    fn leave_for(&mut self, index: usize) -> Result<()>
+        requires { index + 1 ≤ length (⟦<Self as EditorState>⟧.environment self.old).lines }
+        ensures { let e = ⟦<Self as EditorState>⟧ in let w = e.environment self.old in
+            DoesAsking e for_line result self.old self.new
+            (line_shown w index (saved_at_end w (e.draft self.old))) with_hint 1 }
+    {
+        self.save_at_end()?;
+        self.show_line(index)
+    }
+
+    // Shows the line of the history at an index, with the cursor at its end.
+    #[tactic(auto, using(crate::proofs::AskedLemmas::sure_history))]
+    fn show_line(&mut self, index: usize) -> Result<()>
+        requires { index + 1 ≤ length (⟦<Self as EditorState>⟧.environment self.old).lines }
+        ensures { let e = ⟦<Self as EditorState>⟧ in
+            DoesAsking e for_line result self.old self.new
+            (line_shown (e.environment self.old) index (e.draft self.old)) with_hint 1 }
+    {
+        let history = self.parties.history();
+        let Some(found) = history.get(index, SearchDirection::Reverse)? else {
+            return Ok(());
+        };
+        let text = found.entry.as_str();
+        self.show_text(text, text.len(), index)
+    }
+
+    // Puts a text of the history in the line's place, with the cursor at byte `pos` of it, as the line at an index.
+    fn show_text(&mut self, text: &str, pos: usize, index: usize) -> Result<()>
+        requires boundary { IsCharBoundary text.now pos }
+        requires index { index ≤ length (⟦<Self as EditorState>⟧.environment self.old).lines }
+        ensures { let e = ⟦<Self as EditorState>⟧ in let d = at_index index (e.draft self.old) in
+            Does e result self.old self.new
+            (showing (e.environment self.old) text.now pos d) with_hint 1 }
+    {
+        self.edited.update_in_group(text, pos)?;
+        self.parties.set_history_index(index);
+        self.refresh_line()
+    }
+
+    // Comes back to the line that is being written.
+    fn come_back(&mut self) -> Result<()>
+        ensures { let e = ⟦<Self as EditorState>⟧ in Does e result self.old self.new
+            (come_back (e.environment self.old) (e.draft self.old)) with_hint 1 }
+    {
+        self.restore()?;
+        let end = self.parties.history().len();
+        self.parties.set_history_index(end);
+        self.refresh_line()
+    }
+
+    // Goes to an index, and from there to the nearest line that begins with the text before the cursor, and shows it.
+    #[tactic(auto, using(crate::proofs::AskedLemmas::sure_look_up))]
+    fn search_from(&mut self, index: usize, dir: SearchDirection) -> Result<()>
+        requires { index ≤ length (⟦<Self as EditorState>⟧.environment self.old).lines }
+        ensures { let e = ⟦<Self as EditorState>⟧ in let d = e.draft self.old in
+            let found = starting_with (e.environment self.old).lines (before d.line) index dir in
+            DoesAsking e (asked_for found) result self.old self.new
+            (found_shown (e.environment self.old) found (at_index index d))
+            (drawn_if (is_some found)) 1 }
+    {
+        let line = self.edited.line();
+        let before = &line.as_str()[..line.pos()];
+        let Some(found) = self.parties.history().starts_with(before, index, dir)? else {
+            self.parties.set_history_index(index);
+            return self.beep();
+        };
+        self.show_text(found.entry.as_str(), found.pos, found.idx)
+    }
+}

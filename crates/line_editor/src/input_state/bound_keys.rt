@@ -1,0 +1,115 @@
+//! The commands that bindings give: those of the program, and those of the reader.
+ghost use Rattle.std.specs.Prelude.{◌≡◌, Option, false, option_map, IfOk};
+ghost use Rattle.line_config.specs.Error.{FaultsOnly, IoOnlyIf};
+ghost use Rattle.line_editor.specs.Binding.{all_sure, handled};
+ghost use Rattle.line_editor.specs.Event.{chord_of, keys};
+ghost use Rattle.line_editor.specs.InputState.{input_of, keys_of};
+ghost use Rattle.line_editor.specs.Keymap.{bound_command, keymap_of, on_line};
+ghost use Rattle.line_editor.specs.Moment.{moment_in, moment_of};
+ghost use Rattle.line_keys.specs.Command.{Command, command_of};
+ghost use Rattle.line_keys.specs.declared.keys.KeyEvent.{KeyEvent};
+
+use crate::binding::{ConditionalEventHandler, Event, EventContext, EventHandler};
+use crate::input_state::InputState;
+use line_config::Result;
+use line_keys::cmd::Cmd;
+use line_keys::count::Count;
+use line_keys::editor_state::EditorState;
+use line_keys::keys::KeyEvent;
+use line_keys::raw_reader::RawReader;
+use line_keys::refresher::Refresher;
+use std::alloc::Global;
+
+impl InputState<'_> {
+    /// Returns the command that the program's bindings give a key under the count that was typed, done again where it can be.
+    pub(crate) fn custom_binding<W: Refresher>(
+        &self,
+        wrt: &W,
+        key: KeyEvent,
+        typed: Option<Count>,
+    ) -> Result<Option<Cmd>>
+        ensures command { let k =
+            keys_of ⟦<dyn ConditionalEventHandler as ConditionalEventHandler>⟧ in
+            (own : KeyEvent → Option Command) → IfOk result (λ c. option_map command_of c
+            ≡ bound_command (keymap_of (k self.now) own) (W.draft wrt.now)
+            (input_of self.now) typed key) }
+        ensures io { let k = keys_of ⟦<dyn ConditionalEventHandler as ConditionalEventHandler>⟧ in
+            IoOnlyIf result (all_sure (k self.now).bound ≡ false) }
+        ensures faults { FaultsOnly result }
+    {
+        let Some(handler) = self.bindings.of_key(key) else {
+            return Ok(None);
+        };
+        let count = self.handed(typed);
+        match self.answer(wrt, handler, &[key], count)? {
+            Some(command) => Ok(Some(command.redo(self.new_count(typed), wrt)?)),
+            None => Ok(None),
+        }
+    }
+
+    /// Returns what a handler answers to keys under a count.
+    pub(crate) fn answer<W: Refresher>(
+        &self,
+        wrt: &W,
+        handler: &EventHandler,
+        sequence: &[KeyEvent],
+        count: Count,
+    ) -> Result<Option<Cmd>>
+        ensures command { let g = ⟦<dyn ConditionalEventHandler as ConditionalEventHandler>⟧ in
+            IfOk result (λ c. option_map command_of c ≡ (handled g handler.now).answer (record {
+              event = keys sequence.now;
+              count = count;
+              moment = moment_in (W.draft wrt.now) (input_of self.now);
+            })) }
+        ensures io { let g = ⟦<dyn ConditionalEventHandler as ConditionalEventHandler>⟧ in
+            IoOnlyIf result ((handled g handler.now).sure ≡ false) }
+        ensures faults { FaultsOnly result }
+    {
+        let alloc = self.bindings.alloc();
+        match handler {
+            EventHandler::Simple(command) => Ok(Some(command.clone(alloc)?)),
+            EventHandler::Conditional(handler) => {
+                let event = Event::of_keys(alloc, sequence)?;
+                let context = EventContext::new(self.mode, self.input_mode, wrt);
+                handle(alloc, handler, &event, count, &context)
+            }
+        }
+    }
+}
+
+// Returns what a handler answers to an event under a count.
+fn handle(
+    alloc: Global,
+    handler: &Box<dyn ConditionalEventHandler>,
+    event: &Event,
+    count: Count,
+    context: &EventContext<'_>,
+) -> Result<Option<Cmd>>
+    ensures command { let g = ⟦<dyn ConditionalEventHandler as ConditionalEventHandler>⟧ in
+        let value = handled g (EventHandler.Conditional handler.now) in
+        IfOk result (λ c. option_map command_of c ≡ value.answer (record {
+          event = chord_of event.now;
+          count = record { n = count.n; positive = count.positive };
+          moment = moment_of context.now;
+        })) }
+    ensures io { let g = ⟦<dyn ConditionalEventHandler as ConditionalEventHandler>⟧ in
+        IoOnlyIf result ((handled g (EventHandler.Conditional handler.now)).sure ≡ false) }
+    ensures faults { FaultsOnly result }
+{
+    handler.handle(alloc, event, count.n, count.positive, context)
+}
+
+/// Returns the command that the reader itself gives the key; `EndOfFile` counts on an empty line alone.
+pub(crate) fn own_command<R: RawReader, W: Refresher>(
+    rdr: &R,
+    wrt: &W,
+    key: &KeyEvent,
+) -> Option<Cmd>
+    ensures { option_map command_of result
+        ≡ on_line (W.draft wrt.now).line.text (R.own_binding rdr.now key.now) }
+{
+    match rdr.find_binding(key) {
+        Some(Cmd::EndOfFile) if !wrt.line().is_empty() => None,
+        command => command,
+    }
+}

@@ -1,0 +1,84 @@
+//! Bound sequences of keys.
+ghost use Rattle.std.specs.Prelude.{◌≡◌, Option, false, option_map, IfOk};
+ghost use Rattle.line_config.specs.Error.{FaultsOnly, IoOnlyIf};
+ghost use Rattle.line_editor.specs.Binding.{all_sure};
+ghost use Rattle.line_editor.specs.InputState.{input_of, keys_of};
+ghost use Rattle.line_editor.specs.Reading.{EndsInSequence, FindsSequence, OnRead, TakesItems};
+ghost use Rattle.line_editor.specs.Sequence.{sequences_of};
+ghost use Rattle.line_keys.specs.Command.{Command, command_of};
+ghost use Rattle.line_keys.specs.declared.keys.KeyEvent.{KeyEvent};
+
+use crate::binding::ConditionalEventHandler;
+use crate::input_state::InputState;
+use line_config::Result;
+use line_keys::cmd::Cmd;
+use line_keys::count::Count;
+use line_keys::editor_state::EditorState;
+use line_keys::keys::KeyEvent;
+use line_keys::raw_reader::RawReader;
+use line_keys::refresher::Refresher;
+
+/// What was read of a bound sequence.
+pub(crate) enum Sequence {
+    /// Keys that have a command.
+    Command(Cmd),
+    /// Keys that have none, of which the second one is given, if there was one.
+    InVain(Option<KeyEvent>),
+}
+
+impl InputState<'_> {
+    /// Reads the keys of a bound sequence that begins with a key, up to one that has a command or behind which none goes on.
+    pub(crate) fn custom_seq_binding<R: RawReader, W: Refresher>(
+        &self,
+        rdr: &mut R,
+        wrt: &W,
+        first: KeyEvent,
+        count: Count,
+    ) -> Result<Sequence>
+        ensures reads { let k =
+            keys_of ⟦<dyn ConditionalEventHandler as ConditionalEventHandler>⟧ self.now in
+            let by = sequences_of k.bound (W.draft wrt.now) k.input count in OnRead result
+            (λ found. FindsSequence R.RawReader rdr.old rdr.new by first found)
+            (EndsInSequence R.RawReader rdr.old rdr.new by first) }
+        ensures items { let k =
+            keys_of ⟦<dyn ConditionalEventHandler as ConditionalEventHandler>⟧ in
+            TakesItems R.RawReader (k self.now).bound result rdr.old rdr.new }
+    {
+        if !self.bindings.leads_on(&[first]) {
+            return Ok(Sequence::InVain(None));
+        }
+        let mut keys = Vec::new(self.bindings.alloc());
+        keys.push(first)?;
+        'keys: loop {
+            keys.push(rdr.next_key(true)?)?;
+            match self.sequence_command(wrt, keys.as_slice(), count)? {
+                Some(command) => return Ok(Sequence::Command(command)),
+                None => {}
+            }
+            if !self.bindings.leads_on(keys.as_slice()) {
+                return Ok(Sequence::InVain(keys.get(1).copied()));
+            }
+        }
+    }
+
+    // Returns the command of a bound sequence, if it is bound and has one.
+    fn sequence_command<W: Refresher>(
+        &self,
+        wrt: &W,
+        sequence: &[KeyEvent],
+        count: Count,
+    ) -> Result<Option<Cmd>>
+        ensures command { let g = ⟦<dyn ConditionalEventHandler as ConditionalEventHandler>⟧ in
+            let bound = (keys_of g self.now).bound in IfOk result (λ c. option_map command_of c
+            ≡ (sequences_of bound (W.draft wrt.now) (input_of self.now) count).command
+            sequence.now) }
+        ensures io { let k = keys_of ⟦<dyn ConditionalEventHandler as ConditionalEventHandler>⟧ in
+            IoOnlyIf result (all_sure (k self.now).bound ≡ false) }
+        ensures faults { FaultsOnly result }
+    {
+        match self.bindings.of_keys(sequence) {
+            Some(handler) => self.answer(wrt, handler, sequence, count),
+            None => Ok(None),
+        }
+    }
+}

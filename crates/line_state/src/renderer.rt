@@ -1,0 +1,171 @@
+//! What draws the prompt, the line and the cursor.
+ghost use Rattle.std.specs.Prelude.{◌≡◌, ℕ, ◌+◌, ◌<◌, List, [], ◌∷◌, ◌++◌, length, All, Option, is_some, option_map, OnOk};
+ghost use Rattle.line_config.specs.Error.{IsOneMore};
+ghost use Rattle.line_buffer.specs.declared.layout.Position.{Position};
+ghost use Rattle.line_keys.specs.Display.{IsFullRedraw, next_column};
+ghost use Rattle.line_state.specs.Printable.{IsPrintable, IsPrintableOrNewline};
+ghost use Rattle.line_state.specs.ScreenState.{Agrees, DrawsPart, EndsBehind, HasRoom, Tries, shown_by, with_shown};
+
+use crate::screen_state::ScreenState;
+use line_buffer::{GraphemeClusterMode, Layout, LineBuffer, Position, Unit};
+use line_config::{Prompt, Result};
+use line_keys::raw_reader::RawReader;
+use line_parts::Highlighter;
+
+/// Draws the prompt, the line and the cursor, and tells where a text ends.
+///
+/// Only a `refresh_line` that succeeds changes the count of full redraws, by one.
+///
+/// # Errors
+/// An error of input or output, and then the count of failures has risen; or that memory ran out.
+pub trait Renderer: ScreenState {
+    /// What reads the keys of this terminal.
+    type Reader: RawReader;
+
+    /// Moves the drawn cursor from `old`, where it stands, to `new`.
+    fn move_cursor(&mut self, old: Position, new: Position) -> Result<()>
+        ensures moved { (Self.screen self.old).position ≡ old
+            → OnOk result ((Self.screen self.new).position ≡ new) }
+        ensures text { (Self.screen self.new).text ≡ (Self.screen self.old).text }
+        ensures origin { (Self.screen self.new).origin ≡ (Self.screen self.old).origin }
+        ensures part { DrawsPart Self.ScreenState result self.old self.new };
+
+    /// Draws the prompt, the line and the text behind it in full. That text, `hint`, is a hint or a verdict's message.
+    ///
+    /// The cursor then stands where `new_layout` has it, if what is handed over agrees: the prompt ends at the prompt end of
+    /// `new_layout`, which is the layout of a full redraw; the cursor of `old_layout` is the drawn one; and a highlighter
+    /// comes only with colors. `old_layout` says which rows were drawn before; with none nothing is cleared.
+    fn refresh_line<P: Prompt, H: Highlighter>(
+        &mut self,
+        prompt: &P,
+        line: &LineBuffer,
+        hint: Option<&str>,
+        old_layout: Option<&Layout>,
+        new_layout: &Layout,
+        highlighter: Option<&H>,
+    ) -> Result<()>
+        ensures shown { Agrees (Self.surface self.old) (Self.screen self.old)
+            (P.raw_text prompt.now) line.now (option_map (λ s. s.now) hint.entry)
+            (option_map (λ l. l.now) old_layout.entry) new_layout.now (is_some highlighter.entry)
+            → OnOk result (Self.screen self.new ≡ shown_by new_layout.now line.now) }
+        ensures redraws { OnOk result (IsOneMore (Self.redraws self.old) (Self.redraws self.new)) }
+        ensures tries { Tries Self.ScreenState result self.old self.new };
+
+    /// Returns the layout of a full redraw, with each position measured from scratch.
+    fn compute_layout(
+        &self,
+        prompt_size: Position,
+        default_prompt: bool,
+        line: &LineBuffer,
+        info: Option<&str>,
+    ) -> Layout
+        ensures full { IsFullRedraw (Self.surface self.now) prompt_size line.now
+            (option_map (λ s. s.now) info.entry) result }
+        ensures prompt { result.default_prompt ≡ default_prompt }
+    {
+        let text = line.as_str();
+        let cursor = self.calculate_position(&text[..line.pos()], prompt_size);
+        let mut end = self.calculate_position(text, prompt_size);
+        if let Some(info) = info {
+            end = self.calculate_position(info, end);
+        }
+        Layout {
+            grapheme_cluster_mode: self.grapheme_cluster_mode(),
+            prompt_size,
+            default_prompt,
+            cursor,
+            end,
+            has_info: info.is_some(),
+        }
+    }
+
+    /// Returns the position where `s` ends, which begins at `orig`.
+    fn calculate_position(&self, s: &str, orig: Position) -> Position
+        ensures { result ≡ (Self.surface self.now).measure s.now orig };
+
+    /// Writes a text where the cursor stands. Where that is the end of the shown text, a column is free behind it, and the
+    /// text is one printable ASCII character, the character is shown and the cursor goes one column on.
+    fn write_and_flush(&mut self, buf: &str) -> Result<()>
+        ensures shown { (c : ℕ) → buf.now ≡ c ∷ [] → IsPrintable c
+            → HasRoom (Self.surface self.old) (Self.screen self.old)
+            → OnOk result (Self.screen self.new ≡ with_shown (Self.screen self.old) c) }
+        ensures part { DrawsPart Self.ScreenState result self.old self.new };
+
+    /// Tells the person that nothing could be done. Nothing shown changes.
+    fn beep(&mut self) -> Result<()>
+        ensures screen { Self.screen self.new ≡ Self.screen self.old }
+        ensures part { DrawsPart Self.ScreenState result self.old self.new };
+
+    /// Clears the whole screen. What is shown then is not said: a full redraw is to follow.
+    fn clear_screen(&mut self) -> Result<()>
+        ensures part { DrawsPart Self.ScreenState result self.old self.new };
+
+    /// Clears the rows of a drawn layout. What is shown then is not said: a full redraw is to follow.
+    fn clear_rows(&mut self, layout: &Layout) -> Result<()>
+        ensures part { DrawsPart Self.ScreenState result self.old self.new };
+
+    /// Clears the rest of the cursor's row. Where the shown text ends on that row, and what it has from the cursor on is
+    /// printable ASCII, that part is taken away from it.
+    fn clear_to_eol(&mut self) -> Result<()>
+        ensures position { (Self.screen self.new).position ≡ (Self.screen self.old).position }
+        ensures cleared { (kept gone : List ℕ) → (Self.screen self.old).text ≡ kept ++ gone
+            → All IsPrintable gone
+            → EndsBehind (Self.surface self.old) (Self.screen self.old) (length gone)
+            → OnOk result (Self.screen self.new ≡ record (Self.screen self.old) { text = kept }) }
+        ensures part { DrawsPart Self.ScreenState result self.old self.new };
+
+    /// Asks the terminal for its size again. The columns stay what they were.
+    fn update_size(&mut self)
+        ensures screen { Self.screen self.new ≡ Self.screen self.old }
+        ensures surface { Self.surface self.new ≡ Self.surface self.old }
+        ensures redraws { Self.redraws self.new ≡ Self.redraws self.old }
+        ensures failures { Self.failures self.new ≡ Self.failures self.old };
+
+    /// Returns how many columns a row has, at least one.
+    fn get_columns(&self) -> Unit
+        ensures value { result ≡ (Self.surface self.now).columns }
+        ensures positive { 0 < result };
+
+    /// Returns how many rows the terminal has.
+    fn get_rows(&self) -> Unit;
+
+    /// Returns whether colors are shown.
+    fn colors_enabled(&self) -> bool
+        ensures { result ≡ (Self.surface self.now).colors };
+
+    /// Returns how the columns of clusters are counted.
+    fn grapheme_cluster_mode(&self) -> GraphemeClusterMode
+        ensures { result ≡ (Self.surface self.now).mode };
+
+    /// Takes the cursor to the first column, below what is there. What is shown then is not said.
+    fn move_cursor_at_leftmost(&mut self, rdr: &mut Self::Reader) -> Result<()>
+        ensures part { DrawsPart Self.ScreenState result self.old self.new };
+
+    /// What is drawn from here on may be held back.
+    fn begin_synchronized_update(&mut self) -> Result<()>
+        ensures screen { Self.screen self.new ≡ Self.screen self.old }
+        ensures part { DrawsPart Self.ScreenState result self.old self.new }
+    {
+        // Nothing is held back.
+        Ok(())
+    }
+
+    /// What was held back is shown.
+    fn end_synchronized_update(&mut self) -> Result<()>
+        ensures screen { Self.screen self.new ≡ Self.screen self.old }
+        ensures part { DrawsPart Self.ScreenState result self.old self.new }
+    {
+        // Nothing was held back.
+        Ok(())
+    }
+
+    // From a position on a row, each text ends on a row.
+    ghost column_below: { (r : Self) (s : List ℕ) (o : Position) → o.col < (Self.surface r).columns
+        → ((Self.surface r).measure s o).col < (Self.surface r).columns };
+
+    // Behind printable ASCII and newlines, a printable ASCII character takes one column.
+    ghost one_column: { (r : Self) (s : List ℕ) (c : ℕ) (o : Position)
+        → o.col < (Self.surface r).columns → All IsPrintableOrNewline s → IsPrintable c
+        → (Self.surface r).measure (s ++ c ∷ []) o
+        ≡ next_column (Self.surface r).columns ((Self.surface r).measure s o) };
+}
