@@ -1,4 +1,1 @@
-pub mod Measure
-pub mod Script
-pub mod MeasureLaws
 pub mod Outcome

@@ -4,8 +4,6 @@
 ghost use Rattle.std.specs.Prelude.{◌≤◌};
 
 mod helper;
-mod measure;
-mod plain;
 mod report;
 mod script;
 
@@ -18,7 +16,7 @@ use line_editor::input_state::InputState;
 use line_editor::run::run;
 use line_keys::refresher::Refresher;
 use line_parts::{Context, FileHistory};
-use plain::Plain;
+use line_screen::Plain;
 use report::{Ending, Outcome, Report, exit_status};
 use script::{Script, ScriptError, read_script};
 use std::alloc::Global;
@@ -59,7 +57,7 @@ fn play_script<R: Read + Drop, O: Write>(
         Err(ScriptError::Fault(error)) => return Err(error),
     };
     let mut screen = Plain::new(alloc, parsed.columns);
-    let script = Script::new(parsed.items);
+    let script = parsed.items;
     let outcome = edit(
         alloc,
         parsed.prompt.as_str(),
@@ -69,19 +67,18 @@ fn play_script<R: Read + Drop, O: Write>(
         &mut screen,
         out,
     )?;
-    writeln!(out, "redraws {}", screen.redraws())?;
     out.flush()?;
     Ok(Ending::Ran(outcome))
 }
 
-/// Edits a line by the script's items, and prints all but the redraws.
+/// Edits a line by the script's items, and prints what became of it.
 fn edit<O: Write>(
     alloc: Global,
     prompt: &str,
     history: &FileHistory,
     mut helper: ScriptHelper,
     mut script: Script,
-    screen: &mut Plain,
+    screen: &mut Plain<Script>,
     out: &mut O,
 ) -> Result<Outcome, ReadlineError> {
     let config = Config::new(GraphemeClusterMode::Unicode);
@@ -97,6 +94,7 @@ fn edit<O: Write>(
         cursor: state.pos(),
         place: state.place(),
         at: state.layout().cursor,
+        redraws: state.out().redraws(),
     };
     report.write_to(out)?;
     Ok(report.outcome)

@@ -82,6 +82,8 @@ pub(crate) struct Report<'a> {
     pub(crate) place: usize,
     /// Where the cursor was drawn.
     pub(crate) at: Position,
+    /// How many full redraws there were.
+    pub(crate) redraws: u64,
 }
 
 impl Report<'_> {
@@ -93,7 +95,8 @@ impl Report<'_> {
         writeln!(out)?;
         writeln!(out, "cursor {}", self.cursor)?;
         writeln!(out, "place {}", self.place)?;
-        writeln!(out, "at {} {}", self.at.row, self.at.col)
+        writeln!(out, "at {} {}", self.at.row, self.at.col)?;
+        writeln!(out, "redraws {}", self.redraws)
     }
 }
 
@@ -147,6 +150,7 @@ mod tests {
             cursor: 3,
             place: 7,
             at: Position { row: 2, col: 5 },
+            redraws: 9,
         };
         let mut out = Vec::new(alloc);
         report.write_to(&mut out)?;
@@ -155,15 +159,18 @@ mod tests {
     }
 
     const LINES: &[(&str, &str)] = &[
-        ("", "outcome eof\nline \ncursor 3\nplace 7\nat 2 5\n"),
+        (
+            "",
+            "outcome eof\nline \ncursor 3\nplace 7\nat 2 5\nredraws 9\n",
+        ),
         (
             "a\\\n世",
-            "outcome eof\nline a\\\\\\n世\ncursor 3\nplace 7\nat 2 5\n",
+            "outcome eof\nline a\\\\\\n世\ncursor 3\nplace 7\nat 2 5\nredraws 9\n",
         ),
         // other control characters stand as they are
         (
             "\r\t\u{1}\\n\0",
-            "outcome eof\nline \r\t\u{1}\\\\n\0\ncursor 3\nplace 7\nat 2 5\n",
+            "outcome eof\nline \r\t\u{1}\\\\n\0\ncursor 3\nplace 7\nat 2 5\nredraws 9\n",
         ),
     ];
 

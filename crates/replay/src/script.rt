@@ -1,19 +1,15 @@
-//! The script: lines of text that stand for settings and for what a person types, and the reader of the latter.
-ghost use Rattle.std.specs.Prelude.{◌≡◌, ◌<◌, ◌≤◌, IfSome};
-ghost use Rattle.line_config.specs.Error.{Rose};
+//! The script: lines of text that stand for settings and for what a person types.
+ghost use Rattle.std.specs.Prelude.{◌≡◌, ◌<◌, IfSome};
 
 mod names;
 
 use crate::helper::ScriptHelper;
 use line_buffer::Unit;
 use line_config::ReadlineError;
-use line_keys::cmd::Cmd;
-use line_keys::keys::{KeyCode, KeyEvent, Modifiers};
-use line_keys::raw_reader::RawReader;
 use line_parts::{FileHistory, History};
+use line_screen::KeyQueue;
 use names::key_named;
 use std::alloc::{AllocError, Global};
-use std::collections::VecDeque;
 use std::io;
 use std::io::Read;
 
@@ -23,14 +19,8 @@ const PROMPT: &str = "> ";
 /// The columns of the screen where no line sets others.
 const COLUMNS: Unit = 80;
 
-/// Something that the editor reads.
-#[derive(Debug, Drop)]
-pub(crate) enum Item {
-    /// A key.
-    Key(KeyEvent),
-    /// A pasted text.
-    Paste(String),
-}
+/// The reader of what a script types.
+pub(crate) type Script = KeyQueue;
 
 /// What the lines of a script give.
 #[derive(Drop)]
@@ -44,7 +34,7 @@ pub(crate) struct Parsed {
     /// The columns of the screen, at least one.
     pub(crate) columns: Unit,
     /// What the editor reads.
-    pub(crate) items: VecDeque<Item>,
+    pub(crate) items: Script,
     /// Whether a line of items came, behind which no setting may stand.
     has_item_lines: bool,
     ghost some_columns: { 0 < columns },
@@ -58,7 +48,7 @@ impl Parsed {
             helper: ScriptHelper::new(),
             prompt: String::from_str(alloc, PROMPT)?,
             columns: COLUMNS,
-            items: VecDeque::new(alloc),
+            items: Script::new(alloc),
             has_item_lines: false,
         })
     }
@@ -91,88 +81,6 @@ impl From<ReadlineError> for ScriptError {
 
     fn from(error: ReadlineError) -> Self {
         ScriptError::Fault(error)
-    }
-}
-
-/// The reader of a script's items.
-#[derive(Debug, Drop)]
-pub(crate) struct Script {
-    items: VecDeque<Item>,
-    failures: u64,
-}
-
-impl Script {
-    /// A reader of these items.
-    pub(crate) fn new(items: VecDeque<Item>) -> Script
-        ensures items { result.items.items ≡ items.items }
-        ensures failures { result.failures ≡ 0 }
-    {
-        Script { items, failures: 0 }
-    }
-
-    /// Counts the failure that the next item is of the wrong kind, and gives its error.
-    fn wrong_item(&mut self) -> io::Error
-        ensures items { self.new.items ≡ self.old.items }
-        ensures rose { Rose self.old.failures self.new.failures }
-        ensures counts { self.old.failures ≤ self.new.failures }
-    {
-        self.failures = self.failures.saturating_add(1);
-        io::Error::from(io::ErrorKind::InvalidData)
-    }
-}
-
-impl RawReader for Script {
-    ghost use Rattle.std.specs.Prelude.{map};
-    ghost use Rattle.replay.specs.Script.{item_of, script_binding};
-
-    ghost rest = { λ s. map item_of s.items.items };
-
-    ghost failures = { λ s. s.failures };
-
-    ghost own_binding = { λ _. script_binding };
-
-    fn next_key(&mut self, single_esc_abort: bool) -> Result<KeyEvent, ReadlineError> {
-        let _ = single_esc_abort;
-        match self.items.front() {
-            Some(Item::Key(key)) => {
-                let key = *key;
-                let _ = self.items.pop_front();
-                Ok(key)
-            }
-            Some(Item::Paste(_)) => Err(ReadlineError::Io(self.wrong_item())),
-            None => Err(ReadlineError::Eof),
-        }
-    }
-
-    fn next_char(&mut self) -> Result<char, ReadlineError> {
-        match self.items.front() {
-            Some(Item::Key(KeyEvent(KeyCode::Char(c), Modifiers::NONE))) => {
-                let c = *c;
-                let _ = self.items.pop_front();
-                Ok(c)
-            }
-            Some(_) => Err(ReadlineError::Io(self.wrong_item())),
-            None => Err(ReadlineError::Eof),
-        }
-    }
-
-    fn read_pasted_text(&mut self) -> Result<String, ReadlineError> {
-        match self.items.front() {
-            Some(Item::Paste(_)) => match self.items.pop_front() {
-                Some(Item::Paste(text)) => Ok(text),
-                _ => unreachable!(),
-            },
-            Some(Item::Key(_)) => Err(ReadlineError::Io(self.wrong_item())),
-            None => Err(ReadlineError::Eof),
-        }
-    }
-
-    fn find_binding(&self, key: &KeyEvent) -> Option<Cmd> {
-        match key {
-            KeyEvent(KeyCode::Char('C'), Modifiers::CTRL) => Some(Cmd::Interrupt),
-            KeyEvent(KeyCode::Char('D'), Modifiers::CTRL) => Some(Cmd::EndOfFile),
-            _ => None,
-        }
     }
 }
 
@@ -215,15 +123,15 @@ fn push_line(alloc: Global, line: &str, parsed: &mut Parsed) -> Result<bool, Rea
         Some(("columns", digits)) if !parsed.has_item_lines => Ok(set_columns(digits, parsed)),
         Some(("type", text)) => {
             parsed.has_item_lines = true;
-            Ok(push_typed(alloc, text, &mut parsed.items)?)
+            push_typed(alloc, text, &mut parsed.items)
         }
         Some(("key", name)) => {
             parsed.has_item_lines = true;
-            Ok(push_key(name, &mut parsed.items)?)
+            push_key(name, &mut parsed.items)
         }
         Some(("paste", text)) => {
             parsed.has_item_lines = true;
-            Ok(push_pasted(alloc, text, &mut parsed.items)?)
+            push_pasted(alloc, text, &mut parsed.items)
         }
         _ => Ok(false),
     }
@@ -284,32 +192,29 @@ fn columns_in(digits: &str) -> Option<Unit>
 }
 
 /// Adds the mark before a pasted text, and the text. False where an escape is bad.
-fn push_pasted(alloc: Global, text: &str, items: &mut VecDeque<Item>) -> Result<bool, AllocError> {
+fn push_pasted(alloc: Global, text: &str, items: &mut Script) -> Result<bool, ReadlineError> {
     let Some(pasted) = unescape(alloc, text)? else {
         return Ok(false);
     };
-    items.push_back(Item::Key(KeyEvent(KeyCode::BracketedPasteStart, Modifiers::NONE)))?;
-    items.push_back(Item::Paste(pasted))?;
+    items.paste(pasted.as_str())?;
     Ok(true)
 }
 
 /// Adds a key for each character of the text, as it is. False where an escape is bad.
-fn push_typed(alloc: Global, text: &str, items: &mut VecDeque<Item>) -> Result<bool, AllocError> {
+fn push_typed(alloc: Global, text: &str, items: &mut Script) -> Result<bool, ReadlineError> {
     let Some(typed) = unescape(alloc, text)? else {
         return Ok(false);
     };
-    for c in typed.chars() {
-        items.push_back(Item::Key(KeyEvent(KeyCode::Char(c), Modifiers::NONE)))?;
-    }
+    items.type_text(typed.as_str())?;
     Ok(true)
 }
 
 /// Adds the key of this name. False where no key has the name.
-fn push_key(name: &str, items: &mut VecDeque<Item>) -> Result<bool, AllocError> {
+fn push_key(name: &str, items: &mut Script) -> Result<bool, ReadlineError> {
     let Some(key) = key_named(name) else {
         return Ok(false);
     };
-    items.push_back(Item::Key(key))?;
+    items.press(key)?;
     Ok(true)
 }
 

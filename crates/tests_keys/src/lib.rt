@@ -8,7 +8,6 @@ pub mod caller;
 mod definitions;
 #[cfg(test)]
 mod editor;
-pub mod example;
 #[cfg(test)]
 mod examples;
 #[cfg(test)]

@@ -1,6 +1,8 @@
 //! Scripts, line by line.
 
 use super::*;
+use line_keys::keys::{KeyCode, KeyEvent, Modifiers};
+use line_keys::raw_reader::RawReader;
 use std::io::Write;
 use std::process::Abort;
 use std::test::Fail;
@@ -9,12 +11,12 @@ const NEWLINE: char = '\n';
 
 fn keeps(rt: &impl Abort, alloc: Global, case: (&str, &[KeyEvent])) -> Result<(), Fail> {
     let (script, keys) = case;
-    let Ok(Parsed { items, .. }) = read_script(alloc, script.as_bytes()) else {
+    let Ok(Parsed { mut items, .. }) = read_script(alloc, script.as_bytes()) else {
         return Err(Fail::from("a good script"));
     };
     assert_eq!(rt; items.len(), keys.len(), "{script}");
-    for (item, key) in items.iter().zip(keys) {
-        assert!(rt; matches!(item, Item::Key(read) if read == key), "{script}");
+    for key in keys {
+        assert_eq!(rt; items.next_key(false)?, *key, "{script}");
     }
     Ok(())
 }
@@ -219,19 +221,14 @@ const PASTED: &[(&str, &str)] = &[
 
 fn pastes(rt: &impl Abort, alloc: Global, case: (&str, &str)) -> Result<(), Fail> {
     let (script, text) = case;
-    let Ok(Parsed { items, .. }) = read_script(alloc, script.as_bytes()) else {
+    let Ok(Parsed { mut items, .. }) = read_script(alloc, script.as_bytes()) else {
         return Err(Fail::from("a good script"));
     };
     assert_eq!(rt; items.len(), 2, "{script}");
     let mark = KeyEvent(KeyCode::BracketedPasteStart, Modifiers::NONE);
-    assert!(rt;
-        matches!(items.front(), Some(Item::Key(key)) if *key == mark),
-        "{script}"
-    );
-    assert!(rt;
-        matches!(items.back(), Some(Item::Paste(pasted)) if pasted.as_str() == text),
-        "{script}"
-    );
+    assert_eq!(rt; items.next_key(false)?, mark, "{script}");
+    let pasted = items.read_pasted_text()?;
+    assert_eq!(rt; pasted.as_str(), text, "{script}");
     Ok(())
 }
 
@@ -333,30 +330,6 @@ fn names_the_first_bad_line(rt: HostRuntime) {
     for case in BAD {
         refuses(&rt, rt.alloc(), *case);
     }
-}
-
-#[test]
-fn gives_items_of_the_asked_kind(rt: HostRuntime) -> Result<(), Fail> {
-    let mut items = VecDeque::new(rt.alloc());
-    items.push_back(Item::Key(typed('x')))?;
-    items.push_back(Item::Paste(String::from_str(rt.alloc(), "t\n")?))?;
-    items.push_back(Item::Key(CTRL_A))?;
-    let mut script = Script::new(items);
-    assert!(rt; matches!(script.read_pasted_text(), Err(ReadlineError::Io(_))));
-    assert_eq!(rt; script.next_char()?, 'x');
-    assert!(rt; matches!(script.next_key(false), Err(ReadlineError::Io(_))));
-    let pasted = script.read_pasted_text()?;
-    assert_eq!(rt; pasted.as_str(), "t\n");
-    assert!(rt; matches!(script.next_char(), Err(ReadlineError::Io(_))));
-    assert_eq!(rt; script.next_key(true)?, CTRL_A);
-    assert!(rt; matches!(script.next_key(false), Err(ReadlineError::Eof)));
-    assert_eq!(rt; script.failures, 3);
-    assert!(rt; matches!(script.find_binding(&KeyEvent::ctrl('c')), None));
-    let bound = script.find_binding(&KeyEvent::ctrl('\u{3}'));
-    assert!(rt; matches!(bound, Some(Cmd::Interrupt)));
-    let bound = script.find_binding(&KeyEvent::ctrl('\u{4}'));
-    assert!(rt; matches!(bound, Some(Cmd::EndOfFile)));
-    Ok(())
 }
 
 const CTRL_A: KeyEvent = KeyEvent(KeyCode::Char('A'), Modifiers::CTRL);

@@ -26,7 +26,7 @@ use Rattle.unicode_width.proofs.Rules.{str_width-printable}
 use Rattle.line_buffer.specs.declared.layout.Position.{Position}
 use Rattle.line_state.specs.Printable.{IsPrintable, IsPrintableOrNewline}
 use Rattle.line_keys.specs.Display.{next_column}
-use Rattle.replay.specs.Measure.{ends_row, columns_of, start_below, advanced, after_cluster, wrapped, measured}
+use Rattle.line_screen.specs.Measure.{ends_row, columns_of, start_below, advanced, after_cluster, wrapped, measured}
 
 -- ---- no position stands past the columns
 

@@ -2,8 +2,8 @@ use Rattle.std.proofs.Common.{◌≡◌, true}
 use Rattle.std.specs.List.{fold}
 use Rattle.unicode_segmentation.specs.Grapheme.{graphemes}
 use Rattle.unicode_segmentation.specs.Iter.{graphemes_left}
-use Rattle.replay.specs.Measure.{after_cluster}
-use Rattle.replay.proofs.measure.measured.Given as goal
+use Rattle.line_screen.specs.Measure.{after_cluster}
+use Rattle.line_screen.proofs.measure.measured.Given as goal
 
 -- the clusters that are left take this place to where the text ends
 abbrev pub invariant-loop-cluster : goal.invariant-loop-cluster

@@ -1,7 +1,7 @@
-use Rattle.replay.specs.MeasureLaws.{measured-one}
-use Rattle.replay.proofs.plain.PlainRenderer.write_and_flush.Goals as goal
+use Rattle.line_screen.specs.MeasureLaws.{measured-one}
+use Rattle.line_screen.proofs.plain.PlainRenderer.write_and_flush.Goals as goal
 
 pub returns-clause-shown : goal.returns-clause-shown
-returns-clause-shown c = λ ch e print room.
+returns-clause-shown g c = λ ch e print room.
     let one = measured-one c.args.self.now.columns ch c.args.self.now.place room.1 print in
     cc (c.in_ok-push_str.ensures.bytes)

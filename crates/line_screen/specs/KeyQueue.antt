@@ -1,0 +1,47 @@
+-- What a queue of keys and pasted texts holds.
+use Rattle.std.specs.Prelude.{ℕ, ◌==◌, ◌&&◌, ◌++◌, Bool, List, Option, Some, None, if◌then◌else◌, string_bytes}
+use Rattle.line_keys.specs.Command.{Command, end_of_file, interrupt}
+use Rattle.line_keys.specs.Item as input
+use Rattle.line_keys.specs.Key.{bits_of, event}
+use Rattle.line_keys.specs.declared.keys.KeyCode.{KeyCode}
+use Rattle.line_keys.specs.declared.keys.KeyCode.TheVariants.{Char, BracketedPasteStart}
+use Rattle.line_keys.specs.declared.keys.KeyEvent.{KeyEvent}
+use Rattle.line_keys.specs.declared.keys.TheConstants.Modifiers.{CTRL, NONE}
+use Rattle.line_screen.specs.declared.key_queue.Item.{Item}
+use Rattle.line_screen.specs.declared.key_queue.Item.TheVariants.{Key, Paste}
+
+-- an item as the reader gives it
+abbrev pub item_of : Item → input.Item
+item_of (Key k) = input.key k
+item_of (Paste text) = input.paste (string_bytes text)
+
+-- what was read since the mark, what is left to read, how often reading failed, and whether the queue binds keys
+pub record Queued : Type 0 where
+  pub read : List input.Item
+  pub rest : List input.Item
+  pub failures : ℕ
+  pub binds : Bool
+
+-- all that stands in the queue: no call that reads changes it
+abbrev pub standing : Queued → List input.Item
+standing q = q.read ++ q.rest
+
+-- the plain key of a character
+abbrev pub plain_key : ℕ → input.Item
+plain_key c = input.key (event (Char c) NONE)
+
+-- the key before a pasted text
+abbrev pub paste_start : KeyEvent
+paste_start = event BracketedPasteStart NONE
+
+-- C-C interrupts and C-D ends the input
+abbrev pub code_binding : KeyCode → ℕ → Option Command
+code_binding (Char c) modifiers =
+    if (c == 67) && (modifiers == bits_of CTRL) then Some interrupt
+    else if (c == 68) && (modifiers == bits_of CTRL) then Some end_of_file
+    else None
+code_binding _ modifiers = None
+
+-- what a queue binds a key to, if it binds keys
+abbrev pub queue_binding : Bool → KeyEvent → Option Command
+queue_binding binds k = if binds then code_binding k.0 (bits_of k.1) else None

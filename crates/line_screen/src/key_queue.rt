@@ -1,0 +1,280 @@
+//! A reader of the keys and pasted texts that a program hands over.
+ghost use Rattle.std.specs.Prelude.{◌≡◌, ◌≤◌, ◌==◌, ◌∷◌, ◌++◌, [], true, false, length, map, chars, IfOk, IfErr, OnOk, OnErr, string_bytes};
+ghost use Rattle.line_config.specs.Error.{MemoryOnly, Rose};
+ghost use Rattle.line_config.specs.Failures.{CountsFailures};
+ghost use Rattle.line_keys.specs.Item as input;
+ghost use Rattle.line_keys.specs.Item.{ReadFault};
+ghost use Rattle.line_keys.specs.Key.{event};
+ghost use Rattle.line_screen.specs.KeyQueue.{item_of, paste_start, plain_key, standing};
+
+use line_config::{ReadlineError, Result};
+use line_keys::cmd::Cmd;
+use line_keys::keys::{KeyCode, KeyEvent, Modifiers};
+use line_keys::raw_reader::RawReader;
+use std::alloc::Global;
+use std::collections::VecDeque;
+use std::io;
+use std::marker::Model;
+
+/// Something that is read.
+#[derive(Debug, Drop)]
+enum Item {
+    /// A key.
+    Key(KeyEvent),
+    /// A pasted text.
+    Paste(String),
+}
+
+/// A reader of the keys and pasted texts that a program hands over, in that order.
+///
+/// At the end of what is there so far a call answers `Eof`, and the program can hand over more. What was read since the
+/// mark stays in the queue, so that it can be read again; a new queue has its mark at the start.
+#[derive(Drop)]
+pub struct KeyQueue {
+    alloc: Global,
+    items: VecDeque<Item>,
+    read: usize,
+    failures: u64,
+    binds: bool,
+}
+
+impl Model for KeyQueue {
+    ghost use Rattle.std.specs.Prelude.{◌≤◌, drop, length, map, take};
+    ghost use Rattle.line_screen.specs.KeyQueue.{Queued, item_of};
+
+    ghost Value = { Queued };
+
+    ghost view = { λ q. record {
+      read = map item_of (take q.read q.items.items);
+      rest = map item_of (drop q.read q.items.items);
+      failures = q.failures;
+      binds = q.binds;
+    } };
+
+    ghost invariant = { λ q. q.read ≤ length q.items.items };
+}
+
+impl KeyQueue {
+    /// Returns an empty queue, kept in memory of `alloc`, which binds Ctrl-C to an interrupt and Ctrl-D to the end of
+    /// the input.
+    pub fn new(alloc: Global) -> KeyQueue
+        ensures { result ≡ record { read = []; rest = []; failures = 0; binds = true } }
+    {
+        KeyQueue {
+            alloc,
+            items: VecDeque::new(alloc),
+            read: 0,
+            failures: 0,
+            binds: true,
+        }
+    }
+
+    /// Returns an empty queue, kept in memory of `alloc`, which binds no key.
+    pub fn without_bindings(alloc: Global) -> KeyQueue
+        ensures { result ≡ record { read = []; rest = []; failures = 0; binds = false } }
+    {
+        KeyQueue {
+            alloc,
+            items: VecDeque::new(alloc),
+            read: 0,
+            failures: 0,
+            binds: false,
+        }
+    }
+
+    /// Appends a key.
+    ///
+    /// # Errors
+    /// `Memory`, and then nothing was appended.
+    #[tactic(auto, using(crate::proofs::QueueLemmas::appended, crate::proofs::QueueLemmas::appended_behind))]
+    pub fn press(&mut self, key: KeyEvent) -> Result<()>
+        ensures pressed { OnOk result (self.new
+            ≡ record self.old { rest = self.old.rest ++ input.key key ∷ [] }) }
+        ensures refused { OnErr result (self.new ≡ self.old) }
+        ensures memory { MemoryOnly result }
+    {
+        self.items.push_back(Item::Key(key))?;
+        Ok(())
+    }
+
+    /// Appends a key without modifiers for each character of the text.
+    ///
+    /// # Errors
+    /// `Memory`, and then nothing was appended.
+    pub fn type_text(&mut self, text: &str) -> Result<()>
+        ensures typed { OnOk result (self.new
+            ≡ record self.old { rest = self.old.rest ++ map plain_key (chars text.now) }) }
+        ensures refused { OnErr result (self.new ≡ self.old) }
+        ensures memory { MemoryOnly result }
+    {
+        self.append(typed_items(self.alloc, text)?)
+    }
+
+    /// Appends the key that stands before a pasted text, and the text.
+    ///
+    /// # Errors
+    /// `Memory`, and then nothing was appended.
+    pub fn paste(&mut self, text: &str) -> Result<()>
+        ensures pasted { OnOk result (self.new ≡ record self.old
+            { rest = self.old.rest ++ input.key paste_start ∷ input.paste text.now ∷ [] }) }
+        ensures refused { OnErr result (self.new ≡ self.old) }
+        ensures memory { MemoryOnly result }
+    {
+        let start = KeyEvent(KeyCode::BracketedPasteStart, Modifiers::NONE);
+        let pasted = String::from_str(self.alloc, text)?;
+        self.append(VecDeque::from_array(self.alloc, [Item::Key(start), Item::Paste(pasted)])?)
+    }
+
+    /// Appends these items, all or none.
+    #[tactic(auto, using(crate::proofs::QueueLemmas::appended, crate::proofs::QueueLemmas::appended_behind))]
+    fn append(&mut self, mut items: VecDeque<Item>) -> Result<()>
+        ensures appended { OnOk result (self.new
+            ≡ record self.old { rest = self.old.rest ++ map item_of items.items }) }
+        ensures refused { OnErr result (self.new ≡ self.old) }
+        ensures memory { MemoryOnly result }
+    {
+        self.items.append(&mut items)?;
+        Ok(())
+    }
+
+    /// Returns how many items are left to read.
+    pub fn len(&self) -> usize
+        ensures { result ≡ length self.now.rest }
+    {
+        self.items.len() - self.read
+    }
+
+    /// Returns whether no item is left to read.
+    pub fn is_empty(&self) -> bool
+        ensures { result ≡ (length self.now.rest == 0) }
+    {
+        self.len() == 0
+    }
+
+    /// Returns how many calls failed. The count stays at its greatest value.
+    pub fn failures(&self) -> u64
+        ensures { result ≡ self.now.failures }
+    {
+        self.failures
+    }
+
+    /// Sets the mark here. What was read before is forgotten.
+    pub fn mark(&mut self)
+        ensures { self.new ≡ record self.old { read = [] } }
+    {
+        drop(self.items.drain(..self.read));
+        self.read = 0;
+    }
+
+    /// Goes back to the mark: what was read since then is read again.
+    #[tactic(auto, using(crate::proofs::QueueLemmas::rewound))]
+    pub fn rewind(&mut self)
+        ensures { self.new ≡ record self.old { read = []; rest = standing self.old } }
+    {
+        self.read = 0;
+    }
+
+    /// Counts the failure that the next item is of the wrong kind, and returns its error.
+    fn wrong_item(&mut self) -> io::Error
+        ensures rest { self.new ≡ record self.old { failures = self.new.failures } }
+        ensures rose { Rose self.old.failures self.new.failures }
+        ensures counts { self.old.failures ≤ self.new.failures }
+    {
+        self.failures = self.failures.saturating_add(1);
+        io::Error::from(io::ErrorKind::InvalidData)
+    }
+}
+
+/// Returns a key without modifiers for each character of the text.
+fn typed_items(alloc: Global, text: &str) -> Result<VecDeque<Item>>
+    ensures items { IfOk result (λ q. map item_of q.items ≡ map plain_key (chars text.now)) }
+    ensures memory { MemoryOnly result }
+{
+    let mut items = VecDeque::new(alloc);
+    for c in text.chars() {
+        items.push_back(Item::Key(KeyEvent(KeyCode::Char(c), Modifiers::NONE)))?;
+    }
+    Ok(items)
+}
+
+impl RawReader for KeyQueue {
+    ghost use Rattle.line_screen.specs.KeyQueue.{queue_binding};
+
+    ghost rest = { λ q. q.rest };
+
+    ghost failures = { λ q. q.failures };
+
+    ghost own_binding = { λ q. queue_binding q.binds };
+
+    fn next_key(&mut self, single_esc_abort: bool) -> Result<KeyEvent>
+        ensures took { IfOk result (λ k. self.old.rest ≡ input.key k ∷ self.new.rest) }
+        ensures kept { OnErr result (self.new.rest ≡ self.old.rest) }
+        ensures fault { IfErr result (λ e. ReadFault e self.old.rest) }
+        ensures counts { CountsFailures result self.old.failures self.new.failures }
+        ensures binding { queue_binding self.new.binds ≡ queue_binding self.old.binds }
+        ensures standing { standing self.new ≡ standing self.old }
+    {
+        let _ = single_esc_abort;
+        match self.items.get(self.read) {
+            Some(Item::Key(key)) => {
+                let key = *key;
+                self.read += 1;
+                Ok(key)
+            }
+            Some(Item::Paste(_)) => Err(ReadlineError::Io(self.wrong_item())),
+            None => Err(ReadlineError::Eof),
+        }
+    }
+
+    fn next_char(&mut self) -> Result<char>
+        ensures took { IfOk result (λ c.
+            self.old.rest ≡ input.key (event (KeyCode.Char c) Modifiers.NONE) ∷ self.new.rest) }
+        ensures kept { OnErr result (self.new.rest ≡ self.old.rest) }
+        ensures fault { IfErr result (λ e. ReadFault e self.old.rest) }
+        ensures counts { CountsFailures result self.old.failures self.new.failures }
+        ensures binding { queue_binding self.new.binds ≡ queue_binding self.old.binds }
+        ensures standing { standing self.new ≡ standing self.old }
+    {
+        match self.items.get(self.read) {
+            Some(Item::Key(KeyEvent(KeyCode::Char(c), Modifiers::NONE))) => {
+                let c = *c;
+                self.read += 1;
+                Ok(c)
+            }
+            Some(_) => Err(ReadlineError::Io(self.wrong_item())),
+            None => Err(ReadlineError::Eof),
+        }
+    }
+
+    /// The text is a copy: where there is no memory for it, nothing is read.
+    fn read_pasted_text(&mut self) -> Result<String>
+        ensures took { IfOk result (λ t.
+            self.old.rest ≡ input.paste (string_bytes t) ∷ self.new.rest) }
+        ensures kept { OnErr result (self.new.rest ≡ self.old.rest) }
+        ensures fault { IfErr result (λ e. ReadFault e self.old.rest) }
+        ensures counts { CountsFailures result self.old.failures self.new.failures }
+        ensures binding { queue_binding self.new.binds ≡ queue_binding self.old.binds }
+        ensures standing { standing self.new ≡ standing self.old }
+    {
+        match self.items.get(self.read) {
+            Some(Item::Paste(text)) => {
+                let text = String::from_str(self.alloc, text.as_str())?;
+                self.read += 1;
+                Ok(text)
+            }
+            Some(Item::Key(_)) => Err(ReadlineError::Io(self.wrong_item())),
+            None => Err(ReadlineError::Eof),
+        }
+    }
+
+    fn find_binding(&self, key: &KeyEvent) -> Option<Cmd> {
+        if !self.binds {
+            return None;
+        }
+        match key {
+            KeyEvent(KeyCode::Char('C'), Modifiers::CTRL) => Some(Cmd::Interrupt),
+            KeyEvent(KeyCode::Char('D'), Modifiers::CTRL) => Some(Cmd::EndOfFile),
+            _ => None,
+        }
+    }
+}

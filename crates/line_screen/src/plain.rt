@@ -1,0 +1,288 @@
+//! A screen that keeps what it shows, from which a program draws.
+ghost use Rattle.std.specs.Prelude.{◌≡◌, ◌<◌, [], false, Some, None, IfOk, OnOk, OnErr, is_some, option_map, string_bytes};
+ghost use Rattle.line_config.specs.Error.{IsOneMore, MemoryOnly};
+ghost use Rattle.line_keys.specs.Display.{corner};
+ghost use Rattle.line_buffer.specs.declared.layout.GraphemeClusterMode.TheVariants.{Unicode};
+ghost use Rattle.line_state.specs.ScreenState.{Agrees, Tries, shown_by};
+ghost use Rattle.line_screen.specs.Measure.{measured};
+
+use crate::measure::measured;
+use crate::surroundings::Surroundings;
+use line_buffer::{GraphemeClusterMode, Layout, LineBuffer, Position, Unit};
+use line_config::{Prompt, Result};
+use line_keys::raw_reader::RawReader;
+use line_parts::Highlighter;
+use line_state::{Renderer, ScreenState};
+use std::alloc::Global;
+use std::marker::PhantomData;
+
+const ORIGIN: Position = Position { row: 0, col: 0 };
+
+/// The rows that the screen says it has.
+const ROWS: Unit = 24;
+
+/// A screen without colors, for any reader of keys. It writes nothing: it keeps what is shown, and counts its full
+/// redraws, for a program that draws by itself.
+#[derive(Drop)]
+pub struct Plain<R: RawReader> {
+    alloc: Global,
+    columns: Unit,
+    place: Position,
+    text: String,
+    origin: Position,
+    prompt: String,
+    hint: Option<String>,
+    redraws: u64,
+    failures: u64,
+    reader: PhantomData<R>,
+    ghost some_columns: { 0 < columns },
+}
+
+impl<R: RawReader> Plain<R> {
+    /// Returns an empty screen of so many columns, with the cursor at its first place. What it shows is kept in memory
+    /// of `alloc`.
+    pub fn new(alloc: Global, columns: Unit) -> Plain<R>
+        requires { 0 < columns }
+        ensures surface { ⟦<Self as ScreenState>⟧.surface result
+            ≡ record {
+              measure = measured columns;
+              columns = columns;
+              colors = false;
+              mode = Unicode;
+            } }
+        ensures screen { ⟦<Self as ScreenState>⟧.screen result
+            ≡ record { position = corner; text = []; origin = corner } }
+        ensures prompt { ⟦<Self as Surroundings>⟧.prompt result ≡ [] }
+        ensures hint { ⟦<Self as Surroundings>⟧.hint result ≡ None }
+        ensures redraws { ⟦<Self as ScreenState>⟧.redraws result ≡ 0 }
+        ensures failures { ⟦<Self as ScreenState>⟧.failures result ≡ 0 }
+    {
+        Plain {
+            alloc,
+            columns,
+            place: ORIGIN,
+            text: String::new(alloc),
+            origin: ORIGIN,
+            prompt: String::new(alloc),
+            hint: None,
+            redraws: 0,
+            failures: 0,
+            reader: PhantomData,
+        }
+    }
+
+    /// Returns the line that is shown, without its prompt and its hint.
+    pub fn text(&self) -> &str
+        ensures { result.now ≡ (⟦<Self as ScreenState>⟧.screen self.now).text }
+    {
+        self.text.as_str()
+    }
+
+    /// Returns where the cursor stands, in rows and columns from 0.
+    pub fn cursor(&self) -> Position
+        ensures { result ≡ (⟦<Self as ScreenState>⟧.screen self.now).position }
+    {
+        self.place
+    }
+
+    /// Returns the prompt of the last full redraw, without styles.
+    pub fn prompt(&self) -> &str
+        ensures { result.now ≡ ⟦<Self as Surroundings>⟧.prompt self.now }
+    {
+        self.prompt.as_str()
+    }
+
+    /// Returns the text behind the line of the last full redraw, if there was one: a hint, or a verdict's message.
+    pub fn hint(&self) -> Option<&str>
+        ensures { option_map (λ s. s.now) result ≡ ⟦<Self as Surroundings>⟧.hint self.now }
+    {
+        match &self.hint {
+            Some(hint) => Some(hint.as_str()),
+            None => None,
+        }
+    }
+
+    /// Returns how many full redraws there were. The count stays at its greatest value.
+    pub fn redraws(&self) -> u64
+        ensures { result ≡ ⟦<Self as ScreenState>⟧.redraws self.now }
+    {
+        self.redraws
+    }
+
+    /// Returns how many columns a row has.
+    pub fn columns(&self) -> Unit
+        ensures value { result ≡ (⟦<Self as ScreenState>⟧.surface self.now).columns }
+        ensures positive { 0 < result }
+    {
+        self.columns
+    }
+
+    /// Forgets what is shown. The cursor goes to the first place.
+    fn clear(&mut self)
+        ensures text { string_bytes self.new.text ≡ [] }
+        ensures place { self.new.place ≡ ORIGIN }
+        ensures origin { self.new.origin ≡ ORIGIN }
+        ensures prompt { string_bytes self.new.prompt ≡ [] }
+        ensures hint { self.new.hint ≡ None }
+        ensures columns { self.new.columns ≡ self.old.columns }
+        ensures redraws { self.new.redraws ≡ self.old.redraws }
+        ensures failures { self.new.failures ≡ self.old.failures }
+    {
+        self.text.clear();
+        self.origin = ORIGIN;
+        self.place = ORIGIN;
+        self.prompt.clear();
+        self.hint = None;
+    }
+}
+
+/// Returns the hint as text of its own.
+fn owned(alloc: Global, hint: Option<&str>) -> Result<Option<String>>
+    ensures value { IfOk result (λ h.
+        option_map string_bytes h ≡ option_map (λ s. s.now) hint.entry) }
+    ensures memory { MemoryOnly result }
+{
+    match hint {
+        Some(hint) => Ok(Some(String::from_str(alloc, hint)?)),
+        None => Ok(None),
+    }
+}
+
+impl<R: RawReader> ScreenState for Plain<R> {
+    ghost use Rattle.std.specs.Prelude.{false};
+    ghost use Rattle.line_buffer.specs.declared.layout.GraphemeClusterMode.TheVariants.{Unicode};
+    ghost use Rattle.line_screen.specs.Measure.{measured};
+
+    ghost surface = { λ p. record {
+      measure = measured p.columns;
+      columns = p.columns;
+      colors = false;
+      mode = Unicode;
+    } };
+
+    ghost screen = { λ p. record { position = p.place; text = string_bytes p.text; origin = p.origin } };
+
+    ghost redraws = { λ p. p.redraws };
+
+    ghost failures = { λ p. p.failures };
+}
+
+impl<R: RawReader> Surroundings for Plain<R> {
+    ghost prompt = { λ p. string_bytes p.prompt };
+
+    ghost hint = { λ p. option_map string_bytes p.hint };
+}
+
+impl<R: RawReader> Renderer for Plain<R> {
+    type Reader = R;
+
+    ghost use Rattle.line_screen.specs.MeasureLaws as laws;
+
+    fn move_cursor(&mut self, old: Position, new: Position) -> Result<()> {
+        let _ = old;
+        self.place = new;
+        Ok(())
+    }
+
+    /// Where memory is refused, nothing that is kept changes.
+    fn refresh_line<P: Prompt, H: Highlighter>(
+        &mut self,
+        prompt: &P,
+        line: &LineBuffer,
+        hint: Option<&str>,
+        old_layout: Option<&Layout>,
+        new_layout: &Layout,
+        highlighter: Option<&H>,
+    ) -> Result<()>
+        ensures shown { Agrees (⟦<Self as ScreenState>⟧.surface self.old)
+            (⟦<Self as ScreenState>⟧.screen self.old)
+            (P.raw_text prompt.now) line.now (option_map (λ s. s.now) hint.entry)
+            (option_map (λ l. l.now) old_layout.entry) new_layout.now (is_some highlighter.entry)
+            → OnOk result (⟦<Self as ScreenState>⟧.screen self.new
+            ≡ shown_by new_layout.now line.now) }
+        ensures redraws { OnOk result (IsOneMore (⟦<Self as ScreenState>⟧.redraws self.old)
+            (⟦<Self as ScreenState>⟧.redraws self.new)) }
+        ensures tries { Tries ⟦<Self as ScreenState>⟧ result self.old self.new }
+        ensures prompt { OnOk result (⟦<Self as Surroundings>⟧.prompt self.new
+            ≡ P.raw_text prompt.now) }
+        ensures hint { OnOk result (⟦<Self as Surroundings>⟧.hint self.new
+            ≡ option_map (λ s. s.now) hint.entry) }
+        ensures refused { OnErr result (self.new ≡ self.old) }
+    {
+        let _ = old_layout;
+        let _ = highlighter;
+        let text = String::from_str(self.alloc, line.as_str())?;
+        let prompt = String::from_str(self.alloc, prompt.raw())?;
+        let hint = owned(self.alloc, hint)?;
+        self.text = text;
+        self.prompt = prompt;
+        self.hint = hint;
+        self.place = new_layout.cursor;
+        self.origin = new_layout.prompt_size;
+        self.redraws = self.redraws.saturating_add(1);
+        Ok(())
+    }
+
+    fn calculate_position(&self, s: &str, orig: Position) -> Position {
+        measured(self.columns, s, orig)
+    }
+
+    fn write_and_flush(&mut self, buf: &str) -> Result<()> {
+        self.text.push_str(buf)?;
+        self.place = measured(self.columns, buf, self.place);
+        Ok(())
+    }
+
+    fn beep(&mut self) -> Result<()> {
+        Ok(())
+    }
+
+    fn clear_screen(&mut self) -> Result<()> {
+        self.clear();
+        Ok(())
+    }
+
+    fn clear_rows(&mut self, layout: &Layout) -> Result<()> {
+        let _ = layout;
+        self.clear();
+        Ok(())
+    }
+
+    fn clear_to_eol(&mut self) -> Result<()> {
+        let end = measured(self.columns, self.text.as_str(), self.origin);
+        let gone = usize::from(end.col.saturating_sub(self.place.col));
+        let kept = self.text.len().saturating_sub(gone);
+        if end.row == self.place.row && self.text.is_char_boundary(kept) {
+            self.text.truncate(kept);
+        }
+        Ok(())
+    }
+
+    fn update_size(&mut self) {}
+
+    fn get_columns(&self) -> Unit {
+        self.columns
+    }
+
+    fn get_rows(&self) -> Unit {
+        ROWS
+    }
+
+    fn colors_enabled(&self) -> bool {
+        false
+    }
+
+    fn grapheme_cluster_mode(&self) -> GraphemeClusterMode {
+        GraphemeClusterMode::Unicode
+    }
+
+    fn move_cursor_at_leftmost(&mut self, rdr: &mut R) -> Result<()> {
+        let _ = rdr;
+        self.place.col = 0;
+        Ok(())
+    }
+
+    ghost column_below = { λ p. laws.measured-below p.columns };
+
+    ghost one_column = { λ p. laws.measured-push p.columns };
+}

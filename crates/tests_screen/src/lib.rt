@@ -1,0 +1,14 @@
+//! The tests of `line_screen`, and the programs of the documents that stand on it.
+#![tactic(auto)]
+
+pub mod by_keys;
+pub mod caller;
+#[cfg(test)]
+mod key_queue;
+#[cfg(test)]
+mod measure;
+#[cfg(test)]
+mod plain;
+#[cfg(test)]
+mod programs;
+pub mod read_line;

@@ -1,0 +1,110 @@
+//! The screen, by what it shows.
+
+use line_buffer::{LineBuffer, Position, Unit};
+use line_screen::{KeyQueue, Plain};
+use line_state::Renderer;
+use std::alloc::Global;
+use std::process::Abort;
+use std::test::Fail;
+
+/// A call of the screen. The first draws a line of two rows with something behind it.
+enum Call {
+    Draw,
+    DrawPlain,
+    Move(Unit, Unit),
+    Write(&'static str),
+    ClearToEnd,
+    Clear,
+}
+
+/// Draws this line in full, with the cursor at this place in it.
+fn drawn(
+    screen: &mut Plain<KeyQueue>,
+    line: &LineBuffer,
+    prompt: &str,
+    hint: Option<&str>,
+) -> line_config::Result<()> {
+    let prompt_end = screen.calculate_position(prompt, Position { row: 0, col: 0 });
+    let layout = screen.compute_layout(prompt_end, true, line, hint);
+    screen.refresh_line(&prompt, line, hint, None, &layout, None::<&()>)
+}
+
+fn called(alloc: Global, screen: &mut Plain<KeyQueue>, call: &Call) -> Result<(), Fail> {
+    match call {
+        Call::Draw => {
+            let line = LineBuffer::init(alloc, "ab\nc", 3)?;
+            drawn(screen, &line, "> ", Some("de"))?;
+        }
+        Call::DrawPlain => drawn(screen, &LineBuffer::init(alloc, "é", 2)?, "", None)?,
+        Call::Move(row, col) => {
+            let place = Position {
+                row: *row,
+                col: *col,
+            };
+            screen.move_cursor(screen.cursor(), place)?;
+        }
+        Call::Write(text) => screen.write_and_flush(text)?,
+        Call::ClearToEnd => screen.clear_to_eol()?,
+        Call::Clear => screen.clear_screen()?,
+    }
+    Ok(())
+}
+
+/// What a screen shows: the text, with the row and the column of its cursor, the prompt and the hint.
+type Shown = (
+    &'static str,
+    (Unit, Unit),
+    &'static str,
+    Option<&'static str>,
+);
+
+/// Calls, what the screen shows then, and how many full redraws there were.
+type Case = (&'static [Call], Shown, u64);
+
+fn shows(rt: &impl Abort, alloc: Global, case: &Case) -> Result<(), Fail> {
+    let (calls, (text, place, prompt, hint), redraws) = case;
+    let mut screen: Plain<KeyQueue> = Plain::new(alloc, 10);
+    for call in *calls {
+        called(alloc, &mut screen, call)?;
+    }
+    let cursor = screen.cursor();
+    assert_eq!(rt; (screen.text(), (cursor.row, cursor.col)), (*text, *place));
+    assert_eq!(rt; (screen.prompt(), screen.hint()), (*prompt, *hint));
+    assert_eq!(rt; (screen.redraws(), screen.columns()), (*redraws, 10));
+    Ok(())
+}
+
+const CALLS: &[Case] = &[
+    (&[], ("", (0, 0), "", None), 0),
+    (&[Call::Draw], ("ab\nc", (1, 0), "> ", Some("de")), 1),
+    (
+        &[Call::Draw, Call::Move(1, 1), Call::Write("x")],
+        ("ab\ncx", (1, 2), "> ", Some("de")),
+        1,
+    ),
+    (
+        &[Call::Draw, Call::ClearToEnd],
+        ("ab\n", (1, 0), "> ", Some("de")),
+        1,
+    ),
+    (
+        &[Call::Draw, Call::Move(1, 1), Call::ClearToEnd],
+        ("ab\nc", (1, 1), "> ", Some("de")),
+        1,
+    ),
+    (&[Call::Draw, Call::Clear], ("", (0, 0), "", None), 1),
+    (&[Call::Draw, Call::DrawPlain], ("é", (0, 1), "", None), 2),
+    (
+        &[Call::DrawPlain, Call::Draw],
+        ("ab\nc", (1, 0), "> ", Some("de")),
+        2,
+    ),
+];
+
+#[test]
+fn keeps_what_it_shows(rt: HostRuntime) -> Result<(), Fail> {
+    for case in CALLS {
+        shows(&rt, rt.alloc(), case)?;
+    }
+    Ok(())
+}
