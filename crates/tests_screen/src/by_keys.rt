@@ -16,31 +16,20 @@ pub fn edit_by_keys<O: Write>(
     typed: &[KeyEvent],
     terminal: &mut O,
 ) -> Result<String> {
+    let mut keys = KeyQueue::new(alloc);
+    let mut screen = Plain::new(alloc, 80);
     let config = Config::new(GraphemeClusterMode::Unicode);
     let bindings = Bindings::new(alloc);
-    let mut input = InputState::new(&config, &bindings);
-    let mut screen = Plain::new(alloc, 80);
-    feed(alloc, &config, &mut input, &mut screen, typed, terminal)
-}
-
-fn feed<O: Write>(
-    alloc: Global,
-    config: &Config,
-    input: &mut InputState<'_>,
-    screen: &mut Plain<KeyQueue>,
-    typed: &[KeyEvent],
-    terminal: &mut O,
-) -> Result<String> {
-    let mut keys = KeyQueue::new(alloc);
-    let mut kill_ring = KillRing::new(alloc, 60);
     let history = MemHistory::new(alloc);
+    let mut input = InputState::new(&config, &bindings);
+    let mut kill_ring = KillRing::new(alloc, 60);
     let mut helper = ();
     let context = Context::new(&history);
-    let mut state = State::new(alloc, screen, &"> ", Some(&mut helper), context)?;
+    let mut state = State::new(alloc, &mut screen, &"> ", Some(&mut helper), context)?;
     state.refresh_line()?;
     for key in typed {
         keys.press(*key)?;
-        match advance(&mut state, input, &mut keys, &mut kill_ring, config)? {
+        match advance(&mut state, &mut input, &mut keys, &mut kill_ring, &config)? {
             Turned::Proceeds => keys.mark(),
             Turned::NeedsMore => keys.rewind(),
             Turned::Submitted => return Ok(String::from_str(alloc, state.line())?),
