@@ -201,7 +201,8 @@ impl<'out, 'prompt, W: Renderer, H: Helper, P: Prompt, S: History> State<
 
     /// Returns the renderer, as the last drawing left it.
     pub fn out(&self) -> &W
-        ensures surface { W.surface result.now ≡ (⟦<Self as EditorState>⟧.display self.now).surface }
+        ensures surface { W.surface result.now
+            ≡ (⟦<Self as EditorState>⟧.display self.now).surface }
         ensures screen { W.screen result.now ≡ (⟦<Self as EditorState>⟧.display self.now).screen }
         ensures redraws { W.redraws result.now ≡ ⟦<Self as EditorState>⟧.redraws self.now }
         ensures failures { W.failures result.now ≡ ⟦<Self as EditorState>⟧.failures self.now }

@@ -36,7 +36,8 @@ fn push_escape(text: &mut Vec<u8>, byte: u8) -> Result<()>
 
 /// Puts a line behind a text, with its escapes and a line feed.
 fn push_line(text: &mut Vec<u8>, line: &str) -> Result<()>
-    ensures text { OnOk result (text.new.items ≡ text.old.items ++ (escaped_line line.now ++ 10 ∷ [])) }
+    ensures text { OnOk result (text.new.items
+        ≡ text.old.items ++ (escaped_line line.now ++ 10 ∷ [])) }
     ensures faults { MemoryOnly result }
 {
     let mut rest = line.as_bytes();
