@@ -109,14 +109,6 @@ impl<R: RawReader> Plain<R> {
         self.redraws
     }
 
-    /// Returns how many columns a row has.
-    pub fn columns(&self) -> Unit
-        ensures value { result ≡ (⟦<Self as ScreenState>⟧.surface self.now).columns }
-        ensures positive { 0 < result }
-    {
-        self.columns
-    }
-
     /// Forgets what is shown. The cursor goes to the first place.
     fn clear(&mut self)
         ensures text { string_bytes self.new.text ≡ [] }

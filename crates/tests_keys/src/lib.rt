@@ -1,4 +1,4 @@
-//! The tests of keys, of their tables and bindings and of runs, as tables of cases, and the examples of the documents.
+//! The tests of keys, of their tables and bindings and of runs, as tables of cases, and a caller of the documents.
 #![tactic(auto)]
 
 #[cfg(test)]

@@ -70,7 +70,7 @@ fn shows(rt: &impl Abort, alloc: Global, case: &Case) -> Result<(), Fail> {
     let cursor = screen.cursor();
     assert_eq!(rt; (screen.text(), (cursor.row, cursor.col)), (*text, *place));
     assert_eq!(rt; (screen.prompt(), screen.hint()), (*prompt, *hint));
-    assert_eq!(rt; (screen.redraws(), screen.columns()), (*redraws, 10));
+    assert_eq!(rt; (screen.redraws(), screen.get_columns()), (*redraws, 10));
     Ok(())
 }
 
