@@ -4,6 +4,7 @@ pub mod ChordLemmas
 pub mod SequenceLemmas
 pub mod SequenceReadLemmas
 pub mod TailLemmas
+pub mod TailedLemmas
 pub mod AcceptLemmas
 pub mod CommandLemmas
 pub mod CountLemmas

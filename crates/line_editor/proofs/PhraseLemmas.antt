@@ -4,14 +4,14 @@ use Rattle.line_parts.specs.Environment.{Environment}
 use Rattle.line_buffer.specs.declared.movement.CharSearch.{CharSearch}
 use Rattle.line_config.specs.declared.config.EditMode.{EditMode}
 use Rattle.line_config.specs.declared.config.EditMode.TheVariants.{Emacs, Vi}
-use Rattle.line_keys.specs.Command.{Command, insert, unknown}
+use Rattle.line_keys.specs.Command.{Command, unknown}
 use Rattle.line_keys.specs.Draft.{Draft}
-use Rattle.std.specs.Prelude.{◌&&◌, unwrap_or}
-use Rattle.std.proofs.lemmas.List.{append-nil, map-append}
+use Rattle.std.specs.Prelude.{◌&&◌}
+use Rattle.std.proofs.lemmas.List.{map-append}
 use Rattle.std.specs.List.{list_all}
 use Rattle.line_keys.specs.Count.{begins_count, continues_count, is_count_before}
 use Rattle.line_keys.specs.Item.{Item, key, paste}
-use Rattle.line_keys.specs.Table.{Meaning, gives, has_second, pastes, row_of, searches, unlisted}
+use Rattle.line_keys.specs.Table.{Meaning, has_second, pastes, row_of, searches, unlisted}
 use Rattle.line_keys.specs.Key.{event}
 use Rattle.line_keys.specs.declared.keys.KeyCode.TheVariants.{Enter}
 use Rattle.line_keys.specs.declared.keys.TheConstants.Modifiers.{NONE}
@@ -20,61 +20,11 @@ use Rattle.line_keys.specs.declared.keys.KeyEvent.{KeyEvent}
 use Rattle.line_keys.specs.declared.count.Count.{Count}
 use Rattle.line_editor.specs.Input.{Input}
 use Rattle.line_editor.specs.Keymap.{Keymap, Source, bound_command, by_binding, by_reader, by_table, count_or_one, first_source, on_line, source_of}
-use Rattle.line_editor.specs.Phrase.{Answers, IsBeginning, Keyed, LacksItems, LacksTail, Seconds, Tailed, after_count, moves_by, search_to, typed_count}
+use Rattle.line_editor.specs.Phrase.{Answers, IsBeginning, Keyed, LacksItems, LacksTail, Tailed, alone, by_second_key, by_second_in_vain, by_sequence, in_vain, pasted, searched, after_count, typed_count}
 use Rattle.line_editor.specs.Sequence.{Sequenced, Sequences, sequences_of}
-use Rattle.line_editor.proofs.SequenceLemmas.{GoesOn, sequences_fit}
+use Rattle.line_editor.proofs.SequenceLemmas.{GoesOn}
+use Rattle.line_editor.proofs.TailedLemmas.{Tailed-fit, nothing-behind}
 use Rattle.line_editor.specs.Laws.{IsPrefixFree}
-
--- nothing comes behind an empty list that stays empty
-nothing-behind : {A : Type 0} (tail more : List A) → tail ≡ [] → tail ++ more ≡ [] → more ≡ []
-nothing-behind [] more e f = f
-nothing-behind (x ∷ xs) more e f = absurd (cc)
-
--- one item behind a key is the one that is read, and nothing comes behind it
-one-item : (x y : Item) (tail more : List Item) → tail ≡ x ∷ [] → tail ++ more ≡ y ∷ [] → (more ≡ []) × (x ≡ y)
-one-item x y tail more is whole =
-    let there : x ∷ more ≡ y ∷ [] = sym (ap (λ t. t ++ more) is) ∙ whole in
-    let none : more ≡ [] = cc in
-    let same : x ≡ y = cc in
-    (none, same)
-
-same-key : (k k' : KeyEvent) → key k ≡ key k' → k ≡ k'
-same-key k k' same = cc
-
-same-text : (text text' : List ℕ) → paste text ≡ paste text' → text ≡ text'
-same-text text text' same = cc
-
--- so it is with the second key of all behind keys read for a sequence
-Seconds-fit : (by : KeyEvent → Command) (keys : List KeyEvent) (found : Option Command) (rest more : List Item) (c c' : Command)
-    → Seconds by keys found rest c → Seconds by keys found (rest ++ more) c' → (more ≡ []) × (c ≡ c')
-Seconds-fit by keys (Some answer) rest more c c' h k = (nothing-behind rest more h.0 k.0, h.1 ∙ sym k.1)
-Seconds-fit by [] None rest more c c' h k =
-    let one = one-item (key h.0) (key k.0) rest more h.1 k.1 in
-    (one.0, h.2 ∙ ap by (same-key h.0 k.0 one.1) ∙ sym k.2)
-Seconds-fit by (second ∷ keys) None rest more c c' h k = (nothing-behind rest more h.0 k.0, h.1 ∙ sym k.1)
-
--- what is read behind a key is fixed by the key, and gives one command
-Tailed-fit : (s : Sequences) (last : KeyEvent) (meaning : Meaning) (tail more : List Item) (c c' : Command)
-    → Tailed s last meaning tail c → Tailed s last meaning (tail ++ more) c' → (more ≡ []) × (c ≡ c')
-Tailed-fit s last (gives command) tail more c c' h k = (nothing-behind tail more h.0 k.0, h.1 ∙ sym k.1)
-Tailed-fit s last (searches n forth) tail more c c' h k =
-    let one = one-item (key h.0) (key k.0) tail more h.1 k.1 in
-    (one.0, h.2 ∙ ap (λ x. moves_by n (search_to forth x)) (same-key h.0 k.0 one.1) ∙ sym k.2)
-Tailed-fit s last pastes tail more c c' h k =
-    let one = one-item (paste h.0) (paste k.0) tail more h.1 k.1 in
-    (one.0, h.2 ∙ ap (λ x. insert 1 x) (same-text h.0 k.0 one.1) ∙ sym k.2)
-Tailed-fit s last (has_second by) tail more c c' h k =
-    let whole : map key h.0 ++ (h.2 ++ more) ≡ map key k.0 ++ k.2 =
-    sym (append_assoc (map key h.0) h.2 more) ∙ sym (ap (λ t. t ++ more) h.4) ∙ k.4 in
-    let fits = sequences_fit s last h.0 k.0 h.1 k.1 (h.2 ++ more) k.2 h.3 k.3 whole in
-    let P : List KeyEvent → Type 0 = λ ks. Seconds by ks k.1 k.2 c' in
-    let Q : Option Command → Type 0 = λ f. Seconds by h.0 f k.2 c' in
-    let R : List Item → Type 0 = λ t. Seconds by h.0 h.1 t c' in
-    Seconds-fit by h.0 h.1 h.2 more c c' h.5 (subst R (sym fits.same_rest) (subst Q (sym fits.same_answer) (subst P (sym fits.same_keys) k.5)))
-Tailed-fit s last unlisted tail more c c' h k =
-    let whole : map key h.0 ++ more ≡ map key k.0 ++ [] = sym (ap (λ t. t ++ more) h.3) ∙ k.3 ∙ sym (append-nil (map key k.0)) in
-    let fits = sequences_fit s last h.0 k.0 h.1 k.1 more [] h.2 k.2 whole in
-    (fits.same_rest, h.4 ∙ ap (λ f. unwrap_or f unknown) fits.same_answer ∙ sym k.4)
 
 Answers-fit : (s : Sequences) (last : KeyEvent) (source : Source) (tail more : List Item) (c c' : Command)
     → Answers s last source tail c → Answers s last source (tail ++ more) c' → (more ≡ []) × (c ≡ c')
@@ -209,8 +159,8 @@ enter-ends Vi = refl
 
 enter-gives : (s : Sequences) (style : EditMode) (mode : InputMode) (draft : Draft) (count : Count)
     → (command : Command) × Tailed s enter ((row_of style mode enter draft).means count) [] command
-enter-gives s Emacs mode draft count = (_, (refl, refl))
-enter-gives s Vi mode draft count = (_, (refl, refl))
+enter-gives s Emacs mode draft count = (_, alone _)
+enter-gives s Vi mode draft count = (_, alone _)
 
 -- a key with nothing behind it in the tables has nothing behind it
 first-answers : (s : Sequences) (last : KeyEvent) (bound own : Option Command) (meaning : Meaning)
@@ -321,31 +271,38 @@ own-read keymap draft input typed k command unbound owned =
 
 -- meanings that lack items where none is left
 pub search-lacks : (s : Sequences) (last : KeyEvent) (n : ℕ) (by : ℕ → CharSearch) → LacksItems s last (searches n by) []
-search-lacks s last n by = (key enter ∷ [], _, (λ empty. cc), (enter, refl, refl))
+search-lacks s last n by = (key enter ∷ [], _, (λ empty. cc), searched n by enter)
 
 pub paste-lacks : (s : Sequences) (last : KeyEvent) → LacksItems s last pastes []
-paste-lacks s last = (paste [] ∷ [], _, (λ empty. cc), ([], refl, refl))
+paste-lacks s last = (paste [] ∷ [], _, (λ empty. cc), pasted [])
 
 pub second-lacks : (s : Sequences) (last : KeyEvent) (by : KeyEvent → Command) → Sequenced s last [] None → LacksItems s last (has_second by) []
-second-lacks s last by sequenced = (key enter ∷ [], _, (λ empty. cc), ([], None, key enter ∷ [], sequenced, refl, (enter, refl, refl)))
+second-lacks s last by sequenced = (key enter ∷ [], _, (λ empty. cc), by_second_key by enter sequenced)
 
 -- what is read behind keys of a sequence that goes on
-Seconds-there : (by : KeyEvent → Command) (more back : List KeyEvent) (next : KeyEvent) (found : Option Command)
-    → (command : Command) × Seconds by (more ++ (next ∷ back)) found [] command
-Seconds-there by more back next (Some answer) = (answer, (refl, refl))
-Seconds-there by [] back next None = (by next, (refl, refl))
-Seconds-there by (k ∷ more) back next None = (by k, (refl, refl))
-
-pub sequence-lacks : (s : Sequences) (last : KeyEvent) (more : List KeyEvent) → GoesOn s last more → LacksItems s last unlisted (map key more)
-sequence-lacks s last more on = (
+there : (s : Sequences) (last : KeyEvent) (meaning : Meaning) (more : List KeyEvent) (on : GoesOn s last more)
+    → (command : Command) × Tailed s last meaning (map key (more ++ (on.next ∷ on.back))) command → LacksItems s last meaning (map key more)
+there s last meaning more on read = (
   map key (on.next ∷ on.back),
-  unwrap_or on.found unknown,
+  read.0,
   (λ empty. cc),
-  (more ++ (on.next ∷ on.back), on.found, on.sequenced, sym (map-append key more (on.next ∷ on.back)), refl),
+  subst (λ t. Tailed s last meaning t read.0) (map-append key more (on.next ∷ on.back)) read.1,
 )
 
+unlisted-there : (s : Sequences) (last : KeyEvent) (keys : List KeyEvent) (found : Option Command) → Sequenced s last keys found
+    → (command : Command) × Tailed s last unlisted (map key keys) command
+unlisted-there s last keys (Some command) read = (command, by_sequence unlisted keys command refl read)
+unlisted-there s last keys None read = (unknown, in_vain keys read)
+
+second-there : (s : Sequences) (last : KeyEvent) (by : KeyEvent → Command) (more back : List KeyEvent) (next : KeyEvent) (found : Option Command)
+    → Sequenced s last (more ++ (next ∷ back)) found
+    → (command : Command) × Tailed s last (has_second by) (map key (more ++ (next ∷ back))) command
+second-there s last by more back next (Some command) read = (command, by_sequence (has_second by) (more ++ (next ∷ back)) command refl read)
+second-there s last by [] back next None read = (by next, by_second_in_vain by next back read)
+second-there s last by (k ∷ more) back next None read = (by k, by_second_in_vain by k (more ++ (next ∷ back)) read)
+
+pub sequence-lacks : (s : Sequences) (last : KeyEvent) (more : List KeyEvent) → GoesOn s last more → LacksItems s last unlisted (map key more)
+sequence-lacks s last more on = there s last unlisted more on (unlisted-there s last (more ++ (on.next ∷ on.back)) on.found on.sequenced)
+
 pub seconds-lack : (s : Sequences) (last : KeyEvent) (by : KeyEvent → Command) (more : List KeyEvent) → GoesOn s last more → LacksItems s last (has_second by) (map key more)
-seconds-lack s last by more on =
-    let there = Seconds-there by more on.back on.next on.found in
-    let cut = sym (map-append key more (on.next ∷ on.back)) ∙ sym (append-nil (map key (more ++ (on.next ∷ on.back)))) in
-    (map key (on.next ∷ on.back), there.0, (λ empty. cc), (more ++ (on.next ∷ on.back), on.found, [], on.sequenced, cut, there.1))
+seconds-lack s last by more on = there s last (has_second by) more on (second-there s last by more on.back on.next on.found on.sequenced)

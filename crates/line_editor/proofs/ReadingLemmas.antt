@@ -5,7 +5,6 @@ use Rattle.std.proofs.lemmas.Bool.{cases_lt}
 use Rattle.std.proofs.lemmas.List.{length-append, length-map}
 use Rattle.line_buffer.specs.declared.layout.GraphemeClusterMode.{GraphemeClusterMode}
 use Rattle.line_buffer.specs.declared.layout.Position.{Position}
-use Rattle.line_buffer.specs.Line.{Line}
 use Rattle.line_buffer.specs.Undo.{first_text}
 use Rattle.line_config.specs.Error.{IoOnlyIf, Rose, UnlessFault, is_fault, max_count}
 use Rattle.line_config.specs.Failures.{CountsFailures, UnlessIo}
@@ -13,7 +12,7 @@ use Rattle.line_config.specs.declared.error.ReadlineError.{ReadlineError}
 use Rattle.line_config.specs.declared.error.ReadlineError.TheVariants.{Eof, Interrupted, Io, Memory}
 use Rattle.line_keys.specs.Command.{Command, command_of}
 use Rattle.line_keys.specs.Count.{begins_count, count_of}
-use Rattle.line_keys.specs.Display.{Display, Surface}
+use Rattle.line_keys.specs.Display.{Surface}
 use Rattle.line_keys.specs.ShownLine.{KeepsDrawn}
 use Rattle.line_keys.specs.Draft.{Draft, KeepsLine, KeepsText, hint_shown, start_text}
 use Rattle.line_keys.specs.Drawing.{DrewLine, DrewNothing, Undrawn}

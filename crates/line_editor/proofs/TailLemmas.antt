@@ -1,12 +1,12 @@
 -- Facts on what is read behind a key.
-use Rattle.std.proofs.Common.{◌≡◌, ℕ, ◌++◌, List, [], ◌∷◌, map, Option, Some, None, Result, Ok, Err, refl, sym, ◌∙◌, ap, subst}
+use Rattle.std.proofs.Common.{◌≡◌, ℕ, true, ◌++◌, List, [], ◌∷◌, map, Option, Some, None, Result, Ok, Err, refl, sym, ◌∙◌, ap, subst}
 use Rattle.std.specs.Prelude.{slice_get}
 use Rattle.line_buffer.specs.declared.movement.CharSearch.{CharSearch}
 use Rattle.line_config.specs.declared.error.ReadlineError.{ReadlineError}
-use Rattle.line_keys.specs.Command.{Command, command_of}
+use Rattle.line_keys.specs.Command.{Command, command_of, unknown}
 use Rattle.line_keys.specs.Draft.{Draft}
 use Rattle.line_keys.specs.Item.{key}
-use Rattle.line_keys.specs.Table.{Meaning, has_second, pastes, row_of, searches, unlisted}
+use Rattle.line_keys.specs.Table.{Meaning, gives, has_second, pastes, row_of, searches, unlisted}
 use Rattle.line_keys.specs.declared.cmd.Cmd.{Cmd}
 use Rattle.line_keys.specs.declared.count.Count.{Count}
 use Rattle.line_keys.specs.declared.keys.KeyEvent.{KeyEvent}
@@ -14,8 +14,8 @@ use Rattle.line_keys.specs.declared.raw_reader.RawReader as readers
 use Rattle.line_editor.specs.Binding.{Bound}
 use Rattle.line_editor.specs.Input.{Input}
 use Rattle.line_editor.specs.Keymap.{Keymap, bound_command, count_or_one, on_line}
-use Rattle.line_editor.specs.Phrase.{LacksItems, Tailed}
-use Rattle.line_editor.specs.Reading.{EndsBehindKey, EndsInSequence, EndsInTail, IsInVain, OnRead, ReadsBehind, ReadsTail}
+use Rattle.line_editor.specs.Phrase.{LacksItems, Tailed, alone, begins_sequences, by_second_in_vain, by_second_key, by_sequence, in_vain}
+use Rattle.line_editor.specs.Reading.{EndsBehindKey, EndsInSequence, EndsInTail, IsAnswered, IsInVain, OnRead, ReadsBehind, ReadsTail}
 use Rattle.line_editor.specs.Sequence.{Sequenced, Sequences, sequences_of}
 use Rattle.line_editor.proofs.PhraseLemmas.{bound-read, own-read, paste-lacks, row-lacks, row-read, search-lacks, second-lacks, seconds-lack, sequence-lacks}
 use Rattle.line_editor.proofs.SequenceLemmas.{goes_on}
@@ -25,6 +25,14 @@ none_first : {A : Type 0} (xs : List A) → None ≡ slice_get xs 0 → xs ≡ [
 none_first [] none = refl
 none_first (x ∷ xs) none = absurd (cc)
 
+-- the second key of all is the first of those that were read in vain
+second_of : (s : Sequences) (last : KeyEvent) (by : KeyEvent → Command) (more : List KeyEvent) (second : KeyEvent)
+    → Some second ≡ slice_get more 0 → Sequenced s last more None → Tailed s last (has_second by) (map key more) (by second)
+second_of s last by [] second told vain = absurd (cc)
+second_of s last by (k ∷ ks) second told vain =
+    let same : k ≡ second = cc in
+    subst (λ x. Tailed s last (has_second by) (map key (k ∷ ks)) (by x)) same (by_second_in_vain by k ks vain)
+
 module _ {Y : Type 0} (r : readers.Ghosts Y) (s : Sequences) (last : KeyEvent) (reader next : Y) where
   -- no item is left for a search, and none for a pasted text
   pub search_ends : (n : ℕ) (by : ℕ → CharSearch) → r.rest reader ≡ [] → r.rest next ≡ r.rest reader → EndsInTail r reader next s last (searches n by)
@@ -33,12 +41,38 @@ module _ {Y : Type 0} (r : readers.Ghosts Y) (s : Sequences) (last : KeyEvent) (
   pub paste_ends : r.rest reader ≡ [] → r.rest next ≡ r.rest reader → EndsInTail r reader next s last pastes
   paste_ends dry kept = record { empty = kept ∙ dry; lacks = subst (λ t. LacksItems s last pastes t) (sym dry) (paste-lacks s last) }
 
+  -- a command of the tables is the key's alone
+  pub command_read : (command : Command) → ReadsTail r reader reader s last (gives command) command
+  command_read command = record { tail = []; cut = refl; tailed = alone command }
+
+  -- the keys of a sequence are read with its command
+  pub answered_read : (meaning : Meaning) (command : Command) → begins_sequences meaning ≡ true → IsAnswered r reader next s last command
+      → ReadsTail r reader next s last meaning command
+  answered_read meaning command begins found = record {
+    tail = map key found.more;
+    cut = found.cut;
+    tailed = by_sequence meaning found.more command begins found.sequenced;
+  }
+
+  -- or in vain, and then the second of all counts, or nothing does
+  pub vain_read : (by : KeyEvent → Command) (second : KeyEvent) (command : Command) → IsInVain r reader next s last (Some second) → command ≡ by second
+      → ReadsTail r reader next s last (has_second by) command
+  vain_read by second command vain is = record {
+    tail = map key vain.more;
+    cut = vain.cut;
+    tailed =
+        subst (λ c. Tailed s last (has_second by) (map key vain.more) c) (sym is) (second_of s last by vain.more second vain.told vain.sequenced);
+  }
+
+  pub unlisted_read : (second : Option KeyEvent) → IsInVain r reader next s last second → ReadsTail r reader next s last unlisted unknown
+  unlisted_read second vain = record { tail = map key vain.more; cut = vain.cut; tailed = in_vain vain.more vain.sequenced }
+
   module _ (by : KeyEvent → Command) (mid : Y) (vain : IsInVain r reader mid s last None) where
     none_read : vain.more ≡ []
     none_read = none_first vain.more vain.told
 
-    alone : Sequenced s last [] None
-    alone = subst (λ m. Sequenced s last m None) none_read vain.sequenced
+    lone : Sequenced s last [] None
+    lone = subst (λ m. Sequenced s last m None) none_read vain.sequenced
 
     same_rest : r.rest reader ≡ r.rest mid
     same_rest = vain.cut ∙ ap (λ m. map key m ++ r.rest mid) none_read
@@ -47,7 +81,7 @@ module _ {Y : Type 0} (r : readers.Ghosts Y) (s : Sequences) (last : KeyEvent) (
     pub second_ends : r.rest mid ≡ [] → r.rest next ≡ r.rest mid → EndsInTail r reader next s last (has_second by)
     second_ends dry kept = record {
       empty = kept ∙ dry;
-      lacks = subst (λ t. LacksItems s last (has_second by) t) (sym (same_rest ∙ dry)) (second-lacks s last by alone);
+      lacks = subst (λ t. LacksItems s last (has_second by) t) (sym (same_rest ∙ dry)) (second-lacks s last by lone);
     }
 
     -- the second key is read
@@ -55,7 +89,7 @@ module _ {Y : Type 0} (r : readers.Ghosts Y) (s : Sequences) (last : KeyEvent) (
     second_read k command took is = record {
       tail = key k ∷ [];
       cut = same_rest ∙ took;
-      tailed = ([], None, key k ∷ [], alone, refl, (k, refl, is));
+      tailed = subst (λ c. Tailed s last (has_second by) (key k ∷ []) c) (sym is) (by_second_key by k lone);
     }
 
 module _ {Y : Type 0} (r : readers.Ghosts Y) (bound : Bound) (draft : Draft) (input : Input) (count : Count) (last : KeyEvent) (reader next : Y)

@@ -1,5 +1,5 @@
 -- Commands, turns and runs of a program's state, input state, reader and kill ring.
-use Rattle.std.specs.Prelude.{◌≡◌, ◌⊎◌, ℕ, ◌+◌, ◌-◌, ◌*◌, ◌<◌, ◌≤◌, List, [], length, Result, IfOk, OnOk, Ok, Err}
+use Rattle.std.specs.Prelude.{◌≡◌, ◌⊎◌, ℕ, ◌+◌, ◌-◌, ◌*◌, ◌<◌, List, [], length, Result, IfOk, OnOk, Ok, Err}
 use Rattle.line_buffer.specs.KillRing.{Ring}
 use Rattle.line_config.specs.Error.{FaultsOnly, IoOnlyIf, UnlessFault}
 use Rattle.line_config.specs.Failures.{UnlessIo}

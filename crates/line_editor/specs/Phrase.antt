@@ -1,5 +1,5 @@
 -- Phrases: the items that one command is read from.
-use Rattle.std.specs.Prelude.{◌≡◌, ◌≢◌, ℕ, true, if◌then◌else◌, List, [], ◌∷◌, ◌++◌, map, Option, Some, None, option_map, unwrap_or}
+use Rattle.std.specs.Prelude.{◌≡◌, ◌≢◌, ℕ, Bool, true, false, if◌then◌else◌, List, [], ◌∷◌, ◌++◌, map, Option, Some, None, option_map}
 use Rattle.line_buffer.specs.declared.movement.CharSearch.{CharSearch}
 use Rattle.line_buffer.specs.declared.movement.Movement.TheVariants.{ViCharSearch}
 use Rattle.line_parts.specs.Environment.{Environment}
@@ -29,27 +29,34 @@ abbrev pub moves_by : ℕ → Option CharSearch → Command
 moves_by n (Some by) = move (ViCharSearch n by)
 moves_by n None = unknown
 
--- the items behind the keys that were read for a sequence: none where these have a command; else the second key of all
--- gives the command, and is read now where it was not read yet
-abbrev pub Seconds : (KeyEvent → Command) → List KeyEvent → Option Command → List Item → Command → Type 0
-Seconds by more (Some answer) rest command = (rest ≡ []) × (command ≡ answer)
-Seconds by [] None rest command = (second : KeyEvent) × (rest ≡ key second ∷ []) × (command ≡ by second)
-Seconds by (second ∷ _) None rest command = (rest ≡ []) × (command ≡ by second)
+-- behind a key of this meaning the keys of bound sequences are read
+abbrev pub begins_sequences : Meaning → Bool
+begins_sequences (has_second by) = true
+begins_sequences unlisted = true
+begins_sequences meaning = false
 
--- the items that are read behind a key of this meaning, and the command that they give: none; the key of the character to
--- search for; a pasted text, which comes in once; a second key, where no bound sequence has a command; or the keys of such
--- a sequence, which else stand for nothing
-abbrev pub Tailed : Sequences → KeyEvent → Meaning → List Item → Command → Type 0
-Tailed sequences last (gives by) tail command = (tail ≡ []) × (command ≡ by)
-Tailed sequences last (searches n by) tail command =
-    (second : KeyEvent) × (tail ≡ key second ∷ []) × (command ≡ moves_by n (search_to by second))
-Tailed sequences last pastes tail command = (text : List ℕ) × (tail ≡ paste text ∷ []) × (command ≡ insert 1 text)
-Tailed sequences last (has_second by) tail command =
-    (more : List KeyEvent) × (found : Option Command) × (rest : List Item) × Sequenced sequences last more found
-    × (tail ≡ map key more ++ rest) × Seconds by more found rest command
-Tailed sequences last unlisted tail command =
-    (more : List KeyEvent) × (found : Option Command) × Sequenced sequences last more found
-    × (tail ≡ map key more) × (command ≡ unwrap_or found unknown)
+-- the items that are read behind a key of this meaning, and the command that they give
+pub data Tailed (sequences : Sequences) (last : KeyEvent) : Meaning → List Item → Command → Type 0 where
+  -- none
+  alone : (command : Command) → Tailed sequences last (gives command) [] command
+  -- the key of the character to search for
+  searched : (n : ℕ) (by : ℕ → CharSearch) (second : KeyEvent)
+      → Tailed sequences last (searches n by) (key second ∷ []) (moves_by n (search_to by second))
+  -- a pasted text, which comes in once
+  pasted : (text : List ℕ) → Tailed sequences last pastes (paste text ∷ []) (insert 1 text)
+  -- the keys of a bound sequence that has a command
+  by_sequence : (meaning : Meaning) (more : List KeyEvent) (command : Command) → begins_sequences meaning ≡ true
+      → Sequenced sequences last more (Some command) → Tailed sequences last meaning (map key more) command
+  -- a second key, where no bound sequence begins with the first
+  by_second_key : (by : KeyEvent → Command) (second : KeyEvent) → Sequenced sequences last [] None
+      → Tailed sequences last (has_second by) (key second ∷ []) (by second)
+  -- keys of a bound sequence, read in vain: the first of them is the second key
+  by_second_in_vain : (by : KeyEvent → Command) (second : KeyEvent) (more : List KeyEvent)
+      → Sequenced sequences last (second ∷ more) None
+      → Tailed sequences last (has_second by) (map key (second ∷ more)) (by second)
+  -- keys of a bound sequence, read in vain behind a key without a second one; they stand for nothing
+  in_vain : (more : List KeyEvent) → Sequenced sequences last more None
+      → Tailed sequences last unlisted (map key more) unknown
 
 -- more items are to be read behind a key of this meaning
 abbrev pub LacksItems : Sequences → KeyEvent → Meaning → List Item → Type 0

@@ -1,5 +1,5 @@
 -- Reading a command from the items that a reader has left.
-use Rattle.std.specs.Prelude.{◌≡◌, ◌≢◌, ◌⊎◌, ℕ, ◌+◌, ◌-◌, ◌<◌, ◌≤◌, ◌++◌, [], ◌∷◌, true, false, List, length, map, Option, Some, None, slice_get, Result, Ok, Err, OnOk, OnErr, IsErrOf}
+use Rattle.std.specs.Prelude.{◌≡◌, ◌≢◌, ◌⊎◌, ℕ, ◌+◌, ◌-◌, ◌<◌, ◌≤◌, ◌++◌, [], ◌∷◌, true, false, List, length, map, Option, Some, None, slice_get, Result, Ok, Err, OnErr, IsErrOf}
 use Rattle.std.specs.List.{list_all}
 use Rattle.line_config.specs.Error.{IoOnlyIf, Rose, UnlessFault, is_fault, max_count}
 use Rattle.line_config.specs.Failures.{UnlessIo}

@@ -1,9 +1,10 @@
-use Rattle.std.proofs.Common.{[], ◌∷◌, None, refl}
+use Rattle.std.proofs.Common.{[], ◌∷◌, refl}
 use Rattle.line_keys.specs.Key.{event}
 use Rattle.line_keys.specs.declared.keys.KeyCode.TheVariants.{Char, F}
 use Rattle.line_keys.specs.declared.keys.TheConstants.Modifiers.{NONE}
 use Rattle.line_keys.specs.Item.{key}
 use Rattle.line_editor.proofs.SequenceLemmas.{two_in_vain}
+use Rattle.line_editor.specs.Phrase.{in_vain}
 use Rattle.tests_keys.proofs.phrases.a_handler_without_an_answer.Goals as goal
 
 pub returns : goal.returns
@@ -13,7 +14,7 @@ returns c = λ environment. record {
   tail = key (event (Char 97) NONE) ∷ [];
   cut = refl;
   counted = refl;
-  keyed = (event (Char 97) NONE ∷ [], None, two_in_vain _ _ (event (Char 97) NONE) refl refl refl, refl, refl);
+  keyed = in_vain (event (Char 97) NONE ∷ []) (two_in_vain _ _ (event (Char 97) NONE) refl refl refl);
   draft_left = refl;
   input_left = refl;
 }

@@ -1,9 +1,10 @@
-use Rattle.std.proofs.Common.{[], ◌∷◌, None, refl}
+use Rattle.std.proofs.Common.{[], ◌∷◌, refl}
 use Rattle.line_keys.specs.Key.{event}
 use Rattle.line_keys.specs.declared.keys.KeyCode.TheVariants.{Char}
 use Rattle.line_keys.specs.declared.keys.TheConstants.Modifiers.{CTRL}
 use Rattle.line_keys.specs.Item.{key}
 use Rattle.line_editor.proofs.SequenceLemmas.{one_in_vain}
+use Rattle.line_editor.specs.Phrase.{by_second_key}
 use Rattle.tests_keys.proofs.phrases.control_x_begins.Goals as goal
 
 pub returns : goal.returns
@@ -19,7 +20,7 @@ returns c = λ environment. record {
     tail = key (event (Char 85) CTRL) ∷ [];
     cut = refl;
     counted = refl;
-    keyed = ([], None, key (event (Char 85) CTRL) ∷ [], one_in_vain _ _ refl, refl, (event (Char 85) CTRL, refl, refl));
+    keyed = by_second_key _ (event (Char 85) CTRL) (one_in_vain _ _ refl);
     draft_left = refl;
     input_left = refl;
   };

@@ -1,9 +1,10 @@
-use Rattle.std.proofs.Common.{[], ◌∷◌, None, refl}
+use Rattle.std.proofs.Common.{[], ◌∷◌, refl}
 use Rattle.line_keys.specs.Key.{event}
 use Rattle.line_keys.specs.declared.keys.KeyCode.TheVariants.{Char}
 use Rattle.line_keys.specs.declared.keys.TheConstants.Modifiers.{CTRL}
 use Rattle.line_keys.specs.Item.{key}
 use Rattle.line_editor.proofs.SequenceLemmas.{two_in_vain}
+use Rattle.line_editor.specs.Phrase.{by_second_in_vain}
 use Rattle.tests_keys.proofs.phrases.the_second_key_of_all.Goals as goal
 
 pub returns : goal.returns
@@ -13,7 +14,7 @@ returns c = λ environment. record {
   tail = key (event (Char 85) CTRL) ∷ [];
   cut = refl;
   counted = refl;
-  keyed = (event (Char 85) CTRL ∷ [], None, [], two_in_vain _ _ (event (Char 85) CTRL) refl refl refl, refl, (refl, refl));
+  keyed = by_second_in_vain _ (event (Char 85) CTRL) [] (two_in_vain _ _ (event (Char 85) CTRL) refl refl refl);
   draft_left = refl;
   input_left = refl;
 }

@@ -2,6 +2,7 @@ use Rattle.std.proofs.Common.{[], ◌∷◌, refl}
 use Rattle.line_keys.specs.Key.{event}
 use Rattle.line_keys.specs.declared.keys.KeyCode.TheVariants.{Char}
 use Rattle.line_keys.specs.declared.keys.TheConstants.Modifiers.{ALT, CTRL, NONE}
+use Rattle.line_editor.specs.Phrase.{alone}
 use Rattle.tests_keys.proofs.phrases.two_back.Goals as goal
 
 pub returns : goal.returns
@@ -11,7 +12,7 @@ returns c = λ environment. record {
   tail = [];
   cut = refl;
   counted = refl;
-  keyed = (refl, refl);
+  keyed = alone _;
   draft_left = refl;
   input_left = refl;
 }

@@ -4,8 +4,9 @@ use Rattle.std.proofs.lemmas.Result.{err_from_is_err_and}
 use Rattle.line_keys.specs.Item.{key, paste}
 use Rattle.line_editor.specs.Binding.{bound_of}
 use Rattle.line_editor.specs.InputState.{input_of}
+use Rattle.line_editor.specs.Phrase.{pasted, searched}
 use Rattle.line_editor.proofs.ReadingLemmas.{fault_dry}
-use Rattle.line_editor.proofs.TailLemmas.{paste_ends, search_ends, second_ends, second_read, seconds_end, sequence_ends}
+use Rattle.line_editor.proofs.TailLemmas.{answered_read, command_read, paste_ends, search_ends, second_ends, second_read, seconds_end, sequence_ends, unlisted_read, vain_read}
 use Rattle.line_editor.proofs.input_state.InputState.read_tail.Goals as goal
 
 pub returns-in_err-next_key-in-Search-clause-reads : goal.returns-in_err-next_key-in-Search-clause-reads
@@ -50,7 +51,7 @@ returns-in_ok-next_key-in-Search-clause-reads g c =
     rw c.in-Search.is (record {
       tail = key c.in_ok-next_key-in-Search.field-0 ∷ [];
       cut = c.in_ok-next_key-in-Search.ensures.took;
-      tailed = (c.in_ok-next_key-in-Search.field-0, refl, c.move_to.ensures);
+      tailed = rw c.move_to.ensures (searched _ _ c.in_ok-next_key-in-Search.field-0);
     })
 
 pub returns-in_ok-read_pasted_text-in-Paste-clause-reads : goal.returns-in_ok-read_pasted_text-in-Paste-clause-reads
@@ -58,7 +59,7 @@ returns-in_ok-read_pasted_text-in-Paste-clause-reads g c =
     rw c.in-Paste.is (record {
       tail = paste (string_bytes c.in_ok-read_pasted_text-in-Paste.field-0) ∷ [];
       cut = c.in_ok-read_pasted_text-in-Paste.ensures.took;
-      tailed = ((string_bytes c.in_ok-read_pasted_text-in-Paste.field-0), refl, refl);
+      tailed = pasted (string_bytes c.in_ok-read_pasted_text-in-Paste.field-0);
     })
 
 pub returns-in_ok-next_key-in-InVain-None-clause-reads : goal.returns-in_ok-next_key-in-InVain-None-clause-reads
@@ -66,3 +67,27 @@ returns-in_ok-next_key-in-InVain-None-clause-reads g c =
     let found = c.in_ok-command-in-SecondKey.ensures.reads in
     let vain = rw c.in-InVain-None.field-0-is at (rw c.in-InVain-None.is at found) in
     rw c.in-SecondKey.is (second_read _ _ _ _ _ _ _ vain _ _ c.in_ok-next_key-in-InVain-None.ensures.took c.second_key-in-InVain-None.ensures)
+
+pub returns-in-Command-clause-reads : goal.returns-in-Command-clause-reads
+returns-in-Command-clause-reads g c = rw c.in-Command.is (command_read _ _ _ c.args.rdr.now c.args.rdr.now _)
+
+pub returns-in-Command-2-clause-reads : goal.returns-in-Command-2-clause-reads
+returns-in-Command-2-clause-reads g c =
+    let found = c.in_ok-command-in-SecondKey.ensures.reads in
+    rw c.in-SecondKey.is (answered_read _ _ _ _ _ _ _ refl (rw c.in-Command-2.is at found))
+
+pub returns-in-Command-3-clause-reads : goal.returns-in-Command-3-clause-reads
+returns-in-Command-3-clause-reads g c =
+    let found = c.in_ok-command-in-Unlisted.ensures.reads in
+    rw c.in-Unlisted.is (answered_read _ _ _ _ _ _ _ refl (rw c.in-Command-3.is at found))
+
+pub returns-in-InVain-Some-clause-reads : goal.returns-in-InVain-Some-clause-reads
+returns-in-InVain-Some-clause-reads g c =
+    let found = c.in_ok-command-in-SecondKey.ensures.reads in
+    let vain = rw c.in-InVain-Some.field-0-is at (rw c.in-InVain-Some.is at found) in
+    rw c.in-SecondKey.is (vain_read _ _ _ _ _ _ _ _ vain c.second_key.ensures)
+
+pub returns-in-InVain-clause-reads : goal.returns-in-InVain-clause-reads
+returns-in-InVain-clause-reads g c =
+    let found = c.in_ok-command-in-Unlisted.ensures.reads in
+    rw c.in-Unlisted.is (unlisted_read _ _ _ _ _ _ (rw c.in-InVain.is at found))
