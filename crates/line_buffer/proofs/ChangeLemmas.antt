@@ -1,12 +1,62 @@
 -- The newest entries of a list of changes.
-use Rattle.std.proofs.Common.{min, replicate, drop, ap₂, ◌≡◌, ℕ, ◌-◌, ◌<◌, zero, suc, true, List, [], ◌∷◌, ◌++◌, map, reverse, refl, sym, ap, ◌∙◌, arith}
-use Rattle.std.proofs.lemmas.List.{reverse-append, map-append}
+use Rattle.std.proofs.Common.{◌+◌, length, slice_index_or, slice_set, take, min, replicate, drop, ap₂, ◌≡◌, ℕ, ◌-◌, ◌<◌, zero, suc, Bool, true, false, List, [], ◌∷◌, ◌++◌, map, reverse, refl, sym, ap, ◌∙◌, arith}
+use Rattle.std.proofs.lemmas.List.{drop_all, reverse-append, map-append, set-get_or, set_split}
 use Rattle.line_buffer.specs.declared.undo.list.Change.{Change}
 use Rattle.line_buffer.specs.Changes.{Entry, begins, ends, inserted, deleted, replaced, Changes, newest_begins, begins_in_a_row, closed, without_begins}
+use Rattle.std.proofs.lemmas.Bool.Decides.{nat_tests}
+use Rattle.std.specs.Prelude.{nat_lt, if◌then◌else◌}
+use Rattle.line_buffer.specs.Edit.{on_entries}
 use Rattle.line_buffer.specs.KeptChanges.{entry_of, entries_of}
 
 pub entries_of-push : (changes : List Change) (c : Change) → entries_of (changes ++ c ∷ []) ≡ entry_of c ∷ entries_of changes
 entries_of-push changes c = ap reverse (map-append entry_of changes (c ∷ [])) ∙ reverse-append (map entry_of changes) (entry_of c ∷ [])
+
+-- the changes are the older ones and an edited newest one
+edited : (changes : List Change) (n : ℕ) (new : Change) → n + 1 ≡ length changes
+    → entries_of (slice_set changes n new) ≡ entry_of new ∷ entries_of (take n changes)
+edited changes n new e =
+    let none : drop (suc n) changes ≡ [] = drop_all (suc n) changes (omega arith) in
+    ap entries_of (set_split changes n new (omega arith) ∙ ap (λ cs. take n changes ++ new ∷ cs) none) ∙ entries_of-push (take n changes) new
+
+unedited : (changes : List Change) (n : ℕ) (old : Change) → n + 1 ≡ length changes → old ≡ slice_index_or changes n old
+    → entries_of changes ≡ entry_of old ∷ entries_of (take n changes)
+unedited changes n old e is = ap entries_of (sym (set-get_or changes n old)) ∙ ap (λ c. entries_of (slice_set changes n c)) (sym is) ∙ edited changes n old e
+
+-- what an addition makes of the changes, where it makes this of the newest one and stays the same on the older ones
+with_newest : (changes : List Change) (n g : ℕ) (old new : Change) (add put : List Entry → List Entry) (c : Changes) → n + 1 ≡ length changes
+    → old ≡ slice_index_or changes n old → record { entries = entries_of changes; open_groups = g } ≡ c
+    → ((older : List Entry) → add (entry_of old ∷ older) ≡ put (entry_of new ∷ older))
+    → on_entries put (record { entries = entries_of (slice_set changes n new); open_groups = g }) ≡ on_entries add c
+with_newest changes n g old new add put c e is kept joins =
+    let older = entries_of (take n changes) in
+    let made : List Entry → Changes = λ es. record { entries = es; open_groups = g } in
+    ap (λ es. made (put es)) (edited changes n new e) ∙ ap made (sym (joins older)) ∙ sym (ap (λ es. made (add es)) (unedited changes n old e is)) ∙ ap (on_entries add) kept
+
+-- the newest change took an addition in
+pub newest_joined : (joined : Bool) (changes : List Change) (n g : ℕ) (old new : Change) (add : List Entry → List Entry) (other : Entry) (c : Changes)
+    → n + 1 ≡ length changes → old ≡ slice_index_or changes n old → record { entries = entries_of changes; open_groups = g } ≡ c
+    → ((older : List Entry) → add (entry_of old ∷ older) ≡ (if joined then entry_of new ∷ older else other ∷ entry_of new ∷ older)) → joined ≡ true
+    → record { entries = entries_of (slice_set changes n new); open_groups = g } ≡ on_entries add c
+newest_joined true changes n g old new add other c e is kept joins e₁ = with_newest changes n g old new add (λ es. es) c e is kept joins
+newest_joined false changes n g old new add other c e is kept joins e₁ = cc
+
+-- the newest change took nothing in, and another comes before it
+pub newest_stays : (joined : Bool) (changes : List Change) (n g : ℕ) (old new : Change) (add : List Entry → List Entry) (other : Entry) (c : Changes)
+    → n + 1 ≡ length changes → old ≡ slice_index_or changes n old → record { entries = entries_of changes; open_groups = g } ≡ c
+    → ((older : List Entry) → add (entry_of old ∷ older) ≡ (if joined then entry_of new ∷ older else other ∷ entry_of new ∷ older)) → joined ≡ false
+    → on_entries (λ es. other ∷ es) (record { entries = entries_of (slice_set changes n new); open_groups = g }) ≡ on_entries add c
+newest_stays true changes n g old new add other c e is kept joins e₁ = cc
+newest_stays false changes n g old new add other c e is kept joins e₁ = with_newest changes n g old new add (λ es. other ∷ es) c e is kept joins
+
+none_left : (n : ℕ) → false ≡ nat_lt 0 n → n ≡ 0
+none_left n e = grind (arith, nat_tests)
+
+-- there is no change, and an addition makes one entry
+pub none_newest : (changes : List Change) (g : ℕ) (add : List Entry → List Entry) (other : Entry) (c : Changes) → false ≡ nat_lt 0 (length changes)
+    → record { entries = entries_of changes; open_groups = g } ≡ c → add [] ≡ other ∷ []
+    → on_entries (λ es. other ∷ es) (record { entries = entries_of changes; open_groups = g }) ≡ on_entries add c
+none_newest [] g add other c e kept first = ap (λ es. record { entries = es; open_groups = g }) (sym first) ∙ ap (on_entries add) kept
+none_newest (x ∷ xs) g add other c e kept first = absurd (omega (arith, none_left (length (x ∷ xs)) e))
 
 is_begin : (e : Entry) (entries : List Entry) → newest_begins (e ∷ entries) ≡ true → e ≡ begins
 is_begin begins entries h = refl

@@ -1,10 +1,8 @@
 -- Where the first and the last line of a text lie.
-use Rattle.std.proofs.Common.{◌≡◌, ℕ, ◌+◌, ◌-◌, ◌<◌, ◌≤◌, ◌≢◌, Bool, List, length, get_or, reverse, sym, ap, ◌∙◌, arith, eqb, zero, suc, [], ◌∷◌, ◌++◌, take, drop, Some, None, inl, inr, refl}
+use Rattle.std.proofs.Common.{◌≡◌, ℕ, ◌+◌, ◌-◌, ◌<◌, ◌≢◌, Bool, List, length, get_or, reverse, sym, ap, ◌∙◌, arith, eqb, zero, suc, [], ◌∷◌, ◌++◌, take, drop, Some, None, inl, inr, refl}
 use Rattle.std.proofs.lemmas.Bool.Decides.{nat_tests, eqb_tells}
 use Rattle.std.proofs.lemmas.List.{get_or-reverse, length-reverse, take_all, take_more}
-use Rattle.std.proofs.lemmas.List.Sums.{position_or_len_is, passes_at_first}
-use Rattle.std.proofs.lemmas.Str.{IsCharBoundary-after_ascii}
-use Rattle.std.specs.Str.{IsCharBoundary, IsUtf8}
+use Rattle.std.proofs.lemmas.List.Sums.{position_or_len_is}
 use Rattle.std.specs.List.{prefix_len, suffix_len}
 use Rattle.line_buffer.specs.Line.{is_no_newline}
 use Rattle.line_buffer.specs.Lines.{line_above, lines_above, lines_below, next_line}
@@ -53,14 +51,6 @@ no_line_above text none =
         | inr other ↦ rw (full.0, other.0) refl
       ]
     ]
-
-pub behind_newline : (text : List ℕ) → IsUtf8 text → prefix_len is_no_newline text ≢ length text → prefix_len is_no_newline text ≤ length text
-    → IsCharBoundary text (prefix_len is_no_newline text + 1)
-behind_newline text u other le =
-    let within : prefix_len is_no_newline text < length text = omega arith in
-    let newline = passes_at_first (λ b. eqb b 10) text 0 within in
-    let small : get_or text (prefix_len is_no_newline text) 0 < 128 = grind (arith, nat_tests, newline) in
-    IsCharBoundary-after_ascii text (prefix_len is_no_newline text) u within small
 
 pub above-some : (n m : ℕ) (text : List ℕ) (place above : ℕ) → n ≡ suc m → Some above ≡ line_above (take place text) → lines_above n text place ≡ lines_above m text above
 above-some n m text place above e h = rw e (ap (λ o. elim o [ Some a ↦ lines_above m text a | None ↦ place ]) (sym h))

@@ -1,5 +1,5 @@
 -- What a call that edits leaves of the line and of its changes.
-use Rattle.std.specs.Prelude.{◌≡◌, List, Result, OnOk, IsCharBoundary}
+use Rattle.std.specs.Prelude.{◌≡◌, Bool, List, ◌∷◌, Result, IfOk, OnOk, IsCharBoundary, if◌then◌else◌}
 use Rattle.line_buffer.specs.Changes.{Changes, Entry, with_entries}
 use Rattle.line_buffer.specs.Line.{Line}
 use Rattle.line_buffer.specs.Undo.{KeepsTold, StillTells}
@@ -11,6 +11,10 @@ on_entries add c = with_entries c (add c.entries)
 -- a success adds these entries
 abbrev pub Adds : {T E : Type 0} → Result T E → Changes → Changes → (List Entry → List Entry) → Type 0
 Adds result c c' add = OnOk result (c' ≡ on_entries add c)
+
+-- a success tells whether an addition to the old entry made the new one of it; if not, the old one stays and another comes before it
+abbrev pub Joins : {E : Type 0} → Result Bool E → Entry → Entry → (List Entry → List Entry) → Entry → Type 0
+Joins result old new add other = IfOk result (λ joined. (older : List Entry) → add (old ∷ older) ≡ (if joined then new ∷ older else other ∷ new ∷ older))
 
 -- a success leaves this line and these changes; after an error too the changes tell of the line, and its cursor stands on a boundary
 pub record Edits {T E : Type 0} (result : Result T E) (old new : Line) (c c' : Changes) (made : Line) (add : Changes → Changes) : Type 0 where

@@ -55,10 +55,7 @@ pub(crate) fn last_start(text: &str, n: RepeatCount) -> usize
 pub(crate) fn first_line_len(text: &str) -> usize
     ensures { IsOffset result text.now (prefix_len is_no_newline text.now) }
 {
-    match text.find('\n') {
-        Some(newline) => newline,
-        None => text.len(),
-    }
+    text.find('\n').unwrap_or(text.len())
 }
 
 /// Returns where the text goes on behind its last newline, or its start.
@@ -77,20 +74,15 @@ pub(crate) fn line_above(text: &str) -> Option<usize>
     ensures offset { IsOffsetIfAny result text.now (line_above text.now) }
     ensures up { IfSome result (λ place. place ≤ length text.now) }
 {
-    match text.strip_suffix('\n') {
-        Some(above) => Some(last_line_start(above)),
-        None => None,
-    }
+    let above = text.strip_suffix('\n')?;
+    Some(last_line_start(above))
 }
 
 /// Returns where the text goes on behind its first newline, or `None` where it has none.
 pub(crate) fn next_line(text: &str) -> Option<usize>
     ensures { IsOffsetIfAny result text.now (next_line text.now) }
 {
-    let newline = first_line_len(text);
-    if newline == text.len() {
-        return None;
-    }
+    let newline = text.find('\n')?;
     Some(newline + 1)
 }
 
@@ -109,7 +101,7 @@ pub(crate) fn is_alphanumeric(c: char) -> bool
 pub(crate) fn is_alphanumeric_text(text: &str) -> bool
     ensures { result ≡ is_alphanumeric_cluster text.now }
 {
-    text.chars().all(|c| is_alphanumeric(c))
+    text.chars().all(is_alphanumeric)
 }
 
 /// Returns where the first alphanumeric cluster of the text begins, if there is one.
@@ -132,21 +124,14 @@ pub(crate) fn is_one_cluster(text: &str) -> bool
     ensures { result ≡ (length (clusters text.now) == 1) }
 {
     let mut left = text.graphemes(true);
-    let Some(_) = left.next() else {
-        return false;
-    };
-    left.next().is_none()
+    left.next().is_some() && left.next().is_none()
 }
 
 /// Returns whether the text has two clusters or more.
 pub(crate) fn has_two_clusters(text: &str) -> bool
     ensures { result ≡ nat_le 2 (length (clusters text.now)) }
 {
-    let mut left = text.graphemes(true);
-    let Some(_) = left.next() else {
-        return false;
-    };
-    left.next().is_some()
+    text.graphemes(true).nth(1).is_some()
 }
 
 /// Returns whether the text is one cluster of alphanumeric characters.

@@ -115,10 +115,7 @@ impl KillRing {
     fn current_text(&self) -> Option<&str>
         ensures { option_copied result ≡ yanked_text self.now }
     {
-        if self.slots.is_empty() {
-            return None;
-        }
-        Some(self.slots[self.current].as_str())
+        Some(self.slots.get(self.current)?.as_str())
     }
 
     fn record_yank(&mut self)
@@ -161,11 +158,18 @@ impl KillRing {
         ensures ring { OnOk result (self.new ≡ with_kept self.old text.now mode) }
         ensures fits { KeepsSize self.old self.new }
     {
-        let _ = &self.slots;
+        self.slots_fit();
         match mode {
             Some(mode) => self.kill(text, mode),
             None => Ok(()),
         }
+    }
+
+    /// Does nothing. Its contract gives a proof that at most so many texts are held as the size.
+    fn slots_fit(&self)
+        ensures { length self.now.slots ≤ self.now.size }
+    {
+        let _ = &self.slots;
     }
 
     /// Puts a text on one side of the current slot's.

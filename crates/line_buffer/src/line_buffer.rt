@@ -1,5 +1,5 @@
 ghost use Rattle.line_buffer.specs.Offset.{IsOffset, IsOffsetBack, IsOffsetOn};
-ghost use Rattle.std.specs.Prelude.{◌≡◌, ◌≤◌, [], ◌==◌, length, take, drop, not, is_some, IfOk, IfSome, IsCharBoundary};
+ghost use Rattle.std.specs.Prelude.{◌≡◌, ◌^◌, ◌<◌, ◌≤◌, [], ◌==◌, length, take, drop, not, is_some, IfOk, IfSome, IsCharBoundary};
 ghost use Rattle.line_buffer.specs.Cluster.{place_on, place_back};
 ghost use Rattle.line_buffer.specs.Line.{is_at_end, MovesCursor, PutsCursor, before, after, with_cursor, moved_to, start_of_line, end_of_line, ends_in_white_space};
 
@@ -133,6 +133,13 @@ impl LineBuffer {
         ensures { IsCharBoundary self.now.text self.now.cursor }
     {
         let _ = &self.pos;
+    }
+
+    /// Does nothing. Its contract gives a proof that the length of the text fits a `usize`.
+    pub(crate) fn len_fits(&self)
+        ensures { length self.now.text < 2 ^ 64 }
+    {
+        let _ = &self.buf;
     }
 
     /// Returns the length of the text in bytes.

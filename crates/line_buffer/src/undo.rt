@@ -65,7 +65,7 @@ impl Changeset {
         ensures told { KeepsToldAnywhere result self.old self.new }
     {
         let outcome = self.list.begin();
-        let _ = self.list.len();
+        self.list.len_fits();
         outcome
     }
 

@@ -45,10 +45,7 @@ impl Edge {
     fn is_behind(self, old: Option<Kind>, new: Kind) -> bool
         ensures { result ≡ edge_behind (edge_between self) old new }
     {
-        match old {
-            Some(old) => self.is_between(old, new),
-            None => false,
-        }
+        old.is_some_and(|old| self.is_between(old, new))
     }
 }
 
@@ -78,7 +75,7 @@ fn kind_of(word: Word, cluster: &str) -> Kind
 fn is_blank(cluster: &str) -> bool
     ensures { result ≡ is_blank cluster.now }
 {
-    cluster.chars().all(|c| c.is_whitespace())
+    cluster.chars().all(char::is_whitespace)
 }
 
 /// Returns whether all characters of the cluster are alphanumeric or underscores.
@@ -151,10 +148,7 @@ pub(crate) fn nth_start_back(text: &str, word: Word, n: RepeatCount) -> usize
 fn begins_before(old: Kind, new: Option<Kind>) -> bool
     ensures { result ≡ edge_before begins_word old new }
 {
-    match new {
-        Some(new) => begins_word(old, new),
-        None => false,
-    }
+    new.is_some_and(|new| begins_word(old, new))
 }
 
 /// Returns where the text's last cluster begins, for words other than Emacs', or the text's end for
@@ -217,14 +211,10 @@ fn nth_end_behind(text: &str, word: Word, n: RepeatCount) -> Option<(usize, usiz
     ensures end { IfSome result (λ r. IsCharBoundary text.now r.1) }
 {
     let mut rest = text.graphemes(true);
-    let Some(_) = rest.next() else {
-        return None;
-    };
+    rest.next()?;
     let start = text.len() - rest.as_str().len();
-    match nth_edge(rest, word, Edge::End, n) {
-        Some((last, end)) => Some((start + last, start + end)),
-        None => None,
-    }
+    let (last, end) = nth_edge(rest, word, Edge::End, n)?;
+    Some((start + last, start + end))
 }
 
 /// Returns the length of the text.

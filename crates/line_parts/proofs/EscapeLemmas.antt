@@ -1,11 +1,10 @@
 -- A line as it is written, and the text that a written line says.
-use Rattle.std.proofs.Common.{◌≡◌, ◌≢◌, ℕ, zero, suc, ◌+◌, ◌-◌, ◌<◌, ◌≤◌, Bool, true, false, if◌then◌else◌, List, [], ◌∷◌, ◌++◌, length, take, drop, get_or, All, Option, None, Some, MatchOption, option_map, ap, sym, ◌∙◌, refl, arith, append_assoc, append-nil, eqb, ⊎_elim, add-zero}
+use Rattle.std.proofs.Common.{◌≡◌, ◌≢◌, ℕ, zero, suc, ◌+◌, ◌-◌, ◌<◌, ◌≤◌, Bool, true, false, if◌then◌else◌, List, [], ◌∷◌, ◌++◌, length, take, drop, get_or, Option, None, Some, MatchOption, option_map, ap, sym, ◌∙◌, refl, arith, append_assoc, append-nil, eqb, ⊎_elim, add-zero}
 use Rattle.std.specs.Bool.{⊤}
 use Rattle.std.proofs.lemmas.Bool.{cases_Bool, both_ways}
 use Rattle.std.proofs.lemmas.List.{take_rest, take-append-drop, length-take, get_or-take, get_or-drop, drop_more, take_all, drop_all}
-use Rattle.std.proofs.lemmas.List.Elements.{All-head, All-tail}
-use Rattle.memchr.specs.Find.{is_byte, is_byte2, Passes, NoneBefore, Nowhere}
-use Rattle.line_parts.specs.HistoryText.{escaped_byte, escaped_line, Says, unescaped, as_it_stands}
+use Rattle.memchr.specs.Find.{is_byte2, Passes, NoneBefore, Nowhere}
+use Rattle.line_parts.specs.EscapedLine.{escaped_byte, escaped_line}
 
 -- what stands before the rest of a line: a backslash, or nothing
 abbrev pub behind : Bool → List ℕ → List ℕ
@@ -13,11 +12,14 @@ behind false line = line
 behind true line = 92 ∷ line
 
 -- the text that the rest of a line says, whether a backslash stands before it or not: none where
--- an escape is no good
+-- a newline stands in it, or an escape is no good
 abbrev pub undo : Bool → List ℕ → Option (List ℕ)
 undo false [] = Some []
 undo true [] = None
-undo false (b ∷ bs) = if eqb b 92 then undo true bs else option_map (λ t. b ∷ t) (undo false bs)
+undo false (b ∷ bs) =
+    if eqb b 92 then undo true bs
+    else if eqb b 10 then None
+    else option_map (λ t. b ∷ t) (undo false bs)
 undo true (b ∷ bs) =
     if eqb b 92 then option_map (λ t. 92 ∷ t) (undo false bs)
     else if eqb b 110 then option_map (λ t. 10 ∷ t) (undo false bs)
@@ -43,31 +45,27 @@ is_10 b p = grind arith
 is_110 : (b : ℕ) → eqb b 110 ≡ true → b ≡ 110
 is_110 b p = grind arith
 
-not_10 : (b : ℕ) → (b ≡ 10 → ⊥) → eqb b 10 ≡ false
-not_10 b other = grind arith
-
 none_is_not_some : {X : Type 0} (x : X) → ◌≡◌ {A = Option X} None (Some x) → ⊥
 none_is_not_some x e = cc
 
 -- what is undone is written so
-pub undone : (s : Bool) (line : List ℕ) → All (λ b. b ≢ 10) line → MatchOption (undo s line) ⊤ (λ t. escaped_line t ≡ behind s line)
-undone false [] lacks = refl
-undone true [] lacks = tt
-undone false (b ∷ bs) lacks =
-    let later = All-tail (λ b. b ≢ 10) b bs lacks in
-    ⊎_elim
-    (λ yes. rw (yes, is_92 b yes) (undone true bs later))
-    (λ other. rw other (MatchOption-map (λ t. escaped_line t ≡ bs) (λ t. escaped_line t ≡ b ∷ bs) (λ t. b ∷ t) (undo false bs)
-    (λ t h. rw (escaped_byte-plain b other (not_10 b (All-head (λ b. b ≢ 10) b bs lacks))) (ap (λ r. b ∷ r) h)) (undone false bs later)))
+pub undone : (s : Bool) (line : List ℕ) → MatchOption (undo s line) ⊤ (λ t. escaped_line t ≡ behind s line)
+undone false [] = refl
+undone true [] = tt
+undone false (b ∷ bs) = ⊎_elim
+    (λ yes. rw (yes, is_92 b yes) (undone true bs))
+    (λ other. rw other (⊎_elim
+    (λ yes. rw yes tt)
+    (λ plain. rw plain (MatchOption-map (λ t. escaped_line t ≡ bs) (λ t. escaped_line t ≡ b ∷ bs) (λ t. b ∷ t) (undo false bs)
+    (λ t h. rw (escaped_byte-plain b other plain) (ap (λ r. b ∷ r) h)) (undone false bs)))
+    (cases_Bool (eqb b 10))))
     (cases_Bool (eqb b 92))
-undone true (b ∷ bs) lacks =
-    let later = All-tail (λ b. b ≢ 10) b bs lacks in
-    ⊎_elim
+undone true (b ∷ bs) = ⊎_elim
     (λ yes. rw (yes, is_92 b yes) (MatchOption-map (λ t. escaped_line t ≡ bs) (λ t. escaped_line t ≡ 92 ∷ 92 ∷ bs) (λ t. 92 ∷ t) (undo false bs)
-    (λ t h. ap (λ r. 92 ∷ 92 ∷ r) h) (undone false bs later)))
+    (λ t h. ap (λ r. 92 ∷ 92 ∷ r) h) (undone false bs)))
     (λ other. rw other (⊎_elim
     (λ yes. rw (yes, is_110 b yes) (MatchOption-map (λ t. escaped_line t ≡ bs) (λ t. escaped_line t ≡ 92 ∷ 110 ∷ bs) (λ t. 10 ∷ t) (undo false bs)
-    (λ t h. ap (λ r. 92 ∷ 110 ∷ r) h) (undone false bs later)))
+    (λ t h. ap (λ r. 92 ∷ 110 ∷ r) h) (undone false bs)))
     (λ bad. rw bad tt)
     (cases_Bool (eqb b 110))))
     (cases_Bool (eqb b 92))
@@ -79,7 +77,7 @@ undo-escaped (b ∷ bs) = ⊎_elim
     (λ yes. rw (is_92 b yes) (ap (option_map (λ t. 92 ∷ t)) (undo-escaped bs)))
     (λ other. ⊎_elim
     (λ yes. rw (is_10 b yes) (ap (option_map (λ t. 10 ∷ t)) (undo-escaped bs)))
-    (λ plain. rw (escaped_byte-plain b other plain) (rw other (ap (option_map (λ t. b ∷ t)) (undo-escaped bs))))
+    (λ plain. rw (escaped_byte-plain b other plain) (rw (other, plain) (ap (option_map (λ t. b ∷ t)) (undo-escaped bs))))
     (cases_Bool (eqb b 10)))
     (cases_Bool (eqb b 92))
 
@@ -105,12 +103,12 @@ pushed_hit whole old run new xs i hit is_whole is_run is_new =
     let rest = escaped_line-at xs i lt in
     rw (take_rest xs (i + 1), is_new, is_run, is_whole, pieces, rest) (simp append_assoc)
 
--- a text that grew by all that is left, and by a line feed
-pub pushed_none : (start line old run new xs : List ℕ) → Nowhere (Passes (is_byte2 92 10) xs) 0 (length xs) → start ++ escaped_line line ≡ old ++ escaped_line xs → run ≡ old ++ xs → new ≡ run ++ 10 ∷ [] → new ≡ start ++ (escaped_line line ++ 10 ∷ [])
-pushed_none start line old run new xs none is_whole is_run is_new =
+-- a text that grew by all that is left
+pub pushed_none : (start line old new xs : List ℕ) → Nowhere (Passes (is_byte2 92 10) xs) 0 (length xs) → start ++ escaped_line line ≡ old ++ escaped_line xs → new ≡ old ++ xs → new ≡ start ++ escaped_line line
+pushed_none start line old new xs none is_whole is_new =
     let pieces = escaped_line-run xs (length xs) (omega arith) (λ k lt. none k (omega arith) lt) in
     let same : escaped_line xs ≡ xs = rw (take_all (length xs) xs (omega arith), drop_all (length xs) xs (omega arith)) at pieces ∙ append-nil xs in
-    rw (is_new, is_run) (rw (← append_assoc start (escaped_line line) (10 ∷ [])) (rw (is_whole, same) refl))
+    rw (is_new, is_whole, same) refl
 
 map-map : {X Y Z : Type 0} (f : Y → Z) (g : X → Y) (h : X → Z) → ((x : X) → f (g x) ≡ h x) → (o : Option X) → option_map f (option_map g o) ≡ option_map h o
 map-map f g h same None = refl
@@ -120,37 +118,48 @@ map-same : (o : Option (List ℕ)) → o ≡ option_map (λ t. t) o
 map-same None = refl
 map-same (Some t) = refl
 
-not_92 : (b : ℕ) → b ≢ 92 → eqb b 92 ≡ false
-not_92 b other = grind arith
+neither_is : (b : ℕ) → eqb b 92 ≡ false → eqb b 10 ≡ false → is_byte2 92 10 b ≡ false
+neither_is b p q = rw (p, q) refl
 
--- a run without backslashes says itself
-undo-run : (run xs : List ℕ) → ((i : ℕ) → i < length run → get_or run i 0 ≢ 92) → undo false (run ++ xs) ≡ option_map (λ t. run ++ t) (undo false xs)
+-- a run without backslashes and newlines says itself
+undo-run : (run xs : List ℕ) → ((i : ℕ) → i < length run → is_byte2 92 10 (get_or run i 0) ≡ true → ⊥) → undo false (run ++ xs) ≡ option_map (λ t. run ++ t) (undo false xs)
 undo-run [] xs lacks = map-same (undo false xs)
 undo-run (b ∷ run) xs lacks =
-    rw (not_92 b (lacks 0 (omega arith)), undo-run run xs (λ i lt. lacks (suc i) (omega arith)))
+    let first = neither b (lacks 0 (omega arith)) in
+    rw (first.0, first.1, undo-run run xs (λ i lt. lacks (suc i) (omega arith)))
     (map-map (λ t. b ∷ t) (λ t. run ++ t) (λ t. b ∷ (run ++ t)) (λ t. refl) (undo false xs))
 
 -- an escape says its character
-undo-escape : (ys : List ℕ) (c : ℕ) (rest : List ℕ) → get_or ys 0 0 ≡ 92 → ys ≡ escaped_byte c ++ rest → undo false ys ≡ option_map (λ t. c ∷ t) (undo false rest)
+undo-escape : (ys : List ℕ) (c : ℕ) (rest : List ℕ) → is_byte2 92 10 (get_or ys 0 0) ≡ true → ys ≡ escaped_byte c ++ rest → undo false ys ≡ option_map (λ t. c ∷ t) (undo false rest)
 undo-escape ys c rest front is = ⊎_elim
     (λ yes. rw (is, is_92 c yes) refl)
     (λ other. ⊎_elim
     (λ yes. rw (is, is_10 c yes) refl)
     (λ plain. let e : ys ≡ c ∷ rest = rw (escaped_byte-plain c other plain) at is in
-    let same : c ≡ 92 = rw e at front in absurd (both_ways _ other (rw same refl)))
+    let special : is_byte2 92 10 c ≡ true = rw e at front in absurd (both_ways _ (neither_is c other plain) special))
     (cases_Bool (eqb c 10)))
     (cases_Bool (eqb c 92))
 
 -- where no escape stands, none is undone
-undo-no_escape : (text : List ℕ) → ((c : ℕ) (rest : List ℕ) → escaped_byte c ++ rest ≡ 92 ∷ text → ⊥) → undo true text ≡ None
-undo-no_escape [] lacks = refl
-undo-no_escape (b ∷ bs) lacks = ⊎_elim
-    (λ yes. absurd (lacks 92 bs (ap (λ c. 92 ∷ c ∷ bs) (sym (is_92 b yes)))))
+undo-no_escape : (ys : List ℕ) → is_byte2 92 10 (get_or ys 0 0) ≡ true → ((c : ℕ) (rest : List ℕ) → escaped_byte c ++ rest ≡ ys → ⊥) → undo false ys ≡ None
+undo-no_escape [] front lacks = absurd (both_ways false refl front)
+undo-no_escape (b ∷ bs) front lacks = ⊎_elim
+    (λ yes. rw yes (undo-no_escaped bs (λ c rest e. lacks c rest (e ∙ ap (λ d. d ∷ bs) (sym (is_92 b yes))))))
     (λ other. rw other (⊎_elim
-    (λ yes. absurd (lacks 10 bs (ap (λ c. 92 ∷ c ∷ bs) (sym (is_110 b yes)))))
-    (λ bad. rw bad refl)
-    (cases_Bool (eqb b 110))))
+    (λ yes. rw yes refl)
+    (λ plain. absurd (both_ways _ (neither_is b other plain) front))
+    (cases_Bool (eqb b 10))))
     (cases_Bool (eqb b 92))
+  where
+    undo-no_escaped : (text : List ℕ) → ((c : ℕ) (rest : List ℕ) → escaped_byte c ++ rest ≡ 92 ∷ text → ⊥) → undo true text ≡ None
+    undo-no_escaped [] lacks = refl
+    undo-no_escaped (b ∷ bs) lacks = ⊎_elim
+        (λ yes. absurd (lacks 92 bs (ap (λ c. 92 ∷ c ∷ bs) (sym (is_92 b yes)))))
+        (λ other. rw other (⊎_elim
+        (λ yes. absurd (lacks 10 bs (ap (λ c. 92 ∷ c ∷ bs) (sym (is_110 b yes)))))
+        (λ bad. rw bad refl)
+        (cases_Bool (eqb b 110))))
+        (cases_Bool (eqb b 92))
 
 abbrev pub UndoesTo : List ℕ → List ℕ → List ℕ → Type 0
 UndoesTo line text rest = undo false line ≡ option_map (λ t. text ++ t) (undo false rest)
@@ -158,12 +167,11 @@ UndoesTo line text rest = undo false line ≡ option_map (λ t. text ++ t) (undo
 pub undoes-start : (line : List ℕ) → UndoesTo line [] line
 undoes-start line = map-same (undo false line)
 
-module _ (line text xs : List ℕ) (i : ℕ) (hit : NoneBefore (Passes (is_byte 92) xs) 0 (length xs) i) (here : Passes (is_byte 92) xs i) (so : UndoesTo line text xs) where
-  lacks-run : (k : ℕ) → k < length (take i xs) → get_or (take i xs) k 0 ≢ 92
+module _ (line text xs : List ℕ) (i : ℕ) (hit : NoneBefore (Passes (is_byte2 92 10) xs) 0 (length xs) i) (here : Passes (is_byte2 92 10) xs i) (so : UndoesTo line text xs) where
+  lacks-run : (k : ℕ) → k < length (take i xs) → is_byte2 92 10 (get_or (take i xs) k 0) ≡ true → ⊥
   lacks-run k lt e =
       let below : k < i = omega (arith, length-take i xs, hit.high) in
-      let there : get_or xs k 0 ≡ 92 = sym (get_or-take i xs k 0 below) ∙ e in
-      hit.before k (omega arith) below (rw there refl)
+      hit.before k (omega arith) below (ap (is_byte2 92 10) (sym (get_or-take i xs k 0 below)) ∙ e)
 
   undone-run : undo false line ≡ option_map (λ t. (text ++ take i xs) ++ t) (undo false (drop i xs))
   undone-run =
@@ -171,29 +179,25 @@ module _ (line text xs : List ℕ) (i : ℕ) (hit : NoneBefore (Passes (is_byte 
       so ∙ ap (option_map (λ t. text ++ t)) split
       ∙ map-map (λ t. text ++ t) (λ t. take i xs ++ t) (λ t. (text ++ take i xs) ++ t) (λ t. sym (append_assoc text (take i xs) t)) (undo false (drop i xs))
 
-  byte_here : get_or xs i 0 ≡ 92
-  byte_here = is_92 (get_or xs i 0) here
+  front : is_byte2 92 10 (get_or (drop i xs) 0 0) ≡ true
+  front = ap (is_byte2 92 10) (get_or-drop i xs 0 0 ∙ ap (λ k. get_or xs k 0) (add-zero i)) ∙ here
 
   -- a run and an escape were read
-  pub undoes_more : (run new : List ℕ) (c : ℕ) → run ≡ text ++ take i xs → new ≡ run ++ c ∷ [] → (get_or xs i 0 ≡ 92 → drop i xs ≡ escaped_byte c ++ drop (i + 2) xs) → UndoesTo line new (take (length xs - (i + 2)) (drop (i + 2) xs))
-  undoes_more run new c is_run is_new escape =
-      let is_drop = escape byte_here in
-      let front : get_or (drop i xs) 0 0 ≡ 92 = get_or-drop i xs 0 0 ∙ rw add-zero byte_here in
+  pub undoes_more : (run new : List ℕ) (c : ℕ) → run ≡ text ++ take i xs → new ≡ run ++ c ∷ [] → drop i xs ≡ escaped_byte c ++ drop (i + 2) xs → UndoesTo line new (take (length xs - (i + 2)) (drop (i + 2) xs))
+  undoes_more run new c is_run is_new is_drop =
       let undone_here = undo-escape (drop i xs) c (drop (i + 2) xs) front is_drop in
       rw (take_rest xs (i + 2), is_new, is_run) (undone-run ∙ ap (option_map (λ t. (text ++ take i xs) ++ t)) undone_here
       ∙ map-map (λ t. (text ++ take i xs) ++ t) (λ t. c ∷ t) (λ t. ((text ++ take i xs) ++ c ∷ []) ++ t) (λ t. simp append_assoc) (undo false (drop (i + 2) xs)))
 
   -- no escape stands behind the run
-  pub undoes_bad : ((b : ℕ) (rest : List ℕ) → escaped_byte b ++ rest ≡ drop i xs → get_or xs i 0 ≢ 92) → Says line line
-  undoes_bad bad =
-      let is_drop : drop i xs ≡ 92 ∷ drop (i + 1) xs = drop_more xs i 0 hit.high ∙ ap (λ b. b ∷ drop (i + 1) xs) byte_here in
-      let none = undo-no_escape (drop (i + 1) xs) (λ c rest e. bad c rest (e ∙ sym is_drop) byte_here) in
-      let all : undo false line ≡ None = undone-run ∙ rw (is_drop, none) refl in
-      as_it_stands (λ other e. none_is_not_some other (sym all ∙ ap (undo false) (sym e) ∙ undo-escaped other)) refl
+  pub undoes_bad : ((b : ℕ) (rest : List ℕ) → escaped_byte b ++ rest ≢ drop i xs) → (other : List ℕ) → escaped_line other ≢ line
+  undoes_bad bad other e =
+      let all : undo false line ≡ None = undone-run ∙ ap (option_map (λ t. (text ++ take i xs) ++ t)) (undo-no_escape (drop i xs) front bad) in
+      none_is_not_some other (sym all ∙ ap (undo false) (sym e) ∙ undo-escaped other)
 
 -- all was read
-pub undoes_all : (line text xs new : List ℕ) → All (λ b. b ≢ 10) line → Nowhere (Passes (is_byte 92) xs) 0 (length xs) → UndoesTo line text xs → new ≡ text ++ xs → Says line new
-undoes_all line text xs new lacks none so is_new =
-    let plain = undo-run xs [] (λ k lt e. none k (omega arith) lt (rw e refl)) in
+pub undoes_all : (line text xs new : List ℕ) → Nowhere (Passes (is_byte2 92 10) xs) 0 (length xs) → UndoesTo line text xs → new ≡ text ++ xs → escaped_line new ≡ line
+undoes_all line text xs new none so is_new =
+    let plain = undo-run xs [] (λ k lt e. none k (omega arith) lt e) in
     let whole : undo false line ≡ Some new = so ∙ ap (option_map (λ t. text ++ t)) (rw (append-nil xs) at plain) ∙ ap Some (sym is_new) in
-    unescaped (rw whole at (undone false line lacks))
+    rw whole at (undone false line)

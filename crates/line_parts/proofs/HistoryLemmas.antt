@@ -1,6 +1,6 @@
 -- The lines of a history: what is left of them, and what is found in them.
-use Rattle.std.proofs.Common.{◌≡◌, ◌<◌, ◌≤◌, ℕ, suc, zero, ◌+◌, ◌-◌, ◌==◌, ◌||◌, Bool, true, false, true≢false, not, nat_lt, nat_le, bytes_eq, List, [], ◌∷◌, ◌++◌, length, map, drop, get_or, Option, Some, None, is_some, refl, sym, ap, ap₂, ◌∙◌, subst, arith, zero-add, lt_trans, lt_of_lt_of_le, length-append, length-drop, drop-cons, drop_of_length-le, le_antisymm, not-suc-le-zero, eq-or-lt_of_le, ◌⊎◌, inl, inr, Global, String, string_bytes}
-use Rattle.std.proofs.lemmas.List.{length-map, map-append, get_or-map, drop-drop}
+use Rattle.std.proofs.Common.{◌≡◌, ◌<◌, ◌≤◌, ℕ, suc, zero, ◌+◌, ◌-◌, ◌==◌, ◌||◌, Bool, true, false, true≢false, not, nat_lt, nat_le, bytes_eq, List, [], ◌∷◌, ◌++◌, length, map, drop, get_or, Option, Some, None, is_some, refl, sym, ap, ap₂, ◌∙◌, subst, arith, zero-add, lt_trans, lt_of_lt_of_le, length-append, length-drop, drop-cons, drop_of_length-le, not-suc-le-zero, eq-or-lt_of_le, ◌⊎◌, inl, inr, Global, String, string_bytes}
+use Rattle.std.proofs.lemmas.List.{length-map, map-append, get_or-map}
 use Rattle.std.proofs.lemmas.List.FromFn.{get_or-range_with_len, length-range_with_len}
 use Rattle.std.proofs.lemmas.List.Sums.{position_or_len_is}
 use Rattle.std.specs.List.{list_any, position_or_len, range_with_len}
@@ -18,15 +18,6 @@ map-drop f (suc n) (x ∷ xs) = map-drop f n xs
 drop_zero : {X : Type 0} (xs : List X) → drop 0 xs ≡ xs
 drop_zero [] = refl
 drop_zero (x ∷ xs) = refl
-
-pub one_more_dropped : {X : Type 0} (n : ℕ) (old between new : List X) → between ≡ drop n old → new ≡ drop 1 between → new ≡ drop (n + 1) old
-one_more_dropped n old between new e d = d ∙ ap (drop 1) e ∙ drop-drop 1 n old
-
-pub all_dropped : {X : Type 0} (n count : ℕ) (old new : List X) → n ≤ count → count ≤ n → new ≡ drop n old → new ≡ drop count old
-all_dropped n count old new h k e = e ∙ ap (λ m. drop m old) (le_antisymm h k)
-
-pub none_dropped : {X : Type 0} (old : List X) → old ≡ drop 0 old
-none_dropped old = sym (drop_zero old)
 
 -- a list that is no longer than n is the last n of itself
 pub last_of_short : {X : Type 0} (n : ℕ) (xs : List X) → length xs ≤ n → last_of n xs ≡ xs

@@ -4,10 +4,9 @@ use Rattle.std.specs.Prelude.{filter}
 use Rattle.std.specs.Char.{is_newline}
 use Rattle.std.specs.List.{slice_split}
 use Rattle.std.specs.Io.BufRead.{take_through, drop_through, ends_with_byte, strip_last}
-use Rattle.std.specs.Io.{StopsAt}
 use Rattle.std.proofs.lemmas.Bool.{cases_Bool, both_ways}
-use Rattle.std.proofs.lemmas.List.{drop_more, drop_all, take_at, length_push, get_or_push, get_or_default, get_or-take, length-take}
-use Rattle.std.proofs.lemmas.List.Elements.{All-cons, All-nil, All-same}
+use Rattle.std.proofs.lemmas.List.{drop_more, drop_all, take_at, length_push, get_or_push}
+use Rattle.std.proofs.lemmas.List.Elements.{All-cons, All-nil}
 use Rattle.std.proofs.lemmas.List.Splits.{slice_split_at, slice_split_none, length-slice_split}
 use Rattle.line_parts.specs.History.{last_of}
 use Rattle.line_parts.specs.HistoryText.{without_return, lines_of, is_some_text}
@@ -166,19 +165,3 @@ lines_of-first text lt = ⊎_elim
     let some : is_some_text text ≡ true = longer text lt in
     lines_of-last text p.plain ∙ rw some (ap (λ l. l ∷ []) (sym is_line)) ∙ ap (λ r. trimmed (take_through 10 text) ∷ lines_of r) (sym p.none))
     (pieces text)
-
-below_or_last : (k n : ℕ) → k < n → (k < n - 1) ⊎ (k ≡ n - 1)
-below_or_last k n lt = ⊎_elim (λ yes. inl (ltb_holds k (n - 1) yes)) (λ other. inr (omega (arith, lt, ltb_fails k (n - 1) other))) (cases_Bool (ltb k (n - 1)))
-
--- where only the last byte may be this one, it is gone
-pub gone : (bytes new : List ℕ) (byte : ℕ) → new ≡ strip_last byte bytes → StopsAt bytes byte → All (λ b. b ≢ byte) new
-gone bytes new byte e stops = ⊎_elim
-    (λ yes. All-same (λ b. b ≢ byte) new (take (length bytes - 1) bytes) (e ∙ ap (λ b. if b then take (length bytes - 1) bytes else bytes) yes) stops)
-    (λ other. All-same (λ b. b ≢ byte) new bytes (e ∙ ap (λ b. if b then take (length bytes - 1) bytes else bytes) other)
-    (λ k d lt h. ⊎_elim
-    (λ (below : k < length bytes - 1). stops k d (omega (arith, below, length-take (length bytes - 1) bytes)) (get_or-take (length bytes - 1) bytes k d below ∙ h))
-    (λ (last : k ≡ length bytes - 1).
-    let here : get_or bytes (length bytes - 1) 0 ≡ byte = ap (λ j. get_or bytes j 0) (sym last) ∙ get_or_default bytes k 0 d lt ∙ h in
-    both_ways _ other (true_both _ _ (longer bytes (omega (arith, lt))) (same_byte _ byte here)))
-    (below_or_last k (length bytes) lt)))
-    (cases_Bool (ends_with_byte byte bytes))

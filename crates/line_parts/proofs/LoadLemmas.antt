@@ -1,5 +1,5 @@
 -- The lines of a text, added one after another.
-use Rattle.std.proofs.Common.{◌≡◌, ◌≢◌, ℕ, suc, ◌-◌, ◌<◌, ◌≤◌, Bool, true, false, true≢false, not, ◌&&◌, if◌then◌else◌, ◌⊎◌, inl, inr, List, [], ◌∷◌, ◌++◌, length, take, All, Option, None, Some, MatchOption, ap, sym, ◌∙◌, refl, arith, append_assoc, append-nil, eqb, ⊎_elim}
+use Rattle.std.proofs.Common.{◌≡◌, ◌≢◌, ℕ, suc, ◌-◌, ◌<◌, ◌≤◌, Bool, true, false, true≢false, not, ◌&&◌, if◌then◌else◌, List, [], ◌∷◌, ◌++◌, length, take, All, Option, None, Some, MatchOption, ap, sym, ◌∙◌, refl, arith, append_assoc, append-nil, eqb, ⊎_elim}
 use Rattle.std.specs.Prelude.{filter, bytes_eq, IfSome, Result, Ok, Err, OnErr}
 use Rattle.std.specs.Bool.{⊤}
 use Rattle.std.specs.Io.KnownBytes.{IsAtEnd, prepend_known}
@@ -8,10 +8,11 @@ use Rattle.std.specs.declared.io.buffered.BufReader.{BufReader}
 use Rattle.std.specs.Io.BufRead.{take_through, DropsThrough, ends_with_byte, strip_last}
 use Rattle.std.specs.List.{AllZip}
 use Rattle.std.proofs.lemmas.Bool.{cases_Bool, both_ways}
-use Rattle.std.proofs.lemmas.List.Elements.{filter-append, All-same, All-head, All-tail, All-cons, All-nil, All-append, All-take}
+use Rattle.std.proofs.lemmas.List.Elements.{filter-append, All-cons, All-nil, All-append}
 use Rattle.std.proofs.lemmas.Slice.Eq.{bytes_eq-Decides}
 use Rattle.line_parts.specs.History.{FiledHistory, all_filed, all_taken, filed, leaves_out, settled}
-use Rattle.line_parts.specs.HistoryText.{escaped_line, escaped_byte, header, is_some_text, lines_of, takes_all, AddsLines, AddsBeginning, AddsSome, ReadsHeader, GoesOn, IsHistoryText, Loads, LoadsBeginning, Says, SaysLines, unescaped, as_it_stands, with_header, without_header}
+use Rattle.line_parts.specs.EscapedLine.{escaped_byte, escaped_line}
+use Rattle.line_parts.specs.HistoryText.{header, is_some_text, lines_of, takes_all, AddsLines, AddsBeginning, AddsSome, ReadsHeader, GoesOn, IsHistoryText, Loads, LoadsBeginning, Says, SaysLines, unescaped, as_it_stands, with_header, without_header}
 use Rattle.line_parts.proofs.LinesLemmas.{lines_of-first, trimmed}
 use Rattle.line_parts.proofs.EscapeLemmas.{undo, undone, undo-escaped}
 
@@ -87,19 +88,6 @@ pub escaped_line-lacks : (t : List ℕ) → All (λ b. b ≢ 10) (escaped_line t
 escaped_line-lacks [] = All-nil (λ b. b ≢ 10)
 escaped_line-lacks (b ∷ bs) = All-append (λ b. b ≢ 10) (escaped_byte b) (escaped_line bs) (escaped_byte-lacks b) (escaped_line-lacks bs)
 
-is_10 : (b : ℕ) → eqb b 10 ≡ true → b ≡ 10
-is_10 b p = grind arith
-
-lacks_or_not : (line : List ℕ) → All (λ b. b ≢ 10) line ⊎ (All (λ b. b ≢ 10) line → ⊥)
-lacks_or_not [] = inl (All-nil (λ b. b ≢ 10))
-lacks_or_not (b ∷ bs) = ⊎_elim
-    (λ yes. inr (λ lacks. All-head (λ b. b ≢ 10) b bs lacks (is_10 b yes)))
-    (λ other. ⊎_elim
-    (λ (rest : All (λ b. b ≢ 10) bs). inl (All-cons (λ b. b ≢ 10) b bs (λ e. both_ways _ other (rw e refl)) rest))
-    (λ (has : All (λ b. b ≢ 10) bs → ⊥). inr (λ lacks. has (All-tail (λ b. b ≢ 10) b bs lacks)))
-    (lacks_or_not bs))
-    (cases_Bool (eqb b 10))
-
 none_is_not_some : {X : Type 0} (x : X) → ◌≡◌ {A = Option X} None (Some x) → ⊥
 none_is_not_some x e = cc
 
@@ -108,10 +96,7 @@ says_by line None e h = (line, as_it_stands (λ other same. none_is_not_some oth
 says_by line (Some t) e h = (t, unescaped (rw e at h))
 
 pub says_some : (line : List ℕ) → (t : List ℕ) × Says line t
-says_some line = ⊎_elim
-    (λ (lacks : All (λ b. b ≢ 10) line). says_by line (undo false line) refl (undone false line lacks))
-    (λ (has : All (λ b. b ≢ 10) line → ⊥). (line, as_it_stands (λ other e. has (All-same (λ b. b ≢ 10) line (escaped_line other) (sym e) (escaped_line-lacks other))) refl))
-    (lacks_or_not line)
+says_some line = says_by line (undo false line) refl (undone false line)
 
 says_all : (ws : List (List ℕ)) → (ls : List (List ℕ)) × AllZip Says ws ls
 says_all [] = ([], tt)
@@ -163,8 +148,14 @@ adds_empty headed (x ∷ xs) h e = absurd (omega (arith, e))
 pub adds_plain : (w : List ℕ) (old new : FiledHistory) (taken : Bool) → 0 < length w → new ≡ filed old w → taken ≡ not (leaves_out old.rules old.lines w) → AddsLines false (w ∷ []) old new taken
 adds_plain w old new taken lt e t = record { lines = w ∷ []; says = rw (some_text w lt) refl; added = e; takes = t ∙ sym (takes_one old w) }
 
-pub adds_says : (w text : List ℕ) (old new : FiledHistory) (taken : Bool) → 0 < length w → Says w text → new ≡ filed old text → taken ≡ not (leaves_out old.rules old.lines text) → AddsLines true (w ∷ []) old new taken
+adds_says : (w text : List ℕ) (old new : FiledHistory) (taken : Bool) → 0 < length w → Says w text → new ≡ filed old text → taken ≡ not (leaves_out old.rules old.lines text) → AddsLines true (w ∷ []) old new taken
 adds_says w text old new taken lt says e t = record { lines = text ∷ []; says = rw (some_text w lt) (says, tt); added = e; takes = t ∙ sym (takes_one old text) }
+
+pub adds_unescaped : (w text : List ℕ) (old new : FiledHistory) (taken : Bool) → 0 < length w → escaped_line text ≡ w → new ≡ filed old text → taken ≡ not (leaves_out old.rules old.lines text) → AddsLines true (w ∷ []) old new taken
+adds_unescaped w text old new taken lt says e t = adds_says w text old new taken lt (unescaped says) e t
+
+pub adds_as_it_stands : (w : List ℕ) (old new : FiledHistory) (taken : Bool) → 0 < length w → ((other : List ℕ) → escaped_line other ≢ w) → new ≡ filed old w → taken ≡ not (leaves_out old.rules old.lines w) → AddsLines true (w ∷ []) old new taken
+adds_as_it_stands w old new taken lt bad e t = adds_says w w old new taken lt (as_it_stands bad refl) e t
 
 -- ---- a line that was read
 
@@ -187,12 +178,6 @@ trimmed_kept piece line e is = is ∙ ap (λ b. if b then take (length piece - 1
 
 pub trimmed_cut : (piece mid line : List ℕ) → true ≡ ends_with_byte 10 piece → mid ≡ strip_last 10 piece → line ≡ strip_last 13 mid → line ≡ trimmed piece
 trimmed_cut piece mid line e is cut = cut ∙ ap (strip_last 13) is ∙ ap (λ b. if b then strip_last 13 (strip_last 10 piece) else piece) e
-
-pub plain_cut : (mid line : List ℕ) → All (λ b. b ≢ 10) mid → line ≡ strip_last 13 mid → All (λ b. b ≢ 10) line
-plain_cut mid line plain is = ⊎_elim
-    (λ yes. All-same (λ b. b ≢ 10) line (take (length mid - 1) mid) (is ∙ ap (λ b. if b then take (length mid - 1) mid else mid) yes) (All-take (λ b. b ≢ 10) (length mid - 1) mid plain))
-    (λ other. All-same (λ b. b ≢ 10) line mid (is ∙ ap (λ b. if b then take (length mid - 1) mid else mid) other) plain)
-    (cases_Bool (ends_with_byte 13 mid))
 
 -- ---- the lines of a text, read one after another
 

@@ -3,7 +3,8 @@ use Rattle.std.proofs.Common.{◌≡◌, ℕ, ◌+◌, ◌-◌, ◌<◌, ◌≤�
 use Rattle.std.specs.Io.KnownBytes.{Appends, append_known, Keeps}
 use Rattle.std.proofs.lemmas.List.{drop_more, drop_all}
 use Rattle.line_parts.specs.History.{FiledHistory}
-use Rattle.line_parts.specs.HistoryText.{escaped_line, to_save, written}
+use Rattle.line_parts.specs.EscapedLine.{escaped_line}
+use Rattle.line_parts.specs.HistoryText.{to_save, written}
 
 -- so much was written or waits to be, and these lines are left
 pub record Written (start now : Option (List ℕ)) (lines : List (List ℕ)) (first index : ℕ) : Type 0 where
@@ -29,10 +30,10 @@ appends-out (Some xs) (Some ys) (Some zs) text emptied done h out e = rw (e, app
 pub written_none : (start : Option (List ℕ)) (lines : List (List ℕ)) (first : ℕ) → Written start start lines first first
 written_none start lines first = record { done = []; appends = appends-none start; rest = refl }
 
-pub written_more : (start known : Option (List ℕ)) (text new line : List ℕ) (lines : List (List ℕ)) (first index : ℕ) → index < length lines → line ≡ get_or lines index [] → Written start (append_known known text) lines first index → new ≡ text ++ (escaped_line line ++ 10 ∷ []) → Written start (append_known known new) lines first (index + 1)
-written_more start known text new line lines first index lt is w e = record {
+pub written_more : (start known : Option (List ℕ)) (text between new line : List ℕ) (lines : List (List ℕ)) (first index : ℕ) → index < length lines → line ≡ get_or lines index [] → Written start (append_known known text) lines first index → between ≡ text ++ escaped_line line → new ≡ between ++ 10 ∷ [] → Written start (append_known known new) lines first (index + 1)
+written_more start known text between new line lines first index lt is w e f = record {
   done = w.done ++ (escaped_line line ++ 10 ∷ []);
-  appends = appends-more start known text new w.done (escaped_line line ++ 10 ∷ []) w.appends e;
+  appends = appends-more start known text new w.done (escaped_line line ++ 10 ∷ []) w.appends (f ∙ ap (λ t. t ++ 10 ∷ []) e ∙ append_assoc text (escaped_line line) (10 ∷ []));
   rest = append_assoc w.done (escaped_line line ++ 10 ∷ []) (written (drop (index + 1) lines))
       ∙ ap (λ bs. w.done ++ bs) (rw (drop_more lines index [] lt, is) refl) ∙ w.rest;
 }

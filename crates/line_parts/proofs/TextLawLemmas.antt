@@ -5,7 +5,8 @@ use Rattle.std.specs.List.{AllZip}
 use Rattle.std.proofs.lemmas.Bool.{cases_Bool}
 use Rattle.std.proofs.lemmas.List.Elements.{All-head, All-tail, All-nil, All-cons, All-append}
 use Rattle.line_parts.specs.History.{FiledHistory, HistoryRules, all_filed, filed, last_of, leaves_out, settled}
-use Rattle.line_parts.specs.HistoryText.{EndsPlain, Loads, escaped_line, escaped_byte, header, is_some_text, lines_of, saved, without_return, written, IsHistoryText, Says, unescaped, as_it_stands, with_header, without_header}
+use Rattle.line_parts.specs.EscapedLine.{escaped_byte, escaped_line}
+use Rattle.line_parts.specs.HistoryText.{EndsPlain, Loads, header, is_some_text, lines_of, saved, without_return, written, IsHistoryText, Says, unescaped, as_it_stands, with_header, without_header}
 use Rattle.line_parts.proofs.EscapeLemmas.{undo, undo-escaped}
 use Rattle.line_parts.proofs.LinesLemmas.{lines_of-more}
 use Rattle.line_parts.proofs.LoadLemmas.{escaped_line-lacks}

@@ -5,18 +5,8 @@ use Rattle.std.specs.Char.{is_newline}
 use Rattle.std.specs.List.{AllZip, flat_map, slice_split}
 use Rattle.std.specs.declared.io.ErrorKind.{ErrorKind}
 use Rattle.std.specs.declared.io.ErrorKind.TheVariants.{Interrupted, OutOfMemory}
+use Rattle.line_parts.specs.EscapedLine.{escaped_line}
 use Rattle.line_parts.specs.History.{FiledHistory, all_filed, all_taken, last_of, settled}
-
--- a byte as it is written: `\` as `\\`, a newline as `\n`
-abbrev pub escaped_byte : ℕ → List ℕ
-escaped_byte b =
-    if b == 92 then 92 ∷ 92 ∷ []
-    else if b == 10 then 92 ∷ 110 ∷ []
-    else b ∷ []
-
--- a line as it is written
-abbrev pub escaped_line : List ℕ → List ℕ
-escaped_line line = flat_map escaped_byte line
 
 -- lines as they are written, a line feed behind each
 abbrev pub written : List (List ℕ) → List ℕ

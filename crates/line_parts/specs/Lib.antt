@@ -9,6 +9,7 @@ pub mod Consulted
 pub mod Context
 pub mod Environment
 pub mod Escape
+pub mod EscapedLine
 pub mod Helped
 pub mod Hint
 pub mod History

@@ -240,10 +240,6 @@ fn lit(alloc: Global, line: &str, at: usize) -> Result<String>
     ensures text { IfOk result (λ t. string_bytes t ≡ lit_at line.now at) }
     ensures memory { MemoryOnly result }
 {
-    let mut shown = String::from_str(alloc, &line[..at])?;
-    shown.push_str("\x1b[1;34m")?;
-    shown.push_str(&line[at..at + 1])?;
-    shown.push_str("\x1b[0m")?;
-    shown.push_str(&line[at + 1..])?;
-    Ok(shown)
+    let (before, bracket, behind) = (&line[..at], &line[at..at + 1], &line[at + 1..]);
+    Ok(format!(in alloc; "{before}\x1b[1;34m{bracket}\x1b[0m{behind}")?)
 }

@@ -5,6 +5,7 @@ mod brackets;
 pub mod completion;
 pub mod consulted;
 pub mod context;
+mod escaped_line;
 pub mod helper;
 pub mod highlight;
 pub mod hint;
@@ -19,6 +20,7 @@ pub use completion::{
 };
 pub use consulted::Consulted;
 pub use context::Context;
+pub use escaped_line::{escape_of, push_escaped_line, unescape_line};
 pub use helper::Helper;
 pub use highlight::{CmdKind, Highlighter, MatchingBracketHighlighter};
 pub use hint::{Hint, Hinter, HistoryHinter};

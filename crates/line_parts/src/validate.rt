@@ -166,10 +166,8 @@ fn unpaired(alloc: Global, bracket: u8) -> Result<String>
     ensures text { IfOk result (λ t. string_bytes t ≡ unpaired_message bracket) }
     ensures memory { MemoryOnly result }
 {
-    let mut text = String::from_str(alloc, "Mismatched brackets: '")?;
-    text.push(char::from(bracket))?;
-    text.push_str("' is unpaired")?;
-    Ok(text)
+    let shown = char::from(bracket);
+    Ok(format!(in alloc; "Mismatched brackets: '{shown}' is unpaired")?)
 }
 
 // Returns the message on the open bracket that the one at fault doesn't close.
@@ -178,8 +176,6 @@ fn unclosed(alloc: Global, bracket: u8) -> Result<String>
     ensures text { IfOk result (λ t. string_bytes t ≡ unclosed_message bracket) }
     ensures memory { MemoryOnly result }
 {
-    let mut text = String::from_str(alloc, "Mismatched brackets: '")?;
-    text.push(char::from(bracket))?;
-    text.push_str("' is not properly closed")?;
-    Ok(text)
+    let shown = char::from(bracket);
+    Ok(format!(in alloc; "Mismatched brackets: '{shown}' is not properly closed")?)
 }

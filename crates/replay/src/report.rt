@@ -4,6 +4,7 @@ ghost use Rattle.replay.specs.Outcome.{outcome_of, status_of};
 
 use line_buffer::Position;
 use line_config::{ReadlineError, Result};
+use line_parts::escape_of;
 use std::fmt::{Display, Formatter};
 use std::io::Write;
 use std::{fmt, io};
@@ -100,13 +101,12 @@ impl Report<'_> {
     }
 }
 
-/// Writes the text with a backslash as `\\` and a newline as `\n`.
+/// Writes the text with its backslashes and newlines escaped.
 fn write_escaped<O: Write>(text: &str, out: &mut O) -> io::Result<()> {
-    for c in text.chars() {
-        match c {
-            '\\' => out.write_all(br"\\")?,
-            '\n' => out.write_all(br"\n")?,
-            _ => write!(out, "{c}")?,
+    for byte in text.bytes() {
+        match escape_of(byte) {
+            Some(escape) => out.write_all(escape.as_bytes())?,
+            None => out.write_all(&[byte])?,
         }
     }
     Ok(())

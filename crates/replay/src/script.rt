@@ -6,10 +6,10 @@ mod names;
 use crate::helper::ScriptHelper;
 use line_buffer::Unit;
 use line_config::ReadlineError;
-use line_parts::{FileHistory, History};
+use line_parts::{FileHistory, History, unescape_line};
 use line_screen::KeyQueue;
 use names::key_named;
-use std::alloc::{AllocError, Global};
+use std::alloc::Global;
 use std::io;
 use std::io::Read;
 
@@ -118,7 +118,7 @@ fn push_line(alloc: Global, line: &str, parsed: &mut Parsed) -> Result<bool, Rea
             push_history(alloc, text, &mut parsed.history)
         }
         Some(("prompt", text)) if !parsed.has_item_lines => {
-            Ok(set_prompt(alloc, text, &mut parsed.prompt)?)
+            set_prompt(alloc, text, &mut parsed.prompt)
         }
         Some(("columns", digits)) if !parsed.has_item_lines => Ok(set_columns(digits, parsed)),
         Some(("type", text)) => {
@@ -161,7 +161,7 @@ fn push_history(
 }
 
 /// Takes the text as the prompt. False where an escape is bad.
-fn set_prompt(alloc: Global, text: &str, prompt: &mut String) -> Result<bool, AllocError> {
+fn set_prompt(alloc: Global, text: &str, prompt: &mut String) -> Result<bool, ReadlineError> {
     let Some(text) = unescape(alloc, text)? else {
         return Ok(false);
     };
@@ -218,22 +218,14 @@ fn push_key(name: &str, items: &mut Script) -> Result<bool, ReadlineError> {
     Ok(true)
 }
 
-/// The text with `\n` as a newline and `\\` as a backslash. None where another backslash stands in it.
-fn unescape(alloc: Global, text: &str) -> Result<Option<String>, AllocError> {
-    let mut plain = String::new(alloc);
-    let mut chars = text.chars();
-    while let Some(c) = chars.next() {
-        let c = match c {
-            '\\' => match chars.next() {
-                Some('n') => '\n',
-                Some('\\') => '\\',
-                _ => return Ok(None),
-            },
-            _ => c,
-        };
-        plain.push(c)?;
+/// The text that an escaped one stands for. None where an escape is bad.
+fn unescape(alloc: Global, text: &str) -> Result<Option<String>, ReadlineError> {
+    let mut plain = Vec::new(alloc);
+    if unescape_line(text.as_bytes(), &mut plain)? {
+        Ok(String::from_utf8(plain).ok())
+    } else {
+        Ok(None)
     }
-    Ok(Some(plain))
 }
 
 #[cfg(test)]

@@ -35,7 +35,7 @@ impl LineBuffer {
         ensures offset { IsOffset result self.now.text (lines_below n self.now.text start) }
         ensures down { start ≤ result }
     {
-        let _ = &self.pos;
+        self.len_fits();
         let mut place = start;
         for _ in 0..n {
             let Some(bytes) = next_line(self.text_from(place)) else {

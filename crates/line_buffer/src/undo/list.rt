@@ -1,8 +1,8 @@
 //! How the changes are kept, added to and taken back.
-ghost use Rattle.std.specs.Prelude.{ℕ, List, ◌≡◌, ◌+◌, ◌==◌, ◌++◌, ◌∷◌, length, encode_utf8, replicate, not, string_bytes, option_copied, option_map, ◌<◌, drop, take, max, IsCharBoundary, IfOk, OnOk, OnErr};
+ghost use Rattle.std.specs.Prelude.{ℕ, List, ◌≡◌, ◌+◌, ◌^◌, ◌==◌, ◌++◌, ◌∷◌, length, encode_utf8, replicate, not, string_bytes, option_copied, option_map, ◌<◌, drop, take, max, IsCharBoundary, IfOk, OnOk, OnErr};
 ghost use Rattle.std.specs.List.{list_any};
 ghost use Rattle.line_buffer.specs.EntryKind.{closed_by, is_text, newest_kind, opened_by};
-ghost use Rattle.line_buffer.specs.Edit.{Adds, Edits};
+ghost use Rattle.line_buffer.specs.Edit.{Adds, Edits, Joins};
 ghost use Rattle.line_buffer.specs.Undo.{KeepsToldAnywhere, Tells, all_taken_back, is_change, newest_steps, without_steps};
 ghost use Rattle.line_buffer.specs.Changes.{without_begins, ends, last_insert_of, newest_begins, inserted, deleted, replaced, no_changes, with_entries, begun, ended, closed, adds_end, with_insert, with_joined_insert, with_joined_delete, with_delete, with_replace, with_typed};
 
@@ -29,6 +29,74 @@ pub(crate) enum Change {
         old: String,
         new: String,
     },
+}
+
+impl Change {
+    ghost use Rattle.line_buffer.specs.KeptChanges.{entry_of};
+
+    /// Takes in the text that came in at `place`, where this is an insert that ends there, and
+    /// returns whether it did.
+    fn join_insert(&mut self, place: usize, text: &str) -> Result<bool, OutOfMemory>
+        ensures { Joins result (entry_of self.old) (entry_of self.new)
+            (with_joined_insert place text.now) (inserted place text.now) }
+    {
+        match self {
+            Change::Insert {
+                place: at,
+                text: old,
+            } if ends_at(*at, old.as_str(), place) => {
+                old.push_str(text)?;
+                Ok(true)
+            }
+            _ => Ok(false),
+        }
+    }
+
+    /// Takes in the text that went from `place`, where this is a delete at that place or one at
+    /// which the text ended, and returns whether it did.
+    fn join_delete(&mut self, place: usize, text: &str) -> Result<bool, OutOfMemory>
+        ensures { Joins result (entry_of self.old) (entry_of self.new)
+            (with_joined_delete place text.now) (deleted place text.now) }
+    {
+        match self {
+            Change::Delete {
+                place: at,
+                text: old,
+            } if *at == place => {
+                old.push_str(text)?;
+                Ok(true)
+            }
+            Change::Delete {
+                place: at,
+                text: old,
+            } if ends_at(place, text, *at) => {
+                old.insert_str(0, text)?;
+                *at = place;
+                Ok(true)
+            }
+            _ => Ok(false),
+        }
+    }
+
+    /// Takes in the text that came for another at `place`, where this is a replace whose new text
+    /// ends there, and returns whether it did.
+    fn join_replace(&mut self, place: usize, old: &str, new: &str) -> Result<bool, OutOfMemory>
+        ensures { Joins result (entry_of self.old) (entry_of self.new)
+            (with_replace place old.now new.now) (replaced place old.now new.now) }
+    {
+        match self {
+            Change::Replace {
+                place: at,
+                old: before,
+                new: after,
+            } if ends_at(*at, after.as_str(), place) => {
+                before.push_str(old)?;
+                after.push_str(new)?;
+                Ok(true)
+            }
+            _ => Ok(false),
+        }
+    }
 }
 
 /// What an entry was that was taken back.
@@ -108,6 +176,13 @@ impl ChangeList {
         self.changes.len()
     }
 
+    /// Does nothing. Its contract gives a proof that the number of entries fits a `usize`.
+    pub(crate) fn len_fits(&self)
+        ensures { length self.now.entries < 2 ^ 64 }
+    {
+        let _ = &self.changes;
+    }
+
     /// Returns whether the list has no entry.
     pub(crate) fn is_empty(&self) -> bool
         ensures { result ≡ (length self.now.entries == 0) }
@@ -174,7 +249,7 @@ impl ChangeList {
         ensures changes { OnOk result (self.new ≡ without_steps n self.old) }
         ensures cursor { IsCharBoundary line.new.text line.new.cursor }
     {
-        let _ = line.pos();
+        line.cursor_is_on_boundary();
         let mut left = n;
         let (mut begins, mut ends, mut undone) = (0usize, 0usize, false);
         for _ in 0..self.len() {
@@ -203,7 +278,8 @@ impl ChangeList {
         ensures changes { Adds result self.old self.new (drop 1) }
         ensures cursor { IsCharBoundary line.new.text line.new.cursor }
     {
-        let _ = line.len();
+        line.cursor_is_on_boundary();
+        line.len_fits();
         let Some(change) = self.changes.pop() else {
             return Ok(None);
         };
@@ -268,10 +344,7 @@ impl ChangeList {
     fn newest_begins(&self) -> bool
         ensures { result ≡ newest_begins self.now.entries }
     {
-        match self.changes.last() {
-            Some(Change::Begin) => true,
-            _ => false,
-        }
+        matches!(self.changes.last(), Some(Change::Begin))
     }
 
     /// Adds an end for each open group, and returns whether there was one.
@@ -304,13 +377,10 @@ impl ChangeList {
         ensures ok { OnOk result (self.new ≡ self.old) }
         ensures err { OnErr result (self.new ≡ no_changes) }
     {
-        match outcome {
-            Ok(value) => Ok(value),
-            Err(error) => {
-                self.clear();
-                Err(error)
-            }
+        if outcome.is_err() {
+            self.clear();
         }
+        outcome
     }
 
     fn add(&mut self, change: Change) -> Result<(), OutOfMemory>
@@ -361,32 +431,12 @@ impl ChangeList {
     fn insert_joined(&mut self, place: usize, text: &str) -> Result<(), OutOfMemory>
         ensures { Adds result self.old self.new (with_joined_insert place text.now) }
     {
-        match self.changes.pop() {
-            Some(
-                Change::Insert {
-                    place: at,
-                    text: mut old,
-                },
-            ) => {
-                if ends_at(at, &old, place) {
-                    old.push_str(text)?;
-                    return self.add(Change::Insert {
-                        place: at,
-                        text: old,
-                    });
-                }
-                self.add(Change::Insert {
-                    place: at,
-                    text: old,
-                })?;
-                self.add_insert(place, text)
+        if let Some(newest) = self.changes.last_mut() {
+            if newest.join_insert(place, text)? {
+                return Ok(());
             }
-            Some(other) => {
-                self.add(other)?;
-                self.add_insert(place, text)
-            }
-            None => self.add_insert(place, text),
         }
+        self.add_insert(place, text)
     }
 
     /// Tells that `text` went from `place`.
@@ -417,72 +467,24 @@ impl ChangeList {
     fn delete_joined(&mut self, place: usize, text: &str) -> Result<(), OutOfMemory>
         ensures { Adds result self.old self.new (with_joined_delete place text.now) }
     {
-        match self.changes.pop() {
-            Some(
-                Change::Delete {
-                    place: at,
-                    text: mut old,
-                },
-            ) => {
-                if at == place {
-                    old.push_str(text)?;
-                    return self.add(Change::Delete {
-                        place: at,
-                        text: old,
-                    });
-                }
-                if ends_at(place, text, at) {
-                    old.insert_str(0, text)?;
-                    return self.add(Change::Delete { place, text: old });
-                }
-                self.add(Change::Delete {
-                    place: at,
-                    text: old,
-                })?;
-                self.add_delete(place, text)
+        if let Some(newest) = self.changes.last_mut() {
+            if newest.join_delete(place, text)? {
+                return Ok(());
             }
-            Some(other) => {
-                self.add(other)?;
-                self.add_delete(place, text)
-            }
-            None => self.add_delete(place, text),
         }
+        self.add_delete(place, text)
     }
 
     /// Tells that `new` came for `old` at `place`.
     pub(crate) fn replace(&mut self, place: usize, old: &str, new: &str) -> Result<(), OutOfMemory>
         ensures { Adds result self.old self.new (with_replace place old.now new.now) }
     {
-        match self.changes.pop() {
-            Some(
-                Change::Replace {
-                    place: at,
-                    old: mut before,
-                    new: mut after,
-                },
-            ) => {
-                if ends_at(at, &after, place) {
-                    before.push_str(old)?;
-                    after.push_str(new)?;
-                    return self.add(Change::Replace {
-                        place: at,
-                        old: before,
-                        new: after,
-                    });
-                }
-                self.add(Change::Replace {
-                    place: at,
-                    old: before,
-                    new: after,
-                })?;
-                self.add_replace(place, old, new)
+        if let Some(newest) = self.changes.last_mut() {
+            if newest.join_replace(place, old, new)? {
+                return Ok(());
             }
-            Some(other) => {
-                self.add(other)?;
-                self.add_replace(place, old, new)
-            }
-            None => self.add_replace(place, old, new),
         }
+        self.add_replace(place, old, new)
     }
 
     fn add_replace(&mut self, place: usize, old: &str, new: &str) -> Result<(), OutOfMemory>

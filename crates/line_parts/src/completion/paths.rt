@@ -104,8 +104,7 @@ fn candidate(alloc: Global, folder: &str, entry: Entry, quote: Quote) -> Result<
         (λ pair. pair_offer pair ≡ offered quote folder.now (listed_of entry)) }
     ensures memory { MemoryOnly result }
 {
-    let mut path = String::from_str(alloc, folder)?;
-    path.push_str(entry.name.as_str())?;
+    let path = format!(in alloc; "{folder}{}", entry.name)?;
     let mut replacement = escape(path, ESCAPE, |c| breaks_in(quote, c), quote)?;
     if entry.folder {
         replacement.push('/')?;

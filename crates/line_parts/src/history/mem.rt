@@ -1,5 +1,5 @@
 //! A history that is kept in memory.
-ghost use Rattle.std.specs.Prelude.{◌≡◌, ◌<◌, ◌≤◌, true, [], ◌∷◌, ◌++◌, length, map, drop, is_ok};
+ghost use Rattle.std.specs.Prelude.{◌≡◌, ◌<◌, ◌≤◌, true, [], ◌∷◌, ◌++◌, length, map, is_ok};
 ghost use Rattle.std.specs.Prelude.{option_map, string_bytes, IfSome, IsOk, if◌then◌else◌, IfOk};
 ghost use Rattle.std.specs.Cow.{IsBorrowedStr};
 ghost use Rattle.line_config.specs.Error.{MemoryOnly};
@@ -131,16 +131,6 @@ impl MemHistory {
     }
 }
 
-// Drops so many lines from the front.
-#[tactic(auto, using(crate::proofs::HistoryLemmas::all_dropped, crate::proofs::HistoryLemmas::one_more_dropped, crate::proofs::HistoryLemmas::none_dropped))]
-fn drop_front(entries: &mut VecDeque<String>, count: usize)
-    ensures { entries.new.items ≡ drop count entries.old.items }
-{
-    for _ in 0..count {
-        entries.pop_front();
-    }
-}
-
 // Returns whether a text begins with white space.
 fn begins_with_space(text: &str) -> bool
     ensures { result ≡ begins_blank text.now }
@@ -205,7 +195,7 @@ impl History for MemHistory {
         ensures rules { self.new.rules ≡ record self.old.rules { max_len = len } }
     {
         let excess = self.entries.len().saturating_sub(len);
-        drop_front(&mut self.entries, excess);
+        self.entries.drain(..excess);
         self.max_len = len;
         Ok(())
     }

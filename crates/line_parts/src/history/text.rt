@@ -1,117 +1,45 @@
 //! The text in which a history is saved and loaded.
-ghost use Rattle.std.specs.Prelude.{◌≡◌, ◌≢◌, ◌+◌, ◌<◌, ◌≤◌, ℕ, length, drop, slice_index};
-ghost use Rattle.std.specs.Prelude.{if◌then◌else◌, ◌++◌, ◌∷◌, [], true, false, not};
-ghost use Rattle.std.specs.Prelude.{List, All, OnOk, OnErr, IfOk, MatchOption, IfSome};
+ghost use Rattle.std.specs.Prelude.{◌≡◌, ◌≢◌, ◌≤◌, ◌∷◌, [], length, drop, true, false, not};
+ghost use Rattle.std.specs.Prelude.{if◌then◌else◌, OnOk, OnErr, IfOk, IfSome};
 ghost use Rattle.std.specs.Io.BufRead.{ends_with_byte, strip_last};
 ghost use Rattle.std.specs.Str.{IsUtf8};
 ghost use Rattle.std.specs.IoError.{error_kind};
 ghost use Rattle.std.specs.declared.io.ErrorKind.TheVariants.{InvalidData, OutOfMemory};
-ghost use Rattle.line_config.specs.Error.{FaultsOnly, IoOnlyIf, IoOnlyOfKind, MemoryOnly};
+ghost use Rattle.line_config.specs.Error.{FaultsOnly, IoOnlyIf, IoOnlyOfKind};
 ghost use Rattle.line_config.specs.Error.{is_fault, is_io};
 ghost use Rattle.line_config.specs.declared.error.ReadlineError.TheVariants.{Io, Memory};
-ghost use Rattle.memchr.specs.Find.{is_byte2};
-ghost use Rattle.std.specs.Io.{StopsAt};
 ghost use Rattle.std.specs.Io.KnownBytes.{append_known, Appends};
 ghost use Rattle.line_parts.specs.History.{filed, leaves_out, settled};
-ghost use Rattle.line_parts.specs.HistoryText.{escaped_byte, escaped_line, lines_of, to_save, written};
+ghost use Rattle.line_parts.specs.HistoryText.{lines_of, to_save, written};
 ghost use Rattle.line_parts.specs.HistoryText.{AddsLines, AddsBeginning, AddsSome, ReadsHeader, FilesSome};
-ghost use Rattle.line_parts.specs.HistoryText.{GoesOn, Loads, LoadsBeginning, Says, StopsReading};
+ghost use Rattle.line_parts.specs.HistoryText.{GoesOn, Loads, LoadsBeginning, StopsReading};
 
+use crate::escaped_line::{push_escaped_line, unescape_line};
 use crate::history::{FileHistory, History};
 use line_config::{ReadlineError, Result};
-use memchr::{memchr, memchr2};
 use std::io::{BufRead, BufReader, Read, Write};
 use std::{io, str};
 
-/// Puts the escape of a backslash or a newline behind a text.
-fn push_escape(text: &mut Vec<u8>, byte: u8) -> Result<()>
-    requires { is_byte2 92 10 byte ≡ true }
-    ensures text { OnOk result (text.new.items ≡ text.old.items ++ escaped_byte byte) }
-    ensures faults { MemoryOnly result }
-{
-    let escape = if byte == b'\n' { b"\\n" } else { b"\\\\" };
-    text.extend_from_slice(escape)?;
-    Ok(())
-}
-
-/// Puts a line behind a text, with its escapes and a line feed.
-fn push_line(text: &mut Vec<u8>, line: &str) -> Result<()>
-    ensures text { OnOk result (text.new.items
-        ≡ text.old.items ++ (escaped_line line.now ++ 10 ∷ [])) }
-    ensures faults { MemoryOnly result }
-{
-    let mut rest = line.as_bytes();
-    while let Some(at) = memchr2(b'\\', b'\n', rest) {
-        text.extend_from_slice(&rest[..at])?;
-        push_escape(text, rest[at])?;
-        rest = &rest[at + 1..];
-    }
-    text.extend_from_slice(rest)?;
-    text.push(b'\n')?;
-    Ok(())
-}
-
-/// Returns the byte that the escape at `at` stands for: `None` where none stands there.
-fn read_escape(line: &[u8], at: usize) -> Option<u8>
-    requires { at < length line.now }
-    ensures { MatchOption result
-        ((b : ℕ) (rest : List ℕ) → escaped_byte b ++ rest ≡ drop at line.now
-        → slice_index line.now at ≢ 92)
-        (λ b. slice_index line.now at ≡ 92
-        → drop at line.now ≡ escaped_byte b ++ drop (at + 2) line.now) }
-{
-    match line[at + 1..].first() {
-        Some(b'\\') => Some(b'\\'),
-        Some(b'n') => Some(b'\n'),
-        _ => None,
-    }
-}
-
-/// Reads a line with escapes into `text`, and returns whether all of them are good.
-fn unescape(line: &[u8], text: &mut Vec<u8>) -> Result<bool>
-    requires { All (λ b. b ≢ 10) line.now }
-    ensures says { IfOk result
-        (λ good. Says line.now (if good then text.new.items else line.now)) }
-    ensures faults { MemoryOnly result }
-{
-    text.clear();
-    let mut rest = line;
-    while let Some(at) = memchr(b'\\', rest) {
-        text.extend_from_slice(&rest[..at])?;
-        let Some(byte) = read_escape(rest, at) else {
-            return Ok(false);
-        };
-        text.push(byte)?;
-        rest = &rest[at + 2..];
-    }
-    text.extend_from_slice(rest)?;
-    Ok(true)
-}
-
 /// Takes the last byte off, where it is `byte`, and returns whether it was.
-#[tactic(auto, using(crate::proofs::LinesLemmas::gone))]
 fn pop_if_last(bytes: &mut Vec<u8>, byte: u8) -> bool
     ensures popped { result ≡ ends_with_byte byte bytes.old.items }
     ensures rest { bytes.new.items ≡ strip_last byte bytes.old.items }
-    ensures gone { StopsAt bytes.old.items byte → All (λ b. b ≢ byte) bytes.new.items }
 {
-    let len = bytes.len();
-    if len == 0 || bytes[len - 1] != byte {
+    if bytes.last() != Some(&byte) {
         return false;
     }
-    bytes.truncate(len - 1);
+    bytes.pop();
     true
 }
 
 /// Reads the next line into `line`, without its line feed and one carriage return before that.
 /// Returns whether there was one.
-#[tactic(auto, using(crate::proofs::LoadLemmas::read_none, crate::proofs::LoadLemmas::ended_none, crate::proofs::LoadLemmas::read_one, crate::proofs::LoadLemmas::trimmed_kept, crate::proofs::LoadLemmas::trimmed_cut, crate::proofs::LoadLemmas::plain_cut))]
+#[tactic(auto, using(crate::proofs::LoadLemmas::read_none, crate::proofs::LoadLemmas::ended_none, crate::proofs::LoadLemmas::read_one, crate::proofs::LoadLemmas::trimmed_kept, crate::proofs::LoadLemmas::trimmed_cut))]
 fn read_line<B: BufRead>(reader: &mut B, line: &mut Vec<u8>) -> Result<bool>
     ensures goes_on { IfOk result (λ more. GoesOn (B.remaining reader.old) (B.remaining reader.new)
         (if more then line.new.items ∷ [] else [])) }
     ensures ended { IfOk result (λ more. more ≡ false
         → IfSome (B.remaining reader.old) (λ text. lines_of text ≡ [])) }
-    ensures plain { OnOk result (All (λ b. b ≢ 10) line.new.items) }
     ensures kind { IoOnlyOfKind result StopsReading }
     ensures faults { FaultsOnly result }
 {
@@ -173,7 +101,8 @@ impl FileHistory {
         ensures faults { FaultsOnly result }
     {
         for index in first..self.len() {
-            push_line(text, self.entry(index))?;
+            push_escaped_line(text, self.entry(index))?;
+            text.push(b'\n')?;
             if text.len() >= BUFFERED {
                 write_out(text, out)?;
             }
@@ -228,9 +157,8 @@ impl FileHistory {
     }
 
     // Adds what a line says, unless it is empty. Its text is built in `text`.
-    #[tactic(auto, using(crate::proofs::LoadLemmas::adds_empty, crate::proofs::LoadLemmas::adds_plain, crate::proofs::LoadLemmas::adds_says))]
+    #[tactic(auto, using(crate::proofs::LoadLemmas::adds_empty, crate::proofs::LoadLemmas::adds_plain, crate::proofs::LoadLemmas::adds_unescaped, crate::proofs::LoadLemmas::adds_as_it_stands))]
     fn load_line(&mut self, line: &[u8], headed: bool, text: &mut Vec<u8>) -> Result<bool>
-        requires { All (λ b. b ≢ 10) line.now }
         ensures adds { IfOk result (AddsLines headed (line.now ∷ []) self.old self.new) }
         ensures unchanged { OnErr result (self.new ≡ self.old) }
         ensures kind { IoOnlyOfKind result (λ kind. kind ≡ InvalidData) }
@@ -242,7 +170,7 @@ impl FileHistory {
         if !headed {
             return self.add_bytes(line);
         }
-        if unescape(line, text)? {
+        if unescape_line(line, text)? {
             return self.add_bytes(text.as_slice());
         }
         self.add_bytes(line)

@@ -10,51 +10,51 @@ pub overflow_sub-start : goal.overflow_sub-start
 overflow_sub-start c =
     omega (
       arith,
-      text_behind c.args.text.now c.in-Some.field-0.now (graphemes_left c.next.new.self) c.as_str.result.now c.utf8.text
-          (sym c.graphemes-rest.ensures.left ∙ c.in-Some.ensures.steps) c.as_str.ensures,
+      text_behind c.args.text.now c.in_ok-next.field-0.now (graphemes_left c.next.new.self) c.as_str.result.now c.utf8.text
+          (sym c.graphemes-rest.ensures.left ∙ c.in_ok-next.ensures.steps) c.as_str.ensures,
     )
 
 pub overflow_add-result : goal.overflow_add-result
 overflow_add-result c =
     let places =
-    behind_places c.args.text.now c.in-Some.field-0.now (graphemes_left c.next.new.self) c.as_str.result.now
-    (nth (edges ends_word (kinds_of c.args.word (graphemes_left c.next.new.self))) c.args.n) c.in-Some-nth_edge.last c.in-Some-nth_edge.end c.utf8.text
-    (sym c.graphemes-rest.ensures.left ∙ c.in-Some.ensures.steps) c.as_str.ensures
-    (edges_positive ends_word (kinds_of c.args.word (graphemes_left c.next.new.self)) c.args.n) (sym c.in-Some-nth_edge.is ∙ c.nth_edge.ensures) in
+    behind_places c.args.text.now c.in_ok-next.field-0.now (graphemes_left c.next.new.self) c.as_str.result.now
+    (nth (edges ends_word (kinds_of c.args.word (graphemes_left c.next.new.self))) c.args.n) c.in_ok-last.last c.in_ok-last.end c.utf8.text
+    (sym c.graphemes-rest.ensures.left ∙ c.in_ok-next.ensures.steps) c.as_str.ensures
+    (edges_positive ends_word (kinds_of c.args.word (graphemes_left c.next.new.self)) c.args.n) (sym c.in_ok-last.was ∙ c.nth_edge.ensures) in
     omega (arith, places.start.0)
 
-pub overflow_add-result-in-Some-nth_edge : goal.overflow_add-result-in-Some-nth_edge
-overflow_add-result-in-Some-nth_edge c =
+pub overflow_add-result-2 : goal.overflow_add-result-2
+overflow_add-result-2 c =
     let places =
-    behind_places c.args.text.now c.in-Some.field-0.now (graphemes_left c.next.new.self) c.as_str.result.now
-    (nth (edges ends_word (kinds_of c.args.word (graphemes_left c.next.new.self))) c.args.n) c.in-Some-nth_edge.last c.in-Some-nth_edge.end c.utf8.text
-    (sym c.graphemes-rest.ensures.left ∙ c.in-Some.ensures.steps) c.as_str.ensures
-    (edges_positive ends_word (kinds_of c.args.word (graphemes_left c.next.new.self)) c.args.n) (sym c.in-Some-nth_edge.is ∙ c.nth_edge.ensures) in
+    behind_places c.args.text.now c.in_ok-next.field-0.now (graphemes_left c.next.new.self) c.as_str.result.now
+    (nth (edges ends_word (kinds_of c.args.word (graphemes_left c.next.new.self))) c.args.n) c.in_ok-last.last c.in_ok-last.end c.utf8.text
+    (sym c.graphemes-rest.ensures.left ∙ c.in_ok-next.ensures.steps) c.as_str.ensures
+    (edges_positive ends_word (kinds_of c.args.word (graphemes_left c.next.new.self)) c.args.n) (sym c.in_ok-last.was ∙ c.nth_edge.ensures) in
     omega (arith, places.stop.0)
 
-pub returns-in-Some-nth_edge-clause-start : goal.returns-in-Some-nth_edge-clause-start
-returns-in-Some-nth_edge-clause-start c =
+pub returns-clause-start : goal.returns-clause-start
+returns-clause-start c =
     let places =
-    behind_places c.args.text.now c.in-Some.field-0.now (graphemes_left c.next.new.self) c.as_str.result.now
-    (nth (edges ends_word (kinds_of c.args.word (graphemes_left c.next.new.self))) c.args.n) c.in-Some-nth_edge.last c.in-Some-nth_edge.end c.utf8.text
-    (sym c.graphemes-rest.ensures.left ∙ c.in-Some.ensures.steps) c.as_str.ensures
-    (edges_positive ends_word (kinds_of c.args.word (graphemes_left c.next.new.self)) c.args.n) (sym c.in-Some-nth_edge.is ∙ c.nth_edge.ensures) in
+    behind_places c.args.text.now c.in_ok-next.field-0.now (graphemes_left c.next.new.self) c.as_str.result.now
+    (nth (edges ends_word (kinds_of c.args.word (graphemes_left c.next.new.self))) c.args.n) c.in_ok-last.last c.in_ok-last.end c.utf8.text
+    (sym c.graphemes-rest.ensures.left ∙ c.in_ok-next.ensures.steps) c.as_str.ensures
+    (edges_positive ends_word (kinds_of c.args.word (graphemes_left c.next.new.self)) c.args.n) (sym c.in_ok-last.was ∙ c.nth_edge.ensures) in
     places.start
 
-pub returns-in-Some-nth_edge-clause-end : goal.returns-in-Some-nth_edge-clause-end
-returns-in-Some-nth_edge-clause-end c =
+pub returns-clause-end : goal.returns-clause-end
+returns-clause-end c =
     let places =
-    behind_places c.args.text.now c.in-Some.field-0.now (graphemes_left c.next.new.self) c.as_str.result.now
-    (nth (edges ends_word (kinds_of c.args.word (graphemes_left c.next.new.self))) c.args.n) c.in-Some-nth_edge.last c.in-Some-nth_edge.end c.utf8.text
-    (sym c.graphemes-rest.ensures.left ∙ c.in-Some.ensures.steps) c.as_str.ensures
-    (edges_positive ends_word (kinds_of c.args.word (graphemes_left c.next.new.self)) c.args.n) (sym c.in-Some-nth_edge.is ∙ c.nth_edge.ensures) in
+    behind_places c.args.text.now c.in_ok-next.field-0.now (graphemes_left c.next.new.self) c.as_str.result.now
+    (nth (edges ends_word (kinds_of c.args.word (graphemes_left c.next.new.self))) c.args.n) c.in_ok-last.last c.in_ok-last.end c.utf8.text
+    (sym c.graphemes-rest.ensures.left ∙ c.in_ok-next.ensures.steps) c.as_str.ensures
+    (edges_positive ends_word (kinds_of c.args.word (graphemes_left c.next.new.self)) c.args.n) (sym c.in_ok-last.was ∙ c.nth_edge.ensures) in
     places.stop
 
-pub returns-in-Some-nth_edge-clause-places : goal.returns-in-Some-nth_edge-clause-places
-returns-in-Some-nth_edge-clause-places c =
+pub returns-clause-places : goal.returns-clause-places
+returns-clause-places c =
     let places =
-    behind_places c.args.text.now c.in-Some.field-0.now (graphemes_left c.next.new.self) c.as_str.result.now
-    (nth (edges ends_word (kinds_of c.args.word (graphemes_left c.next.new.self))) c.args.n) c.in-Some-nth_edge.last c.in-Some-nth_edge.end c.utf8.text
-    (sym c.graphemes-rest.ensures.left ∙ c.in-Some.ensures.steps) c.as_str.ensures
-    (edges_positive ends_word (kinds_of c.args.word (graphemes_left c.next.new.self)) c.args.n) (sym c.in-Some-nth_edge.is ∙ c.nth_edge.ensures) in
-    places.places ∙ ap (λ ps. option_map (edge_behind_first (clusters c.args.text.now)) (nth (edges ends_word (kinds_of c.args.word (drop 1 ps))) c.args.n)) (sym (sym c.graphemes-rest.ensures.left ∙ c.in-Some.ensures.steps))
+    behind_places c.args.text.now c.in_ok-next.field-0.now (graphemes_left c.next.new.self) c.as_str.result.now
+    (nth (edges ends_word (kinds_of c.args.word (graphemes_left c.next.new.self))) c.args.n) c.in_ok-last.last c.in_ok-last.end c.utf8.text
+    (sym c.graphemes-rest.ensures.left ∙ c.in_ok-next.ensures.steps) c.as_str.ensures
+    (edges_positive ends_word (kinds_of c.args.word (graphemes_left c.next.new.self)) c.args.n) (sym c.in_ok-last.was ∙ c.nth_edge.ensures) in
+    places.places ∙ ap (λ ps. option_map (edge_behind_first (clusters c.args.text.now)) (nth (edges ends_word (kinds_of c.args.word (drop 1 ps))) c.args.n)) (sym (sym c.graphemes-rest.ensures.left ∙ c.in_ok-next.ensures.steps))

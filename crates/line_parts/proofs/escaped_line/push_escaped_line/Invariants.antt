@@ -1,6 +1,6 @@
 use Rattle.std.proofs.Common.{◌≡◌, ◌++◌, length}
-use Rattle.line_parts.specs.HistoryText.{escaped_line}
-use Rattle.line_parts.proofs.history.text.push_line.Given as goal
+use Rattle.line_parts.specs.EscapedLine.{escaped_line}
+use Rattle.line_parts.proofs.escaped_line.push_escaped_line.Given as goal
 
 abbrev pub invariant-loop-at : goal.invariant-loop-at
 invariant-loop-at l = l.fn.text.items ++ escaped_line l.line ≡ l.text.items ++ escaped_line l.rest

@@ -1,6 +1,6 @@
 use Rattle.std.proofs.Common.{length}
 use Rattle.line_parts.proofs.EscapeLemmas.{UndoesTo}
-use Rattle.line_parts.proofs.history.text.unescape.Given as goal
+use Rattle.line_parts.proofs.escaped_line.unescape_line.Given as goal
 
 abbrev pub invariant-loop-at : goal.invariant-loop-at
 invariant-loop-at l = UndoesTo l.fn.line l.text.items l.rest
