@@ -20,7 +20,7 @@ use Rattle.line_keys.specs.declared.keys.KeyEvent.{KeyEvent}
 use Rattle.line_keys.specs.declared.count.Count.{Count}
 use Rattle.line_editor.specs.Input.{Input}
 use Rattle.line_editor.specs.Keymap.{Keymap, Source, bound_command, by_binding, by_reader, by_table, count_or_one, first_source, on_line, source_of}
-use Rattle.line_editor.specs.Phrase.{Answers, IsBeginning, Keyed, LacksItems, LacksTail, Tailed, alone, by_second_key, by_second_in_vain, by_sequence, in_vain, pasted, searched, after_count, typed_count}
+use Rattle.line_editor.specs.Phrase.{Answers, IsBeginning, Keyed, LacksItems, LacksTail, Tailed, alone, by_second_key, by_second_in_vain, by_sequence, in_vain, by_paste, by_character, after_count, typed_count}
 use Rattle.line_editor.specs.Sequence.{Sequenced, Sequences, sequences_of}
 use Rattle.line_editor.proofs.SequenceLemmas.{GoesOn}
 use Rattle.line_editor.proofs.TailedLemmas.{Tailed-fit, nothing-behind}
@@ -271,10 +271,10 @@ own-read keymap draft input typed k command unbound owned =
 
 -- meanings that lack items where none is left
 pub search-lacks : (s : Sequences) (last : KeyEvent) (n : ℕ) (by : ℕ → CharSearch) → LacksItems s last (searches n by) []
-search-lacks s last n by = (key enter ∷ [], _, (λ empty. cc), searched n by enter)
+search-lacks s last n by = (key enter ∷ [], _, (λ empty. cc), by_character n by enter)
 
 pub paste-lacks : (s : Sequences) (last : KeyEvent) → LacksItems s last pastes []
-paste-lacks s last = (paste [] ∷ [], _, (λ empty. cc), pasted [])
+paste-lacks s last = (paste [] ∷ [], _, (λ empty. cc), by_paste [])
 
 pub second-lacks : (s : Sequences) (last : KeyEvent) (by : KeyEvent → Command) → Sequenced s last [] None → LacksItems s last (has_second by) []
 second-lacks s last by sequenced = (key enter ∷ [], _, (λ empty. cc), by_second_key by enter sequenced)

@@ -6,7 +6,7 @@ use Rattle.line_keys.specs.Command.{Command, insert, unknown}
 use Rattle.line_keys.specs.Item.{Item, key, paste}
 use Rattle.line_keys.specs.Table.{Meaning, gives, has_second, pastes, searches, unlisted}
 use Rattle.line_keys.specs.declared.keys.KeyEvent.{KeyEvent}
-use Rattle.line_editor.specs.Phrase.{Tailed, alone, by_second_key, by_second_in_vain, by_sequence, in_vain, pasted, searched, begins_sequences, moves_by, search_to}
+use Rattle.line_editor.specs.Phrase.{Tailed, alone, by_second_key, by_second_in_vain, by_sequence, in_vain, by_paste, by_character, begins_sequences, moves_by, search_to}
 use Rattle.line_editor.specs.Sequence.{Sequenced, Sequences}
 use Rattle.line_editor.proofs.SequenceLemmas.{sequences_fit}
 
@@ -59,8 +59,8 @@ by-sequence s last unlisted more command on read = (more, Some command, read, re
 is-tail : (s : Sequences) (last : KeyEvent) (meaning : Meaning) (tail : List Item) (command : Command)
     → Tailed s last meaning tail command → IsTail s last meaning tail command
 is-tail s last _ _ _ (alone command) = (refl, refl)
-is-tail s last _ _ _ (searched n by second) = (second, refl, refl)
-is-tail s last _ _ _ (pasted text) = (text, refl, refl)
+is-tail s last _ _ _ (by_character n by second) = (second, refl, refl)
+is-tail s last _ _ _ (by_paste text) = (text, refl, refl)
 is-tail s last _ _ _ (by_sequence meaning more command begins read) = by-sequence s last meaning more command begins read
 is-tail s last _ _ _ (by_second_key by second none) = ([], None, key second ∷ [], none, refl, (second, refl, refl))
 is-tail s last _ _ _ (by_second_in_vain by second more read) =

@@ -40,10 +40,10 @@ pub data Tailed (sequences : Sequences) (last : KeyEvent) : Meaning → List Ite
   -- none
   alone : (command : Command) → Tailed sequences last (gives command) [] command
   -- the key of the character to search for
-  searched : (n : ℕ) (by : ℕ → CharSearch) (second : KeyEvent)
+  by_character : (n : ℕ) (by : ℕ → CharSearch) (second : KeyEvent)
       → Tailed sequences last (searches n by) (key second ∷ []) (moves_by n (search_to by second))
   -- a pasted text, which comes in once
-  pasted : (text : List ℕ) → Tailed sequences last pastes (paste text ∷ []) (insert 1 text)
+  by_paste : (text : List ℕ) → Tailed sequences last pastes (paste text ∷ []) (insert 1 text)
   -- the keys of a bound sequence that has a command
   by_sequence : (meaning : Meaning) (more : List KeyEvent) (command : Command) → begins_sequences meaning ≡ true
       → Sequenced sequences last more (Some command) → Tailed sequences last meaning (map key more) command

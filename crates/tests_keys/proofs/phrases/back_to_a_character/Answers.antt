@@ -3,7 +3,7 @@ use Rattle.line_keys.specs.Key.{event}
 use Rattle.line_keys.specs.declared.keys.KeyCode.TheVariants.{Char}
 use Rattle.line_keys.specs.declared.keys.TheConstants.Modifiers.{ALT, CTRL, NONE}
 use Rattle.line_keys.specs.Item.{key}
-use Rattle.line_editor.specs.Phrase.{searched}
+use Rattle.line_editor.specs.Phrase.{by_character}
 use Rattle.tests_keys.proofs.phrases.back_to_a_character.Goals as goal
 
 pub returns : goal.returns
@@ -13,7 +13,7 @@ returns c = λ environment. record {
   tail = key (event (Char 97) NONE) ∷ [];
   cut = refl;
   counted = refl;
-  keyed = searched _ _ (event (Char 97) NONE);
+  keyed = by_character _ _ (event (Char 97) NONE);
   draft_left = refl;
   input_left = refl;
 }

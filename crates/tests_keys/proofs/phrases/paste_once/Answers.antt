@@ -3,7 +3,7 @@ use Rattle.line_keys.specs.Key.{event}
 use Rattle.line_keys.specs.declared.keys.KeyCode.TheVariants.{BracketedPasteStart}
 use Rattle.line_keys.specs.declared.keys.TheConstants.Modifiers.{NONE}
 use Rattle.line_keys.specs.Item.{paste}
-use Rattle.line_editor.specs.Phrase.{pasted}
+use Rattle.line_editor.specs.Phrase.{by_paste}
 use Rattle.tests_keys.proofs.phrases.paste_once.Goals as goal
 
 pub returns : goal.returns
@@ -13,7 +13,7 @@ returns c = λ environment. record {
   tail = paste (120 ∷ []) ∷ [];
   cut = refl;
   counted = refl;
-  keyed = pasted (120 ∷ []);
+  keyed = by_paste (120 ∷ []);
   draft_left = refl;
   input_left = refl;
 }

@@ -4,7 +4,7 @@ use Rattle.std.proofs.lemmas.Result.{err_from_is_err_and}
 use Rattle.line_keys.specs.Item.{key, paste}
 use Rattle.line_editor.specs.Binding.{bound_of}
 use Rattle.line_editor.specs.InputState.{input_of}
-use Rattle.line_editor.specs.Phrase.{pasted, searched}
+use Rattle.line_editor.specs.Phrase.{by_paste, by_character}
 use Rattle.line_editor.proofs.ReadingLemmas.{fault_dry}
 use Rattle.line_editor.proofs.TailLemmas.{answered_read, command_read, paste_ends, search_ends, second_ends, second_read, seconds_end, sequence_ends, unlisted_read, vain_read}
 use Rattle.line_editor.proofs.input_state.InputState.read_tail.Goals as goal
@@ -51,7 +51,7 @@ returns-in_ok-next_key-in-Search-clause-reads g c =
     rw c.in-Search.is (record {
       tail = key c.in_ok-next_key-in-Search.field-0 ∷ [];
       cut = c.in_ok-next_key-in-Search.ensures.took;
-      tailed = rw c.move_to.ensures (searched _ _ c.in_ok-next_key-in-Search.field-0);
+      tailed = rw c.move_to.ensures (by_character _ _ c.in_ok-next_key-in-Search.field-0);
     })
 
 pub returns-in_ok-read_pasted_text-in-Paste-clause-reads : goal.returns-in_ok-read_pasted_text-in-Paste-clause-reads
@@ -59,7 +59,7 @@ returns-in_ok-read_pasted_text-in-Paste-clause-reads g c =
     rw c.in-Paste.is (record {
       tail = paste (string_bytes c.in_ok-read_pasted_text-in-Paste.field-0) ∷ [];
       cut = c.in_ok-read_pasted_text-in-Paste.ensures.took;
-      tailed = pasted (string_bytes c.in_ok-read_pasted_text-in-Paste.field-0);
+      tailed = by_paste (string_bytes c.in_ok-read_pasted_text-in-Paste.field-0);
     })
 
 pub returns-in_ok-next_key-in-InVain-None-clause-reads : goal.returns-in_ok-next_key-in-InVain-None-clause-reads
