@@ -8,11 +8,12 @@ use Rattle.line_buffer.specs.Undo.{KeepsTold, StillTells}
 abbrev pub on_entries : (List Entry → List Entry) → Changes → Changes
 on_entries add c = with_entries c (add c.entries)
 
--- a success adds these entries
+-- a success leaves what is made of the entries
 abbrev pub Adds : {T E : Type 0} → Result T E → Changes → Changes → (List Entry → List Entry) → Type 0
 Adds result c c' add = OnOk result (c' ≡ on_entries add c)
 
--- a success tells whether an addition to the old entry made the new one of it; if not, the old one stays and another comes before it
+-- a success answers whether an edit joined the newest entry, which then tells of both; where it did not, that entry stays, and the edit
+-- has an entry of its own
 abbrev pub Joins : {E : Type 0} → Result Bool E → Entry → Entry → (List Entry → List Entry) → Entry → Type 0
 Joins result old new add other = IfOk result (λ joined. (older : List Entry) → add (old ∷ older) ≡ (if joined then new ∷ older else other ∷ new ∷ older))
 

@@ -7,8 +7,9 @@ use Rattle.std.proofs.lemmas.Bool.Decides.{nat_tests}
 use Rattle.std.proofs.lemmas.List.Quantifiers.{position-Some}
 use Rattle.line_editor.specs.Event.{Chord, chord_of, each_key, keys, same_chord}
 use Rattle.std.specs.Prelude.{◌&&◌, ◌||◌}
+use Rattle.std.specs.Option.{option_or}
 use Rattle.line_editor.specs.Binding.{Bound, Handler, all_sure, handled, handler_of}
-use Rattle.line_editor.specs.Keymap.{first_of_two, key_handler}
+use Rattle.line_editor.specs.Keymap.{key_handler}
 use Rattle.line_keys.specs.declared.keys.KeyEvent.{KeyEvent}
 use Rattle.line_editor.specs.declared.binding.ConditionalEventHandler.{Ghosts}
 use Rattle.line_editor.specs.declared.binding.EventHandler.{EventHandler}
@@ -79,7 +80,7 @@ among_unsure (binding ∷ bound) chord handler is unsure =
     unsure_by binding bound chord handler (same_chord binding.0 chord) is unsure (λ there. among_unsure bound chord handler there unsure)
 
 key_by : (bound : Bound) (handler : Handler) (own : Option Handler) (key : KeyEvent) → handler_of bound (keys (key ∷ [])) ≡ own
-    → first_of_two own (handler_of bound each_key) ≡ Some handler → handler.sure ≡ false → all_sure bound ≡ false
+    → option_or own (handler_of bound each_key) ≡ Some handler → handler.sure ≡ false → all_sure bound ≡ false
 key_by bound handler (Some own) key at is unsure = among_unsure bound (keys (key ∷ [])) handler (at ∙ is) unsure
 key_by bound handler None key at is unsure = among_unsure bound each_key handler is unsure
 

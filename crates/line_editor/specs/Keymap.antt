@@ -1,5 +1,6 @@
 -- Which command a key has before the tables are asked.
 use Rattle.std.specs.Prelude.{ℕ, true, List, [], ◌∷◌, Option, Some, None, option_and_then, option_map, unwrap_or}
+use Rattle.std.specs.Option.{option_or}
 use Rattle.line_buffer.specs.Changes.{last_insert_of}
 use Rattle.line_config.specs.declared.config.EditMode.{EditMode}
 use Rattle.line_config.specs.declared.config.EditMode.TheVariants.{Emacs, Vi}
@@ -44,14 +45,9 @@ abbrev pub on_line : List ℕ → Option commands.Command → Option commands.Co
 on_line (_ ∷ _) (Some end_of_file) = None
 on_line _ command = command
 
--- the first of two, if there is one, or else the second
-abbrev pub first_of_two : {X : Type 0} → Option X → Option X → Option X
-first_of_two (Some x) _ = Some x
-first_of_two None other = other
-
 -- the binding of a key: that of its own, or else that of each key
 abbrev pub key_handler : Bound → KeyEvent → Option Handler
-key_handler bound key = first_of_two (handler_of bound (keys (key ∷ []))) (handler_of bound each_key)
+key_handler bound key = option_or (handler_of bound (keys (key ∷ []))) (handler_of bound each_key)
 
 -- the count that the tables take: the one that was typed, or else one
 abbrev pub count_or_one : Option Count → Count
@@ -63,7 +59,7 @@ handed Vi Insert typed = record { n = 0; positive = true }
 handed Vi Replace typed = record { n = 0; positive = true }
 handed _ _ typed = count_or_one typed
 
--- the count that a bound command is done again with: in Emacs always one, in Vi one that was typed
+-- the count that a bound command is done again with: in Emacs the one that was typed or else 1, in Vi none where none was typed
 abbrev pub new_count : EditMode → Option Count → Option ℕ
 new_count Emacs typed = Some (count_or_one typed).n
 new_count Vi typed = option_map (λ count. count.n) typed

@@ -20,7 +20,7 @@ abbrev pub after_count : Environment → List KeyEvent → Draft → Draft
 after_count environment [] draft = draft
 after_count environment (_ ∷ _) draft = hinted environment draft
 
--- the search for the character of a key, which has one where it is plain
+-- the search for the character of a key, where the key is a plain character
 abbrev pub search_to : (ℕ → CharSearch) → KeyEvent → Option CharSearch
 search_to by typed = if is_with NONE typed then option_map by (char_of typed.0) else None
 
@@ -39,22 +39,22 @@ begins_sequences meaning = false
 pub data Tailed (sequences : Sequences) (last : KeyEvent) : Meaning → List Item → Command → Type 0 where
   -- none
   alone : (command : Command) → Tailed sequences last (gives command) [] command
-  -- the key of the character to search for
+  -- the key of the character to search for; another key gives Unknown
   by_character : (n : ℕ) (by : ℕ → CharSearch) (second : KeyEvent)
       → Tailed sequences last (searches n by) (key second ∷ []) (moves_by n (search_to by second))
   -- a pasted text, which comes in once
   by_paste : (text : List ℕ) → Tailed sequences last pastes (paste text ∷ []) (insert 1 text)
-  -- the keys of a bound sequence that has a command
+  -- the further keys of a bound sequence that has a command
   by_sequence : (meaning : Meaning) (more : List KeyEvent) (command : Command) → begins_sequences meaning ≡ true
       → Sequenced sequences last more (Some command) → Tailed sequences last meaning (map key more) command
   -- a second key, where no bound sequence begins with the first
   by_second_key : (by : KeyEvent → Command) (second : KeyEvent) → Sequenced sequences last [] None
       → Tailed sequences last (has_second by) (key second ∷ []) (by second)
-  -- keys of a bound sequence, read in vain: the first of them is the second key
+  -- keys that were read in vain for a bound sequence: the first of them is the second key
   by_second_in_vain : (by : KeyEvent → Command) (second : KeyEvent) (more : List KeyEvent)
       → Sequenced sequences last (second ∷ more) None
       → Tailed sequences last (has_second by) (map key (second ∷ more)) (by second)
-  -- keys of a bound sequence, read in vain behind a key without a second one; they stand for nothing
+  -- keys, or none, that were read in vain for a bound sequence behind a key without a second one: they stand for nothing
   in_vain : (more : List KeyEvent) → Sequenced sequences last more None
       → Tailed sequences last unlisted (map key more) unknown
 

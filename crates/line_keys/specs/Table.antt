@@ -1,5 +1,6 @@
 -- The tables of keys: for a style of editing and a mode, what each key stands for.
 use Rattle.std.specs.Prelude.{ℕ, Bool, true, ◌==◌, ◌&&◌, not, if◌then◌else◌, List, [], ◌∷◌, length, find, Option, Some, None, is_some, option_map}
+use Rattle.std.specs.Option.{option_or}
 use Rattle.line_buffer.specs.declared.movement.At.TheVariants.{AfterEnd}
 use Rattle.line_buffer.specs.declared.movement.CharSearch.{CharSearch}
 use Rattle.line_buffer.specs.declared.movement.CharSearch.TheVariants.{Backward, ForwardBefore}
@@ -259,20 +260,15 @@ common_row style (Char c) mods draft =
 common_row style code mods draft =
     if mods == bits_of NONE then first_for draft (common_plain_rows code) else None
 
--- the key's row in the first table, or else in the second
-abbrev pub first_row : Option Row → Option Row → Option Row
-first_row (Some r) _ = Some r
-first_row None other = other
-
 -- the row of a key; a key that no table has is unlisted
 abbrev pub row_or_unlisted : Option Row → Row
 row_or_unlisted (Some r) = r
 row_or_unlisted None = meaning_row (λ _. unlisted)
 
--- the row of a key, by the style of editing and its mode
+-- the row of a key, by the style of editing and its mode: that of the style's table, or else that of both styles
 abbrev pub row_of : EditMode → InputMode → KeyEvent → Draft → Row
 row_of Emacs mode key draft = row_or_unlisted
-    (first_row (emacs_row key.0 (bits_of key.1) draft) (common_row Emacs key.0 (bits_of key.1) draft))
+    (option_or (emacs_row key.0 (bits_of key.1) draft) (common_row Emacs key.0 (bits_of key.1) draft))
 row_of Vi mode key draft = always unknown
 
 -- the count where none is typed: once, in the command's own direction

@@ -66,7 +66,8 @@ fn read_escape(line: &[u8], at: usize) -> Option<u8>
 }
 
 /// Reads an escaped line into `text`, which is emptied first. Returns false, and leaves open what
-/// `text` holds, where the line has a newline, or a backslash that begins neither `\\` nor `\n`.
+/// `text` holds, where the line has a newline, or where, read from the left, a backslash begins
+/// neither `\\` nor `\n`.
 ///
 /// # Errors
 /// `Memory`, where an allocation fails. What `text` holds is then left open.

@@ -1,5 +1,8 @@
 -- What a queue of keys and pasted texts holds.
-use Rattle.std.specs.Prelude.{ℕ, ◌==◌, ◌&&◌, ◌++◌, Bool, List, Option, Some, None, if◌then◌else◌, string_bytes}
+use Rattle.std.specs.Prelude.{◌≡◌, ℕ, ◌==◌, ◌&&◌, ◌++◌, Bool, true, List, [], ◌∷◌, Option, Some, None, Result, Ok, Err, IfErr, if◌then◌else◌, string_bytes}
+use Rattle.line_config.specs.Error.{is_io}
+use Rattle.line_config.specs.declared.error.ReadlineError.{ReadlineError}
+use Rattle.line_config.specs.declared.error.ReadlineError.TheVariants.{Eof}
 use Rattle.line_keys.specs.Command.{Command, end_of_file, interrupt}
 use Rattle.line_keys.specs.Item as input
 use Rattle.line_keys.specs.Key.{bits_of, event}
@@ -15,7 +18,7 @@ abbrev pub item_of : Item → input.Item
 item_of (Key k) = input.key k
 item_of (Paste text) = input.paste (string_bytes text)
 
--- what was read since the mark, what is left to read, how often reading failed, and whether the queue binds keys
+-- what was read since the mark, what is left to read, how often an item of another kind was asked for, and whether the queue binds keys
 pub record Queued : Type 0 where
   pub read : List input.Item
   pub rest : List input.Item
@@ -25,6 +28,13 @@ pub record Queued : Type 0 where
 -- all that stands in the queue: no call that reads changes it
 abbrev pub standing : Queued → List input.Item
 standing q = q.read ++ q.rest
+
+-- what a call reads that takes no memory: the item in front, where it is of the kind that is asked for; else it answers an error of
+-- input or output, and the end of the input where nothing is left
+pub record Reads {T : Type 0} (result : Result T ReadlineError) (as_item : T → input.Item) (rest : List input.Item) : Type 0 where
+  pub reads : (t : T) (more : List input.Item) → rest ≡ as_item t ∷ more → result ≡ Ok t
+  pub ends : rest ≡ [] → result ≡ Err Eof
+  pub fails : (item : input.Item) (more : List input.Item) → rest ≡ item ∷ more → IfErr result (λ e. is_io e ≡ true)
 
 -- the plain key of a character
 abbrev pub plain_key : ℕ → input.Item

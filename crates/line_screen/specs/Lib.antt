@@ -1,3 +1,4 @@
 pub mod Measure
 pub mod MeasureLaws
 pub mod KeyQueue
+pub mod Surroundings

@@ -1,11 +1,12 @@
 //! A reader of the keys and pasted texts that a program hands over.
-ghost use Rattle.std.specs.Prelude.{◌≡◌, ◌≤◌, ◌==◌, ◌∷◌, ◌++◌, [], true, false, length, map, chars, IfOk, IfErr, OnOk, OnErr, string_bytes};
-ghost use Rattle.line_config.specs.Error.{MemoryOnly, Rose};
+ghost use Rattle.std.specs.Prelude.{◌≡◌, ℕ, ◌+◌, ◌≤◌, min, ◌==◌, ◌∷◌, ◌++◌, [], List, true, false, length, map, chars, Err, IfOk, IfErr, OnOk, OnErr, string_bytes};
+ghost use Rattle.line_config.specs.Error.{IoOnlyIf, MemoryOnly, is_io, max_count};
 ghost use Rattle.line_config.specs.Failures.{CountsFailures};
+ghost use Rattle.line_config.specs.declared.error.ReadlineError.TheVariants.{Eof};
 ghost use Rattle.line_keys.specs.Item as input;
 ghost use Rattle.line_keys.specs.Item.{ReadFault};
 ghost use Rattle.line_keys.specs.Key.{event};
-ghost use Rattle.line_screen.specs.KeyQueue.{item_of, paste_start, plain_key, standing};
+ghost use Rattle.line_screen.specs.KeyQueue.{Reads, item_of, paste_start, plain_key, standing};
 
 use line_config::{ReadlineError, Result};
 use line_keys::cmd::Cmd;
@@ -151,7 +152,8 @@ impl KeyQueue {
         self.len() == 0
     }
 
-    /// Returns how many calls failed. The count stays at its greatest value.
+    /// Returns how often the next item was of another kind than the one that was asked for. The count stays at its greatest
+    /// value.
     pub fn failures(&self) -> u64
         ensures { result ≡ self.now.failures }
     {
@@ -177,8 +179,7 @@ impl KeyQueue {
     /// Counts the failure that the next item is of the wrong kind, and returns its error.
     fn wrong_item(&mut self) -> io::Error
         ensures rest { self.new ≡ record self.old { failures = self.new.failures } }
-        ensures rose { Rose self.old.failures self.new.failures }
-        ensures counts { self.old.failures ≤ self.new.failures }
+        ensures counts { self.new.failures ≡ min max_count (self.old.failures + 1) }
     {
         self.failures = self.failures.saturating_add(1);
         io::Error::from(io::ErrorKind::InvalidData)
@@ -210,7 +211,9 @@ impl RawReader for KeyQueue {
         ensures took { IfOk result (λ k. self.old.rest ≡ input.key k ∷ self.new.rest) }
         ensures kept { OnErr result (self.new.rest ≡ self.old.rest) }
         ensures fault { IfErr result (λ e. ReadFault e self.old.rest) }
+        ensures reads { Reads result (λ k. input.key k) self.old.rest }
         ensures counts { CountsFailures result self.old.failures self.new.failures }
+        ensures one { IoOnlyIf result (self.new.failures ≡ min max_count (self.old.failures + 1)) }
         ensures binding { queue_binding self.new.binds ≡ queue_binding self.old.binds }
         ensures standing { standing self.new ≡ standing self.old }
     {
@@ -231,7 +234,9 @@ impl RawReader for KeyQueue {
             self.old.rest ≡ input.key (event (KeyCode.Char c) Modifiers.NONE) ∷ self.new.rest) }
         ensures kept { OnErr result (self.new.rest ≡ self.old.rest) }
         ensures fault { IfErr result (λ e. ReadFault e self.old.rest) }
+        ensures reads { Reads result plain_key self.old.rest }
         ensures counts { CountsFailures result self.old.failures self.new.failures }
+        ensures one { IoOnlyIf result (self.new.failures ≡ min max_count (self.old.failures + 1)) }
         ensures binding { queue_binding self.new.binds ≡ queue_binding self.old.binds }
         ensures standing { standing self.new ≡ standing self.old }
     {
@@ -250,9 +255,15 @@ impl RawReader for KeyQueue {
     fn read_pasted_text(&mut self) -> Result<String>
         ensures took { IfOk result (λ t.
             self.old.rest ≡ input.paste (string_bytes t) ∷ self.new.rest) }
+        ensures ends { self.old.rest ≡ [] → result ≡ Err Eof }
+        ensures refused { (t : List ℕ) (more : List input.Item)
+            → self.old.rest ≡ input.paste t ∷ more → MemoryOnly result }
+        ensures wrong { (k : KeyEvent) (more : List input.Item)
+            → self.old.rest ≡ input.key k ∷ more → IfErr result (λ e. is_io e ≡ true) }
         ensures kept { OnErr result (self.new.rest ≡ self.old.rest) }
         ensures fault { IfErr result (λ e. ReadFault e self.old.rest) }
         ensures counts { CountsFailures result self.old.failures self.new.failures }
+        ensures one { IoOnlyIf result (self.new.failures ≡ min max_count (self.old.failures + 1)) }
         ensures binding { queue_binding self.new.binds ≡ queue_binding self.old.binds }
         ensures standing { standing self.new ≡ standing self.old }
     {

@@ -1,10 +1,12 @@
 //! A screen that keeps what it shows, from which a program draws.
-ghost use Rattle.std.specs.Prelude.{◌≡◌, ◌<◌, [], false, Some, None, IfOk, OnOk, OnErr, is_some, option_map, string_bytes};
-ghost use Rattle.line_config.specs.Error.{IsOneMore, MemoryOnly};
+ghost use Rattle.std.specs.Prelude.{◌≡◌, ℕ, ◌+◌, ◌<◌, min, [], ◌∷◌, ◌++◌, List, All, length, false, Ok, Some, None, IfOk, OnOk, OnErr, is_some, option_map, string_bytes};
+ghost use Rattle.line_config.specs.Error.{MemoryOnly, max_count};
 ghost use Rattle.line_keys.specs.Display.{corner};
 ghost use Rattle.line_buffer.specs.declared.layout.GraphemeClusterMode.TheVariants.{Unicode};
-ghost use Rattle.line_state.specs.ScreenState.{Agrees, Tries, shown_by};
+ghost use Rattle.line_state.specs.Printable.{IsPrintable};
+ghost use Rattle.line_state.specs.ScreenState.{Agrees, EndsBehind, HasRoom, Tries, shown_by, with_shown};
 ghost use Rattle.line_screen.specs.Measure.{measured};
+ghost use Rattle.line_screen.specs.Surroundings.{Clears, KeepsSurroundings};
 
 use crate::measure::measured;
 use crate::surroundings::Surroundings;
@@ -85,14 +87,15 @@ impl<R: RawReader> Plain<R> {
         self.place
     }
 
-    /// Returns the prompt of the last full redraw, without styles.
+    /// Returns the prompt of the last full redraw, without styles. After the screen was cleared it is empty.
     pub fn prompt(&self) -> &str
         ensures { result.now ≡ ⟦<Self as Surroundings>⟧.prompt self.now }
     {
         self.prompt.as_str()
     }
 
-    /// Returns the text behind the line of the last full redraw, if there was one: a hint, or a verdict's message.
+    /// Returns the text behind the line of the last full redraw, if there was one: a hint, or a verdict's message. After
+    /// the screen was cleared there is none.
     pub fn hint(&self) -> Option<&str>
         ensures { option_map (λ s. s.now) result ≡ ⟦<Self as Surroundings>⟧.hint self.now }
     {
@@ -170,7 +173,13 @@ impl<R: RawReader> Renderer for Plain<R> {
 
     ghost use Rattle.line_screen.specs.MeasureLaws as laws;
 
-    fn move_cursor(&mut self, old: Position, new: Position) -> Result<()> {
+    fn move_cursor(&mut self, old: Position, new: Position) -> Result<()>
+        ensures ok { result ≡ Ok tt }
+        ensures screen { ⟦<Self as ScreenState>⟧.screen self.new
+            ≡ record (⟦<Self as ScreenState>⟧.screen self.old) { position = new } }
+        ensures keeps { KeepsSurroundings ⟦<Self as ScreenState>⟧ ⟦<Self as Surroundings>⟧
+            self.old self.new }
+    {
         let _ = old;
         self.place = new;
         Ok(())
@@ -192,8 +201,8 @@ impl<R: RawReader> Renderer for Plain<R> {
             (option_map (λ l. l.now) old_layout.entry) new_layout.now (is_some highlighter.entry)
             → OnOk result (⟦<Self as ScreenState>⟧.screen self.new
             ≡ shown_by new_layout.now line.now) }
-        ensures redraws { OnOk result (IsOneMore (⟦<Self as ScreenState>⟧.redraws self.old)
-            (⟦<Self as ScreenState>⟧.redraws self.new)) }
+        ensures redraws { OnOk result (⟦<Self as ScreenState>⟧.redraws self.new
+            ≡ min max_count (⟦<Self as ScreenState>⟧.redraws self.old + 1)) }
         ensures tries { Tries ⟦<Self as ScreenState>⟧ result self.old self.new }
         ensures prompt { OnOk result (⟦<Self as Surroundings>⟧.prompt self.new
             ≡ P.raw_text prompt.now) }
@@ -219,28 +228,62 @@ impl<R: RawReader> Renderer for Plain<R> {
         measured(self.columns, s, orig)
     }
 
-    fn write_and_flush(&mut self, buf: &str) -> Result<()> {
+    /// Where memory is refused, nothing changes.
+    fn write_and_flush(&mut self, buf: &str) -> Result<()>
+        ensures shown { (c : ℕ) → buf.now ≡ c ∷ [] → IsPrintable c
+            → HasRoom (⟦<Self as ScreenState>⟧.surface self.old)
+            (⟦<Self as ScreenState>⟧.screen self.old)
+            → OnOk result (⟦<Self as ScreenState>⟧.screen self.new
+            ≡ with_shown (⟦<Self as ScreenState>⟧.screen self.old) c) }
+        ensures keeps { KeepsSurroundings ⟦<Self as ScreenState>⟧ ⟦<Self as Surroundings>⟧
+            self.old self.new }
+        ensures memory { MemoryOnly result }
+        ensures refused { OnErr result (⟦<Self as ScreenState>⟧.screen self.new
+            ≡ ⟦<Self as ScreenState>⟧.screen self.old) }
+    {
         self.text.push_str(buf)?;
         self.place = measured(self.columns, buf, self.place);
         Ok(())
     }
 
-    fn beep(&mut self) -> Result<()> {
+    fn beep(&mut self) -> Result<()>
+        ensures ok { result ≡ Ok tt }
+        ensures stays { self.new ≡ self.old }
+    {
         Ok(())
     }
 
-    fn clear_screen(&mut self) -> Result<()> {
+    fn clear_screen(&mut self) -> Result<()>
+        ensures ok { result ≡ Ok tt }
+        ensures clears { Clears ⟦<Self as ScreenState>⟧ ⟦<Self as Surroundings>⟧ self.old self.new }
+    {
         self.clear();
         Ok(())
     }
 
-    fn clear_rows(&mut self, layout: &Layout) -> Result<()> {
+    /// Clears the whole screen, as `clear_screen` does.
+    fn clear_rows(&mut self, layout: &Layout) -> Result<()>
+        ensures ok { result ≡ Ok tt }
+        ensures clears { Clears ⟦<Self as ScreenState>⟧ ⟦<Self as Surroundings>⟧ self.old self.new }
+    {
         let _ = layout;
         self.clear();
         Ok(())
     }
 
-    fn clear_to_eol(&mut self) -> Result<()> {
+    fn clear_to_eol(&mut self) -> Result<()>
+        ensures ok { result ≡ Ok tt }
+        ensures position { (⟦<Self as ScreenState>⟧.screen self.new).position
+            ≡ (⟦<Self as ScreenState>⟧.screen self.old).position }
+        ensures cleared { (kept gone : List ℕ)
+            → (⟦<Self as ScreenState>⟧.screen self.old).text ≡ kept ++ gone → All IsPrintable gone
+            → EndsBehind (⟦<Self as ScreenState>⟧.surface self.old)
+            (⟦<Self as ScreenState>⟧.screen self.old) (length gone)
+            → OnOk result (⟦<Self as ScreenState>⟧.screen self.new
+            ≡ record (⟦<Self as ScreenState>⟧.screen self.old) { text = kept }) }
+        ensures keeps { KeepsSurroundings ⟦<Self as ScreenState>⟧ ⟦<Self as Surroundings>⟧
+            self.old self.new }
+    {
         let end = measured(self.columns, self.text.as_str(), self.origin);
         let gone = usize::from(end.col.saturating_sub(self.place.col));
         let kept = self.text.len().saturating_sub(gone);
@@ -250,7 +293,9 @@ impl<R: RawReader> Renderer for Plain<R> {
         Ok(())
     }
 
-    fn update_size(&mut self) {}
+    fn update_size(&mut self)
+        ensures { self.new ≡ self.old }
+    {}
 
     fn get_columns(&self) -> Unit {
         self.columns
@@ -268,7 +313,16 @@ impl<R: RawReader> Renderer for Plain<R> {
         GraphemeClusterMode::Unicode
     }
 
-    fn move_cursor_at_leftmost(&mut self, rdr: &mut R) -> Result<()> {
+    /// Takes the cursor to the first column of its row. The reader is not asked.
+    fn move_cursor_at_leftmost(&mut self, rdr: &mut R) -> Result<()>
+        ensures ok { result ≡ Ok tt }
+        ensures screen { let screen = ⟦<Self as ScreenState>⟧.screen self.old in
+            ⟦<Self as ScreenState>⟧.screen self.new
+            ≡ record screen { position = record screen.position { col = 0 } } }
+        ensures keeps { KeepsSurroundings ⟦<Self as ScreenState>⟧ ⟦<Self as Surroundings>⟧
+            self.old self.new }
+        ensures reader { rdr.new ≡ rdr.old }
+    {
         let _ = rdr;
         self.place.col = 0;
         Ok(())

@@ -1,0 +1,25 @@
+-- What stays of a screen in memory, and what is cleared.
+use Rattle.std.specs.Prelude.{◌≡◌, [], None}
+use Rattle.line_keys.specs.Display.{corner}
+use Rattle.line_state.specs.declared.screen_state.ScreenState as screens
+use Rattle.line_screen.specs.declared.surroundings.Surroundings as surroundings
+
+module _ {X : Type 0} (e : screens.Ghosts X) (s : surroundings.Ghosts X) where
+  -- the measure stays, and no full redraw and no failure is counted
+  pub record KeepsCounts (old new : X) : Type 0 where
+    pub surface : e.surface new ≡ e.surface old
+    pub redraws : e.redraws new ≡ e.redraws old
+    pub failures : e.failures new ≡ e.failures old
+
+  -- so it is, and the prompt and the text behind the line stay
+  pub record KeepsSurroundings (old new : X) : Type 0 where
+    pub counts : KeepsCounts old new
+    pub prompt : s.prompt new ≡ s.prompt old
+    pub hint : s.hint new ≡ s.hint old
+
+  -- nothing is shown, and the cursor stands at the first place
+  pub record Clears (old new : X) : Type 0 where
+    pub counts : KeepsCounts old new
+    pub screen : e.screen new ≡ record { position = corner; text = []; origin = corner }
+    pub prompt : s.prompt new ≡ []
+    pub hint : s.hint new ≡ None
