@@ -1,8 +1,12 @@
 -- What stays of a screen in memory, and what is cleared.
 use Rattle.std.specs.Prelude.{◌≡◌, [], None}
-use Rattle.line_keys.specs.Display.{corner}
+use Rattle.line_keys.specs.Display.{Screen, corner}
 use Rattle.line_state.specs.declared.screen_state.ScreenState as screens
 use Rattle.line_screen.specs.declared.surroundings.Surroundings as surroundings
+
+-- a screen that shows nothing, with the cursor at the first place
+abbrev pub blank_screen : Screen
+blank_screen = record { position = corner; text = []; origin = corner }
 
 module _ {X : Type 0} (e : screens.Ghosts X) (s : surroundings.Ghosts X) where
   -- the measure stays, and no full redraw and no failure is counted
@@ -17,9 +21,9 @@ module _ {X : Type 0} (e : screens.Ghosts X) (s : surroundings.Ghosts X) where
     pub prompt : s.prompt new ≡ s.prompt old
     pub hint : s.hint new ≡ s.hint old
 
-  -- nothing is shown, and the cursor stands at the first place
+  -- the screen is blank, without a prompt and a text behind the line
   pub record Clears (old new : X) : Type 0 where
     pub counts : KeepsCounts old new
-    pub screen : e.screen new ≡ record { position = corner; text = []; origin = corner }
+    pub screen : e.screen new ≡ blank_screen
     pub prompt : s.prompt new ≡ []
     pub hint : s.hint new ≡ None

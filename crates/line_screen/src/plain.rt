@@ -1,12 +1,11 @@
 //! A screen that keeps what it shows, from which a program draws.
 ghost use Rattle.std.specs.Prelude.{◌≡◌, ℕ, ◌+◌, ◌<◌, min, [], ◌∷◌, ◌++◌, List, All, length, false, Ok, Some, None, IfOk, OnOk, OnErr, is_some, option_map, string_bytes};
 ghost use Rattle.line_config.specs.Error.{MemoryOnly, max_count};
-ghost use Rattle.line_keys.specs.Display.{corner};
 ghost use Rattle.line_buffer.specs.declared.layout.GraphemeClusterMode.TheVariants.{Unicode};
 ghost use Rattle.line_state.specs.Printable.{IsPrintable};
 ghost use Rattle.line_state.specs.ScreenState.{Agrees, EndsBehind, HasRoom, Tries, shown_by, with_shown};
 ghost use Rattle.line_screen.specs.Measure.{measured};
-ghost use Rattle.line_screen.specs.Surroundings.{Clears, KeepsSurroundings};
+ghost use Rattle.line_screen.specs.Surroundings.{Clears, KeepsSurroundings, blank_screen};
 
 use crate::measure::measured;
 use crate::surroundings::Surroundings;
@@ -52,8 +51,7 @@ impl<R: RawReader> Plain<R> {
               colors = false;
               mode = Unicode;
             } }
-        ensures screen { ⟦<Self as ScreenState>⟧.screen result
-            ≡ record { position = corner; text = []; origin = corner } }
+        ensures screen { ⟦<Self as ScreenState>⟧.screen result ≡ blank_screen }
         ensures prompt { ⟦<Self as Surroundings>⟧.prompt result ≡ [] }
         ensures hint { ⟦<Self as Surroundings>⟧.hint result ≡ None }
         ensures redraws { ⟦<Self as ScreenState>⟧.redraws result ≡ 0 }
@@ -228,13 +226,19 @@ impl<R: RawReader> Renderer for Plain<R> {
         measured(self.columns, s, orig)
     }
 
-    /// Where memory is refused, nothing changes.
+    /// The text is shown behind what is shown already, and the cursor goes to its end. Where memory is refused, nothing
+    /// changes.
     fn write_and_flush(&mut self, buf: &str) -> Result<()>
         ensures shown { (c : ℕ) → buf.now ≡ c ∷ [] → IsPrintable c
             → HasRoom (⟦<Self as ScreenState>⟧.surface self.old)
             (⟦<Self as ScreenState>⟧.screen self.old)
             → OnOk result (⟦<Self as ScreenState>⟧.screen self.new
             ≡ with_shown (⟦<Self as ScreenState>⟧.screen self.old) c) }
+        ensures written { let screen = ⟦<Self as ScreenState>⟧.screen self.old in
+            OnOk result (⟦<Self as ScreenState>⟧.screen self.new ≡ record screen {
+              position = (⟦<Self as ScreenState>⟧.surface self.old).measure buf.now screen.position;
+              text = screen.text ++ buf.now;
+            }) }
         ensures keeps { KeepsSurroundings ⟦<Self as ScreenState>⟧ ⟦<Self as Surroundings>⟧
             self.old self.new }
         ensures memory { MemoryOnly result }
