@@ -1,3 +1,4 @@
 pub mod CountLemmas
 pub mod KeyLemmas
+pub mod RedoLemmas
 pub mod SetLemmas

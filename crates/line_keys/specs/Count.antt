@@ -5,7 +5,7 @@ use Rattle.std.specs.List.{list_all}
 use Rattle.line_config.specs.declared.config.EditMode.{EditMode}
 use Rattle.line_config.specs.declared.config.EditMode.TheVariants.{Emacs, Vi}
 use Rattle.line_keys.specs.Key.{bits_of}
-use Rattle.line_keys.specs.Table.{one}
+use Rattle.line_keys.specs.Meaning.{one}
 use Rattle.line_keys.specs.declared.count.Count.{Count}
 use Rattle.line_keys.specs.declared.count.TypedCount.{TypedCount}
 use Rattle.line_keys.specs.declared.refresher.InputMode.{InputMode}

@@ -3,6 +3,11 @@ pub mod Command
 pub mod Item
 pub mod Count
 pub mod Redo
+pub mod Meaning
+pub mod EmacsTable
+pub mod CommonTable
+pub mod ViTable
+pub mod Motion
 pub mod Table
 pub mod Row
 pub mod Draft

@@ -1,8 +1,9 @@
 -- Commands that are done again.
-use Rattle.std.specs.Prelude.{ℕ, ◌==◌, Bool, true, false, if◌then◌else◌, min, List, length, Option, Some, None, unwrap_or, option_map}
+use Rattle.std.specs.Prelude.{ℕ, ◌==◌, Bool, true, false, not, if◌then◌else◌, min, List, length, Option, Some, None, unwrap_or, option_map}
 use Rattle.line_buffer.specs.declared.movement.Movement.{Movement}
 use Rattle.line_buffer.specs.declared.movement.Movement.TheVariants.{BackwardChar, BackwardWord, ForwardChar, ForwardWord, LineDown, LineUp, ViCharSearch}
 use Rattle.line_keys.specs.Command.{Command, dedent, indent, insert, kill, move, replace, replace_char, self_insert, vi_yank_to, yank}
+use Rattle.line_keys.specs.declared.refresher.InputMode.{InputMode}
 
 -- the commands that change the line or copy from it, and can be done again
 abbrev pub is_repeatable_change : Command → Bool
@@ -21,6 +22,23 @@ is_repeatable_change _ = false
 abbrev pub is_repeatable : Command → Bool
 is_repeatable (move _) = true
 is_repeatable command = is_repeatable_change command
+
+-- a change that typed characters go on with: a replacement, or a typed character
+abbrev pub is_typed_on : Option Command → Bool
+is_typed_on (Some (replace _ _)) = true
+is_typed_on (Some (self_insert _ _)) = true
+is_typed_on _ = false
+
+-- Vi's insert and replace mode: whether a command becomes the last change, which is this so far. A repeatable change does, but
+-- not a typed character that goes on with the last change.
+abbrev pub becomes_change_typed : Option Command → Command → Bool
+becomes_change_typed last (self_insert _ _) = not (is_typed_on last)
+becomes_change_typed last command = is_repeatable_change command
+
+-- whether a command of Vi's tables becomes the last change, by the mode that its key is read in, and the last change so far
+abbrev pub becomes_change : InputMode → Option Command → Command → Bool
+becomes_change InputMode.Command last command = is_repeatable_change command
+becomes_change _ last command = becomes_change_typed last command
 
 -- a movement with another count, where the movement has a count
 abbrev pub counted_anew : Movement → ℕ → Movement

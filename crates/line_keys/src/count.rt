@@ -2,7 +2,7 @@
 ghost use Rattle.std.specs.Prelude.{◌≡◌, ◌≤◌, ◌++◌, ◌∷◌, [], ◌||◌, ℕ, List, IfOk, IfSome, string_bytes};
 ghost use Rattle.line_config.specs.Error.{MemoryOnly};
 ghost use Rattle.line_keys.specs.Count.{IsCountOf, begins_count, continues_count, count_of, count_prompt, digit_of, digits_of, is_digit, is_minus, number_of};
-ghost use Rattle.line_keys.specs.Table.{one};
+ghost use Rattle.line_keys.specs.Meaning.{count_or_one, one};
 ghost use Rattle.line_keys.specs.declared.keys.KeyEvent.{KeyEvent};
 
 use crate::keys::{KeyCode, KeyEvent, Modifiers};
@@ -29,6 +29,13 @@ impl Count {
             n: 1,
             positive: true,
         }
+    }
+
+    /// Returns the count that is typed, or else one.
+    pub fn or_one(typed: Option<Count>) -> Self
+        ensures { result ≡ count_or_one typed }
+    {
+        typed.unwrap_or(Count::one())
     }
 }
 

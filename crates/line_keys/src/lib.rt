@@ -17,4 +17,7 @@ pub use count::Count;
 pub use keys::{KeyCode, KeyEvent, Modifiers};
 pub use raw_reader::RawReader;
 pub use refresher::{InputMode, Invoke, Refresher};
-pub use tables::{Meaning, SearchKind, meaning_of_key, second_key};
+pub use tables::{
+    Entry, Grouping, Meaning, Motion, Operator, SearchKind, entry_of_key, motion_of_key,
+    multiplied, replaced_by, second_key, stands_for,
+};

@@ -1,12 +1,12 @@
 //! Commands that are done again.
-ghost use Rattle.std.specs.Prelude.{◌≡◌, IfOk, option_map, string_bytes};
+ghost use Rattle.std.specs.Prelude.{◌≡◌, true, IfOk, option_map, string_bytes};
 ghost use Rattle.line_buffer.specs.Changes.{last_insert_of};
 ghost use Rattle.line_config.specs.Error.{MemoryOnly};
 ghost use Rattle.line_keys.specs.Command.{command_of};
-ghost use Rattle.line_keys.specs.Redo.{bound_anew, counted_anew, replaced_again, with_count};
+ghost use Rattle.line_keys.specs.Redo.{becomes_change, becomes_change_typed, bound_anew, counted_anew, is_repeatable_change, is_typed_on, redone, replaced_again, with_count};
 
 use crate::cmd::Cmd;
-use crate::refresher::Refresher;
+use crate::refresher::{InputMode, Refresher};
 use line_buffer::{Movement, RepeatCount};
 use line_config::Result;
 
@@ -39,6 +39,69 @@ impl Cmd {
             Cmd::Yank(n, anchor) => Cmd::Yank(new.unwrap_or(n), anchor),
             command => command,
         })
+    }
+
+    /// Returns the command as the dot does it again. It is done as for a key that a program bound to it, but a typed character
+    /// becomes the text that came in last, where there is one.
+    ///
+    /// # Errors
+    /// That memory ran out.
+    pub fn repeat<W: Refresher>(self, new: Option<RepeatCount>, wrt: &W) -> Result<Cmd>
+        ensures command { let last = last_insert_of (W.draft wrt.now).changes.entries in
+            IfOk result (λ c. command_of c ≡ redone true new last (command_of self)) }
+        ensures memory { MemoryOnly result }
+    {
+        match self {
+            Cmd::SelfInsert(n, c) => match wrt.last_insert()? {
+                Some(text) => Ok(Cmd::Insert(new.unwrap_or(n), text)),
+                None => Ok(Cmd::SelfInsert(new.unwrap_or(n), c)),
+            },
+            command => command.redo(new, wrt),
+        }
+    }
+
+    /// Returns whether the command changes the line or copies from it, and can be done again.
+    pub fn is_repeatable_change(&self) -> bool
+        ensures { result ≡ is_repeatable_change (command_of self.now) }
+    {
+        match self {
+            Cmd::Dedent(_)
+            | Cmd::Indent(_)
+            | Cmd::Insert(_, _)
+            | Cmd::Kill(_)
+            | Cmd::ReplaceChar(_, _)
+            | Cmd::Replace(_, _)
+            | Cmd::SelfInsert(_, _)
+            | Cmd::ViYankTo(_)
+            | Cmd::Yank(_, _) => true,
+            _ => false,
+        }
+    }
+
+    /// Returns whether the command becomes Vi's last change, by the mode that its key is read in, and the last change so far. A
+    /// repeatable change does, but in insert and replace mode not a typed character behind a replacement or a typed one.
+    pub fn becomes_change(&self, input_mode: InputMode, last: &Option<Cmd>) -> bool
+        ensures { result
+            ≡ becomes_change input_mode (option_map command_of last.now) (command_of self.now) }
+    {
+        match input_mode {
+            InputMode::Command => return self.is_repeatable_change(),
+            _ => {}
+        }
+        match self {
+            Cmd::SelfInsert(_, _) => !is_typed_on(last),
+            _ => self.is_repeatable_change(),
+        }
+    }
+}
+
+// Returns whether typed characters go on with the last change: a replacement, or a typed character.
+fn is_typed_on(last: &Option<Cmd>) -> bool
+    ensures { result ≡ is_typed_on (option_map command_of last.now) }
+{
+    match last {
+        Some(Cmd::Replace(_, _) | Cmd::SelfInsert(_, _)) => true,
+        _ => false,
     }
 }
 
