@@ -2,14 +2,14 @@
 use Rattle.std.proofs.Common.{arith, ◌≡◌, ◌+◌, ◌≤◌, cond, List, [], ◌∷◌, ◌++◌, map, ◌∙◌, ap}
 use Rattle.std.proofs.lemmas.List.Sums.{sum_by-append}
 use Rattle.line_parts.specs.Environment.{Environment}
-use Rattle.line_keys.specs.Command.{Command}
 use Rattle.line_keys.specs.Draft.{Draft}
 use Rattle.line_keys.specs.Item.{Item, key}
 use Rattle.line_editor.specs.Editor.{Editor, Answer, Ruler}
 use Rattle.line_editor.specs.Input.{Input}
 use Rattle.line_editor.specs.Keymap.{Keymap}
 use Rattle.line_editor.specs.Laws.{ExecutesNoMoreThanKeys}
-use Rattle.line_editor.specs.Phrase.{Phrase}
+use Rattle.line_editor.specs.Phrase.{Phrase, behind_key, of_mode}
+use Rattle.line_editor.specs.Read.{Read}
 use Rattle.line_editor.specs.Run.{End, Run, Turn, goes_on, ends, runs_dry, commands_in, is_key, keys_in, unread}
 
 -- the keys of two lists, one behind the other
@@ -18,11 +18,15 @@ keys-append items more = sum_by-append (λ item. cond (is_key item) 1 0) items m
 
 module _ (keymap : Keymap) (ruler : Ruler) (environment : Environment) where
   -- a phrase has a key
-  has-key : (draft left : Draft) (input i : Input) (items : List Item) (command : Command)
-      → Phrase keymap environment draft input items command left i → 1 ≤ keys_in items
-  has-key draft left input i items command phrase =
+  has-key : (draft : Draft) (input : Input) (items : List Item) (read : Read)
+      → Phrase keymap environment draft input items read → 1 ≤ keys_in items
+  has-key draft input items read (of_mode phrase) =
       let cut = ap keys_in phrase.cut ∙ keys-append (map key phrase.typed) (key phrase.last ∷ phrase.tail) in
       let behind = keys-append (key phrase.last ∷ []) phrase.tail in
+      omega (arith, cut, behind)
+  has-key draft input items read (behind_key phrase) =
+      let cut = ap keys_in phrase.cut in
+      let behind = keys-append (key phrase.first ∷ []) phrase.rest in
       omega (arith, cut, behind)
 
   -- a turn leaves fewer keys unread
@@ -30,7 +34,7 @@ module _ (keymap : Keymap) (ruler : Ruler) (environment : Environment) where
       → Turn keymap ruler environment editor input items left i more answer → 1 + keys_in more ≤ keys_in items
   reads-key editor left input i items more answer turn =
       let cut = ap keys_in turn.cut ∙ keys-append turn.phrase more in
-      let one = has-key editor.draft turn.draft input i turn.phrase turn.command turn.reads in
+      let one = has-key editor.draft input turn.phrase turn.read turn.reads in
       omega (arith, cut, one)
 
   no-more : (editor last : Editor) (input i : Input) (items : List Item) (end : End)

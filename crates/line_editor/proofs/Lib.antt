@@ -1,7 +1,9 @@
+pub mod AgainLaws
 pub mod AskedLemmas
 pub mod BoundLemmas
 pub mod ChordLemmas
 pub mod SequenceLemmas
+pub mod ShownLemmas
 pub mod SequenceReadLemmas
 pub mod TailLemmas
 pub mod TailedLemmas
@@ -16,7 +18,15 @@ pub mod HistoryMoveLemmas
 pub mod HistoryWayLaws
 pub mod KeysLaws
 pub mod MoveLemmas
+pub mod GroupLemmas
+pub mod KeyFitLemmas
+pub mod LacksLemmas
+pub mod ListFitLemmas
+pub mod OperationLemmas
+pub mod OperationReadLemmas
+pub mod PartLemmas
 pub mod PhraseLemmas
+pub mod PhraseReadLemmas
 pub mod ReadingLemmas
 pub mod RunLaws
 pub mod RunLemmas

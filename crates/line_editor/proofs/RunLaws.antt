@@ -1,14 +1,14 @@
 -- A run has one end.
-use Rattle.std.proofs.Common.{◌≡◌, ◌⊎◌, inl, inr, List, [], ◌∷◌, ◌++◌, append_assoc, refl, sym, ◌∙◌, ap, subst}
+use Rattle.std.proofs.Common.{◌≡◌, ◌⊎◌, Bool, true, false, cond, inl, inr, List, [], ◌∷◌, ◌++◌, append_assoc, refl, sym, ◌∙◌, ap, subst}
 use Rattle.line_parts.specs.Environment.{Environment}
-use Rattle.line_keys.specs.Command.{Command}
-use Rattle.line_keys.specs.Draft.{Draft, KeepsText}
+use Rattle.line_keys.specs.Draft.{Draft, KeepsText, hinted}
 use Rattle.line_keys.specs.Item.{Item}
 use Rattle.line_editor.specs.Input.{Input}
 use Rattle.line_editor.specs.Keymap.{Keymap}
 use Rattle.line_editor.specs.Laws.{HasOneEnd, SameEnd}
-use Rattle.line_editor.specs.Phrase.{Phrase, IsBeginning}
-use Rattle.line_editor.specs.Reading.{LeftByCut}
+use Rattle.line_editor.specs.Phrase.{IsBeginning, Phrase, entered}
+use Rattle.line_editor.specs.Read.{Read}
+use Rattle.line_editor.specs.Shown.{Shown, any_drawn, asked_behind}
 use Rattle.line_editor.specs.Run.{End, Run, Turn, goes_on, ends, runs_dry, stopped, ready}
 use Rattle.line_editor.specs.Editor.{Editor, Step, Answer, Ruler, proceeds}
 use Rattle.line_editor.specs.Step.{step}
@@ -37,38 +37,36 @@ fronts (x ∷ p) (y ∷ q) m n e =
       | inr f ↦ inr (f.0, ap (λ h. h ∷ p) head ∙ ap (λ r. y ∷ r) f.1, f.2)
     ]
 
--- what two phrases at the front of one list have in common: all
-record SamePhrase (p q m n : List Item) (c c' : Command) (d d' : Draft) (i i' : Input) : Type 0 where
-  more : m ≡ n
-  command : c ≡ c'
-  draft : d ≡ d'
-  input : i ≡ i'
+-- a draft keeps the text that another does which it is
+keeps-by : (draft left there : Draft) → left ≡ there → there.line ≡ draft.line → there.saved ≡ draft.saved → there.index ≡ draft.index → there.changes ≡ draft.changes
+    → KeepsText draft left
+keeps-by draft left there is line saved index changes = record {
+  line = ap (λ (d : Draft). d.line) is ∙ line;
+  saved = ap (λ (d : Draft). d.saved) is ∙ saved;
+  index = ap (λ (d : Draft). d.index) is ∙ index;
+  changes = ap (λ (d : Draft). d.changes) is ∙ changes;
+}
 
 module _ (keymap : Keymap) (ruler : Ruler) (environment : Environment) where
   -- a phrase that begins another one is the other
-  begins-same : (draft : Draft) (input : Input) (p q m n d : List Item) (c c' : Command) (l l' : Draft) (i i' : Input)
-      → Phrase keymap environment draft input p c l i → Phrase keymap environment draft input q c' l' i'
+  begins-same : (draft : Draft) (input : Input) (p q m n d : List Item) (read read' : Read)
+      → Phrase keymap environment draft input p read → Phrase keymap environment draft input q read'
       → q ≡ p ++ d → m ≡ d ++ n
-      → SamePhrase p q m n c c' l l' i i'
-  begins-same draft input p q m n d c c' l l' i i' one other front rest =
-      let P : List Item → Type 0 = λ x. Phrase keymap environment draft input x c' l' i' in
-      let fit = phrases-fit keymap environment draft input p d c c' l l' i i' one (subst P front other) in
-      record { more = rest ∙ ap (λ x. x ++ n) fit.0; command = fit.1; draft = fit.2; input = fit.3 }
-
-  flipped : (p q m n : List Item) (c c' : Command) (l l' : Draft) (i i' : Input)
-      → SamePhrase p q m n c c' l l' i i' → SamePhrase q p n m c' c l' l i' i
-  flipped p q m n c c' l l' i i' s =
-      record { more = sym s.more; command = sym s.command; draft = sym s.draft; input = sym s.input }
+      → (m ≡ n) × (read ≡ read')
+  begins-same draft input p q m n d read read' one other front rest =
+      let P : List Item → Type 0 = λ x. Phrase keymap environment draft input x read' in
+      let fit = phrases-fit keymap environment draft input p d read read' one (subst P front other) in
+      (rest ∙ ap (λ x. x ++ n) fit.0, fit.1)
 
   -- two phrases at the front of one list are the same
-  one-phrase : (draft : Draft) (input : Input) (p q m n : List Item) (c c' : Command) (l l' : Draft) (i i' : Input)
-      → Phrase keymap environment draft input p c l i → Phrase keymap environment draft input q c' l' i'
+  one-phrase : (draft : Draft) (input : Input) (p q m n : List Item) (read read' : Read)
+      → Phrase keymap environment draft input p read → Phrase keymap environment draft input q read'
       → p ++ m ≡ q ++ n
-      → SamePhrase p q m n c c' l l' i i'
-  one-phrase draft input p q m n c c' l l' i i' one other e =
+      → (m ≡ n) × (read ≡ read')
+  one-phrase draft input p q m n read read' one other e =
       elim (fronts p q m n e) [
-        | inl f ↦ begins-same draft input p q m n f.0 c c' l l' i i' one other f.1 f.2
-        | inr f ↦ flipped q p n m c' c l' l i' i (begins-same draft input q p n m f.0 c' c l' l i' i other one f.1 f.2)
+        | inl f ↦ begins-same draft input p q m n f.0 read read' one other f.1 f.2
+        | inr f ↦ let same = begins-same draft input q p n m f.0 read' read other one f.1 f.2 in (sym same.0, sym same.1)
       ]
 
   -- what two turns from one place have in common: all
@@ -83,14 +81,13 @@ module _ (keymap : Keymap) (ruler : Ruler) (environment : Environment) where
       → Turn keymap ruler environment editor input items left' i' n a'
       → SameTurn left left' i i' m n a a'
   one-turn editor left left' input i i' items m n a a' one other =
-      let s = one-phrase editor.draft input one.phrase other.phrase m n one.command other.command one.draft other.draft i i' one.reads other.reads (sym one.cut ∙ other.cut) in
-      let done : Input → Command → Draft → Step = λ j c d. step ruler environment j (ready c d editor.kills) c in
-      let same : done i one.command one.draft ≡ done i' other.command other.draft =
-      ap (λ j. done j one.command one.draft) s.input ∙ ap (λ c. done i' c one.draft) s.command ∙ ap (λ d. done i' other.command d) s.draft in
+      let s = one-phrase editor.draft input one.phrase other.phrase m n one.read other.read one.reads other.reads (sym one.cut ∙ other.cut) in
+      let done : Read → Step = λ read. step ruler environment read.input (ready read.command read.draft editor.kills) read.command in
+      let same : done one.read ≡ done other.read = ap done s.1 in
       record {
         editor = one.leaves.editor ∙ ap (λ (d : Step). d.editor) same ∙ sym other.leaves.editor;
-        input = s.input;
-        more = s.more;
+        input = one.input_left ∙ ap (λ (r : Read). r.input) s.1 ∙ sym other.input_left;
+        more = s.0;
         answer = sym one.leaves.answered ∙ ap (λ (d : Step). d.answer) same ∙ other.leaves.answered;
       }
 
@@ -100,25 +97,18 @@ module _ (keymap : Keymap) (ruler : Ruler) (environment : Environment) where
       → IsBeginning keymap environment editor.draft input items
       → B
   not-dry editor left input i items m a turn begins =
-      let P : List Item → Type 0 = λ x. Phrase keymap environment editor.draft input x begins.command begins.draft' begins.input' in
-      let whole = subst P (ap (λ x. x ++ begins.rest) turn.cut ∙ append_assoc turn.phrase m begins.rest) begins.phrase in
-      let fit = phrases-fit keymap environment editor.draft input turn.phrase (m ++ begins.rest) turn.command begins.command turn.draft begins.draft' i begins.input' turn.reads whole in
+      let P : List Item → Type 0 = λ x. Phrase keymap environment editor.draft input x begins.read in
+      let whole = subst P (ap (λ x. x ++ begins.rest) turn.cut ∙ append_assoc turn.phrase m begins.rest) begins.comes in
+      let fit = phrases-fit keymap environment editor.draft input turn.phrase (m ++ begins.rest) turn.read begins.read turn.reads whole in
       absurd (begins.proper (nothing-in m begins.rest fit.0))
 
   -- a phrase that was cut short leaves all but the hint
-  cut-keeps : (draft left : Draft) → LeftByCut environment draft left → KeepsText draft left
-  cut-keeps draft left (inl same) = record {
-    line = ap (λ (d : Draft). d.line) same;
-    saved = ap (λ (d : Draft). d.saved) same;
-    index = ap (λ (d : Draft). d.index) same;
-    changes = ap (λ (d : Draft). d.changes) same;
-  }
-  cut-keeps draft left (inr asked) = record {
-    line = ap (λ (d : Draft). d.line) asked;
-    saved = ap (λ (d : Draft). d.saved) asked;
-    index = ap (λ (d : Draft). d.index) asked;
-    changes = ap (λ (d : Draft). d.changes) asked;
-  }
+  cut-keeps : (shown : List Shown) (draft left : Draft) → left ≡ asked_behind environment shown draft → KeepsText draft left
+  cut-keeps shown draft left is = by_any (any_drawn shown) is
+    where
+      by_any : (b : Bool) → left ≡ cond b (hinted environment draft) draft → KeepsText draft left
+      by_any true asked = keeps-by draft left (hinted environment draft) asked refl refl refl refl
+      by_any false same = keeps-by draft left draft same refl refl refl refl
 
   -- two drafts that keep the text of one keep that of one another
   both-keep : (draft left left' : Draft) → KeepsText draft left → KeepsText draft left' → KeepsText left left'
@@ -154,7 +144,7 @@ module _ (keymap : Keymap) (ruler : Ruler) (environment : Environment) where
         ending = ap (λ a. stopped a rest) s.answer ∙ ap (λ r. stopped answer' r) s.more;
         input_left = s.input;
         kills = ap (λ (e : Editor). e.kills) s.editor;
-        text = cut-keeps last.draft last'.draft (inl (ap (λ (e : Editor). e.draft) (sym s.editor)));
+        text = keeps-by last.draft last'.draft last.draft (ap (λ (e : Editor). e.draft) (sym s.editor)) refl refl refl refl;
         whole = λ a r is. s.editor;
       }
   one-end editor last last' input i i' items end end' (ends {rest = rest} {answer = answer} turn other) (runs_dry begins short) =
@@ -168,7 +158,7 @@ module _ (keymap : Keymap) (ruler : Ruler) (environment : Environment) where
         ending = refl;
         input_left = refl;
         kills = short.kills ∙ sym short'.kills;
-        text = both-keep editor.draft last.draft last'.draft (cut-keeps editor.draft last.draft short.draft) (cut-keeps editor.draft last'.draft short'.draft);
+        text = both-keep (entered keymap editor.draft input items) last.draft last'.draft (cut-keeps begins.shown (entered keymap editor.draft input items) last.draft short.draft) (cut-keeps begins'.shown (entered keymap editor.draft input items) last'.draft short'.draft);
         whole = λ a r is. cc;
       }
 

@@ -1,23 +1,28 @@
 -- Facts on what is read behind a key.
 use Rattle.std.proofs.Common.{◌≡◌, ℕ, true, ◌++◌, List, [], ◌∷◌, map, Option, Some, None, Result, Ok, Err, refl, sym, ◌∙◌, ap, subst}
-use Rattle.std.specs.Prelude.{slice_get}
+use Rattle.std.specs.Prelude.{option_map, slice_get}
+use Rattle.std.specs.Option.{option_or}
 use Rattle.line_buffer.specs.declared.movement.CharSearch.{CharSearch}
-use Rattle.line_config.specs.declared.error.ReadlineError.{ReadlineError}
-use Rattle.line_keys.specs.Command.{Command, command_of, unknown}
+use Rattle.line_buffer.specs.declared.movement.Movement.{Movement}
+use Rattle.line_buffer.specs.declared.movement.Movement.TheVariants.{ViCharSearch}
+use Rattle.line_parts.specs.Environment.{Environment}
+use Rattle.line_keys.specs.Command.{Command, noop, unknown}
 use Rattle.line_keys.specs.Draft.{Draft}
-use Rattle.line_keys.specs.Item.{key}
-use Rattle.line_keys.specs.Table.{Meaning, gives, has_second, pastes, row_of, searches, unlisted}
-use Rattle.line_keys.specs.declared.cmd.Cmd.{Cmd}
+use Rattle.line_keys.specs.Item.{Item, key}
+use Rattle.line_keys.specs.Motion.{Motion, covers_last, covers_search, search_to}
+use Rattle.line_keys.specs.Table.{Meaning, gives, has_second, pastes, replaces_char, searches, searches_again, unlisted}
 use Rattle.line_keys.specs.declared.count.Count.{Count}
 use Rattle.line_keys.specs.declared.keys.KeyEvent.{KeyEvent}
 use Rattle.line_keys.specs.declared.raw_reader.RawReader as readers
+use Rattle.line_keys.specs.declared.tables.Operator.{Operator}
 use Rattle.line_editor.specs.Binding.{Bound}
 use Rattle.line_editor.specs.Input.{Input}
-use Rattle.line_editor.specs.Keymap.{Keymap, bound_command, count_or_one, on_line}
-use Rattle.line_editor.specs.Phrase.{LacksItems, Tailed, alone, begins_sequences, by_second_in_vain, by_second_key, by_sequence, in_vain}
-use Rattle.line_editor.specs.Reading.{EndsBehindKey, EndsInSequence, EndsInTail, IsAnswered, IsInVain, OnRead, ReadsBehind, ReadsTail}
+use Rattle.line_editor.specs.Operation.{Reaches, operated_if, to_character, to_last}
+use Rattle.line_editor.specs.Read.{quiet_read, searched}
+use Rattle.line_editor.specs.Reading.{EndsInSequence, EndsQuietly, GivesQuietly, IsAnswered, IsInVain}
 use Rattle.line_editor.specs.Sequence.{Sequenced, Sequences, sequences_of}
-use Rattle.line_editor.proofs.PhraseLemmas.{bound-read, own-read, paste-lacks, row-lacks, row-read, search-lacks, second-lacks, seconds-lack, sequence-lacks}
+use Rattle.line_editor.specs.Tail.{Tailed, alone, begins_sequences, by_character, by_last_search, by_second_in_vain, by_second_key, by_sequence, in_vain, move_or}
+use Rattle.line_editor.proofs.LacksLemmas.{LacksQuietly, motion-lacks, paste-lacks, replacement-lacks, search-lacks, second-lacks, seconds-lack, sequence-lacks}
 use Rattle.line_editor.proofs.SequenceLemmas.{goes_on}
 
 -- a list without a first item is empty
@@ -26,46 +31,118 @@ none_first [] none = refl
 none_first (x ∷ xs) none = absurd (cc)
 
 -- the second key of all is the first of those that were read in vain
-second_of : (s : Sequences) (last : KeyEvent) (by : KeyEvent → Command) (more : List KeyEvent) (second : KeyEvent)
-    → Some second ≡ slice_get more 0 → Sequenced s last more None → Tailed s last (has_second by) (map key more) (by second)
-second_of s last by [] second told vain = absurd (cc)
-second_of s last by (k ∷ ks) second told vain =
+second_of : (s : Sequences) (w : Environment) (d : Draft) (i : Input) (last : KeyEvent) (by : KeyEvent → Command) (more : List KeyEvent) (second : KeyEvent)
+    → Some second ≡ slice_get more 0 → Sequenced s last more None → Tailed s w d i last (has_second by) (map key more) (quiet_read d i (map key more) (by second))
+second_of s w d i last by [] second told vain = absurd (cc)
+second_of s w d i last by (k ∷ ks) second told vain =
     let same : k ≡ second = cc in
-    subst (λ x. Tailed s last (has_second by) (map key (k ∷ ks)) (by x)) same (by_second_in_vain by k ks vain)
+    subst (λ x. Tailed s w d i last (has_second by) (map key (k ∷ ks)) (quiet_read d i (map key (k ∷ ks)) (by x))) same (by_second_in_vain by k ks vain)
 
-module _ {Y : Type 0} (r : readers.Ghosts Y) (s : Sequences) (last : KeyEvent) (reader next : Y) where
+-- the place of a search that is changed
+pub changed_place : (n : ℕ) (change : CharSearch → CharSearch) (place : Option Movement) (back search : Option CharSearch)
+    → place ≡ option_map (λ s. ViCharSearch n s) back → back ≡ option_map change search → place ≡ option_map (λ s. ViCharSearch n (change s)) search
+changed_place n change place back search is changed = is ∙ ap (λ x. option_map (λ s. ViCharSearch n s) x) changed ∙ by_search search
+  where
+    by_search : (x : Option CharSearch) → option_map (λ s. ViCharSearch n s) (option_map change x) ≡ option_map (λ s. ViCharSearch n (change s)) x
+    by_search None = refl
+    by_search (Some s) = refl
+
+-- what comes of a search, as items that nothing is drawn after
+searched-as : (d : Draft) (i : Input) (items : List Item) (done : Option Movement → Command) (n : ℕ) (by : ℕ → CharSearch) (second : KeyEvent) (found search : Option CharSearch) (place : Option Movement) (command : Command)
+    → found ≡ search_to by second → place ≡ option_map (λ s. ViCharSearch n s) found → command ≡ done place → search ≡ option_or found i.last_search
+    → searched d i items done n (search_to by second) ≡ quiet_read d (record i { last_search = search }) items command
+searched-as d i items done n by second found search place command is there told kept_search =
+    ap (λ f. searched d i items done n f) (sym is) ∙ by_found found
+    ∙ ap (λ p. quiet_read d (record i { last_search = option_or found i.last_search }) items (done p)) (sym there)
+    ∙ ap (λ c. quiet_read d (record i { last_search = option_or found i.last_search }) items c) (sym told)
+    ∙ ap (λ x. quiet_read d (record i { last_search = x }) items command) (sym kept_search)
+  where
+    by_found : (f : Option CharSearch)
+        → searched d i items done n f ≡ quiet_read d (record i { last_search = option_or f i.last_search }) items (done (option_map (λ s. ViCharSearch n s) f))
+    by_found None = refl
+    by_found (Some s) = refl
+
+module _ {Y : Type 0} (r : readers.Ghosts Y) (s : Sequences) (w : Environment) (d : Draft) (i : Input) (last : KeyEvent) (reader next : Y) where
+  -- what a meaning lacks where no item is left, it lacks of the reader's items
+  none_left : (meaning : Meaning) → LacksQuietly (Tailed s w d i last meaning) [] → r.rest reader ≡ [] → r.rest next ≡ []
+      → EndsQuietly r (Tailed s w d i last meaning) reader next
+  none_left meaning lacks dry empty =
+      let there : LacksQuietly (Tailed s w d i last meaning) (r.rest reader) = subst (λ t. LacksQuietly (Tailed s w d i last meaning) t) (sym dry) lacks in
+      record { lacks = there.lacks; empty = empty; undrawn = there.quiet }
+
   -- no item is left for a search, and none for a pasted text
-  pub search_ends : (n : ℕ) (by : ℕ → CharSearch) → r.rest reader ≡ [] → r.rest next ≡ r.rest reader → EndsInTail r reader next s last (searches n by)
-  search_ends n by dry kept = record { empty = kept ∙ dry; lacks = subst (λ t. LacksItems s last (searches n by) t) (sym dry) (search-lacks s last n by) }
+  pub search_ends : (n : ℕ) (by : ℕ → CharSearch) → r.rest reader ≡ [] → r.rest next ≡ r.rest reader → EndsQuietly r (Tailed s w d i last (searches n by)) reader next
+  search_ends n by dry stays = none_left (searches n by) (search-lacks s w d i last n by) dry (stays ∙ dry)
 
-  pub paste_ends : r.rest reader ≡ [] → r.rest next ≡ r.rest reader → EndsInTail r reader next s last pastes
-  paste_ends dry kept = record { empty = kept ∙ dry; lacks = subst (λ t. LacksItems s last pastes t) (sym dry) (paste-lacks s last) }
+  pub replacement_ends : (n : ℕ) → r.rest reader ≡ [] → r.rest next ≡ r.rest reader → EndsQuietly r (Tailed s w d i last (replaces_char n)) reader next
+  replacement_ends n dry stays = none_left (replaces_char n) (replacement-lacks s w d i last n) dry (stays ∙ dry)
+
+  pub paste_ends : r.rest reader ≡ [] → r.rest next ≡ r.rest reader → EndsQuietly r (Tailed s w d i last pastes) reader next
+  paste_ends dry stays = none_left pastes (paste-lacks s w d i last) dry (stays ∙ dry)
+
+  -- the key of the character to search for is read
+  pub search_read : (n : ℕ) (by : ℕ → CharSearch) (second : KeyEvent) (found search : Option CharSearch) (place : Option Movement) (command : Command)
+      → r.rest reader ≡ key second ∷ r.rest next → found ≡ search_to by second → place ≡ option_map (λ s. ViCharSearch n s) found
+      → command ≡ move_or unknown place → search ≡ option_or found i.last_search
+      → GivesQuietly r (Tailed s w d i last (searches n by)) d (record i { last_search = search }) command reader next
+  search_read n by second found search place command took is there told kept_search = record {
+    items = key second ∷ [];
+    cut = took;
+    comes =
+        subst (λ x. Tailed s w d i last (searches n by) (key second ∷ []) x)
+        (searched-as d i (key second ∷ []) (move_or unknown) n by second found search place command is there told kept_search) (by_character n by second);
+  }
+
+  -- the last search is found again
+  pub again_read : (n : ℕ) (change : CharSearch → CharSearch) (search : Option CharSearch) (place : Option Movement) (command : Command) → search ≡ i.last_search
+      → place ≡ option_map (λ s. ViCharSearch n (change s)) i.last_search → command ≡ move_or noop place
+      → GivesQuietly r (Tailed s w d i last (searches_again n change)) d (record i { last_search = search }) command reader reader
+  again_read n change search place command same is told = record {
+    items = [];
+    cut = refl;
+    comes =
+        subst (λ x. Tailed s w d i last (searches_again n change) [] x)
+        (ap (λ p. quiet_read d i [] (move_or noop p)) (sym is) ∙ ap (λ c. quiet_read d i [] c) (sym told) ∙ ap (λ x. quiet_read d (record i { last_search = x }) [] command) (sym same))
+        (by_last_search n change);
+  }
+
+  -- what is read, where the last search stays
+  pub stays_read : (meaning : Meaning) (search : Option CharSearch) (command command' : Command) (next' : Y) → search ≡ i.last_search → command' ≡ command
+      → GivesQuietly r (Tailed s w d i last meaning) d i command reader next' → GivesQuietly r (Tailed s w d i last meaning) d (record i { last_search = search }) command' reader next'
+  stays_read meaning search command command' next' same told read = record {
+    items = read.items;
+    cut = read.cut;
+    comes =
+        subst (λ x. Tailed s w d i last meaning read.items x)
+        (ap (λ c. quiet_read d i read.items c) (sym told) ∙ ap (λ x. quiet_read d (record i { last_search = x }) read.items command') (sym same)) read.comes;
+  }
 
   -- a command of the tables is the key's alone
-  pub command_read : (command : Command) → ReadsTail r reader reader s last (gives command) command
-  command_read command = record { tail = []; cut = refl; tailed = alone command }
+  pub command_read : (command : Command) → GivesQuietly r (Tailed s w d i last (gives command)) d i command reader reader
+  command_read command = record { items = []; cut = refl; comes = alone command }
 
   -- the keys of a sequence are read with its command
   pub answered_read : (meaning : Meaning) (command : Command) → begins_sequences meaning ≡ true → IsAnswered r reader next s last command
-      → ReadsTail r reader next s last meaning command
+      → GivesQuietly r (Tailed s w d i last meaning) d i command reader next
   answered_read meaning command begins found = record {
-    tail = map key found.more;
+    items = map key found.more;
     cut = found.cut;
-    tailed = by_sequence meaning found.more command begins found.sequenced;
+    comes = by_sequence meaning found.more command begins found.sequenced;
   }
 
   -- or in vain, and then the second of all counts, or nothing does
   pub vain_read : (by : KeyEvent → Command) (second : KeyEvent) (command : Command) → IsInVain r reader next s last (Some second) → command ≡ by second
-      → ReadsTail r reader next s last (has_second by) command
+      → GivesQuietly r (Tailed s w d i last (has_second by)) d i command reader next
   vain_read by second command vain is = record {
-    tail = map key vain.more;
+    items = map key vain.more;
     cut = vain.cut;
-    tailed =
-        subst (λ c. Tailed s last (has_second by) (map key vain.more) c) (sym is) (second_of s last by vain.more second vain.told vain.sequenced);
+    comes =
+        subst (λ c. Tailed s w d i last (has_second by) (map key vain.more) (quiet_read d i (map key vain.more) c)) (sym is)
+        (second_of s w d i last by vain.more second vain.told vain.sequenced);
   }
 
-  pub unlisted_read : (second : Option KeyEvent) → IsInVain r reader next s last second → ReadsTail r reader next s last unlisted unknown
-  unlisted_read second vain = record { tail = map key vain.more; cut = vain.cut; tailed = in_vain vain.more vain.sequenced }
+  pub unlisted_read : (second : Option KeyEvent) → IsInVain r reader next s last second → GivesQuietly r (Tailed s w d i last unlisted) d i unknown reader next
+  unlisted_read second vain = record { items = map key vain.more; cut = vain.cut; comes = in_vain vain.more vain.sequenced }
 
   module _ (by : KeyEvent → Command) (mid : Y) (vain : IsInVain r reader mid s last None) where
     none_read : vain.more ≡ []
@@ -78,76 +155,76 @@ module _ {Y : Type 0} (r : readers.Ghosts Y) (s : Sequences) (last : KeyEvent) (
     same_rest = vain.cut ∙ ap (λ m. map key m ++ r.rest mid) none_read
 
     -- no item is left for the second key
-    pub second_ends : r.rest mid ≡ [] → r.rest next ≡ r.rest mid → EndsInTail r reader next s last (has_second by)
-    second_ends dry kept = record {
-      empty = kept ∙ dry;
-      lacks = subst (λ t. LacksItems s last (has_second by) t) (sym (same_rest ∙ dry)) (second-lacks s last by lone);
-    }
+    pub second_ends : r.rest mid ≡ [] → r.rest next ≡ r.rest mid → EndsQuietly r (Tailed s w d i last (has_second by)) reader next
+    second_ends dry stays = none_left (has_second by) (second-lacks s w d i last by lone) (same_rest ∙ dry) (stays ∙ dry)
 
     -- the second key is read
-    pub second_read : (k : KeyEvent) (command : Command) → r.rest mid ≡ key k ∷ r.rest next → command ≡ by k → ReadsTail r reader next s last (has_second by) command
+    pub second_read : (k : KeyEvent) (command : Command) → r.rest mid ≡ key k ∷ r.rest next → command ≡ by k → GivesQuietly r (Tailed s w d i last (has_second by)) d i command reader next
     second_read k command took is = record {
-      tail = key k ∷ [];
+      items = key k ∷ [];
       cut = same_rest ∙ took;
-      tailed = subst (λ c. Tailed s last (has_second by) (key k ∷ []) c) (sym is) (by_second_key by k lone);
+      comes = subst (λ c. Tailed s w d i last (has_second by) (key k ∷ []) (quiet_read d i (key k ∷ []) c)) (sym is) (by_second_key by k lone);
     }
 
-module _ {Y : Type 0} (r : readers.Ghosts Y) (bound : Bound) (draft : Draft) (input : Input) (count : Count) (last : KeyEvent) (reader next : Y)
+module _ {Y : Type 0} (r : readers.Ghosts Y) (bound : Bound) (environment : Environment) (draft : Draft) (input : Input) (count : Count) (last : KeyEvent) (reader next : Y)
     (cut : EndsInSequence r reader next (sequences_of bound draft input count) last) where
+  abbrev those : Sequences
+  those = sequences_of bound draft input count
+
+  -- what a meaning lacks of the keys of a sequence, it lacks of the reader's items
+  keys_left : (meaning : Meaning) → LacksQuietly (Tailed those environment draft input last meaning) (map key cut.more)
+      → EndsQuietly r (Tailed those environment draft input last meaning) reader next
+  keys_left meaning lacks =
+      let there : LacksQuietly (Tailed those environment draft input last meaning) (r.rest reader) =
+      subst (λ t. LacksQuietly (Tailed those environment draft input last meaning) t) (sym cut.cut) lacks in
+      record { lacks = there.lacks; empty = cut.empty; undrawn = there.quiet }
+
   -- the items end inside a sequence
-  pub sequence_ends : EndsInTail r reader next (sequences_of bound draft input count) last unlisted
-  sequence_ends = record {
-    empty = cut.empty;
-    lacks =
-        subst (λ t. LacksItems (sequences_of bound draft input count) last unlisted t) (sym cut.cut)
-        (sequence-lacks (sequences_of bound draft input count) last cut.more (goes_on bound draft input count last cut.more cut.read_on cut.leads cut.unanswered));
+  pub sequence_ends : EndsQuietly r (Tailed those environment draft input last unlisted) reader next
+  sequence_ends =
+      keys_left unlisted (sequence-lacks those environment draft input last cut.more (goes_on bound draft input count last cut.more cut.read_on cut.leads cut.unanswered))
+
+  pub seconds_end : (by : KeyEvent → Command) → EndsQuietly r (Tailed those environment draft input last (has_second by)) reader next
+  seconds_end by =
+      keys_left (has_second by) (seconds-lack those environment draft input last by cut.more (goes_on bound draft input count last cut.more cut.read_on cut.leads cut.unanswered))
+
+module _ {Y : Type 0} (r : readers.Ghosts Y) (d : Draft) (i : Input) (operator : Operator) (reader next : Y) where
+  -- no item is left for the search of a motion
+  pub motion_ends : (n : ℕ) (by : ℕ → CharSearch) → r.rest reader ≡ [] → r.rest next ≡ r.rest reader → EndsQuietly r (Reaches d i operator (covers_search n by)) reader next
+  motion_ends n by dry stays =
+      let there : LacksQuietly (Reaches d i operator (covers_search n by)) (r.rest reader) =
+      subst (λ t. LacksQuietly (Reaches d i operator (covers_search n by)) t) (sym dry) (motion-lacks d i operator n by) in
+      record { lacks = there.lacks; empty = stays ∙ dry; undrawn = there.quiet }
+
+  -- the key of the character is read
+  pub motion_read : (n : ℕ) (by : ℕ → CharSearch) (second : KeyEvent) (found search : Option CharSearch) (place : Option Movement) (command : Command)
+      → r.rest reader ≡ key second ∷ r.rest next → found ≡ search_to by second → place ≡ option_map (λ s. ViCharSearch n s) found
+      → command ≡ operated_if operator place → search ≡ option_or found i.last_search
+      → GivesQuietly r (Reaches d i operator (covers_search n by)) d (record i { last_search = search }) command reader next
+  motion_read n by second found search place command took is there told kept_search = record {
+    items = key second ∷ [];
+    cut = took;
+    comes =
+        subst (λ x. Reaches d i operator (covers_search n by) (key second ∷ []) x)
+        (searched-as d i (key second ∷ []) (λ movement. operated_if operator movement) n by second found search place command is there told kept_search) (to_character n by second);
   }
 
-  pub seconds_end : (by : KeyEvent → Command) → EndsInTail r reader next (sequences_of bound draft input count) last (has_second by)
-  seconds_end by = record {
-    empty = cut.empty;
-    lacks =
-        subst (λ t. LacksItems (sequences_of bound draft input count) last (has_second by) t) (sym cut.cut)
-        (seconds-lack (sequences_of bound draft input count) last by cut.more (goes_on bound draft input count last cut.more cut.read_on cut.leads cut.unanswered));
+  -- what is read of a motion that is the key's alone
+  pub reached : (motion : Motion) (search : Option CharSearch) (command command' : Command) → search ≡ i.last_search → command' ≡ command
+      → Reaches d i operator motion [] (quiet_read d i [] command)
+      → GivesQuietly r (Reaches d i operator motion) d (record i { last_search = search }) command' reader reader
+  reached motion search command command' same told reaches = record {
+    items = [];
+    cut = refl;
+    comes =
+        subst (λ x. Reaches d i operator motion [] x)
+        (ap (λ c. quiet_read d i [] c) (sym told) ∙ ap (λ x. quiet_read d (record i { last_search = x }) [] command') (sym same)) reaches;
   }
 
-module _ {Y : Type 0} (r : readers.Ghosts Y) (keymap : Keymap) (draft : Draft) (input : Input) (typed : Option Count) (k : KeyEvent) (reader next : Y) where
-  -- the command of a binding, and of the reader, is the key's alone
-  pub behind_bound : (command : Command) → Some command ≡ bound_command keymap draft input typed k → ReadsBehind r reader reader keymap draft input typed k command
-  behind_bound command is = record { tail = []; cut = refl; keyed = bound-read keymap draft input typed k command is }
-
-  pub behind_own : (command : Command) → None ≡ bound_command keymap draft input typed k → Some command ≡ on_line draft.line.text (keymap.own k)
-      → ReadsBehind r reader reader keymap draft input typed k command
-  behind_own command unbound is = record { tail = []; cut = refl; keyed = own-read keymap draft input typed k command unbound is }
-
-  module _ (count : Count) (meaning : Meaning) (unbound : None ≡ bound_command keymap draft input typed k) (unowned : None ≡ on_line draft.line.text (keymap.own k))
-      (counted : count ≡ count_or_one typed) (is : meaning ≡ (row_of input.style input.mode k draft).means count) where
-    row_is : meaning ≡ (row_of input.style input.mode k draft).means (count_or_one typed)
-    row_is = is ∙ ap (λ n. (row_of input.style input.mode k draft).means n) counted
-
-    -- a key of the tables is read with its tail
-    pub behind_row : (command : Command) → ReadsTail r reader next (sequences_of keymap.bound draft input count) k meaning command
-        → ReadsBehind r reader next keymap draft input typed k command
-    behind_row command read = record {
-      tail = read.tail;
-      cut = read.cut;
-      keyed =
-          row-read keymap draft input typed k meaning read.tail command unbound unowned row_is
-          (subst (λ n. Tailed (sequences_of keymap.bound draft input n) k meaning read.tail command) counted read.tailed);
-    }
-
-    -- and where no item is left it lacks items
-    pub ends_row : EndsInTail r reader next (sequences_of keymap.bound draft input count) k meaning → EndsBehindKey r reader next keymap draft input typed k
-    ends_row ended = record {
-      empty = ended.empty;
-      lacks =
-          row-lacks keymap draft input typed k meaning (r.rest reader) unbound unowned row_is
-          (subst (λ n. LacksItems (sequences_of keymap.bound draft input n) k meaning (r.rest reader)) counted ended.lacks);
-    }
-
-    -- both, by what came of reading it
-    pub row_on : (result : Result Cmd ReadlineError)
-        → OnRead result (λ c. ReadsTail r reader next (sequences_of keymap.bound draft input count) k meaning (command_of c)) (EndsInTail r reader next (sequences_of keymap.bound draft input count) k meaning)
-        → OnRead result (λ c. ReadsBehind r reader next keymap draft input typed k (command_of c)) (EndsBehindKey r reader next keymap draft input typed k)
-    row_on (Ok c) read = behind_row (command_of c) read
-    row_on (Err f) read = λ no. let ended = read no in (ended.0, ends_row ended.1)
+  -- the last search is the motion
+  pub last_reached : (n : ℕ) (change : CharSearch → CharSearch) (last search : Option CharSearch) (place : Option Movement) (command : Command)
+      → i.last_search ≡ last → search ≡ last → place ≡ option_map (λ s. ViCharSearch n (change s)) last → command ≡ operated_if operator place
+      → GivesQuietly r (Reaches d i operator (covers_last n change)) d (record i { last_search = search }) command reader reader
+  last_reached n change last search place command same stays is told =
+      reached (covers_last n change) search (operated_if operator (option_map (λ s. ViCharSearch n (change s)) i.last_search)) command (stays ∙ sym same)
+      (told ∙ ap (λ p. operated_if operator p) (is ∙ ap (λ x. option_map (λ s. ViCharSearch n (change s)) x) (sym same))) (to_last n change)

@@ -1,14 +1,15 @@
 -- Facts on turns of a program's state.
-use Rattle.std.proofs.Common.{◌≡◌, ◌∙◌, ℕ, ◌+◌, ◌-◌, ◌≤◌, ◌<◌, Bool, true, false, length, Result, Ok, Err, inl, inr, refl, ap, subst, arith}
+use Rattle.std.proofs.Common.{◌≡◌, ◌∙◌, ℕ, ◌+◌, ◌-◌, ◌≤◌, ◌<◌, Bool, true, false, cond, List, [], length, sym, Result, Ok, Err, inl, inr, refl, ap, subst, arith}
 use Rattle.line_buffer.specs.KillRing.{Ring}
 use Rattle.line_buffer.specs.Line.{Line}
 use Rattle.line_config.specs.Error.{is_fault, is_io, max_count}
 use Rattle.line_config.specs.declared.error.ReadlineError.{ReadlineError}
 use Rattle.line_config.specs.declared.error.ReadlineError.TheVariants.{Eof}
-use Rattle.line_keys.specs.Command.{command_of}
+use Rattle.line_keys.specs.Command.{Command, command_of}
+use Rattle.line_keys.specs.Draft.{hint_shown}
 use Rattle.line_parts.specs.declared.highlight.CmdKind.{CmdKind}
-use Rattle.line_parts.specs.declared.highlight.CmdKind.TheVariants.{MoveCursor}
-use Rattle.line_keys.specs.Drawing.{Drawing, Drew, DrewCursor, ShowsChange, behind_prompt, cursor, cursor_over, cursor_to_end, nothing, with_hint, with_text}
+use Rattle.line_parts.specs.declared.highlight.CmdKind.TheVariants.{MoveCursor, Other}
+use Rattle.line_keys.specs.Drawing.{Drawing, Drew, DrewCursor, DrewLine, DrewNothing, ShowsChange, behind_prompt, cursor, cursor_over, cursor_to_end, drawn_if, nothing, with_hint, with_text}
 use Rattle.line_keys.specs.Frame.{Frame}
 use Rattle.line_keys.specs.ShownLine.{IsInPlace, Redraws}
 use Rattle.line_keys.specs.ShownLine.{KeepsDrawn}
@@ -18,9 +19,10 @@ use Rattle.line_keys.specs.declared.raw_reader.RawReader as readers
 use Rattle.line_editor.specs.Drawings.{drawing_of, times_of}
 use Rattle.line_parts.specs.Asks.{for_all, for_hint, is_sure}
 use Rattle.line_editor.proofs.AskedLemmas.{sure_all}
-use Rattle.line_editor.specs.Editor.{Answer, ended, grouped, interrupted, proceeds, ruler_of, submitted}
+use Rattle.line_editor.specs.Editor.{Answer, ended, grouped, interrupted, own_ruler, proceeds, ruler_of, submitted}
 use Rattle.line_editor.specs.Keymap.{KeyState}
-use Rattle.line_editor.specs.Reading.{KeepsReading, ReadsCommand}
+use Rattle.line_editor.specs.Reading.{KeepsReading, PhraseHere, ReadsCommand, ReadsPart, entered_here}
+use Rattle.line_editor.specs.Shown.{DrewCounts, Shown, any_drawn, ruler_behind, times_drawn}
 use Rattle.line_editor.specs.Run.{kills_before}
 use Rattle.line_editor.specs.Outcomes.{Advances, AdvancesTo, DrawnAfter, DrewFor, Executed, Executes, TakesTurn, editor_of, session}
 use Rattle.line_editor.specs.declared.command.Status.{Status}
@@ -28,7 +30,9 @@ use Rattle.line_editor.specs.declared.run.Turned.{Turned}
 use Rattle.line_editor.specs.declared.run.Turned.TheVariants as turned
 use Rattle.line_editor.proofs.CommandLemmas.{few_drawn}
 use Rattle.line_editor.proofs.CountLemmas.{rises_more, rises_twice, stays_rises}
-use Rattle.line_editor.proofs.DrawnLemmas.{frame_then, keeps_then}
+use Rattle.line_editor.proofs.DrawnLemmas.{drawn_stays, frame_then, hint_trails, keeps_then, stays_in_place}
+use Rattle.line_editor.proofs.PhraseReadLemmas.{has_item}
+use Rattle.line_editor.proofs.ReadingLemmas.{ruler_there}
 use Rattle.line_editor.proofs.RunLemmas.{leaves-by}
 
 module _ {X : Type 0} (e : editors.Ghosts X) where
@@ -88,40 +92,79 @@ keeps_turn e r old middle new keys keys' reader reader' keeps frame = record {
 later_rose : (read read' drew drew' drew'' : ℕ) → read' ≡ read → drew' ≡ drew → (drew' < max_count → drew' < drew'') → read < max_count → drew < max_count → read + drew < read' + drew''
 later_rose read read' drew drew' drew'' same quiet rose below other = let more = rose (omega (arith, other, quiet)) in omega (arith, same, quiet, more)
 
+-- what was read of a phrase keeps what is drawn good, and says which ruler there is behind it
+record ReadWell {X : Type 0} (e : editors.Ghosts X) (old new : X) (shown : List Shown) : Type 0 where
+  drawn : KeepsDrawn e old new
+  in_place : IsInPlace e old → IsInPlace e new
+  measured : (indent : ℕ) → ruler_of (e.display new) indent ≡ ruler_behind shown (e.display old) indent
+
+read_well : {X : Type 0} (e : editors.Ghosts X) (old new : X) (shown : List Shown) → Frame e old new → (e.draft new).line ≡ (e.draft old).line
+    → (any_drawn shown ≡ false → (e.draft new).hint ≡ (e.draft old).hint) → DrewCounts e shown old new → ReadWell e old new shown
+read_well {X = X} e old new shown frame line hint drew = by_any (any_drawn shown) refl
+  where
+    by_any : (b : Bool) → any_drawn shown ≡ b → ReadWell e old new shown
+    by_any true is =
+        let drew_line : DrewLine e (times_drawn shown) (hint_shown (e.draft new)) Other old new = subst (λ b. Drew e (times_drawn shown) (drawn_if b) old new) is drew in
+        record {
+          drawn = record { right = λ was. drew_line.right; line = λ was. hint_trails e new drew_line.shows };
+          in_place = λ at. drew_line.shows.in_full.position;
+          measured = λ indent. ruler_there e old new indent frame drew_line.right
+              ∙ sym (ap (λ b. cond b (own_ruler (e.display old) indent) (ruler_of (e.display old) indent)) is);
+        }
+    by_any false is =
+        let undrew : DrewNothing e old new = subst (λ b. Drew e (times_drawn shown) (drawn_if b) old new) is drew in
+        record {
+          drawn = drawn_stays e old new frame.environment undrew line (hint is);
+          in_place = stays_in_place e old new undrew;
+          measured = λ indent. ap (λ d. ruler_of d indent) undrew.display
+              ∙ sym (ap (λ b. cond b (own_ruler (e.display old) indent) (ruler_of (e.display old) indent)) is);
+        }
+
 module _ {X Y : Type 0} (e : editors.Ghosts X) (r : readers.Ghosts Y) (old middle new : X) (keys keys' : KeyState) (indent : ℕ) (reader reader' : Y)
-    (kills ready kills' : Ring) (c : Cmd) (read : ReadsCommand e r grouped (Ok c) old keys reader middle keys' reader') (reset : ready ≡ kills_before (command_of c) kills) where
+    (kills ready kills' : Ring) (c : Cmd) (all : ReadsCommand e r grouped (Ok c) old keys reader middle keys' reader') (reset : ready ≡ kills_before (command_of c) kills) where
+  abbrev read : ReadsPart e r (PhraseHere e r old keys reader) [] (entered_here e r old keys reader) grouped command_of (λ _. keys'.input) (Ok c) old keys reader middle reader'
+  read = all.phrase
+
+  abbrev keeps : KeepsReading e r old keys reader middle keys' reader'
+  keeps = record { both = read.keeps; bound = all.bound }
+
   -- a phrase read and its command executed are a turn
   takes_turn : (answer : Answer) → Executed e middle keys'.input indent ready (command_of c) new kills' answer
       → TakesTurn e r indent (session old keys reader kills) (session new keys' reader' kills') answer
   takes_turn answer done =
       let n : ℕ = length (r.rest reader) - length (r.rest reader') in
+      let was = read.read in
+      let well = read_well e old middle was.read.shown read.keeps.frame read.line.line was.hint was.drew in
+      let reading : Redraws e 0 n old middle = λ below. let s = read.redraws (omega (arith, below)) in (omega (arith, s.0), omega (arith, s.1)) in
       let few : Redraws e 0 3 middle new = drew_few e (times_of (e.display middle) (e.environment middle) (editor_of e middle ready) (command_of c)) (drawing_of (e.display middle) (e.environment middle) (editor_of e middle ready) (command_of c)) middle new
       (few_drawn (e.display middle) (e.environment middle) (editor_of e middle ready) (command_of c)) done.drew in
+      let D : Ring → Type 0 = λ k. DrewFor e (editor_of e middle k) (command_of c) middle new in
+      let C : Command → Type 0 = λ command. DrewFor e (editor_of e middle (kills_before command kills)) command middle new in
       record {
         ruler = ruler_of (e.display middle) indent;
         turn = record {
-          phrase = read.read.phrase.items;
-          command = command_of c;
-          draft = read.read.draft;
-          cut = read.read.phrase.cut;
-          reads = read.read.phrase.phrase;
+          phrase = was.items;
+          read = was.read;
+          cut = was.cut;
+          reads = was.comes;
+          input_left = sym was.input_read;
           leaves =
-              leaves-by (ruler_of (e.display middle) indent) (e.environment old) (e.environment middle) (editor_of e new kills') keys'.input (command_of c)
-              read.read.draft (e.draft middle) kills ready answer read.read.begun_there reset read.keeps.both.frame.environment done.steps;
+              leaves-by (ruler_of (e.display middle) indent) (e.environment old) (e.environment middle) (editor_of e new kills') keys'.input was.read (command_of c)
+              (e.draft middle) kills ready answer was.command_read was.input_read was.begun_there reset read.keeps.frame.environment done.steps;
         };
-        measured = read.read.phrase.measured indent;
+        measured = well.measured indent;
         found = middle;
-        as_read = read.read.begun_there;
-        counted = read.read.phrase.drew;
-        drew = subst (λ k. DrewFor e (editor_of e middle k) (command_of c) middle new) reset done.drew;
-        frame = read.keeps.both.frame;
-        drawn = drawn_then e old middle new read.read.drawn read.read.in_place answer done.drawn;
-        change = change_then e old middle new n (ap (λ (l : Line). l.text) read.line.line) read.redraws done.change;
+        as_read = was.begun_there ∙ ap (λ command. grouped command was.read.draft) (sym was.command_read);
+        counted = was.drew;
+        drew = subst C (sym was.command_read) (subst D reset done.drew);
+        frame = read.keeps.frame;
+        drawn = drawn_then e old middle new well.drawn well.in_place answer done.drawn;
+        change = change_then e old middle new n (ap (λ (l : Line). l.text) read.line.line) reading done.change;
         start = done.start ∙ read.start;
         redraws =
             rises_more 0 (n + 3) (3 + n) (e.redraws old) (e.redraws new) (omega arith)
-            (rises_twice 0 n 0 3 (e.redraws old) (e.redraws middle) (e.redraws new) read.redraws few);
-        fewer = read.read.fewer;
+            (rises_twice 0 n 0 3 (e.redraws old) (e.redraws middle) (e.redraws new) reading few);
+        fewer = has_item e r _ _ _ _ reader reader' was.items was.read was.cut was.comes;
       }
 
   -- a turn that was made is what advancing leaves
@@ -132,7 +175,7 @@ module _ {X Y : Type 0} (e : editors.Ghosts X) (r : readers.Ghosts Y) (old middl
   advanced answer turned executes done quiet as_turned = record {
     turned = as_turned (takes_turn answer done);
     stays = record {
-      keeps = keeps_turn e r old middle new keys keys' reader reader' read.keeps executes.frame;
+      keeps = keeps_turn e r old middle new keys keys' reader reader' keeps executes.frame;
       fails = record { io = tt; quiet = (read.fails.quiet.0, quiet ∙ read.fails.quiet.1) };
     };
     faults = tt;
@@ -144,9 +187,9 @@ module _ {X Y : Type 0} (e : editors.Ghosts X) (r : readers.Ghosts Y) (old middl
   goes_wrong f fault executes = record {
     turned = tt;
     stays = record {
-      keeps = keeps_turn e r old middle new keys keys' reader reader' read.keeps executes.frame;
+      keeps = keeps_turn e r old middle new keys keys' reader reader' keeps executes.frame;
       fails = record {
-        io = λ is sure. later_rose _ _ _ _ _ read.fails.quiet.0 read.fails.quiet.1 (executes.io is (sure_all (e.sure middle) _ (ap (λ s. is_sure s for_all) read.keeps.both.frame.sure ∙ sure.0)));
+        io = λ is sure. later_rose _ _ _ _ _ read.fails.quiet.0 read.fails.quiet.1 (executes.io is (sure_all (e.sure middle) _ (ap (λ s. is_sure s for_all) read.keeps.frame.sure ∙ sure.0)));
         quiet = λ no. (read.fails.quiet.0, executes.quiet no ∙ read.fails.quiet.1);
       };
     };
@@ -161,13 +204,13 @@ needs_more e r old new keys keys' indent reader reader' kills f read eof =
     let no : is_fault f ≡ false = ap is_fault eof in
     record {
       turned = record {
-        out = (read.read no).1;
+        out = (read.phrase.read no).1;
         input_left = read.remembers;
         kills_left = refl;
         nothing_read = read.dry;
-        redraws = read.redraws no;
+        redraws = λ below. let s = read.phrase.redraws no (omega (arith, below)) in (omega (arith, s.0), omega (arith, s.1));
       };
-      stays = record { keeps = read.keeps; fails = record { io = tt; quiet = read.fails.quiet (ap is_io eof) } };
+      stays = record { keeps = record { both = read.phrase.keeps; bound = read.bound }; fails = record { io = tt; quiet = read.phrase.fails.quiet (ap is_io eof) } };
       faults = tt;
     }
 
@@ -177,10 +220,13 @@ pub reading_fails : {X Y : Type 0} (e : editors.Ghosts X) (r : readers.Ghosts Y)
     → Advances e r indent (Err f) (session old keys reader kills) (session new keys' reader' kills)
 reading_fails e r old new keys keys' indent reader reader' kills f read other = record {
   turned = tt;
-  stays = record { keeps = read.keeps; fails = record { io = λ is sure. read.fails.io is (sure_all (e.sure old) for_hint sure.0, sure.1); quiet = read.fails.quiet } };
+  stays = record {
+    keeps = record { both = read.phrase.keeps; bound = read.bound };
+    fails = record { io = λ is sure. read.phrase.fails.io is (sure_all (e.sure old) for_hint sure.0, sure.1); quiet = read.phrase.fails.quiet };
+  };
   faults = is_fault_there (is_fault f) refl;
 }
   where
     is_fault_there : (b : Bool) → is_fault f ≡ b → is_fault f ≡ true
     is_fault_there true is = is
-    is_fault_there false is = absurd (other (read.read is).0)
+    is_fault_there false is = absurd (other (read.phrase.read is).0)

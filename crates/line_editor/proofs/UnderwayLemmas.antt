@@ -1,5 +1,5 @@
 -- Facts on a run that is underway.
-use Rattle.std.proofs.Common.{◌≡◌, ◌≢◌, ℕ, ◌+◌, ◌*◌, ◌≤◌, ◌<◌, List, [], ◌∷◌, length, Result, Ok, Err, arith, refl, sym, ◌∙◌, ap, subst, inl, inr}
+use Rattle.std.proofs.Common.{◌≡◌, ◌≢◌, Bool, true, false, cond, ℕ, ◌+◌, ◌*◌, ◌≤◌, ◌<◌, List, [], ◌∷◌, length, Result, Ok, Err, arith, refl, sym, ◌∙◌, ap, subst, inl, inr}
 use Rattle.line_buffer.specs.declared.layout.GraphemeClusterMode.{GraphemeClusterMode}
 use Rattle.line_buffer.specs.declared.layout.Position.{Position}
 use Rattle.line_config.specs.Error.{IoOnlyIf}
@@ -18,7 +18,8 @@ use Rattle.line_keys.specs.declared.raw_reader.RawReader as readers
 use Rattle.line_editor.specs.Binding.{Bound, all_sure}
 use Rattle.line_editor.specs.Input.{Input}
 use Rattle.line_editor.specs.Keymap.{Keymap, keymap_of}
-use Rattle.line_editor.specs.Reading.{KeepsReading, LeftByCut, ruler_behind}
+use Rattle.line_editor.specs.Reading.{KeepsReading}
+use Rattle.line_editor.specs.Shown.{Shown, any_drawn, asked_behind, ruler_behind}
 use Rattle.line_editor.specs.Run.{CutShort, End, Run, Turns, stopped, dry}
 use Rattle.line_editor.specs.Run as runs
 use Rattle.line_editor.specs.Outcomes.{Advances, NeedsMoreItems, Runs, RunsTo, Session, Stays, TakesTurn, TurnsTo, editor_of, items_read, session}
@@ -26,13 +27,17 @@ use Rattle.line_editor.specs.Editor.{Answer, Editor, Ruler, proceeds, submitted,
 use Rattle.line_editor.specs.declared.run.Turned.{Turned}
 use Rattle.line_editor.proofs.AskedLemmas.{sure_all}
 use Rattle.line_editor.proofs.DrawnLemmas.{frame_then, hint_trails, line_stays}
+use Rattle.line_editor.proofs.GroupLemmas.{start_there}
 use Rattle.line_editor.proofs.RunLemmas.{run-goes, run-ends, run-dry, turns-on}
 
 -- a phrase that was cut short leaves what all changes taken back give
-start_of_cut : (environment : Environment) (draft left : Draft) → LeftByCut environment draft left
+start_of_cut : (environment : Environment) (shown : List Shown) (draft left : Draft) → left ≡ asked_behind environment shown draft
     → start_text left ≡ start_text draft
-start_of_cut environment draft left (inl same) = ap start_text same
-start_of_cut environment draft left (inr asked) = ap start_text asked
+start_of_cut environment shown draft left is = ap start_text is ∙ by_any (any_drawn shown)
+  where
+    by_any : (b : Bool) → start_text (cond b (hinted environment draft) draft) ≡ start_text draft
+    by_any true = refl
+    by_any false = refl
 
 -- what stays where nothing failed
 stays_quiet : {X Y T : Type 0} (e : editors.Ghosts X) (r : readers.Ghosts Y) (result : Result T ReadlineError) (before after : Session X Y) → IoOnlyIf result ⊥
@@ -106,12 +111,15 @@ module _ {X Y : Type 0} (e : editors.Ghosts X) (r : readers.Ghosts Y) (indent : 
         ∙ ap h (u.right.drawn.mode ∙ ap (λ (f : Surface). f.mode) u.keeps.both.frame.surface)
 
     -- so is that of a turn, whether a count is typed or not
-    turn_ruler : (typed : List KeyEvent) (ruler : Ruler) → ruler ≡ ruler_behind typed (e.display now.state) indent → ruler ≡ own_ruler (e.display start.state) indent
-    turn_ruler [] ruler measured = measured ∙ same_ruler
-    turn_ruler (_ ∷ _) ruler measured =
-        let f : ℕ → Ruler = λ n. record { prompt_column = n; cluster_mode = (e.display now.state).surface.mode; indent_size = indent } in
-        let h : GraphemeClusterMode → Ruler = λ m. record { prompt_column = (e.display start.state).prompt_end.col; cluster_mode = m; indent_size = indent } in
-        measured ∙ ap f (ap (λ (p : Position). p.col) u.keeps.both.frame.prompt_end) ∙ ap h (ap (λ (s : Surface). s.mode) u.keeps.both.frame.surface)
+    turn_ruler : (shown : List Shown) (ruler : Ruler) → ruler ≡ ruler_behind shown (e.display now.state) indent → ruler ≡ own_ruler (e.display start.state) indent
+    turn_ruler shown ruler measured = measured ∙ by_any (any_drawn shown)
+      where
+        by_any : (b : Bool) → cond b (own_ruler (e.display now.state) indent) (ruler_of (e.display now.state) indent) ≡ own_ruler (e.display start.state) indent
+        by_any false = same_ruler
+        by_any true =
+            let f : ℕ → Ruler = λ n. record { prompt_column = n; cluster_mode = (e.display now.state).surface.mode; indent_size = indent } in
+            let h : GraphemeClusterMode → Ruler = λ m. record { prompt_column = (e.display start.state).prompt_end.col; cluster_mode = m; indent_size = indent } in
+            ap f (ap (λ (p : Position). p.col) u.keeps.both.frame.prompt_end) ∙ ap h (ap (λ (s : Surface). s.mode) u.keeps.both.frame.surface)
 
     module _ (next : Session X Y) where
       -- what stays to here and on from here stays
@@ -139,8 +147,8 @@ module _ {X Y : Type 0} (e : editors.Ghosts X) (r : readers.Ghosts Y) (indent : 
       -- a turn that proceeds
       pub proceeds_on : {turned : Turned} → Advances e r indent (Ok turned) now next → TakesTurn e r indent now next proceeds → Underway next
       proceeds_on advances turn = record {
-        goes_on = λ last i end run. u.goes_on last i end (run-goes _ _ _ _ _ _ same_keymap (turn_ruler turn.turn.reads.typed turn.ruler turn.measured) u.keeps.both.frame.environment _ _ _ _ _ _ _ _ end proceeds refl turn.turn run);
-        turned = turns-on _ _ _ _ _ _ same_keymap (turn_ruler turn.turn.reads.typed turn.ruler turn.measured) u.keeps.both.frame.environment _ _ _ _ _ _ _ _ _ u.turned turn.turn;
+        goes_on = λ last i end run. u.goes_on last i end (run-goes _ _ _ _ _ _ same_keymap (turn_ruler turn.turn.read.shown turn.ruler turn.measured) u.keeps.both.frame.environment _ _ _ _ _ _ _ _ end proceeds refl turn.turn run);
+        turned = turns-on _ _ _ _ _ _ same_keymap (turn_ruler turn.turn.read.shown turn.ruler turn.measured) u.keeps.both.frame.environment _ _ _ _ _ _ _ _ _ u.turned turn.turn;
         keeps = keeps_on advances.stays.keeps;
         unread = advances.stays.fails.quiet.0 ∙ u.unread;
         undrawn = advances.stays.fails.quiet.1 ∙ u.undrawn;
@@ -169,7 +177,7 @@ module _ {X Y : Type 0} (e : editors.Ghosts X) (r : readers.Ghosts Y) (indent : 
 
       -- a turn that does not proceed ends the run
       stops : (answer : Answer) → answer ≢ proceeds → TakesTurn e r indent now next answer → RunsTo e r indent start next (stopped answer (r.rest next.reader))
-      stops answer other turn = u.goes_on _ _ _ (run-ends _ _ _ _ _ _ same_keymap (turn_ruler turn.turn.reads.typed turn.ruler turn.measured) u.keeps.both.frame.environment _ _ _ _ _ _ answer _ refl other turn.turn)
+      stops answer other turn = u.goes_on _ _ _ (run-ends _ _ _ _ _ _ same_keymap (turn_ruler turn.turn.read.shown turn.ruler turn.measured) u.keeps.both.frame.environment _ _ _ _ _ _ answer _ refl other turn.turn)
 
       all_stays : {T : Type 0} (result : Result T ReadlineError) {turned : Turned} → IoOnlyIf result ⊥ → Advances e r indent (Ok turned) now next → Stays e r result start next
       all_stays result none advances =
@@ -226,14 +234,14 @@ module _ {X Y : Type 0} (e : editors.Ghosts X) (r : readers.Ghosts Y) (indent : 
           let Q : Input → Type 0 = λ i. Run (keymap_of start.keys (r.own_binding start.reader)) (own_ruler (e.display start.state) indent) (e.environment start.state) (editor_of e now.state now.kills) now.keys.input (r.rest now.reader) (editor_of e next.state next.kills) i (dry (r.rest now.reader)) in
           let R : Display → Type 0 = λ d. IsRight d (e.draft now.state).line in
           let S : Draft → Type 0 = λ d. IsRight (e.display next.state) d.line in
-          let short : CutShort (e.environment now.state) (editor_of e now.state now.kills) (editor_of e next.state next.kills) =
+          let short : CutShort (keymap_of now.keys (r.own_binding now.reader)) (e.environment now.state) now.keys.input (r.rest now.reader) dry_up.out.lacks.shown (editor_of e now.state now.kills) (editor_of e next.state next.kills) =
           record { draft = dry_up.out.draft; kills = dry_up.kills_left } in
           record {
             ran = λ no. (
               dry (r.rest now.reader),
               inr (r.rest now.reader, refl, dry_up.out.empty),
               record {
-                run = u.goes_on _ _ _ (subst Q (sym dry_up.input_left) (run-dry _ _ _ _ _ _ same_keymap same_ruler u.keeps.both.frame.environment _ _ _ _ dry_up.out.begins short));
+                run = u.goes_on _ _ _ (subst Q (sym dry_up.input_left) (run-dry _ _ _ _ _ _ same_keymap same_ruler u.keeps.both.frame.environment _ _ _ _ dry_up.out.lacks short));
                 drawn = record {
                   found = now;
                   keeps = u.keeps;
@@ -249,7 +257,8 @@ module _ {X Y : Type 0} (e : editors.Ghosts X) (r : readers.Ghosts Y) (indent : 
                             (ap (λ (d : Draft). d.line) n.0) u.shown,
                       );
                 };
-                start = start_of_cut (e.environment now.state) _ _ dry_up.out.draft ∙ u.first;
+                start = start_of_cut (e.environment now.state) dry_up.out.lacks.shown _ _ dry_up.out.draft
+                    ∙ start_there (keymap_of now.keys (r.own_binding now.reader)) (e.draft now.state) now.keys.input (r.rest now.reader) ∙ u.first;
                 redraws =
                     let none : length (r.rest next.reader) ≡ 0 = ap length dry_up.out.empty in
                     λ below.

@@ -18,6 +18,10 @@ pub record Input : Type 0 where
 abbrev pub first_input : EditMode → Input
 first_input style = record { style = style; mode = Insert; last_change = None; last_search = None }
 
+-- the input in a mode
+abbrev pub in_mode : InputMode → Input → Input
+in_mode mode input = record input { mode = mode }
+
 -- the command mode of the Vi style
 abbrev pub is_vi_command_mode : EditMode → InputMode → Bool
 is_vi_command_mode Vi Command = true

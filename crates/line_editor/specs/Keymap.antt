@@ -8,7 +8,7 @@ use Rattle.line_keys.specs.Command as commands
 use Rattle.line_keys.specs.Command.{end_of_file}
 use Rattle.line_keys.specs.Draft.{Draft}
 use Rattle.line_keys.specs.Redo.{bound_anew}
-use Rattle.line_keys.specs.Table.{Meaning, one, row_of}
+use Rattle.line_keys.specs.Table.{Entry, count_or_one, row_of, stands_for}
 use Rattle.line_keys.specs.declared.count.Count.{Count}
 use Rattle.line_keys.specs.declared.refresher.InputMode.{InputMode}
 use Rattle.line_keys.specs.declared.refresher.InputMode.TheVariants.{Insert, Replace}
@@ -49,10 +49,6 @@ on_line _ command = command
 abbrev pub key_handler : Bound → KeyEvent → Option Handler
 key_handler bound key = option_or (handler_of bound (keys (key ∷ []))) (handler_of bound each_key)
 
--- the count that the tables take: the one that was typed, or else one
-abbrev pub count_or_one : Option Count → Count
-count_or_one typed = unwrap_or typed one
-
 -- the count that a key's binding is handed: 0 in Vi's insert and replace modes
 abbrev pub handed : EditMode → InputMode → Option Count → Count
 handed Vi Insert typed = record { n = 0; positive = true }
@@ -71,20 +67,22 @@ bound_command keymap draft input typed key =
     (option_and_then (λ handler. handler.answer (record { event = keys (key ∷ []); count = handed input.style input.mode typed; moment = moment_in draft input }))
     (key_handler keymap.bound key))
 
--- where a key's command comes from: the bindings of the program, the reader, or the tables
+-- where a key's command comes from: the bindings of the program, the reader, command mode, whose key it stands for, or the tables
 pub data Source : Type 0 where
   by_binding : commands.Command → Source
   by_reader : commands.Command → Source
-  by_table : Meaning → Source
+  by_phrase : KeyEvent → Source
+  by_table : Entry → Source
 
--- where a command comes from: the binding's, or else the reader's, or else what the tables mean
-abbrev pub first_source : Option commands.Command → Option commands.Command → Meaning → Source
-first_source (Some command) _ meaning = by_binding command
-first_source None (Some command) meaning = by_reader command
-first_source None None meaning = by_table meaning
+-- where a command comes from: the binding's, or else the reader's, or else that of command mode, or else what the tables say
+abbrev pub first_source : Option commands.Command → Option commands.Command → Option KeyEvent → Entry → Source
+first_source (Some command) _ _ entry = by_binding command
+first_source None (Some command) _ entry = by_reader command
+first_source None None (Some plain) entry = by_phrase plain
+first_source None None None entry = by_table entry
 
 -- where the command of a key comes from, under the count that was typed
 abbrev pub source_of : Keymap → Draft → Input → Option Count → KeyEvent → Source
 source_of keymap draft input typed key =
     first_source (bound_command keymap draft input typed key) (on_line draft.line.text (keymap.own key))
-    ((row_of input.style input.mode key draft).means (count_or_one typed))
+    (stands_for input.style input.mode key) ((row_of input.style input.mode key draft).entry typed)

@@ -12,7 +12,8 @@ use Rattle.line_editor.specs.Event.{Chord, same_chord}
 use Rattle.line_editor.specs.HistoryMoves.{is_own_line}
 use Rattle.line_editor.specs.Input.{Input}
 use Rattle.line_editor.specs.Keymap.{Keymap, keymap_of}
-use Rattle.line_editor.specs.Phrase.{Phrase}
+use Rattle.line_editor.specs.Phrase.{Phrase, count_in_front, entered}
+use Rattle.line_editor.specs.Read.{Read}
 use Rattle.line_editor.specs.Reading.{LeftByCut}
 use Rattle.line_editor.specs.Run.{End, Run, Turn, Turns, commands_in, keys_in, ready, stopped, unread}
 use Rattle.line_editor.specs.Outcomes.{RunsTo, Session, editor_of}
@@ -23,13 +24,13 @@ use Rattle.line_editor.specs.Editor.{Editor, Answer, Ruler}
 abbrev pub ComparesEvents : Type 0
 ComparesEvents = (one other : Chord) → Decides (same_chord one other) (one ≡ other)
 
--- no phrase is a proper beginning of another, and one list of items gives one command, and leaves one draft and one input
+-- no phrase is a proper beginning of another, and one list of items comes to one thing
 abbrev pub IsPrefixFree : Type 0
 IsPrefixFree = (keymap : Keymap) (environment : Environment) (draft : Draft) (input : Input) (items more : List Item)
-    → (command command' : Command) (left left' : Draft) (after after' : Input)
-    → Phrase keymap environment draft input items command left after
-    → Phrase keymap environment draft input (items ++ more) command' left' after'
-    → (more ≡ []) × (command ≡ command') × (left ≡ left') × (after ≡ after')
+    → (read read' : Read)
+    → Phrase keymap environment draft input items read
+    → Phrase keymap environment draft input (items ++ more) read'
+    → (more ≡ []) × (read ≡ read')
 
 -- what two runs leave is the same: the editor whole where a turn ended them, and all but its hint where they ran dry
 pub record SameEnd (last last' : Editor) (input input' : Input) (end end' : End) : Type 0 where
@@ -76,17 +77,17 @@ TurnsAndRun = (keymap : Keymap) (ruler : Ruler) (environment : Environment) (edi
 -- gives from the first draft: where the cut left the hint as it was, or the phrase began with a count
 abbrev pub ReadingAgain : Type 0
 ReadingAgain = (keymap : Keymap) (ruler : Ruler) (environment : Environment) (editor left : Editor) (cut : Draft) (input i : Input) (items more : List Item) (answer : Answer)
-    → LeftByCut environment editor.draft cut
+    → LeftByCut environment (entered keymap editor.draft input items) cut
     → (turn : Turn keymap ruler environment editor input items left i more answer)
-    → (cut.hint ≡ editor.draft.hint) ⊎ (turn.reads.typed ≢ [])
+    → (cut.hint ≡ editor.draft.hint) ⊎ (count_in_front turn.reads ≢ [])
     → Turn keymap ruler environment (record { draft = cut; kills = editor.kills }) input items left i more answer
 
 -- and a turn read from that draft is the whole phrase's turn from the first one
 abbrev pub ReadFromTheCut : Type 0
 ReadFromTheCut = (keymap : Keymap) (ruler : Ruler) (environment : Environment) (editor left : Editor) (cut : Draft) (input i : Input) (items more : List Item) (answer : Answer)
-    → LeftByCut environment editor.draft cut
+    → LeftByCut environment (entered keymap editor.draft input items) cut
     → (turn : Turn keymap ruler environment (record { draft = cut; kills = editor.kills }) input items left i more answer)
-    → (cut.hint ≡ editor.draft.hint) ⊎ (turn.reads.typed ≢ [])
+    → (cut.hint ≡ editor.draft.hint) ⊎ (count_in_front turn.reads ≢ [])
     → Turn keymap ruler environment editor input items left i more answer
 
 -- an undo of at least as many steps as there are changes leaves the text that taking back all of them gives

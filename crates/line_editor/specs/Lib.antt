@@ -11,8 +11,12 @@ pub mod Reading
 pub mod Input
 pub mod InputState
 pub mod Keymap
+pub mod Operation
 pub mod Phrase
+pub mod Read
 pub mod Sequence
+pub mod Shown
+pub mod Tail
 pub mod DrawnVerdict
 pub mod Run
 pub mod Drawings

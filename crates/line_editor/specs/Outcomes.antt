@@ -19,8 +19,9 @@ use Rattle.line_editor.specs.Drawings.{asked_of, drawing_of, times_of}
 use Rattle.line_editor.specs.Editor.{Answer, Editor, Leaves, Ruler, ended, grouped, interrupted, own_ruler, proceeds, ruler_of, submitted}
 use Rattle.line_editor.specs.Input.{Input}
 use Rattle.line_editor.specs.Keymap.{KeyState, keymap_of}
-use Rattle.line_editor.specs.Reading.{DrewCount, FailsByReading, KeepsReading, OutOfItems, ruler_behind}
+use Rattle.line_editor.specs.Reading.{FailsByReading, KeepsReading, OutOfItems}
 use Rattle.line_editor.specs.Run.{End, Run, Turn, Turns, dry, kills_before, stopped}
+use Rattle.line_editor.specs.Shown.{DrewCounts, ruler_behind}
 use Rattle.line_editor.specs.Status.{ComesTo}
 use Rattle.line_editor.specs.Step.{step}
 use Rattle.line_editor.specs.declared.command.Status.{Status}
@@ -100,11 +101,11 @@ module _ {X Y : Type 0} (e : editors.Ghosts X) (r : readers.Ghosts Y) where
   pub record TakesTurn (indent : ℕ) (before after : Session X Y) (answer : Answer) : Type 0 where
     pub ruler : Ruler
     pub turn : LeadsTo ruler before after answer
-    pub measured : ruler ≡ ruler_behind turn.reads.typed (e.display before.state) indent
+    pub measured : ruler ≡ ruler_behind turn.read.shown (e.display before.state) indent
     pub found : X
-    pub as_read : e.draft found ≡ grouped turn.command turn.draft
-    pub counted : DrewCount e turn.reads.typed before.state found
-    pub drew : DrewFor e (editor_of e found (kills_before turn.command before.kills)) turn.command found after.state
+    pub as_read : e.draft found ≡ grouped turn.read.command turn.read.draft
+    pub counted : DrewCounts e turn.read.shown before.state found
+    pub drew : DrewFor e (editor_of e found (kills_before turn.read.command before.kills)) turn.read.command found after.state
     pub frame : Frame e before.state found
     pub drawn : DrawnAfter e answer before.state after.state
     pub change : ShowsChange e (3 + items_read before after) before.state after.state

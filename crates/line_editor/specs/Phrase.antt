@@ -1,105 +1,123 @@
 -- Phrases: the items that one command is read from.
-use Rattle.std.specs.Prelude.{◌≡◌, ◌≢◌, ℕ, Bool, true, false, if◌then◌else◌, List, [], ◌∷◌, ◌++◌, map, Option, Some, None, option_map}
+use Rattle.std.specs.Prelude.{◌≡◌, ℕ, Bool, true, if◌then◌else◌, List, [], ◌∷◌, ◌++◌, map, Option, Some, None, unwrap_or}
 use Rattle.line_buffer.specs.declared.movement.CharSearch.{CharSearch}
-use Rattle.line_buffer.specs.declared.movement.Movement.TheVariants.{ViCharSearch}
+use Rattle.line_config.specs.declared.config.EditMode.{EditMode}
+use Rattle.line_config.specs.declared.config.EditMode.TheVariants.{Emacs, Vi}
 use Rattle.line_parts.specs.Environment.{Environment}
-use Rattle.line_keys.specs.Command.{Command, insert, move, unknown}
-use Rattle.line_keys.specs.Count.{char_of, count_of, is_count_before, is_with}
-use Rattle.line_keys.specs.Draft.{Draft, hinted}
-use Rattle.line_keys.specs.Item.{Item, key, paste}
-use Rattle.line_keys.specs.Table.{Meaning, gives, has_second, pastes, searches, unlisted}
+use Rattle.line_keys.specs.Command.{Command}
+use Rattle.line_keys.specs.Count.{count_of, is_count_before}
+use Rattle.line_keys.specs.Draft.{Draft, in_group, out_of_group}
+use Rattle.line_keys.specs.Item.{Item, key}
+use Rattle.line_keys.specs.Redo.{becomes_change}
+use Rattle.line_keys.specs.Table.{Entry, count_or_one}
 use Rattle.line_keys.specs.declared.keys.KeyEvent.{KeyEvent}
-use Rattle.line_keys.specs.declared.keys.TheConstants.Modifiers.{NONE}
 use Rattle.line_keys.specs.declared.count.Count.{Count}
-use Rattle.line_editor.specs.Input.{Input}
-use Rattle.line_editor.specs.Keymap.{Keymap, Source, by_binding, by_reader, by_table, count_or_one, source_of}
-use Rattle.line_editor.specs.Sequence.{Sequenced, Sequences, sequences_of}
+use Rattle.line_keys.specs.declared.refresher.InputMode.{InputMode}
+use Rattle.line_keys.specs.declared.refresher.InputMode.TheVariants as modes
+use Rattle.line_keys.specs.declared.tables.Grouping.{Grouping}
+use Rattle.line_keys.specs.declared.tables.Grouping.TheVariants.{Begin, End, Stay}
+use Rattle.line_editor.specs.Input.{Input, in_mode}
+use Rattle.line_editor.specs.Keymap.{Keymap, Source, by_binding, by_phrase, by_reader, by_table, source_of}
+use Rattle.line_editor.specs.Read.{Lacks, Read, after_count, quiet_read, read_behind}
+use Rattle.line_editor.specs.Sequence.{Sequences, sequences_of}
+use Rattle.line_editor.specs.Tail.{Tailed}
 
--- the hint is asked again where a count was typed
-abbrev pub after_count : Environment → List KeyEvent → Draft → Draft
-after_count environment [] draft = draft
-after_count environment (_ ∷ _) draft = hinted environment draft
+-- the draft with its group of changes begun, or every open one ended, or as it is
+abbrev pub with_group : Grouping → Draft → Draft
+with_group Stay draft = draft
+with_group Begin draft = in_group draft
+with_group End draft = out_of_group draft
 
--- the search for the character of a key, where the key is a plain character
-abbrev pub search_to : (ℕ → CharSearch) → KeyEvent → Option CharSearch
-search_to by typed = if is_with NONE typed then option_map by (char_of typed.0) else None
+-- the last change behind a command that is read in a mode: the command where it becomes that
+abbrev pub changed_by : InputMode → Option Command → Command → Option Command
+changed_by mode last command = if becomes_change mode last command then Some command else last
 
--- the move to the n-th place of a search, or Unknown without a search
-abbrev pub moves_by : ℕ → Option CharSearch → Command
-moves_by n (Some by) = move (ViCharSearch n by)
-moves_by n None = unknown
+-- what is remembered of a command of the tables, whose key may enter a mode: in Emacs nothing; in Vi the mode, the change and the
+-- search
+abbrev pub remembered : EditMode → Option InputMode → Input → Command → Option CharSearch → Input
+remembered Emacs enters input command search = input
+remembered Vi enters input command search = record {
+  style = Vi;
+  mode = unwrap_or enters input.mode;
+  last_change = changed_by input.mode input.last_change command;
+  last_search = search;
+}
 
--- behind a key of this meaning the keys of bound sequences are read
-abbrev pub begins_sequences : Meaning → Bool
-begins_sequences (has_second by) = true
-begins_sequences unlisted = true
-begins_sequences meaning = false
+-- what a key of the tables comes to with what is read behind it
+abbrev pub listed : Entry → Input → Read → Read
+listed entry input read = record read {
+  draft = with_group entry.group read.draft;
+  input = remembered input.style entry.enters input read.command read.input.last_search;
+}
 
--- the items that are read behind a key of this meaning, and the command that they give
-pub data Tailed (sequences : Sequences) (last : KeyEvent) : Meaning → List Item → Command → Type 0 where
-  -- none
-  alone : (command : Command) → Tailed sequences last (gives command) [] command
-  -- the key of the character to search for; another key gives Unknown
-  by_character : (n : ℕ) (by : ℕ → CharSearch) (second : KeyEvent)
-      → Tailed sequences last (searches n by) (key second ∷ []) (moves_by n (search_to by second))
-  -- a pasted text, which comes in once
-  by_paste : (text : List ℕ) → Tailed sequences last pastes (paste text ∷ []) (insert 1 text)
-  -- the further keys of a bound sequence that has a command
-  by_sequence : (meaning : Meaning) (more : List KeyEvent) (command : Command) → begins_sequences meaning ≡ true
-      → Sequenced sequences last more (Some command) → Tailed sequences last meaning (map key more) command
-  -- a second key, where no bound sequence begins with the first
-  by_second_key : (by : KeyEvent → Command) (second : KeyEvent) → Sequenced sequences last [] None
-      → Tailed sequences last (has_second by) (key second ∷ []) (by second)
-  -- keys that were read in vain for a bound sequence: the first of them is the second key
-  by_second_in_vain : (by : KeyEvent → Command) (second : KeyEvent) (more : List KeyEvent)
-      → Sequenced sequences last (second ∷ more) None
-      → Tailed sequences last (has_second by) (map key (second ∷ more)) (by second)
-  -- keys, or none, that were read in vain for a bound sequence behind a key without a second one: they stand for nothing
-  in_vain : (more : List KeyEvent) → Sequenced sequences last more None
-      → Tailed sequences last unlisted (map key more) unknown
+-- a command of the bindings or of the reader is the key's alone, and leaves the draft and the input; one of the tables is read with
+-- its tail; a key that stands for one of command mode is no key of this mode
+abbrev pub Answers : Sequences → Environment → Draft → Input → KeyEvent → Source → List Item → Read → Type 0
+Answers sequences environment draft input last (by_binding by) tail read = (tail ≡ []) × (read ≡ quiet_read draft input [] by)
+Answers sequences environment draft input last (by_reader by) tail read = (tail ≡ []) × (read ≡ quiet_read draft input [] by)
+Answers sequences environment draft input last (by_phrase plain) tail read = ⊥
+Answers sequences environment draft input last (by_table entry) tail read =
+    (behind : Read) × Tailed sequences environment draft input last entry.meaning tail behind × (read ≡ listed entry input behind)
 
--- more items are to be read behind a key of this meaning
-abbrev pub LacksItems : Sequences → KeyEvent → Meaning → List Item → Type 0
-LacksItems sequences last meaning read =
-    (rest : List Item) × (command : Command) × (rest ≢ []) × Tailed sequences last meaning (read ++ rest) command
-
--- a command of the bindings or of the reader is the key's alone, and one of the tables is read with its tail
-abbrev pub Answers : Sequences → KeyEvent → Source → List Item → Command → Type 0
-Answers sequences last (by_binding by) tail command = (tail ≡ []) × (command ≡ by)
-Answers sequences last (by_reader by) tail command = (tail ≡ []) × (command ≡ by)
-Answers sequences last (by_table meaning) tail command = Tailed sequences last meaning tail command
-
--- the items after a key, and the command that they give together
-abbrev pub Keyed : Keymap → Draft → Input → Option Count → KeyEvent → List Item → Command → Type 0
-Keyed keymap draft input typed last tail command =
-    Answers (sequences_of keymap.bound draft input (count_or_one typed)) last (source_of keymap draft input typed last) tail command
-
--- more items are to be read behind a key than these
-abbrev pub LacksTail : Keymap → Draft → Input → Option Count → KeyEvent → List Item → Type 0
-LacksTail keymap draft input typed last read =
-    (rest : List Item) × (command : Command) × (rest ≢ []) × Keyed keymap draft input typed last (read ++ rest) command
+-- the items after a key, and what they come to together
+abbrev pub Keyed : Keymap → Environment → Draft → Input → Option Count → KeyEvent → List Item → Read → Type 0
+Keyed keymap environment draft input typed last tail read =
+    Answers (sequences_of keymap.bound draft input (count_or_one typed)) environment draft input last (source_of keymap draft input typed last) tail read
 
 -- the count that keys write, where there are any
 abbrev pub typed_count : List KeyEvent → Option Count
 typed_count [] = None
 typed_count (first ∷ more) = Some (count_of (first ∷ more))
 
--- The items are one phrase: an optional count, a key and its tail. They give the command, and leave the draft and the input.
-pub record Phrase (keymap : Keymap) (environment : Environment) (draft : Draft) (input : Input) (items : List Item) (command : Command) (draft' : Draft) (input' : Input) : Type 0 where
+-- The items are one phrase of their mode: an optional count, a key and its tail.
+pub record Spelled (keymap : Keymap) (environment : Environment) (draft : Draft) (input : Input) (items : List Item) (read : Read) : Type 0 where
   pub typed : List KeyEvent
   pub last : KeyEvent
   pub tail : List Item
   pub cut : items ≡ map key typed ++ (key last ∷ tail)
   pub counted : is_count_before input.style input.mode typed last ≡ true
-  pub keyed : Keyed keymap (after_count environment typed draft) input (typed_count typed) last tail command
-  pub draft_left : draft' ≡ after_count environment typed draft
-  pub input_left : input' ≡ input
+  pub behind : Read
+  pub keyed : Keyed keymap environment (after_count environment typed draft) input (typed_count typed) last tail behind
+  pub told : read ≡ read_behind typed behind
+
+-- what a phrase of command mode comes to behind Alt: its command goes through the rule of the mode that it is read from, too
+abbrev pub behind_alt : Input → Read → Read
+behind_alt input within =
+    record within { input = record within.input { last_change = changed_by input.mode within.input.last_change within.command } }
+
+-- The items are a key with Alt that stands for a plain one, and what is read behind that in command mode. The groups of changes are
+-- ended by the key.
+pub record Nested (keymap : Keymap) (environment : Environment) (draft : Draft) (input : Input) (items : List Item) (read : Read) : Type 0 where
+  pub first : KeyEvent
+  pub plain : KeyEvent
+  pub rest : List Item
+  pub cut : items ≡ key first ∷ rest
+  pub stands : source_of keymap draft input None first ≡ by_phrase plain
+  pub within : Read
+  pub spelled : Spelled keymap environment (out_of_group draft) (in_mode modes.Command input) (key plain ∷ rest) within
+  pub told : read ≡ behind_alt input within
+
+-- the items are one phrase
+pub data Phrase (keymap : Keymap) (environment : Environment) (draft : Draft) (input : Input) (items : List Item) (read : Read) : Type 0 where
+  of_mode : Spelled keymap environment draft input items read → Phrase keymap environment draft input items read
+  behind_key : Nested keymap environment draft input items read → Phrase keymap environment draft input items read
+
+-- the keys of the count in front of a phrase; behind a key with Alt there is none in front
+abbrev pub count_in_front : {keymap : Keymap} {environment : Environment} {draft : Draft} {input : Input} {items : List Item} {read : Read}
+    → Phrase keymap environment draft input items read → List KeyEvent
+count_in_front (of_mode spelled) = spelled.typed
+count_in_front (behind_key nested) = []
 
 -- the items are a proper beginning of a phrase
-pub record IsBeginning (keymap : Keymap) (environment : Environment) (draft : Draft) (input : Input) (items : List Item) : Type 0 where
-  pub rest : List Item
-  pub command : Command
-  pub draft' : Draft
-  pub input' : Input
-  pub proper : rest ≢ []
-  pub phrase : Phrase keymap environment draft input (items ++ rest) command draft' input'
+abbrev pub IsBeginning : Keymap → Environment → Draft → Input → List Item → Type 0
+IsBeginning keymap environment draft input items = Lacks (Phrase keymap environment draft input) items
+
+-- the draft behind the first key of a phrase: a key that stands for one of command mode ends the groups of changes
+abbrev pub entered_by : Source → Draft → Draft
+entered_by (by_phrase plain) draft = out_of_group draft
+entered_by _ draft = draft
+
+-- the draft that the items of a phrase are read from, once its first key was read
+abbrev pub entered : Keymap → Draft → Input → List Item → Draft
+entered keymap draft input (key first ∷ _) = entered_by (source_of keymap draft input None first) draft
+entered keymap draft input _ = draft

@@ -20,16 +20,17 @@ use Rattle.line_keys.specs.declared.cmd.Cmd.{Cmd}
 use Rattle.line_keys.specs.Item.{Item, key}
 use Rattle.line_keys.specs.declared.editor_state.EditorState as editors
 use Rattle.line_keys.specs.declared.raw_reader.RawReader as readers
-use Rattle.line_editor.specs.Editor.{Ruler, own_ruler, ruler_of}
-use Rattle.line_keys.specs.Table.{Meaning}
+use Rattle.line_editor.specs.Editor.{ruler_of}
 use Rattle.line_keys.specs.declared.count.Count.{Count}
 use Rattle.line_keys.specs.declared.count.TypedCount.{TypedCount}
 use Rattle.line_keys.specs.declared.keys.KeyEvent.{KeyEvent}
 use Rattle.line_editor.specs.Input.{Input}
 use Rattle.line_editor.specs.Binding.{Bound, all_sure}
 use Rattle.line_editor.specs.Keymap.{KeyState, Keymap, keymap_of}
-use Rattle.line_editor.specs.Phrase.{IsBeginning, Keyed, LacksItems, LacksTail, Phrase, Tailed}
+use Rattle.line_editor.specs.Phrase.{Phrase, entered}
+use Rattle.line_editor.specs.Read.{Lacks, Read, quiet_read}
 use Rattle.line_editor.specs.Sequence.{IsReadOn, Sequenced, Sequences, sequence_command}
+use Rattle.line_editor.specs.Shown.{DrewCounts, DrewSoFar, any_drawn, asked_behind, none_shown}
 use Rattle.line_editor.specs.declared.input_state.sequences.Sequence.{Sequence}
 
 -- the failures of the one or of the other party rose, where both counts can
@@ -73,27 +74,17 @@ module _ {Y : Type 0} (r : readers.Ghosts Y) where
     pub leads : sequences.leads (first ∷ more) ≡ true
     pub unanswered : sequence_command sequences first more ≡ None
 
-  -- what was read behind a key of this meaning are the items of a command
-  pub record ReadsTail (reader reader' : Y) (sequences : Sequences) (last : KeyEvent) (meaning : Meaning) (command : Command) : Type 0 where
-    pub tail : List Item
-    pub cut : r.rest reader ≡ tail ++ r.rest reader'
-    pub tailed : Tailed sequences last meaning tail command
+  -- items were read, with nothing drawn, that come to a command and an input
+  pub record GivesQuietly (Comes : List Item → Read → Type 0) (draft : Draft) (input : Input) (command : Command) (reader reader' : Y) : Type 0 where
+    pub items : List Item
+    pub cut : r.rest reader ≡ items ++ r.rest reader'
+    pub comes : Comes items (quiet_read draft input items command)
 
-  -- the same of a key, whatever it is bound to
-  pub record ReadsBehind (reader reader' : Y) (keymap : Keymap) (draft : Draft) (input : Input) (typed : Option Count) (last : KeyEvent) (command : Command) : Type 0 where
-    pub tail : List Item
-    pub cut : r.rest reader ≡ tail ++ r.rest reader'
-    pub keyed : Keyed keymap draft input typed last tail command
-
-  -- all items that were left are read, and more are to be read behind a key of this meaning
-  pub record EndsInTail (reader reader' : Y) (sequences : Sequences) (last : KeyEvent) (meaning : Meaning) : Type 0 where
+  -- all items that were left are read, with nothing drawn, and more are to be read
+  pub record EndsQuietly (Comes : List Item → Read → Type 0) (reader reader' : Y) : Type 0 where
+    pub lacks : Lacks Comes (r.rest reader)
     pub empty : r.rest reader' ≡ []
-    pub lacks : LacksItems sequences last meaning (r.rest reader)
-
-  -- all items that were left are read, and more are to be read behind a key, whatever it is bound to
-  pub record EndsBehindKey (reader reader' : Y) (keymap : Keymap) (draft : Draft) (input : Input) (typed : Option Count) (last : KeyEvent) : Type 0 where
-    pub empty : r.rest reader' ≡ []
-    pub lacks : LacksTail keymap draft input typed last (r.rest reader)
+    pub undrawn : lacks.shown ≡ none_shown (r.rest reader)
 
   -- the keys that were read go on with a count, up to one that ends it
   pub record EndsCount (style : EditMode) (first : KeyEvent) (reader reader' : Y) (count : Count) (last : KeyEvent) : Type 0 where
@@ -115,11 +106,6 @@ module _ {Y : Type 0} (r : readers.Ghosts Y) where
     pub before : r.rest reader ≡ []
     pub behind : r.rest reader' ≡ []
 
--- the ruler behind keys of a count, after which the own prompt is drawn
-abbrev pub ruler_behind : List KeyEvent → Display → ℕ → Ruler
-ruler_behind [] display indent_size = ruler_of display indent_size
-ruler_behind (_ ∷ _) display indent_size = own_ruler display indent_size
-
 -- a phrase that was cut short leaves the draft, with its hint as it was or asked again
 abbrev pub LeftByCut : Environment → Draft → Draft → Type 0
 LeftByCut environment draft draft' = (draft' ≡ draft) ⊎ (draft' ≡ hinted environment draft)
@@ -139,29 +125,39 @@ module _ {X : Type 0} (e : editors.Ghosts X) where
   DrewCount [] old new = DrewNothing e old new
   DrewCount (first ∷ more) old new = Drew e (length (first ∷ more) + 1) with_hint old new
 
-  -- what is drawn of a phrase that was cut short behind these items: where they end with the keys of a count, the count alone
-  pub record DrewCut (typed : List KeyEvent) (items : List Item) (old new : X) : Type 0 where
-    pub counting : typed ≢ [] → items ≡ map key typed → DrewCounting typed old new
-    pub counted : (typed ≡ []) ⊎ (items ≢ map key typed) → DrewCount typed old new
-
 module _ {X Y : Type 0} (e : editors.Ghosts X) (r : readers.Ghosts Y) where
-  -- what was read is one phrase, and nothing past it; and what was drawn of its count
-  pub record ReadsPhrase (editor : X) (keys : KeyState) (reader : Y) (editor' : X) (reader' : Y) (command : Command) (draft : Draft) (keys' : KeyState) : Type 0 where
+  -- items were read, behind those in front that were read before; they come to a command, which begins its group, and to an input
+  pub record Gives (Comes : List Item → Read → Type 0) (front : List Item) (begun : Command → Draft → Draft) (command : Command) (input : Input) (editor : X) (reader : Y) (editor' : X) (reader' : Y) : Type 0 where
     pub items : List Item
-    pub cut : r.rest reader ≡ items ++ r.rest reader'
-    pub phrase : Phrase (keymap_of keys (r.own_binding reader)) (e.environment editor) (e.draft editor) keys.input items command draft keys'.input
-    pub drew : DrewCount e phrase.typed editor editor'
-    pub measured : (indent : ℕ) → ruler_of (e.display editor') indent ≡ ruler_behind phrase.typed (e.display editor) indent
+    pub read : Read
+    pub cut : front ++ r.rest reader ≡ items ++ r.rest reader'
+    pub comes : Comes items read
+    pub command_read : read.command ≡ command
+    pub input_read : read.input ≡ input
+    pub begun_there : e.draft editor' ≡ begun command read.draft
+    pub drew : DrewCounts e read.shown editor editor'
+    pub hint : any_drawn read.shown ≡ false → (e.draft editor').hint ≡ (e.draft editor).hint
 
-  -- the items end before a phrase or inside of one: all are read, and of the draft at most the hint changes, where they write a
-  -- count; the keys of the count are among those that were read
-  pub record OutOfItems (editor : X) (keys : KeyState) (reader : Y) (editor' : X) (reader' : Y) : Type 0 where
-    pub begins : IsBeginning (keymap_of keys (r.own_binding reader)) (e.environment editor) (e.draft editor) keys.input (r.rest reader)
+  -- all items that were left are read, and more are to be read: of a draft at most the hint changes, where the line was drawn
+  pub record Ends (Comes : List Item → Read → Type 0) (front : List Item) (from : Draft) (editor : X) (reader : Y) (editor' : X) (reader' : Y) : Type 0 where
+    pub lacks : Lacks Comes (front ++ r.rest reader)
     pub empty : r.rest reader' ≡ []
-    pub draft : LeftByCut (e.environment editor) (e.draft editor) (e.draft editor')
-    pub uncounted : begins.phrase.typed ≡ [] → e.draft editor' ≡ e.draft editor
-    pub within : length begins.phrase.typed ≤ length (r.rest reader)
-    pub drew : DrewCut e begins.phrase.typed (r.rest reader) editor editor'
+    pub draft : e.draft editor' ≡ asked_behind (e.environment editor) lacks.shown from
+    pub drew : DrewSoFar e lacks.shown editor editor'
+
+  -- what phrases come to that are read from here
+  abbrev pub PhraseHere : X → KeyState → Y → List Item → Read → Type 0
+  PhraseHere editor keys reader items read =
+      Phrase (keymap_of keys (r.own_binding reader)) (e.environment editor) (e.draft editor) keys.input items read
+
+  -- the draft that a phrase is read on from, once its first key was read
+  abbrev pub entered_here : X → KeyState → Y → Draft
+  entered_here editor keys reader = entered (keymap_of keys (r.own_binding reader)) (e.draft editor) keys.input (r.rest reader)
+
+  -- the items end before a phrase or inside of one
+  abbrev pub OutOfItems : X → KeyState → Y → X → Y → Type 0
+  OutOfItems editor keys reader editor' reader' =
+      Ends (PhraseHere editor keys reader) [] (entered_here editor keys reader) editor reader editor' reader'
 
   -- how a call may fail that reads and draws: where the parties are sure, an error of input or output comes only where the reader or
   -- the renderer failed; without such an error no failure is counted
@@ -217,28 +213,21 @@ module _ {X Y : Type 0} (e : editors.Ghosts X) (r : readers.Ghosts Y) where
     pub both : KeepsBoth editor reader editor' reader'
     pub bound : keys'.bound ≡ keys.bound
 
-  -- at most one full redraw for each item read
-  abbrev pub RedrawsItems : X → Y → X → Y → Type 0
-  RedrawsItems editor reader editor' reader' =
-      Redraws e 0 (length (r.rest reader) - length (r.rest reader')) editor editor'
-
-  -- a command was read: its phrase, with the group begun that the command asks for; what is drawn stays good
-  pub record HasRead (begun : Command → Draft → Draft) (command : Command) (editor : X) (keys : KeyState) (reader : Y) (editor' : X) (keys' : KeyState) (reader' : Y) : Type 0 where
-    pub draft : Draft
-    pub phrase : ReadsPhrase editor keys reader editor' reader' command draft keys'
-    pub begun_there : e.draft editor' ≡ begun command draft
-    pub fewer : length (r.rest reader') < length (r.rest reader)
-    pub drawn : KeepsDrawn e editor editor'
-    pub in_place : IsInPlace e editor → IsInPlace e editor'
-
-  -- what a call leaves that reads one command: it was read, or the items ran out; where none was left nothing changes; after an
-  -- error the input value stays
-  pub record ReadsCommand (begun : Command → Draft → Draft) (result : Result Cmd ReadlineError) (editor : X) (keys : KeyState) (reader : Y) (editor' : X) (keys' : KeyState) (reader' : Y) : Type 0 where
-    pub read : OnRead result (λ c. HasRead begun (command_of c) editor keys reader editor' keys' reader') (OutOfItems editor keys reader editor' reader')
-    pub dry : r.rest reader ≡ [] → (e.draft editor' ≡ e.draft editor) × DrewNothing e editor editor'
+  -- what a call leaves that reads items, behind those in front: what they come to, or the items ran out; at most one full redraw is
+  -- made for each item
+  pub record ReadsPart {T : Type 0} (Comes : List Item → Read → Type 0) (front : List Item) (from : Draft) (begun : Command → Draft → Draft) (command : T → Command) (input : T → Input) (result : Result T ReadlineError) (editor : X) (keys : KeyState) (reader : Y) (editor' : X) (reader' : Y) : Type 0 where
+    pub read : OnRead result (λ x. Gives Comes front begun (command x) (input x) editor reader editor' reader') (Ends Comes front from editor reader editor' reader')
     pub line : KeepsLine (e.draft editor) (e.draft editor')
-    pub remembers : OnErr result (keys'.input ≡ keys.input)
     pub start : UnlessFault result (start_text (e.draft editor') ≡ start_text (e.draft editor))
-    pub redraws : UnlessFault result (RedrawsItems editor reader editor' reader')
-    pub keeps : KeepsReading editor keys reader editor' keys' reader'
+    pub redraws : UnlessFault result (Redraws e 0 (length front + length (r.rest reader) - length (r.rest reader')) editor editor')
+    pub fewer : UnlessFault result (length (r.rest reader') ≤ length (r.rest reader))
+    pub keeps : KeepsBoth editor reader editor' reader'
     pub fails : FailsByReading for_hint result editor keys reader editor' reader'
+
+  -- what a call leaves that reads a command: its phrase, or the items ran out; where none was left nothing changes; after an error
+  -- the input value stays
+  pub record ReadsCommand (begun : Command → Draft → Draft) (result : Result Cmd ReadlineError) (editor : X) (keys : KeyState) (reader : Y) (editor' : X) (keys' : KeyState) (reader' : Y) : Type 0 where
+    pub phrase : ReadsPart (PhraseHere editor keys reader) [] (entered_here editor keys reader) begun command_of (λ _. keys'.input) result editor keys reader editor' reader'
+    pub dry : r.rest reader ≡ [] → (e.draft editor' ≡ e.draft editor) × DrewNothing e editor editor'
+    pub remembers : OnErr result (keys'.input ≡ keys.input)
+    pub bound : keys'.bound ≡ keys.bound

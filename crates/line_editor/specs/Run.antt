@@ -8,8 +8,9 @@ use Rattle.line_keys.specs.Draft.{Draft}
 use Rattle.line_keys.specs.Item.{Item, key, paste}
 use Rattle.line_editor.specs.Input.{Input}
 use Rattle.line_editor.specs.Keymap.{Keymap}
-use Rattle.line_editor.specs.Phrase.{Phrase, IsBeginning}
-use Rattle.line_editor.specs.Reading.{LeftByCut}
+use Rattle.line_editor.specs.Phrase.{IsBeginning, Phrase, entered}
+use Rattle.line_editor.specs.Read.{Read}
+use Rattle.line_editor.specs.Shown.{Shown, asked_behind}
 use Rattle.line_editor.specs.Editor.{Editor, Answer, Leaves, Ruler, grouped, proceeds}
 use Rattle.line_editor.specs.Step.{step}
 
@@ -25,11 +26,11 @@ ready command draft kills = record { draft = grouped command draft; kills = kill
 -- phrase, and answers.
 pub record Turn (keymap : Keymap) (ruler : Ruler) (environment : Environment) (editor : Editor) (input : Input) (items : List Item) (editor' : Editor) (input' : Input) (more : List Item) (answer : Answer) : Type 0 where
   pub phrase : List Item
-  pub command : Command
-  pub draft : Draft
+  pub read : Read
   pub cut : items ≡ phrase ++ more
-  pub reads : Phrase keymap environment editor.draft input phrase command draft input'
-  pub leaves : Leaves (step ruler environment input' (ready command draft editor.kills) command) editor' answer
+  pub reads : Phrase keymap environment editor.draft input phrase read
+  pub input_left : input' ≡ read.input
+  pub leaves : Leaves (step ruler environment read.input (ready read.command read.draft editor.kills) read.command) editor' answer
 
 -- turns that proceed, one after another, lead from the first editor, input and items to the last
 pub data Turns (keymap : Keymap) (ruler : Ruler) (environment : Environment) : Editor → Input → List Item → Editor → Input → List Item → Type 0 where
@@ -39,9 +40,9 @@ pub data Turns (keymap : Keymap) (ruler : Ruler) (environment : Environment) : E
       → Turns keymap ruler environment middle input' more last input'' rest
       → Turns keymap ruler environment editor input items last input'' rest
 
--- what items that run dry leave: the draft, with its hint as it was or asked again, and the kills
-pub record CutShort (environment : Environment) (old new : Editor) : Type 0 where
-  pub draft : LeftByCut environment old.draft new.draft
+-- what items that run dry leave: the draft behind the first key, with its hint asked again where the line was drawn, and the kills
+pub record CutShort (keymap : Keymap) (environment : Environment) (input : Input) (items : List Item) (shown : List Shown) (old new : Editor) : Type 0 where
+  pub draft : new.draft ≡ asked_behind environment shown (entered keymap old.draft input items)
   pub kills : new.kills ≡ old.kills
 
 -- how a run ends: with an answer of its last turn and the items left unread; or dry, with the items read of a phrase cut short
@@ -61,8 +62,8 @@ pub data Run (keymap : Keymap) (ruler : Ruler) (environment : Environment) : Edi
       → answer ≢ proceeds
       → Run keymap ruler environment editor input items last input' (stopped answer rest)
   runs_dry : {editor last : Editor} {input : Input} {items : List Item}
-      → IsBeginning keymap environment editor.draft input items
-      → CutShort environment editor last
+      → (begins : IsBeginning keymap environment editor.draft input items)
+      → CutShort keymap environment input items begins.shown editor last
       → Run keymap ruler environment editor input items last input (dry items)
 
 -- whether an item is a key

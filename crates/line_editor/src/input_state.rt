@@ -1,34 +1,30 @@
 //! Reads keys, and gives the commands that they stand for.
-ghost use Rattle.std.specs.Prelude.{◌≡◌, ◌↔◌, Option, false, IsTrue};
+ghost use Rattle.std.specs.Prelude.{◌≡◌, ◌↔◌, [], Option, false, IfOk, IsTrue};
+ghost use Rattle.line_config.specs.Error.{MemoryOnly};
 ghost use Rattle.line_editor.specs.Binding.{bound_of};
-ghost use Rattle.line_editor.specs.Keymap.{handed, keymap_of};
-ghost use Rattle.line_editor.specs.Input.{first_input, is_vi_command};
-ghost use Rattle.line_editor.specs.InputState.{input_of, keys_of};
-ghost use Rattle.line_editor.specs.Phrase.{moves_by, search_to};
-ghost use Rattle.line_editor.specs.Reading.{EndsBehindKey, EndsInTail, OnRead, ReadsBehind, ReadsCommand, ReadsTail, TakesItems};
-ghost use Rattle.line_editor.specs.Sequence.{sequences_of};
-ghost use Rattle.line_keys.specs.Command.{Command, command_of};
-ghost use Rattle.line_keys.specs.Draft.{KeepsText};
-ghost use Rattle.line_keys.specs.Row.{meaning_of, search_for};
-ghost use Rattle.line_keys.specs.declared.keys.KeyEvent.{KeyEvent};
+ghost use Rattle.line_editor.specs.Input.{Input, first_input, is_vi_command};
+ghost use Rattle.line_editor.specs.InputState.{input_of, keys_of, read_input, told_input};
+ghost use Rattle.line_editor.specs.Reading.{PhraseHere, ReadsCommand, ReadsPart, entered_here};
+ghost use Rattle.line_keys.specs.Command.{command_of};
+ghost use Rattle.line_keys.specs.Drawing.{DrewNothing};
 
 mod bound_keys;
 mod counts;
+mod motions;
+mod phrases;
 mod sequences;
+mod tails;
 
 use crate::binding::ConditionalEventHandler;
 use crate::bindings::Bindings;
-use bound_keys::own_command;
-use line_buffer::{CharSearch, Movement, RepeatCount};
+use line_buffer::CharSearch;
 use line_config::{Config, EditMode, Result};
 use line_keys::cmd::Cmd;
-use line_keys::count::{Count, begins_count};
 use line_keys::editor_state::EditorState;
-use line_keys::keys::{KeyCode, KeyEvent, Modifiers};
 use line_keys::raw_reader::RawReader;
 use line_keys::refresher::{InputMode, Refresher};
-use line_keys::tables::{Meaning, SearchKind, meaning_of_key, second_key};
-use sequences::Sequence;
+use phrases::Read;
+use std::alloc::Global;
 
 /// Reads keys as commands, by the program's bindings, the reader's own and the tables, and remembers what the next
 /// commands depend on.
@@ -88,100 +84,83 @@ impl<'b> InputState<'b> {
         wrt: &mut W,
         single_esc_abort: bool,
     ) -> Result<Cmd>
-        ensures reads { let k =
-            keys_of ⟦<dyn ConditionalEventHandler as ConditionalEventHandler>⟧ in
+        ensures { let k = keys_of ⟦<dyn ConditionalEventHandler as ConditionalEventHandler>⟧ in
             ReadsCommand W.EditorState R.RawReader (λ command draft. draft) result
             wrt.old (k self.old) rdr.old wrt.new (k self.new) rdr.new }
-        ensures text { KeepsText (W.draft wrt.old) (W.draft wrt.new) }
     {
-        let key = rdr.next_key(single_esc_abort && self.is_emacs_mode())?;
-        if !begins_count(self.mode, self.input_mode, key) {
-            return self.read_behind(rdr, wrt, key, None);
-        }
-        let (count, key) = self.read_count(rdr, wrt, key)?;
-        self.read_behind(rdr, wrt, key, Some(count))
+        let told = self.read_command(rdr, wrt, single_esc_abort)?;
+        Ok(self.remember(told))
     }
 
-    // Reads what belongs to a key, under the count that was typed, and gives the command.
-    //
-    // The way of a key: `State::next_cmd` hands the state in as `wrt`. The program's bindings are asked first, then the
-    // reader's own, and then the tables of `line_keys`. A table gives a meaning, which says what else is to be read, and
-    // `read_tail` reads it. The command goes back through `State::next_cmd` to `execute`, which finds the edit that it names.
-    fn read_behind<R: RawReader, W: Refresher>(
+    /// Reads the keys of one phrase as `next_cmd` does, and remembers nothing yet.
+    pub(crate) fn read_command<R: RawReader, W: Refresher>(
         &self,
         rdr: &mut R,
-        wrt: &W,
-        key: KeyEvent,
-        typed: Option<Count>,
-    ) -> Result<Cmd>
-        ensures reads { let k =
-            keys_of ⟦<dyn ConditionalEventHandler as ConditionalEventHandler>⟧ self.now in
-            let keymap = keymap_of k (R.own_binding rdr.old) in
-            let draft = W.draft wrt.now in OnRead result
-            (λ c. ReadsBehind R.RawReader rdr.old rdr.new keymap draft k.input typed key
-            (command_of c))
-            (EndsBehindKey R.RawReader rdr.old rdr.new keymap draft k.input typed key) }
-        ensures items { let k =
-            keys_of ⟦<dyn ConditionalEventHandler as ConditionalEventHandler>⟧ in
-            TakesItems R.RawReader (k self.now).bound result rdr.old rdr.new }
+        wrt: &mut W,
+        single_esc_abort: bool,
+    ) -> Result<Told>
+        ensures part { let k = keys_of ⟦<dyn ConditionalEventHandler as ConditionalEventHandler>⟧ in
+            let k = k self.now in let e = W.EditorState in
+            ReadsPart e R.RawReader (PhraseHere e R.RawReader wrt.old k rdr.old) []
+            (entered_here e R.RawReader wrt.old k rdr.old) (λ command draft. draft)
+            (λ t. command_of t.command) (λ t. told_input t k.input) result
+            wrt.old k rdr.old wrt.new rdr.new }
+        ensures dry { let e = W.EditorState in R.rest rdr.old ≡ []
+            → (e.draft wrt.new ≡ e.draft wrt.old) × DrewNothing e wrt.old wrt.new }
     {
-        if let Some(command) = self.custom_binding(wrt, key, typed)? {
-            return Ok(command);
-        }
-        if let Some(command) = own_command(rdr, wrt, &key) {
-            return Ok(command);
-        }
-        let count = typed.unwrap_or(Count::one());
-        let meaning = meaning_of_key(self.mode, self.input_mode, key, count, wrt);
-        self.read_tail(rdr, wrt, key, count, meaning)
+        let first = rdr.next_key(single_esc_abort && self.is_emacs_mode())?;
+        let read = self.read_phrase(rdr, wrt, first)?;
+        Told::new(self.bindings.alloc(), read)
     }
 
-    // Reads what belongs to a key of this meaning, and gives the command.
-    fn read_tail<R: RawReader, W: Refresher>(
-        &self,
-        rdr: &mut R,
-        wrt: &W,
-        key: KeyEvent,
-        count: Count,
-        meaning: Meaning,
-    ) -> Result<Cmd>
-        ensures reads { let k =
-            keys_of ⟦<dyn ConditionalEventHandler as ConditionalEventHandler>⟧ self.now in
-            let by = sequences_of k.bound (W.draft wrt.now) k.input count in
-            let meaning = meaning_of meaning in OnRead result
-            (λ c. ReadsTail R.RawReader rdr.old rdr.new by key meaning (command_of c))
-            (EndsInTail R.RawReader rdr.old rdr.new by key meaning) }
-        ensures items { let k =
-            keys_of ⟦<dyn ConditionalEventHandler as ConditionalEventHandler>⟧ in
-            TakesItems R.RawReader (k self.now).bound result rdr.old rdr.new }
+    /// Remembers what was read of a phrase, and returns its command.
+    pub(crate) fn remember(&mut self, told: Told) -> Cmd
+        ensures command { command_of result ≡ command_of told.command }
+        ensures keys { let k = keys_of ⟦<dyn ConditionalEventHandler as ConditionalEventHandler>⟧ in
+            k self.new ≡ record (k self.old) { input = told_input told (input_of self.old) } }
     {
-        match meaning {
-            Meaning::Command(command) => Ok(command),
-            Meaning::Search(n, kind) => Ok(move_to(rdr.next_key(false)?, n, kind)),
-            Meaning::Paste => Ok(Cmd::Insert(1, rdr.read_pasted_text()?)),
-            Meaning::SecondKey(by) => {
-                match self.custom_seq_binding(rdr, wrt, key, count)? {
-                    Sequence::Command(command) => Ok(command),
-                    Sequence::InVain(Some(second)) => Ok(second_key(second, by)),
-                    Sequence::InVain(None) => Ok(second_key(rdr.next_key(true)?, by)),
-                }
-            }
-            Meaning::Unlisted => match self.custom_seq_binding(rdr, wrt, key, count)? {
-                Sequence::Command(command) => Ok(command),
-                Sequence::InVain(_) => Ok(Cmd::Unknown),
-            },
+        let Told {
+            command,
+            input_mode,
+            last_cmd,
+            last_char_search,
+        } = told;
+        self.input_mode = input_mode;
+        if let Some(change) = last_cmd {
+            self.last_cmd = Some(change);
         }
+        self.last_char_search = last_char_search;
+        command
     }
 }
 
-// Returns the move by a search for the character of a key, so many times; another key stands for nothing.
-fn move_to(key: KeyEvent, n: RepeatCount, kind: SearchKind) -> Cmd
-    ensures { command_of result ≡ moves_by n (search_to (λ c. search_for kind c) key) }
-{
-    match key {
-        KeyEvent(KeyCode::Char(c), Modifiers::NONE) => {
-            Cmd::Move(Movement::ViCharSearch(n, kind.search(c)))
-        }
-        _ => Cmd::Unknown,
+/// What was read of a phrase, and what is to be remembered of it.
+#[derive(Drop)]
+pub(crate) struct Told {
+    /// The command.
+    pub(crate) command: Cmd,
+    input_mode: InputMode,
+    last_cmd: Option<Cmd>,
+    last_char_search: Option<CharSearch>,
+}
+
+impl Told {
+    // Returns what is to be remembered of what was read: a command that becomes the last change is copied.
+    fn new(alloc: Global, read: Read) -> Result<Told>
+        ensures command { IfOk result (λ t. command_of t.command ≡ command_of read.command) }
+        ensures input { (input : Input) → IfOk result (λ t. told_input t input ≡ read_input read input) }
+        ensures memory { MemoryOnly result }
+    {
+        let last_cmd = if read.is_change {
+            Some(read.command.clone(alloc)?)
+        } else {
+            None
+        };
+        Ok(Told {
+            command: read.command,
+            input_mode: read.input_mode,
+            last_cmd,
+            last_char_search: read.last_char_search,
+        })
     }
 }

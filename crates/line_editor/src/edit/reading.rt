@@ -45,9 +45,9 @@ impl<'out, 'prompt, W: Renderer, H: Helper, P: Prompt, S: History> State<
             ReadsCommand ⟦<Self as EditorState>⟧ W.Reader.RawReader grouped result
             self.old (k input_state.old) rdr.old self.new (k input_state.new) rdr.new }
     {
-        let command = input_state.next_cmd(rdr, self, single_esc_abort)?;
-        self.begin_group(&command)?;
-        Ok(command)
+        let told = input_state.read_command(rdr, self, single_esc_abort)?;
+        self.begin_group(&told.command)?;
+        Ok(input_state.remember(told))
     }
 
     // Begins a group of changes for a replacement.

@@ -3,6 +3,7 @@ ghost use Rattle.std.specs.Prelude.{◌≡◌, Option, false, option_map, IfOk};
 ghost use Rattle.line_config.specs.Error.{FaultsOnly, IoOnlyIf};
 ghost use Rattle.line_editor.specs.Binding.{all_sure, handled};
 ghost use Rattle.line_editor.specs.Event.{chord_of, keys};
+ghost use Rattle.line_editor.specs.Input.{in_mode};
 ghost use Rattle.line_editor.specs.InputState.{input_of, keys_of};
 ghost use Rattle.line_editor.specs.Keymap.{bound_command, keymap_of, on_line};
 ghost use Rattle.line_editor.specs.Moment.{moment_in, moment_of};
@@ -17,14 +18,16 @@ use line_keys::count::Count;
 use line_keys::editor_state::EditorState;
 use line_keys::keys::KeyEvent;
 use line_keys::raw_reader::RawReader;
-use line_keys::refresher::Refresher;
+use line_keys::refresher::{InputMode, Refresher};
 use std::alloc::Global;
 
 impl InputState<'_> {
-    /// Returns the command that the program's bindings give a key under the count that was typed, done again where it can be.
+    /// Returns the command that the program's bindings give a key of a mode under the count that was typed, done again where it
+    /// can be.
     pub(crate) fn custom_binding<W: Refresher>(
         &self,
         wrt: &W,
+        mode: InputMode,
         key: KeyEvent,
         typed: Option<Count>,
     ) -> Result<Option<Cmd>>
@@ -32,7 +35,7 @@ impl InputState<'_> {
             keys_of ⟦<dyn ConditionalEventHandler as ConditionalEventHandler>⟧ in
             (own : KeyEvent → Option Command) → IfOk result (λ c. option_map command_of c
             ≡ bound_command (keymap_of (k self.now) own) (W.draft wrt.now)
-            (input_of self.now) typed key) }
+            (in_mode mode (input_of self.now)) typed key) }
         ensures io { let k = keys_of ⟦<dyn ConditionalEventHandler as ConditionalEventHandler>⟧ in
             IoOnlyIf result (all_sure (k self.now).bound ≡ false) }
         ensures faults { FaultsOnly result }
@@ -40,17 +43,18 @@ impl InputState<'_> {
         let Some(handler) = self.bindings.of_key(key) else {
             return Ok(None);
         };
-        let count = self.handed(typed);
-        match self.answer(wrt, handler, &[key], count)? {
+        let count = self.handed(mode, typed);
+        match self.answer(wrt, mode, handler, &[key], count)? {
             Some(command) => Ok(Some(command.redo(self.new_count(typed), wrt)?)),
             None => Ok(None),
         }
     }
 
-    /// Returns what a handler answers to keys under a count.
+    /// Returns what a handler answers to keys of a mode under a count.
     pub(crate) fn answer<W: Refresher>(
         &self,
         wrt: &W,
+        mode: InputMode,
         handler: &EventHandler,
         sequence: &[KeyEvent],
         count: Count,
@@ -59,7 +63,7 @@ impl InputState<'_> {
             IfOk result (λ c. option_map command_of c ≡ (handled g handler.now).answer (record {
               event = keys sequence.now;
               count = count;
-              moment = moment_in (W.draft wrt.now) (input_of self.now);
+              moment = moment_in (W.draft wrt.now) (in_mode mode (input_of self.now));
             })) }
         ensures io { let g = ⟦<dyn ConditionalEventHandler as ConditionalEventHandler>⟧ in
             IoOnlyIf result ((handled g handler.now).sure ≡ false) }
@@ -70,7 +74,7 @@ impl InputState<'_> {
             EventHandler::Simple(command) => Ok(Some(command.clone(alloc)?)),
             EventHandler::Conditional(handler) => {
                 let event = Event::of_keys(alloc, sequence)?;
-                let context = EventContext::new(self.mode, self.input_mode, wrt);
+                let context = EventContext::new(self.mode, mode, wrt);
                 handle(alloc, handler, &event, count, &context)
             }
         }

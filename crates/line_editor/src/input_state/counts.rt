@@ -15,21 +15,22 @@ use line_keys::raw_reader::RawReader;
 use line_keys::refresher::{InputMode, Refresher};
 
 impl InputState<'_> {
-    /// Reads the rest of a count that began with a key, and the key that ends it, and draws the line again. Returns the count
-    /// and that key.
+    /// Reads the rest of a count of a style that began with a key, and the key that ends it, and draws the line again. Returns
+    /// the count and that key.
     pub(crate) fn read_count<R: RawReader, W: Refresher>(
         &self,
         rdr: &mut R,
         wrt: &mut W,
+        mode: EditMode,
         first: KeyEvent,
     ) -> Result<(Count, KeyEvent)>
-        ensures { ReadsCount W.EditorState R.RawReader (input_of self.now).style first result
+        ensures { ReadsCount W.EditorState R.RawReader mode first result
             wrt.old rdr.old wrt.new rdr.new }
     {
         let mut typed = TypedCount::new(first);
         'keys: loop {
             let key = self.read_under(rdr, wrt, &typed)?;
-            if !continues_count(self.mode, key) {
+            if !continues_count(mode, key) {
                 wrt.refresh_line()?;
                 return Ok((typed.count(), key));
             }
@@ -53,10 +54,10 @@ impl InputState<'_> {
     }
 
     /// Returns the count that a key's binding is handed: 0 in Vi's insert and replace modes.
-    pub(crate) fn handed(&self, typed: Option<Count>) -> Count
-        ensures { let input = input_of self.now in result ≡ handed input.style input.mode typed }
+    pub(crate) fn handed(&self, mode: InputMode, typed: Option<Count>) -> Count
+        ensures { result ≡ handed (input_of self.now).style mode typed }
     {
-        match (self.mode, self.input_mode) {
+        match (self.mode, mode) {
             (EditMode::Vi, InputMode::Insert | InputMode::Replace) => Count {
                 n: 0,
                 positive: true,

@@ -2,6 +2,7 @@
 ghost use Rattle.std.specs.Prelude.{◌≡◌, Option, false, option_map, IfOk};
 ghost use Rattle.line_config.specs.Error.{FaultsOnly, IoOnlyIf};
 ghost use Rattle.line_editor.specs.Binding.{all_sure};
+ghost use Rattle.line_editor.specs.Input.{in_mode};
 ghost use Rattle.line_editor.specs.InputState.{input_of, keys_of};
 ghost use Rattle.line_editor.specs.Reading.{EndsInSequence, FindsSequence, OnRead, TakesItems};
 ghost use Rattle.line_editor.specs.Sequence.{sequences_of};
@@ -16,7 +17,7 @@ use line_keys::count::Count;
 use line_keys::editor_state::EditorState;
 use line_keys::keys::KeyEvent;
 use line_keys::raw_reader::RawReader;
-use line_keys::refresher::Refresher;
+use line_keys::refresher::{InputMode, Refresher};
 
 /// What was read of a bound sequence.
 pub(crate) enum Sequence {
@@ -32,12 +33,14 @@ impl InputState<'_> {
         &self,
         rdr: &mut R,
         wrt: &W,
+        mode: InputMode,
         first: KeyEvent,
         count: Count,
     ) -> Result<Sequence>
         ensures reads { let k =
             keys_of ⟦<dyn ConditionalEventHandler as ConditionalEventHandler>⟧ self.now in
-            let by = sequences_of k.bound (W.draft wrt.now) k.input count in OnRead result
+            let by = sequences_of k.bound (W.draft wrt.now) (in_mode mode k.input) count in
+            OnRead result
             (λ found. FindsSequence R.RawReader rdr.old rdr.new by first found)
             (EndsInSequence R.RawReader rdr.old rdr.new by first) }
         ensures items { let k =
@@ -51,7 +54,7 @@ impl InputState<'_> {
         keys.push(first)?;
         'keys: loop {
             keys.push(rdr.next_key(true)?)?;
-            match self.sequence_command(wrt, keys.as_slice(), count)? {
+            match self.sequence_command(wrt, mode, keys.as_slice(), count)? {
                 Some(command) => return Ok(Sequence::Command(command)),
                 None => {}
             }
@@ -65,19 +68,20 @@ impl InputState<'_> {
     fn sequence_command<W: Refresher>(
         &self,
         wrt: &W,
+        mode: InputMode,
         sequence: &[KeyEvent],
         count: Count,
     ) -> Result<Option<Cmd>>
         ensures command { let g = ⟦<dyn ConditionalEventHandler as ConditionalEventHandler>⟧ in
-            let bound = (keys_of g self.now).bound in IfOk result (λ c. option_map command_of c
-            ≡ (sequences_of bound (W.draft wrt.now) (input_of self.now) count).command
-            sequence.now) }
+            let bound = (keys_of g self.now).bound in let i = in_mode mode (input_of self.now) in
+            IfOk result (λ c. option_map command_of c
+            ≡ (sequences_of bound (W.draft wrt.now) i count).command sequence.now) }
         ensures io { let k = keys_of ⟦<dyn ConditionalEventHandler as ConditionalEventHandler>⟧ in
             IoOnlyIf result (all_sure (k self.now).bound ≡ false) }
         ensures faults { FaultsOnly result }
     {
         match self.bindings.of_keys(sequence) {
-            Some(handler) => self.answer(wrt, handler, sequence, count),
+            Some(handler) => self.answer(wrt, mode, handler, sequence, count),
             None => Ok(None),
         }
     }

@@ -1,7 +1,7 @@
 use Rattle.std.proofs.Common.{refl}
 use Rattle.line_editor.specs.Editor.{ended, interrupted, proceeds, submitted}
 use Rattle.line_editor.specs.declared.run.Turned.TheVariants as turned
-use Rattle.line_editor.proofs.TurnLemmas.{advanced, needs_more}
+use Rattle.line_editor.proofs.TurnLemmas.{advanced, goes_wrong, needs_more}
 use Rattle.line_editor.proofs.run.advance.Goals as goal
 
 pub returns-in-Err-Eof : goal.returns-in-Err-Eof
@@ -26,3 +26,8 @@ pub returns-in-Err-Interrupted : goal.returns-in-Err-Interrupted
 returns-in-Err-Interrupted g c =
     let done = rw c.in-Err-Interrupted.field-0-is at c.in-Err-Interrupted.ensures in
     advanced _ _ _ _ _ _ _ _ _ _ _ _ _ _ c.in-Ok.ensures c.reset_kills.ensures interrupted turned.Interrupted done (done.comes refl) (done.quiet refl) (λ t. t)
+
+pub returns-in-Err-Io : goal.returns-in-Err-Io
+returns-in-Err-Io g c =
+    let done = rw c.in-Err-Io.field-0-is at c.in-Err-Io.ensures in
+    goes_wrong _ _ _ _ _ _ _ _ _ _ _ _ _ _ c.in-Ok.ensures c.reset_kills.ensures _ refl done

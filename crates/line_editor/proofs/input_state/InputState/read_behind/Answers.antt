@@ -1,22 +1,61 @@
-use Rattle.std.proofs.Common.{ap, sym, ◌∙◌, option_map}
+use Rattle.std.proofs.Common.{◌∷◌, [], ap, refl, sym, ◌∙◌, option_map}
 use Rattle.std.specs.Prelude.{unwrap_or}
+use Rattle.std.proofs.lemmas.Result.{err_from_is_err_and}
 use Rattle.line_keys.specs.Command.{command_of}
-use Rattle.line_editor.proofs.TailLemmas.{behind_bound, behind_own, row_on}
+use Rattle.line_keys.specs.Row.{entry_of}
+use Rattle.line_editor.specs.Input.{in_mode}
+use Rattle.line_editor.specs.InputState.{input_of, keys_of, read_input}
+use Rattle.line_editor.specs.Keymap.{keymap_of}
+use Rattle.line_editor.specs.Phrase.{Keyed}
+use Rattle.line_editor.specs.declared.input_state.phrases.Read.{Read}
+use Rattle.line_editor.proofs.PartLemmas.{at_once_part}
+use Rattle.line_editor.proofs.PhraseLemmas.{bound-read, own-read}
+use Rattle.line_editor.proofs.PhraseReadLemmas.{row_fails, row_read}
 use Rattle.line_editor.proofs.input_state.InputState.read_behind.Goals as goal
 
-pub returns-in-Some-clause-reads : goal.returns-in-Some-clause-reads
-returns-in-Some-clause-reads g c =
-    let own = g.R.RawReader.own_binding c.args.rdr.now in
-    behind_bound _ _ _ _ _ _ _ c.args.rdr.now _ (ap (λ o. option_map command_of o) (sym c.in-Some.is) ∙ c.in_ok-command.ensures.command own)
+pub returns-in-Some : goal.returns-in-Some
+returns-in-Some g c =
+    let k = keys_of (λ v. (g.dyn-1.0.entry v).1) c.args.self.now in
+    let i = in_mode c.args.mode (input_of c.args.self.now) in
+    let keymap = keymap_of k (g.R.RawReader.own_binding c.args.rdr.now) in
+    let draft = g.W.EditorState.draft c.args.wrt.now in
+    let environment = g.W.EditorState.environment c.args.wrt.now in
+    let bound = ap (λ o. option_map command_of o) (sym c.in-Some.is) ∙ c.in_ok-command.ensures.command (g.R.RawReader.own_binding c.args.rdr.now) in
+    at_once_part g.W.EditorState g.R.RawReader (λ items read. Keyed keymap environment draft i c.args.typed c.args.key items read) (λ c d. d)
+    (λ (x : Read). command_of x.command) (λ x. read_input x k.input) _ i c.args.wrt.now k c.args.rdr.now
+    (rw c.at_once.ensures.command (bound-read keymap environment draft i c.args.typed c.args.key _ bound)) c.at_once.ensures.input
 
-pub returns-in-Some-own_command-clause-reads : goal.returns-in-Some-own_command-clause-reads
-returns-in-Some-own_command-clause-reads g c =
+pub returns-in-Some-own_command : goal.returns-in-Some-own_command
+returns-in-Some-own_command g c =
+    let k = keys_of (λ v. (g.dyn-1.0.entry v).1) c.args.self.now in
+    let i = in_mode c.args.mode (input_of c.args.self.now) in
     let own = g.R.RawReader.own_binding c.args.rdr.now in
-    behind_own _ _ _ _ _ _ _ c.args.rdr.now _ (ap (λ o. option_map command_of o) (sym c.in_default.is) ∙ c.in_ok-command.ensures.command own) c.in-Some-own_command.ensures
+    let keymap = keymap_of k own in
+    let draft = g.W.EditorState.draft c.args.wrt.now in
+    let environment = g.W.EditorState.environment c.args.wrt.now in
+    let unbound = ap (λ o. option_map command_of o) (sym c.in_default.is) ∙ c.in_ok-command.ensures.command own in
+    at_once_part g.W.EditorState g.R.RawReader (λ items read. Keyed keymap environment draft i c.args.typed c.args.key items read) (λ c d. d)
+    (λ (x : Read). command_of x.command) (λ x. read_input x k.input) _ i c.args.wrt.now k c.args.rdr.now
+    (rw c.at_once-in-Some-own_command.ensures.command (own-read keymap environment draft i c.args.typed c.args.key _ unbound c.in-Some-own_command.ensures)) c.at_once-in-Some-own_command.ensures.input
 
-pub returns-clause-reads : goal.returns-clause-reads
-returns-clause-reads g c =
+pub returns-in_err-behind : goal.returns-in_err-behind
+returns-in_err-behind g c =
+    let k = keys_of (λ v. (g.dyn-1.0.entry v).1) c.args.self.now in
+    let i = in_mode c.args.mode (input_of c.args.self.now) in
     let own = g.R.RawReader.own_binding c.args.rdr.now in
     let unbound = ap (λ o. option_map command_of o) (sym c.in_default.is) ∙ c.in_ok-command.ensures.command own in
     let counted = c.unwrap_or-count.ensures ∙ ap (λ n. unwrap_or c.args.typed n) c.one.ensures in
-    row_on _ _ _ _ _ _ _ _ _ _ unbound c.in_default-own_command.ensures counted c.meaning_of_key-meaning.ensures _ c.read_tail.ensures.reads
+    let p = err_from_is_err_and c.from_residual-in_err-behind.result c.from_residual-in_err-behind.ensures.1 in
+    rw (p.1, p.2) (row_fails g.W.EditorState g.R.RawReader c.args.wrt.now k c.args.rdr.now i c.args.key c.args.typed _ (entry_of c.entry_of_key-meaning.result) unbound c.in_default-own_command.ensures (sym c.requires) c.entry_of_key-meaning.ensures counted
+    (λ (x : Read). command_of x.command) (λ x. read_input x k.input) _ _ _ c.in_err-behind.ensures)
+
+pub returns : goal.returns
+returns g c =
+    let k = keys_of (λ v. (g.dyn-1.0.entry v).1) c.args.self.now in
+    let i = in_mode c.args.mode (input_of c.args.self.now) in
+    let own = g.R.RawReader.own_binding c.args.rdr.now in
+    let unbound = ap (λ o. option_map command_of o) (sym c.in_default.is) ∙ c.in_ok-command.ensures.command own in
+    let counted = c.unwrap_or-count.ensures ∙ ap (λ n. unwrap_or c.args.typed n) c.one.ensures in
+    let group = c.in_ok-change_group.ensures in
+    row_read g.W.EditorState g.R.RawReader c.args.wrt.now k c.args.rdr.now i c.args.key c.args.typed _ (entry_of c.entry_of_key-meaning.result) unbound c.in_default-own_command.ensures (sym c.requires) c.entry_of_key-meaning.ensures counted
+    (λ (x : Read). command_of x.command) (λ x. read_input x k.input) _ _ _ _ _ c.in_ok-behind.ensures group.draft group.line.0 group.line.1 group.start group.undrawn c.listed.ensures.command c.listed.ensures.input

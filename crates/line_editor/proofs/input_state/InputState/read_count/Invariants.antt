@@ -3,7 +3,7 @@ use Rattle.line_editor.proofs.CountedLemmas.{Counting}
 use Rattle.line_editor.proofs.input_state.InputState.read_count.Given as goal
 
 abbrev pub invariant-keys : goal.invariant-keys
-invariant-keys g l = Counting g.W.EditorState g.R.RawReader l.fn.wrt l.fn.rdr l.fn.self.mode l.fn.first l.typed l.wrt l.rdr
+invariant-keys g l = Counting g.W.EditorState g.R.RawReader l.fn.wrt l.fn.rdr l.fn.mode l.fn.first l.typed l.wrt l.rdr
 
 abbrev pub decreases-keys : goal.decreases-keys
 decreases-keys g l = length (g.R.RawReader.rest l.rdr)

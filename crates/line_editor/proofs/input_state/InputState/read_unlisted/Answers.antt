@@ -1,0 +1,20 @@
+use Rattle.std.proofs.Common.{refl}
+use Rattle.std.proofs.lemmas.Result.{err_from_is_err_and}
+use Rattle.line_editor.specs.Binding.{bound_of}
+use Rattle.line_editor.specs.Input.{in_mode}
+use Rattle.line_editor.specs.InputState.{input_of}
+use Rattle.line_editor.proofs.TailLemmas.{answered_read, sequence_ends, unlisted_read}
+use Rattle.line_editor.proofs.input_state.InputState.read_unlisted.Goals as goal
+
+pub returns-in_err-command-clause-reads : goal.returns-in_err-command-clause-reads
+returns-in_err-command-clause-reads g c =
+    let p = err_from_is_err_and c.from_residual.result c.from_residual.ensures.1 in
+    rw (p.1, p.2) (λ no.
+    let cut = c.in_err-command.ensures.reads no in
+    (cut.0, sequence_ends _ (bound_of (λ v. (g.dyn-1.0.entry v).1) c.args.self.now.bindings.now) (g.W.EditorState.environment c.args.wrt.now) (g.W.EditorState.draft c.args.wrt.now) (in_mode c.args.mode (input_of c.args.self.now)) c.args.count _ _ _ cut.1))
+
+pub returns-in-Command-clause-reads : goal.returns-in-Command-clause-reads
+returns-in-Command-clause-reads g c = answered_read _ _ _ _ _ _ _ _ _ _ refl (rw c.in-Command.is at c.in_ok-command.ensures.reads)
+
+pub returns-in-InVain-clause-reads : goal.returns-in-InVain-clause-reads
+returns-in-InVain-clause-reads g c = unlisted_read _ _ _ _ _ _ _ _ _ (rw c.in-InVain.is at c.in_ok-command.ensures.reads)

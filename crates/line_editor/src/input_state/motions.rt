@@ -1,0 +1,126 @@
+//! The motions of Vi's operators.
+ghost use Rattle.std.specs.Prelude.{◌≡◌, ◌∷◌, [], Option, false, option_map};
+ghost use Rattle.line_editor.specs.Input.{Input};
+ghost use Rattle.line_editor.specs.InputState.{behind_input, input_of, keys_of};
+ghost use Rattle.line_editor.specs.Operation.{Operated, Reaches, motion_behind, operated_if};
+ghost use Rattle.line_editor.specs.Reading.{EndsQuietly, GivesQuietly, OnRead, ReadsPart, TakesItems};
+ghost use Rattle.line_keys.specs.Command.{command_of};
+ghost use Rattle.line_keys.specs.Item.{key};
+ghost use Rattle.line_keys.specs.Row.{motion_value};
+
+use crate::binding::ConditionalEventHandler;
+use crate::input_state::InputState;
+use crate::input_state::tails::{Behind, opposite_of, place_of};
+use line_buffer::{Movement, RepeatCount};
+use line_config::{EditMode, Result};
+use line_keys::cmd::Cmd;
+use line_keys::count::begins_count;
+use line_keys::editor_state::EditorState;
+use line_keys::keys::KeyEvent;
+use line_keys::raw_reader::RawReader;
+use line_keys::refresher::{InputMode, Refresher};
+use line_keys::tables::{Motion, Operator, motion_of_key, multiplied};
+
+impl InputState<'_> {
+    /// Reads the motion of an operator with a count, and returns the operator's command. Without a motion it is unknown.
+    pub(crate) fn read_motion<R: RawReader, W: Refresher>(
+        &self,
+        rdr: &mut R,
+        wrt: &mut W,
+        operator: Operator,
+        n: RepeatCount,
+    ) -> Result<Behind>
+        ensures { let k = keys_of ⟦<dyn ConditionalEventHandler as ConditionalEventHandler>⟧ in
+            let k = k self.now in let e = W.EditorState in let draft = e.draft wrt.old in
+            (i : Input) → i.last_search ≡ k.input.last_search → ReadsPart e R.RawReader
+            (Operated (e.environment wrt.old) draft i operator n) [] draft (λ command draft. draft)
+            (λ b. command_of b.command) (λ b. behind_input b i) result
+            wrt.old k rdr.old wrt.new rdr.new }
+    {
+        let first = rdr.next_key(false)?;
+        self.read_motion_from(rdr, wrt, operator, n, first)
+    }
+
+    // Reads the rest of a motion that began with a key: its count, if it begins one, and what belongs to the key behind it.
+    fn read_motion_from<R: RawReader, W: Refresher>(
+        &self,
+        rdr: &mut R,
+        wrt: &mut W,
+        operator: Operator,
+        n: RepeatCount,
+        first: KeyEvent,
+    ) -> Result<Behind>
+        ensures { let k = keys_of ⟦<dyn ConditionalEventHandler as ConditionalEventHandler>⟧ in
+            let k = k self.now in let e = W.EditorState in let draft = e.draft wrt.old in
+            (i : Input) → i.last_search ≡ k.input.last_search → ReadsPart e R.RawReader
+            (Operated (e.environment wrt.old) draft i operator n) (key first ∷ []) draft
+            (λ command draft. draft)
+            (λ b. command_of b.command) (λ b. behind_input b i) result
+            wrt.old k rdr.old wrt.new rdr.new }
+    {
+        if !begins_count(EditMode::Vi, InputMode::Command, first) {
+            return self.reach(rdr, wrt, operator, motion_at_once(operator, first, n));
+        }
+        let (count, key) = self.read_count(rdr, wrt, EditMode::Vi, first)?;
+        let motion = motion_of_key(operator, key, multiplied(n, count.n));
+        self.reach(rdr, wrt, operator, motion)
+    }
+
+    // Reads what belongs to the key of a motion, and returns the operator's command.
+    fn reach<R: RawReader, W: Refresher>(
+        &self,
+        rdr: &mut R,
+        _wrt: &W,
+        operator: Operator,
+        motion: Motion,
+    ) -> Result<Behind>
+        ensures reads { let k =
+            keys_of ⟦<dyn ConditionalEventHandler as ConditionalEventHandler>⟧ self.now in
+            let draft = W.draft _wrt.now in
+            (i : Input) → i.last_search ≡ k.input.last_search →
+            let Comes = Reaches draft i operator (motion_value motion) in
+            OnRead result (λ b. GivesQuietly R.RawReader Comes draft (behind_input b i)
+            (command_of b.command) rdr.old rdr.new)
+            (EndsQuietly R.RawReader Comes rdr.old rdr.new) }
+        ensures items { let k =
+            keys_of ⟦<dyn ConditionalEventHandler as ConditionalEventHandler>⟧ in
+            TakesItems R.RawReader (k self.now).bound result rdr.old rdr.new }
+    {
+        let last = self.last_char_search;
+        match motion {
+            Motion::Covers(movement) => Ok(self.behind(operator.over(movement))),
+            Motion::Search(n, kind) => {
+                let found = kind.of_key(rdr.next_key(false)?);
+                Ok(Behind {
+                    command: over_if(operator, place_of(found, n)),
+                    search: found.or(last),
+                })
+            }
+            Motion::SearchAgain(n) => Ok(self.behind(over_if(operator, place_of(last, n)))),
+            Motion::SearchBack(n) => {
+                Ok(self.behind(over_if(operator, place_of(opposite_of(last), n))))
+            }
+            Motion::None => Ok(self.behind(Cmd::Unknown)),
+        }
+    }
+}
+
+// Returns the motion of a key at once behind an operator: the operator's own key is the whole line.
+fn motion_at_once(operator: Operator, first: KeyEvent, n: RepeatCount) -> Motion
+    ensures { motion_value result ≡ motion_behind operator n [] first }
+{
+    if operator.is_own_key(first) {
+        return Motion::Covers(Movement::WholeLine);
+    }
+    motion_of_key(operator, first, n)
+}
+
+// Returns the command of an operator over a movement, or Unknown without one.
+fn over_if(operator: Operator, movement: Option<Movement>) -> Cmd
+    ensures { command_of result ≡ operated_if operator movement }
+{
+    match movement {
+        Some(movement) => operator.over(movement),
+        None => Cmd::Unknown,
+    }
+}

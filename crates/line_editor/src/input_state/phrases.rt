@@ -1,0 +1,220 @@
+//! Phrases: an optional count, a key and what belongs to it, and in Vi such a one of command mode behind Alt.
+ghost use Rattle.std.specs.Prelude.{◌≡◌, ◌∷◌, [], None, Option, Some, OnOk};
+ghost use Rattle.line_config.specs.Error.{MemoryOnly};
+ghost use Rattle.line_editor.specs.Input.{in_mode};
+ghost use Rattle.line_editor.specs.InputState.{input_of, keys_of, read_input};
+ghost use Rattle.line_editor.specs.Keymap.{keymap_of};
+ghost use Rattle.line_editor.specs.Phrase.{Keyed, Phrase, Spelled, changed_by, entered, remembered, with_group};
+ghost use Rattle.line_editor.specs.Reading.{ReadsPart};
+ghost use Rattle.line_keys.specs.Command.{command_of};
+ghost use Rattle.line_keys.specs.Draft.{KeepsLine, start_text};
+ghost use Rattle.line_keys.specs.Drawing.{Undrawn};
+ghost use Rattle.line_keys.specs.Item.{key};
+ghost use Rattle.line_keys.specs.Table.{stands_for};
+ghost use Rattle.line_keys.specs.declared.count.Count.{Count};
+ghost use Rattle.line_keys.specs.declared.keys.KeyEvent.{KeyEvent};
+
+use crate::binding::ConditionalEventHandler;
+use crate::input_state::InputState;
+use crate::input_state::bound_keys::own_command;
+use crate::input_state::tails::Behind;
+use line_buffer::CharSearch;
+use line_config::{EditMode, Result};
+use line_keys::cmd::Cmd;
+use line_keys::count::{Count, begins_count};
+use line_keys::editor_state::EditorState;
+use line_keys::keys::KeyEvent;
+use line_keys::raw_reader::RawReader;
+use line_keys::refresher::{InputMode, Refresher};
+use line_keys::tables::{Entry, Grouping, entry_of_key, stands_for};
+
+/// What was read of a phrase: its command, the mode and the search that it leaves, and whether the command becomes the last
+/// change.
+#[derive(Drop)]
+pub(crate) struct Read {
+    pub(crate) command: Cmd,
+    pub(crate) input_mode: InputMode,
+    pub(crate) is_change: bool,
+    pub(crate) last_char_search: Option<CharSearch>,
+}
+
+impl InputState<'_> {
+    /// Reads the rest of a phrase that began with a key.
+    pub(crate) fn read_phrase<R: RawReader, W: Refresher>(
+        &self,
+        rdr: &mut R,
+        wrt: &mut W,
+        first: KeyEvent,
+    ) -> Result<Read>
+        ensures { let k = keys_of ⟦<dyn ConditionalEventHandler as ConditionalEventHandler>⟧ in
+            let k = k self.now in let keymap = keymap_of k (R.own_binding rdr.old) in
+            let e = W.EditorState in let draft = e.draft wrt.old in
+            ReadsPart e R.RawReader (Phrase keymap (e.environment wrt.old) draft k.input)
+            (key first ∷ []) (entered keymap draft k.input (key first ∷ []))
+            (λ command draft. draft) (λ c. command_of c.command) (λ c. read_input c k.input) result
+            wrt.old k rdr.old wrt.new rdr.new }
+    {
+        match stands_for(self.mode, self.input_mode, first) {
+            Some(plain) => self.read_alt(rdr, wrt, first, plain),
+            None => self.read_spelled(rdr, wrt, self.input_mode, first),
+        }
+    }
+
+    // Reads the rest of a phrase of command mode behind a key with Alt, which stands for a plain key there. The groups of
+    // changes end first, unless the key is bound.
+    fn read_alt<R: RawReader, W: Refresher>(
+        &self,
+        rdr: &mut R,
+        wrt: &mut W,
+        first: KeyEvent,
+        plain: KeyEvent,
+    ) -> Result<Read>
+        requires { let i = input_of self.now in stands_for i.style i.mode first ≡ Some plain }
+        ensures { let k = keys_of ⟦<dyn ConditionalEventHandler as ConditionalEventHandler>⟧ in
+            let k = k self.now in let keymap = keymap_of k (R.own_binding rdr.old) in
+            let e = W.EditorState in let draft = e.draft wrt.old in
+            ReadsPart e R.RawReader (Phrase keymap (e.environment wrt.old) draft k.input)
+            (key first ∷ []) (entered keymap draft k.input (key first ∷ []))
+            (λ command draft. draft) (λ c. command_of c.command) (λ c. read_input c k.input) result
+            wrt.old k rdr.old wrt.new rdr.new }
+    {
+        if let Some(command) = self.custom_binding(wrt, self.input_mode, first, None)? {
+            return Ok(self.at_once(self.input_mode, command));
+        }
+        if let Some(command) = own_command(rdr, wrt, &first) {
+            return Ok(self.at_once(self.input_mode, command));
+        }
+        wrt.done_inserting()?;
+        let read = self.read_spelled(rdr, wrt, InputMode::Command, plain)?;
+        Ok(self.behind_alt(read))
+    }
+
+    // Reads the rest of a phrase of a mode that began with a key: its count, if it begins one, and what belongs to the key
+    // behind it.
+    fn read_spelled<R: RawReader, W: Refresher>(
+        &self,
+        rdr: &mut R,
+        wrt: &mut W,
+        mode: InputMode,
+        first: KeyEvent,
+    ) -> Result<Read>
+        requires { stands_for (input_of self.now).style mode first ≡ None }
+        ensures { let k = keys_of ⟦<dyn ConditionalEventHandler as ConditionalEventHandler>⟧ in
+            let k = k self.now in let keymap = keymap_of k (R.own_binding rdr.old) in
+            let e = W.EditorState in let draft = e.draft wrt.old in
+            ReadsPart e R.RawReader
+            (Spelled keymap (e.environment wrt.old) draft (in_mode mode k.input))
+            (key first ∷ []) draft (λ command draft. draft)
+            (λ c. command_of c.command) (λ c. read_input c k.input) result
+            wrt.old k rdr.old wrt.new rdr.new }
+    {
+        if !begins_count(self.mode, mode, first) {
+            return self.read_behind(rdr, wrt, mode, first, None);
+        }
+        let (count, key) = self.read_count(rdr, wrt, self.mode, first)?;
+        self.read_behind(rdr, wrt, mode, key, Some(count))
+    }
+
+    // Reads what belongs to a key of a mode, under the count that was typed.
+    //
+    // The way of a key: `State::next_cmd` hands the state in as `wrt`. The program's bindings are asked first, then the
+    // reader's own, and then the tables of `line_keys`. A table gives a meaning, which says what else is to be read, and
+    // `read_tail` reads it. The command goes back through `State::next_cmd` to `execute`, which finds the edit that it names.
+    fn read_behind<R: RawReader, W: Refresher>(
+        &self,
+        rdr: &mut R,
+        wrt: &mut W,
+        mode: InputMode,
+        key: KeyEvent,
+        typed: Option<Count>,
+    ) -> Result<Read>
+        requires { stands_for (input_of self.now).style mode key ≡ None }
+        ensures { let k = keys_of ⟦<dyn ConditionalEventHandler as ConditionalEventHandler>⟧ in
+            let k = k self.now in let keymap = keymap_of k (R.own_binding rdr.old) in
+            let e = W.EditorState in let draft = e.draft wrt.old in
+            ReadsPart e R.RawReader
+            (Keyed keymap (e.environment wrt.old) draft (in_mode mode k.input) typed key)
+            [] draft (λ command draft. draft)
+            (λ c. command_of c.command) (λ c. read_input c k.input) result
+            wrt.old k rdr.old wrt.new rdr.new }
+    {
+        if let Some(command) = self.custom_binding(wrt, mode, key, typed)? {
+            return Ok(self.at_once(mode, command));
+        }
+        if let Some(command) = own_command(rdr, wrt, &key) {
+            return Ok(self.at_once(mode, command));
+        }
+        let Entry {
+            meaning,
+            enters,
+            group,
+        } = entry_of_key(self.mode, mode, key, typed, wrt);
+        let count = typed.unwrap_or(Count::one());
+        let behind = self.read_tail(rdr, wrt, mode, key, count, meaning)?;
+        change_group(wrt, group)?;
+        Ok(self.listed(mode, enters, behind))
+    }
+
+    // Returns what a command of the bindings or of the reader is read as: it leaves the mode, the last change and the search.
+    fn at_once(&self, mode: InputMode, command: Cmd) -> Read
+        ensures command { command_of result.command ≡ command_of command }
+        ensures input { let i = input_of self.now in read_input result i ≡ in_mode mode i }
+    {
+        Read {
+            command,
+            input_mode: mode,
+            is_change: false,
+            last_char_search: self.last_char_search,
+        }
+    }
+
+    // Returns what a command of the tables is read as, whose key may enter a mode. In Emacs nothing is remembered.
+    fn listed(&self, mode: InputMode, enters: Option<InputMode>, behind: Behind) -> Read
+        ensures command { command_of result.command ≡ command_of behind.command }
+        ensures input { let i = input_of self.now in read_input result i
+            ≡ remembered i.style enters (in_mode mode i) (command_of behind.command) behind.search }
+    {
+        match self.mode {
+            EditMode::Emacs => self.at_once(mode, behind.command),
+            EditMode::Vi => {
+                let is_change = behind.command.becomes_change(mode, &self.last_cmd);
+                Read {
+                    command: behind.command,
+                    input_mode: enters.unwrap_or(mode),
+                    is_change,
+                    last_char_search: behind.search,
+                }
+            }
+        }
+    }
+
+    // Returns what a phrase of command mode is read as behind Alt: its command goes through the rule of this mode, too.
+    fn behind_alt(&self, read: Read) -> Read
+        ensures command { command_of result.command ≡ command_of read.command }
+        ensures input { let i = input_of self.now in let within = read_input read i in
+            let change = changed_by i.mode within.last_change (command_of read.command) in
+            read_input result i ≡ record within { last_change = change } }
+    {
+        let is_change = read.command.becomes_change(self.input_mode, &self.last_cmd);
+        Read {
+            is_change: read.is_change | is_change,
+            ..read
+        }
+    }
+}
+
+// Begins a group of changes, or ends every open one, or does neither.
+fn change_group<W: Refresher>(wrt: &mut W, group: Grouping) -> Result<()>
+    ensures draft { OnOk result (W.draft wrt.new ≡ with_group group (W.draft wrt.old)) }
+    ensures line { KeepsLine (W.draft wrt.old) (W.draft wrt.new)
+        × ((W.draft wrt.new).hint ≡ (W.draft wrt.old).hint) }
+    ensures start { OnOk result (start_text (W.draft wrt.new) ≡ start_text (W.draft wrt.old)) }
+    ensures undrawn { Undrawn W.EditorState wrt.old wrt.new }
+    ensures memory { MemoryOnly result }
+{
+    match group {
+        Grouping::Stay => Ok(()),
+        Grouping::Begin => wrt.doing_insert(),
+        Grouping::End => wrt.done_inserting(),
+    }
+}
