@@ -8,13 +8,15 @@ ghost use Rattle.line_editor.specs.Binding.{answers, handler_of, leads_on};
 ghost use Rattle.line_editor.specs.Event.{each_key, keys, mouse, normal_chord, same_chord};
 ghost use Rattle.line_editor.specs.Input.{first_input};
 ghost use Rattle.line_editor.specs.Keymap.{bound_command, by_binding, by_reader, by_table, handed, nothing_bound, on_line, only_bound, source_of};
-ghost use Rattle.line_editor.specs.Phrase.{IsBeginning, Phrase, Tailed};
+ghost use Rattle.line_editor.specs.Phrase.{IsBeginning, Phrase};
 ghost use Rattle.line_editor.specs.Sequence.{Sequences};
+ghost use Rattle.line_editor.specs.Shown.{kept, shows_count, shows_line};
+ghost use Rattle.line_editor.specs.Tail.{Tailed};
 ghost use Rattle.line_keys.specs.Command.{end_of_file, insert, interrupt, move, noop, self_insert, undo, unknown};
-ghost use Rattle.line_keys.specs.Draft.{empty_draft, hinted};
+ghost use Rattle.line_keys.specs.Draft.{Draft, empty_draft, hinted};
 ghost use Rattle.line_keys.specs.Item.{key, paste};
 ghost use Rattle.line_keys.specs.Key.{event};
-ghost use Rattle.line_keys.specs.Table.{gives, one, row_of, searches, unlisted};
+ghost use Rattle.line_keys.specs.Table.{gives, one, row_of, searches, stays, unlisted};
 ghost use Rattle.line_keys.specs.declared.keys.KeyCode.TheVariants.{BracketedPasteStart, Char, Enter, F};
 ghost use Rattle.line_keys.specs.declared.refresher.InputMode.TheVariants as modes;
 ghost use Rattle.line_keys.specs.declared.keys.KeyEvent.{KeyEvent};
@@ -23,21 +25,38 @@ ghost use Rattle.line_parts.specs.Environment.{Environment};
 
 /// Behind a key that searches with the count 2, the key b gives the move to the second b.
 pub fn a_plain_key_is_searched_for()
-    ensures { (s : Sequences) (last : KeyEvent) → Tailed s last (searches 2 (λ c. Forward c))
-        (key (event (Char 98) NONE) ∷ []) (move (ViCharSearch 2 (Forward 98))) }
+    ensures { (s : Sequences) (environment : Environment) (draft : Draft) (last : KeyEvent) →
+        Tailed s environment draft (first_input Emacs) last (searches 2 (λ c. Forward c))
+        (key (event (Char 98) NONE) ∷ []) (record {
+          command = move (ViCharSearch 2 (Forward 98));
+          draft = draft;
+          input = record (first_input Emacs) { last_search = Some (Forward 98) };
+          shown = kept ∷ [];
+        }) }
 {}
 
 /// Behind a key that searches with the count 2, Enter is read too, and stands for nothing.
 pub fn another_key_is_no_search()
-    ensures { (s : Sequences) (last : KeyEvent) → Tailed s last (searches 2 (λ c. Forward c))
-        (key (event Enter NONE) ∷ []) unknown }
+    ensures { (s : Sequences) (environment : Environment) (draft : Draft) (last : KeyEvent) →
+        Tailed s environment draft (first_input Emacs) last (searches 2 (λ c. Forward c))
+        (key (event Enter NONE) ∷ []) (record {
+          command = unknown;
+          draft = draft;
+          input = first_input Emacs;
+          shown = kept ∷ [];
+        }) }
 {}
 
 /// M-3 and a are a phrase that inserts three a's; the hint is asked again.
 pub fn three_times_a()
     ensures { (environment : Environment) → Phrase nothing_bound environment (empty_draft 0)
         (first_input Emacs) (key (event (Char 51) ALT) ∷ key (event (Char 97) NONE) ∷ [])
-        (self_insert 3 97) (hinted environment (empty_draft 0)) (first_input Emacs) }
+        (record {
+          command = self_insert 3 97;
+          draft = hinted environment (empty_draft 0);
+          input = first_input Emacs;
+          shown = shows_count (event (Char 51) ALT ∷ []) ∷ shows_line ∷ [];
+        }) }
 {}
 
 /// M--, 2 and C-F are a phrase that goes two characters back.
@@ -45,7 +64,13 @@ pub fn two_back()
     ensures { (environment : Environment) → Phrase nothing_bound environment (empty_draft 0)
         (first_input Emacs)
         (key (event (Char 45) ALT) ∷ key (event (Char 50) NONE) ∷ key (event (Char 70) CTRL) ∷ [])
-        (move (BackwardChar 2)) (hinted environment (empty_draft 0)) (first_input Emacs) }
+        (record {
+          command = move (BackwardChar 2);
+          draft = hinted environment (empty_draft 0);
+          input = first_input Emacs;
+          shown = shows_count (event (Char 45) ALT ∷ [])
+              ∷ shows_count (event (Char 45) ALT ∷ event (Char 50) NONE ∷ []) ∷ shows_line ∷ [];
+        }) }
 {}
 
 /// M-3, C-X and C-U are a phrase that takes three steps back.
@@ -53,14 +78,24 @@ pub fn undo_three()
     ensures { (environment : Environment) → Phrase nothing_bound environment (empty_draft 0)
         (first_input Emacs)
         (key (event (Char 51) ALT) ∷ key (event (Char 88) CTRL) ∷ key (event (Char 85) CTRL) ∷ [])
-        (undo 3) (hinted environment (empty_draft 0)) (first_input Emacs) }
+        (record {
+          command = undo 3;
+          draft = hinted environment (empty_draft 0);
+          input = first_input Emacs;
+          shown = shows_count (event (Char 51) ALT ∷ []) ∷ shows_line ∷ kept ∷ [];
+        }) }
 {}
 
 /// The mark before a pasted text and the text x are a phrase that inserts x once, and nothing else changes.
 pub fn paste_once()
     ensures { (environment : Environment) → Phrase nothing_bound environment (empty_draft 0)
         (first_input Emacs) (key (event BracketedPasteStart NONE) ∷ paste (120 ∷ []) ∷ [])
-        (insert 1 (120 ∷ [])) (empty_draft 0) (first_input Emacs) }
+        (record {
+          command = insert 1 (120 ∷ []);
+          draft = empty_draft 0;
+          input = first_input Emacs;
+          shown = kept ∷ kept ∷ [];
+        }) }
 {}
 
 /// C-X alone begins a phrase, and is none.
@@ -76,7 +111,12 @@ pub fn a_bound_sequence()
         let sequence = keys (event (Char 88) CTRL ∷ event (Char 97) NONE ∷ []) in
         Phrase (only_bound sequence (Some noop)) environment (empty_draft 0) (first_input Emacs)
         (key (event (Char 88) CTRL) ∷ key (event (Char 97) NONE) ∷ [])
-        noop (empty_draft 0) (first_input Emacs) }
+        (record {
+          command = noop;
+          draft = empty_draft 0;
+          input = first_input Emacs;
+          shown = kept ∷ kept ∷ [];
+        }) }
 {}
 
 /// Where the sequence C-X, a is bound, C-X, b is read in vain, and b is lost.
@@ -85,7 +125,12 @@ pub fn a_key_read_in_vain()
         let sequence = keys (event (Char 88) CTRL ∷ event (Char 97) NONE ∷ []) in
         Phrase (only_bound sequence (Some noop)) environment (empty_draft 0) (first_input Emacs)
         (key (event (Char 88) CTRL) ∷ key (event (Char 98) NONE) ∷ [])
-        unknown (empty_draft 0) (first_input Emacs) }
+        (record {
+          command = unknown;
+          draft = empty_draft 0;
+          input = first_input Emacs;
+          shown = kept ∷ kept ∷ [];
+        }) }
 {}
 
 /// Where the sequence C-X, a is bound, C-X, C-U takes a step back: the second of the keys read in vain counts.
@@ -94,7 +139,12 @@ pub fn the_second_key_of_all()
         let sequence = keys (event (Char 88) CTRL ∷ event (Char 97) NONE ∷ []) in
         Phrase (only_bound sequence (Some noop)) environment (empty_draft 0) (first_input Emacs)
         (key (event (Char 88) CTRL) ∷ key (event (Char 85) CTRL) ∷ [])
-        (undo 1) (empty_draft 0) (first_input Emacs) }
+        (record {
+          command = undo 1;
+          draft = empty_draft 0;
+          input = first_input Emacs;
+          shown = kept ∷ kept ∷ [];
+        }) }
 {}
 
 /// F4 with a handler that answers nothing is a bound sequence: one more key is read in vain.
@@ -102,7 +152,12 @@ pub fn a_handler_without_an_answer()
     ensures { (environment : Environment) →
         Phrase (only_bound (keys (event (F 4) NONE ∷ [])) None) environment (empty_draft 0)
         (first_input Emacs) (key (event (F 4) NONE) ∷ key (event (Char 97) NONE) ∷ [])
-        unknown (empty_draft 0) (first_input Emacs) }
+        (record {
+          command = unknown;
+          draft = empty_draft 0;
+          input = first_input Emacs;
+          shown = kept ∷ kept ∷ [];
+        }) }
 {}
 
 /// M-3 and a key that is bound to one x insert three x's.
@@ -110,15 +165,25 @@ pub fn a_bound_key_takes_the_count()
     ensures { (environment : Environment) →
         Phrase (only_bound (keys (event (F 2) NONE ∷ [])) (Some (self_insert 1 120))) environment
         (empty_draft 0) (first_input Emacs)
-        (key (event (Char 51) ALT) ∷ key (event (F 2) NONE) ∷ []) (self_insert 3 120)
-        (hinted environment (empty_draft 0)) (first_input Emacs) }
+        (key (event (Char 51) ALT) ∷ key (event (F 2) NONE) ∷ [])
+        (record {
+          command = self_insert 3 120;
+          draft = hinted environment (empty_draft 0);
+          input = first_input Emacs;
+          shown = shows_count (event (Char 51) ALT ∷ []) ∷ shows_line ∷ [];
+        }) }
 {}
 
 /// A binding of each key is that of the key a too.
 pub fn each_key_is_bound()
     ensures { (environment : Environment) → Phrase (only_bound each_key (Some noop)) environment
         (empty_draft 0) (first_input Emacs) (key (event (Char 97) NONE) ∷ [])
-        noop (empty_draft 0) (first_input Emacs) }
+        (record {
+          command = noop;
+          draft = empty_draft 0;
+          input = first_input Emacs;
+          shown = kept ∷ [];
+        }) }
 {}
 
 /// In Vi's insert mode a key's binding is handed 0, in Emacs the count that was typed, or 1.
@@ -134,21 +199,30 @@ pub fn back_to_a_character()
     ensures { (environment : Environment) → Phrase nothing_bound environment (empty_draft 0)
         (first_input Emacs)
         (key (event (Char 45) ALT) ∷ key (event (Char 93) CTRL) ∷ key (event (Char 97) NONE) ∷ [])
-        (move (ViCharSearch 1 (Backward 97))) (hinted environment (empty_draft 0))
-        (first_input Emacs) }
+        (record {
+          command = move (ViCharSearch 1 (Backward 97));
+          draft = hinted environment (empty_draft 0);
+          input = first_input Emacs;
+          shown = shows_count (event (Char 45) ALT ∷ []) ∷ shows_line ∷ kept ∷ [];
+        }) }
 {}
 
 /// F4, which no table has, is a phrase that does nothing, where nothing is bound.
 pub fn a_key_that_no_table_has()
     ensures { (environment : Environment) → Phrase nothing_bound environment (empty_draft 0)
-        (first_input Emacs) (key (event (F 4) NONE) ∷ []) unknown (empty_draft 0)
-        (first_input Emacs) }
+        (first_input Emacs) (key (event (F 4) NONE) ∷ [])
+        (record {
+          command = unknown;
+          draft = empty_draft 0;
+          input = first_input Emacs;
+          shown = kept ∷ [];
+        }) }
 {}
 
 /// By the table C-D on an empty line is Unknown. The reader's end of the input counts on an empty line, and not on another.
 pub fn the_end_of_the_input_is_for_an_empty_line()
-    ensures table { (row_of Emacs modes.Insert (event (Char 68) CTRL) (empty_draft 0)).means one
-        ≡ gives unknown }
+    ensures table { (row_of Emacs modes.Insert (event (Char 68) CTRL) (empty_draft 0)).entry None
+        ≡ stays (gives unknown) }
     ensures empty { on_line [] (Some end_of_file) ≡ Some end_of_file }
     ensures text { on_line (97 ∷ []) (Some end_of_file) ≡ None }
     ensures other { on_line (97 ∷ []) (Some interrupt) ≡ Some interrupt }
@@ -162,7 +236,7 @@ pub fn bindings_come_before_the_reader()
     ensures reader { source_of (record { bound = []; own = λ typed. Some interrupt })
         (empty_draft 0) (first_input Emacs) None (event (F 2) NONE) ≡ by_reader interrupt }
     ensures table { source_of nothing_bound (empty_draft 0) (first_input Emacs) None
-        (event (F 2) NONE) ≡ by_table unlisted }
+        (event (F 2) NONE) ≡ by_table (stays unlisted) }
 {}
 
 /// Where F2's own handler answers nothing, that of each key is not asked for it.

@@ -10,7 +10,7 @@ use line_keys::cmd::{Anchor, Cmd};
 use line_keys::count::{Count, TypedCount, begins_count, continues_count};
 use line_keys::keys::{KeyCode as K, KeyEvent, Modifiers as M};
 use line_keys::refresher::InputMode;
-use line_keys::tables::{Meaning, SearchKind, meaning_of_key, second_key};
+use line_keys::tables::{Meaning, SearchKind, entry_of_key, second_key};
 use line_parts::{Context, MemHistory};
 use std::alloc::Global;
 use std::process::Abort;
@@ -78,7 +78,7 @@ fn has_commands(rt: &impl Abort, state: &Editor<'_, '_>, row: &Row) {
 /// What a key means in Emacs.
 fn meant(state: &Editor<'_, '_>, code: K, mods: M, count: Count) -> Meaning {
     let key = KeyEvent(code, mods);
-    meaning_of_key(EditMode::Emacs, InputMode::Insert, key, count, state)
+    entry_of_key(EditMode::Emacs, InputMode::Insert, key, Some(count), state).meaning
 }
 
 /// The command of a meaning.

@@ -4,17 +4,18 @@ use Rattle.line_keys.specs.declared.keys.KeyCode.TheVariants.{Char}
 use Rattle.line_keys.specs.declared.keys.TheConstants.Modifiers.{CTRL, NONE}
 use Rattle.line_keys.specs.Item.{key}
 use Rattle.line_editor.proofs.SequenceLemmas.{two_in_vain}
-use Rattle.line_editor.specs.Phrase.{by_second_in_vain}
+use Rattle.line_editor.specs.Tail.{by_second_in_vain}
+use Rattle.line_editor.specs.Phrase.{of_mode}
 use Rattle.tests_keys.proofs.phrases.a_key_read_in_vain.Goals as goal
 
 pub returns : goal.returns
-returns c = λ environment. record {
+returns c = λ environment. of_mode (record {
   typed = [];
   last = event (Char 88) CTRL;
   tail = key (event (Char 98) NONE) ∷ [];
   cut = refl;
   counted = refl;
-  keyed = by_second_in_vain _ (event (Char 98) NONE) [] (two_in_vain _ _ (event (Char 98) NONE) refl refl refl);
-  draft_left = refl;
-  input_left = refl;
-}
+  behind = _;
+  keyed = (_, by_second_in_vain _ (event (Char 98) NONE) [] (two_in_vain _ _ (event (Char 98) NONE) refl refl refl), refl);
+  told = refl;
+})

@@ -4,24 +4,28 @@ use Rattle.line_keys.specs.declared.keys.KeyCode.TheVariants.{Char}
 use Rattle.line_keys.specs.declared.keys.TheConstants.Modifiers.{CTRL}
 use Rattle.line_keys.specs.Item.{key}
 use Rattle.line_editor.proofs.SequenceLemmas.{one_in_vain}
-use Rattle.line_editor.specs.Phrase.{by_second_key}
+use Rattle.line_editor.specs.Phrase.{of_mode}
+use Rattle.line_editor.specs.Shown.{kept}
+use Rattle.line_editor.specs.Tail.{by_second_key}
 use Rattle.tests_keys.proofs.phrases.control_x_begins.Goals as goal
 
 pub returns : goal.returns
 returns c = λ environment. record {
   rest = key (event (Char 85) CTRL) ∷ [];
-  command = _;
-  draft' = _;
-  input' = _;
+  read = _;
   proper = λ empty. cc;
-  phrase = record {
+  comes = of_mode (record {
     typed = [];
     last = event (Char 88) CTRL;
     tail = key (event (Char 85) CTRL) ∷ [];
     cut = refl;
     counted = refl;
-    keyed = by_second_key _ (event (Char 85) CTRL) (one_in_vain _ _ refl);
-    draft_left = refl;
-    input_left = refl;
-  };
+    behind = _;
+    keyed = (_, by_second_key _ (event (Char 85) CTRL) (one_in_vain _ _ refl), refl);
+    told = refl;
+  });
+  shown = kept ∷ [];
+  later = kept ∷ [];
+  drawn = refl;
+  each = refl;
 }

@@ -4,17 +4,18 @@ use Rattle.line_keys.specs.declared.keys.KeyCode.TheVariants.{Char}
 use Rattle.line_keys.specs.declared.keys.TheConstants.Modifiers.{ALT, CTRL}
 use Rattle.line_keys.specs.Item.{key}
 use Rattle.line_editor.proofs.SequenceLemmas.{one_in_vain}
-use Rattle.line_editor.specs.Phrase.{by_second_key}
+use Rattle.line_editor.specs.Tail.{by_second_key}
+use Rattle.line_editor.specs.Phrase.{of_mode}
 use Rattle.tests_keys.proofs.phrases.undo_three.Goals as goal
 
 pub returns : goal.returns
-returns c = λ environment. record {
+returns c = λ environment. of_mode (record {
   typed = event (Char 51) ALT ∷ [];
   last = event (Char 88) CTRL;
   tail = key (event (Char 85) CTRL) ∷ [];
   cut = refl;
   counted = refl;
-  keyed = by_second_key _ (event (Char 85) CTRL) (one_in_vain _ _ refl);
-  draft_left = refl;
-  input_left = refl;
-}
+  behind = _;
+  keyed = (_, by_second_key _ (event (Char 85) CTRL) (one_in_vain _ _ refl), refl);
+  told = refl;
+})
