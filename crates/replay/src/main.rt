@@ -7,7 +7,6 @@ mod helper;
 mod report;
 mod script;
 
-use helper::ScriptHelper;
 use line_buffer::{GraphemeClusterMode, KillRing};
 use line_config::{Config, ReadlineError};
 use line_editor::Bindings;
@@ -15,10 +14,10 @@ use line_editor::edit::State;
 use line_editor::input_state::InputState;
 use line_editor::run::run;
 use line_keys::refresher::Refresher;
-use line_parts::{Context, FileHistory};
+use line_parts::Context;
 use line_screen::Plain;
 use report::{Ending, Outcome, Report, exit_status};
-use script::{Script, ScriptError, read_script};
+use script::{Parsed, ScriptError, read_script};
 use std::alloc::Global;
 use std::io;
 use std::io::{Read, Write};
@@ -56,37 +55,25 @@ fn play_script<R: Read + Drop, O: Write>(
         }
         Err(ScriptError::Fault(error)) => return Err(error),
     };
-    let mut screen = Plain::new(alloc, parsed.columns);
-    let script = parsed.items;
-    let outcome = edit(
-        alloc,
-        parsed.prompt.as_str(),
-        &parsed.history,
-        parsed.helper,
-        script,
-        &mut screen,
-        out,
-    )?;
+    let outcome = edit(alloc, parsed, out)?;
     out.flush()?;
     Ok(Ending::Ran(outcome))
 }
 
-/// Edits a line by the script's items, and prints what became of it.
-fn edit<O: Write>(
-    alloc: Global,
-    prompt: &str,
-    history: &FileHistory,
-    mut helper: ScriptHelper,
-    mut script: Script,
-    screen: &mut Plain<Script>,
-    out: &mut O,
-) -> Result<Outcome, ReadlineError> {
-    let config = Config::new(GraphemeClusterMode::Unicode);
+/// Edits a line as the script says, and prints what became of it.
+fn edit<O: Write>(alloc: Global, parsed: Parsed, out: &mut O) -> Result<Outcome, ReadlineError> {
+    let mut screen = Plain::new(alloc, parsed.columns);
+    let mut helper = parsed.helper;
+    let mut script = parsed.items;
+    let prompt = parsed.prompt.as_str();
+    let config = Config::builder(GraphemeClusterMode::Unicode)
+        .edit_mode(parsed.edit_mode)
+        .build();
     let bindings = Bindings::new(alloc);
     let mut input = InputState::new(&config, &bindings);
     let mut kill_ring = KillRing::new(alloc, KILL_RING_SIZE);
-    let context = Context::new(history);
-    let mut state = State::new(alloc, screen, &prompt, Some(&mut helper), context)?;
+    let context = Context::new(&parsed.history);
+    let mut state = State::new(alloc, &mut screen, &prompt, Some(&mut helper), context)?;
     let answer = run(&mut state, &mut input, &mut script, &mut kill_ring, &config);
     let report = Report {
         outcome: Outcome::of(answer),

@@ -5,7 +5,7 @@ mod names;
 
 use crate::helper::ScriptHelper;
 use line_buffer::Unit;
-use line_config::ReadlineError;
+use line_config::{EditMode, ReadlineError};
 use line_parts::{FileHistory, History, unescape_line};
 use line_screen::KeyQueue;
 use names::key_named;
@@ -33,6 +33,8 @@ pub(crate) struct Parsed {
     pub(crate) prompt: String,
     /// The columns of the screen, at least one.
     pub(crate) columns: Unit,
+    /// The style of editing.
+    pub(crate) edit_mode: EditMode,
     /// What the editor reads.
     pub(crate) items: Script,
     /// Whether a line of items came, behind which no setting may stand.
@@ -48,6 +50,7 @@ impl Parsed {
             helper: ScriptHelper::new(),
             prompt: String::from_str(alloc, PROMPT)?,
             columns: COLUMNS,
+            edit_mode: EditMode::Emacs,
             items: Script::new(alloc),
             has_item_lines: false,
         })
@@ -121,6 +124,9 @@ fn push_line(alloc: Global, line: &str, parsed: &mut Parsed) -> Result<bool, Rea
             set_prompt(alloc, text, &mut parsed.prompt)
         }
         Some(("columns", digits)) if !parsed.has_item_lines => Ok(set_columns(digits, parsed)),
+        Some(("mode", name)) if !parsed.has_item_lines => {
+            Ok(set_edit_mode(name, &mut parsed.edit_mode))
+        }
         Some(("type", text)) => {
             parsed.has_item_lines = true;
             push_typed(alloc, text, &mut parsed.items)
@@ -189,6 +195,16 @@ fn columns_in(digits: &str) -> Option<Unit>
         Ok(columns @ 10..=1000) => Some(columns),
         _ => None,
     }
+}
+
+/// Takes the style of this name as the style of editing. False where there is no such style.
+fn set_edit_mode(name: &str, edit_mode: &mut EditMode) -> bool {
+    *edit_mode = match name {
+        "emacs" => EditMode::Emacs,
+        "vi" => EditMode::Vi,
+        _ => return false,
+    };
+    true
 }
 
 /// Adds the mark before a pasted text, and the text. False where an escape is bad.

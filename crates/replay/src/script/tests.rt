@@ -209,6 +209,46 @@ fn sets_the_prompt_and_the_columns(rt: HostRuntime) -> Result<(), Fail> {
     Ok(())
 }
 
+/// A script, and its style of editing.
+const STYLES: &[(&str, EditMode)] = &[
+    ("", EditMode::Emacs),
+    ("mode emacs", EditMode::Emacs),
+    ("mode vi", EditMode::Vi),
+    ("mode vi\ntype a", EditMode::Vi),
+    ("\nhints\nmode vi\ncolumns 70\n", EditMode::Vi),
+    // the later one counts
+    ("mode emacs\nmode vi", EditMode::Vi),
+    ("mode vi\nmode emacs\n", EditMode::Emacs),
+    ("mode vi\nmode vi\n", EditMode::Vi),
+    ("mode vi\n\nmode emacs\nhistory a\nmode vi\n", EditMode::Vi),
+    // a text is no setting
+    (
+        "prompt mode vi\nhistory mode vi\ntype mode vi",
+        EditMode::Emacs,
+    ),
+    (
+        "mode vi\ntype \\nmode emacs\npaste mode emacs",
+        EditMode::Vi,
+    ),
+];
+
+fn has_style(rt: &impl Abort, alloc: Global, case: (&str, EditMode)) -> Result<(), Fail> {
+    let (script, style) = case;
+    let Ok(parsed) = read_script(alloc, script.as_bytes()) else {
+        return Err(Fail::from("a good script"));
+    };
+    assert_eq!(rt; parsed.edit_mode, style, "{script}");
+    Ok(())
+}
+
+#[test]
+fn sets_the_style(rt: HostRuntime) -> Result<(), Fail> {
+    for case in STYLES {
+        has_style(&rt, rt.alloc(), *case)?;
+    }
+    Ok(())
+}
+
 /// A script of one pasted text, and the text.
 const PASTED: &[(&str, &str)] = &[
     ("paste ", ""),
@@ -273,7 +313,36 @@ const BAD: &[(&[u8], usize)] = &[
     (b"type a\n\xc3\n", 2),
     (b"key Foo\n\xff", 1),
     (b"\n\xff\nkey Foo", 2),
-    (b"mode vi", 1),
+    (b"mode", 1),
+    (b"mode ", 1),
+    (b"mode  ", 1),
+    (b"mode  vi", 1),
+    (b"mode vi ", 1),
+    (b"mode  emacs", 1),
+    (b"mode emacs ", 1),
+    (b"mode VI", 1),
+    (b"mode Vi", 1),
+    (b"mode Emacs", 1),
+    (b"mode EMACS", 1),
+    (b"mode v", 1),
+    (b"mode vim", 1),
+    (b"mode vi emacs", 1),
+    (b"mode emacs vi", 1),
+    (b"mode v\\i", 1),
+    (b"mode\tvi", 1),
+    (b"mode vi\r\n", 1),
+    (b"Mode vi", 1),
+    (b" mode vi", 1),
+    (b"modes vi", 1),
+    (b"mode=vi", 1),
+    (b"vi", 1),
+    (b"emacs", 1),
+    (b"mode vi\nmode emacs\nmode vi \n", 3),
+    (b"mode vi\nmode\nmode emacs", 2),
+    (b"type a\nmode vi", 2),
+    (b"mode vi\n\ntype \nmode vi", 4),
+    (b"mode emacs\nkey Enter\nmode emacs\nkey Foo", 3),
+    (b"paste a\nmode vi", 2),
     (b"history", 1),
     (b"history\ta", 1),
     (b"history a\nhistory \\q", 2),
