@@ -19,6 +19,8 @@ pub mod HistoryWayLaws
 pub mod KeysLaws
 pub mod MoveLemmas
 pub mod GroupLemmas
+pub mod GrownLemmas
+pub mod InsertionLaws
 pub mod KeyFitLemmas
 pub mod LacksLemmas
 pub mod ListFitLemmas

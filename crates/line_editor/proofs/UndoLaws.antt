@@ -36,7 +36,7 @@ all_steps entries n enough =
     ap (λ k. take k entries) all ∙ take-length entries
 
 -- an edit leaves its line, whether the hint is asked again or not
-edited_line : (environment : Environment) (reported : Bool) (edited : Edited) (draft : Draft) → (after_edit environment reported edited draft).line ≡ edited.line
+pub edited_line : (environment : Environment) (reported : Bool) (edited : Edited) (draft : Draft) → (after_edit environment reported edited draft).line ≡ edited.line
 edited_line environment true edited draft = refl
 edited_line environment false edited draft = refl
 

@@ -1,17 +1,21 @@
 -- Laws of the definitions.
-use Rattle.std.specs.Prelude.{◌≡◌, ◌≢◌, ◌⊎◌, ℕ, ◌≤◌, ◌+◌, Bool, true, false, List, [], ◌∷◌, ◌++◌, length, take}
+use Rattle.std.specs.Prelude.{◌≡◌, ◌≢◌, ◌⊎◌, ℕ, ◌≤◌, ◌+◌, ◌==◌, Bool, true, false, List, [], ◌∷◌, ◌++◌, length, map, take, None, IsUtf8, IsCharBoundary}
 use Rattle.std.specs.Bool.{Decides}
-use Rattle.std.specs.List.{list_any}
+use Rattle.std.specs.List.{All, list_any}
 use Rattle.line_keys.specs.Command.{Command, history_search_backward, history_search_forward, undo}
 use Rattle.line_keys.specs.Draft.{Draft, KeepsText, start_text}
-use Rattle.line_keys.specs.Item.{Item}
+use Rattle.line_keys.specs.Item.{Item, key}
+use Rattle.line_keys.specs.Key.{event}
+use Rattle.line_keys.specs.declared.keys.KeyCode.TheVariants.{Char, Esc}
+use Rattle.line_keys.specs.declared.keys.KeyEvent.{KeyEvent}
+use Rattle.line_keys.specs.declared.keys.TheConstants.Modifiers.{NONE}
 use Rattle.line_keys.specs.declared.editor_state.EditorState as editors
 use Rattle.line_keys.specs.declared.raw_reader.RawReader as readers
 use Rattle.line_parts.specs.Environment.{Environment}
 use Rattle.line_editor.specs.Event.{Chord, same_chord}
 use Rattle.line_editor.specs.HistoryMoves.{is_own_line}
-use Rattle.line_editor.specs.Input.{Input}
-use Rattle.line_editor.specs.Keymap.{Keymap, keymap_of}
+use Rattle.line_editor.specs.Input.{Input, is_vi_command}
+use Rattle.line_editor.specs.Keymap.{Keymap, key_handler, keymap_of}
 use Rattle.line_editor.specs.Phrase.{Phrase, count_in_front, entered}
 use Rattle.line_editor.specs.Read.{Read}
 use Rattle.line_editor.specs.Reading.{LeftByCut}
@@ -95,6 +99,33 @@ abbrev pub EnoughUndo : Type 0
 EnoughUndo = (ruler : Ruler) (environment : Environment) (input : Input) (editor : Editor) (n : ℕ)
     → length editor.draft.changes.entries ≤ n
     → (step ruler environment input editor (undo n)).editor.draft.line.text ≡ start_text editor.draft
+
+-- neither a binding of the program nor the reader has a command for a key
+pub record IsFree (keymap : Keymap) (typed : KeyEvent) : Type 0 where
+  pub binding : key_handler keymap.bound typed ≡ None
+  pub own : keymap.own typed ≡ None
+
+-- the characters that begin an insertion: a, A, i and I
+abbrev pub insertion_chars : List ℕ
+insertion_chars = 97 ∷ 65 ∷ 105 ∷ 73 ∷ []
+
+-- the keys of an insertion, each typed alone: a character that begins it, those that come in, and Esc; and u behind them
+abbrev pub insertion_and_undo : ℕ → List ℕ → List KeyEvent
+insertion_and_undo first chars =
+    event (Char first) NONE ∷ map (λ c. event (Char c) NONE) chars ++ event Esc NONE ∷ event (Char 117) NONE ∷ []
+
+-- from Vi's command mode with no group of changes open, on a text with the cursor on a boundary, where none of the keys is bound: an
+-- insertion of at least one character, and u behind it, leave the text that was there before
+abbrev pub InsertionIsOneStep : Type 0
+InsertionIsOneStep = (keymap : Keymap) (ruler : Ruler) (environment : Environment) (editor last : Editor) (input i : Input) (first c : ℕ) (chars : List ℕ) (end : End)
+    → list_any (λ d. d == first) insertion_chars ≡ true
+    → All (IsFree keymap) (insertion_and_undo first (c ∷ chars))
+    → is_vi_command input ≡ true
+    → editor.draft.changes.open_groups ≡ 0
+    → IsUtf8 editor.draft.line.text
+    → IsCharBoundary editor.draft.line.text editor.draft.line.cursor
+    → Run keymap ruler environment editor input (map key (insertion_and_undo first (c ∷ chars))) last i end
+    → last.draft.line.text ≡ editor.draft.line.text
 
 -- the commands that search the history for what stands before the cursor
 abbrev pub searches : Command → Bool

@@ -1,5 +1,5 @@
 //! Laws of the definitions that the contracts cite. No call of the editor is made here.
-ghost use Rattle.line_editor.specs.Laws.{ComingBack, ComparesEvents, EnoughUndo, ExecutesNoMoreThanKeys, HasOneEnd, IsPrefixFree, ReadFromTheCut, ReadingAgain, TurnsAndRun, TwoRenderers, TurnsBeforeMore, TurnsFollow};
+ghost use Rattle.line_editor.specs.Laws.{ComingBack, ComparesEvents, EnoughUndo, ExecutesNoMoreThanKeys, HasOneEnd, InsertionIsOneStep, IsPrefixFree, ReadFromTheCut, ReadingAgain, TurnsAndRun, TwoRenderers, TurnsBeforeMore, TurnsFollow};
 
 use crate::edit::State;
 use line_config::Prompt;
@@ -59,6 +59,12 @@ pub fn a_turn_read_again_is_the_whole_phrases()
 /// An undo of at least as many steps as there are changes leaves the text that taking back all of them gives.
 pub fn enough_undo_gives_the_start()
     ensures { EnoughUndo }
+{}
+
+/// In Vi what was typed from one of the keys a, A, i and I to Esc goes with one undo, where at least one character was typed
+/// and nothing else was done between them.
+pub fn an_insertion_is_one_step()
+    ensures { InsertionIsOneStep }
 {}
 
 /// Where no command searches the history, the line that is being written comes back from the history as it was left, with
