@@ -1,5 +1,5 @@
 -- Phrases that were cut short, read again.
-use Rattle.std.proofs.Common.{◌≡◌, ◌≢◌, ◌⊎◌, inl, inr, true, List, [], ◌∷◌, ◌++◌, append_assoc, map, Option, Some, None, option_map, refl, sym, ◌∙◌, ap, subst}
+use Rattle.std.proofs.Common.{◌≡◌, ◌≢◌, ◌⊎◌, inl, inr, true, List, [], ◌∷◌, ◌++◌, map, Option, Some, None, option_map, refl, sym, ◌∙◌, ap, subst}
 use Rattle.std.specs.Prelude.{◌&&◌, not, option_and_then}
 use Rattle.std.specs.List.{list_all}
 use Rattle.line_buffer.specs.Changes.{last_insert_of}
@@ -9,7 +9,7 @@ use Rattle.line_keys.specs.Count.{continues_count, is_count_before}
 use Rattle.line_keys.specs.Draft.{Draft, hinted, out_of_group}
 use Rattle.line_keys.specs.Item.{Item, key}
 use Rattle.line_keys.specs.Redo.{bound_anew}
-use Rattle.line_keys.specs.Table.{Entry, row_of, stands_for}
+use Rattle.line_keys.specs.Table.{KeyEntry, row_of, stands_for}
 use Rattle.line_keys.specs.declared.keys.KeyEvent.{KeyEvent}
 use Rattle.line_keys.specs.declared.refresher.InputMode.TheVariants as modes
 use Rattle.line_editor.specs.Event.{keys}
@@ -65,7 +65,7 @@ reads-alike keymap environment draft other input items read phrase same =
     }
 
 -- whether a binding answers doesn't depend on how its command is done again
-same-source : (f g : Command → Command) (bound own : Option Command) (stands : Option KeyEvent) (entry other : Entry) (plain : KeyEvent)
+same-source : (f g : Command → Command) (bound own : Option Command) (stands : Option KeyEvent) (entry other : KeyEntry) (plain : KeyEvent)
     → first_source (option_map f bound) own stands entry ≡ by_phrase plain → first_source (option_map g bound) own stands other ≡ by_phrase plain
 same-source f g (Some b) own stands entry other plain is = absurd (cc)
 same-source f g None (Some b) stands entry other plain is = absurd (cc)

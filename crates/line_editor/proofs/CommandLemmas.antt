@@ -28,7 +28,7 @@ use Rattle.line_state.specs.Edited.{pops_text}
 use Rattle.line_editor.specs.Accept.{reply_to}
 use Rattle.line_editor.specs.Drawings.{asked_of, drawing_of, edited_asked, edited_drawn, edited_times, has_text, once_for, pop_drawn, reply_times, times_of, unhinted_drawn, validated_times, verdict_drawn}
 use Rattle.line_editor.specs.Editor.{Editor, Ruler, Step, edited_of, measuring, proceeding, ruler_of, with_draft}
-use Rattle.line_editor.specs.DraftEdits.{after_edit, kill_popped, killed_by, popped_in, replaced_by, text_inserted}
+use Rattle.line_editor.specs.DraftEdits.{after_edit, kill_popped, killed_by, popped_in, movement_replaced, text_inserted}
 use Rattle.line_editor.specs.Input.{Input}
 use Rattle.line_editor.specs.Outcomes.{DoesWithKills, Executed, Executes, editor_of}
 use Rattle.line_editor.specs.Status.{answer_at, answer_of}
@@ -420,12 +420,12 @@ replaced e x (Ok y) old mid new kills kills' movement range text killed put =
 
 -- the same of an equal text
 pub replaced_as : {X T : Type 0} (e : Ghosts X) (r : Result T ReadlineError) (old new : X) (kills kills' : Ring) (movement : Movement) (found : Bool) (put put' : Option (List ℕ)) → put ≡ put'
-    → DoesWithKills e r old kills new kills' (replaced_by (e.environment old) movement put (editor_of e old kills)) (drawn_if (found || has_text put))
+    → DoesWithKills e r old kills new kills' (movement_replaced (e.environment old) movement put (editor_of e old kills)) (drawn_if (found || has_text put))
     (once_for (drawn_if found) + once_for (drawn_if (has_text put)))
-    → DoesWithKills e r old kills new kills' (replaced_by (e.environment old) movement put' (editor_of e old kills)) (drawn_if (found || has_text put'))
+    → DoesWithKills e r old kills new kills' (movement_replaced (e.environment old) movement put' (editor_of e old kills)) (drawn_if (found || has_text put'))
     (once_for (drawn_if found) + once_for (drawn_if (has_text put')))
 replaced_as e r old new kills kills' movement found put put' same done =
-    subst (λ p. DoesWithKills e r old kills new kills' (replaced_by (e.environment old) movement p (editor_of e old kills)) (drawn_if (found || has_text p))
+    subst (λ p. DoesWithKills e r old kills new kills' (movement_replaced (e.environment old) movement p (editor_of e old kills)) (drawn_if (found || has_text p))
     (once_for (drawn_if found) + once_for (drawn_if (has_text p)))) same done
 
 -- what is killed, and nothing comes in its place

@@ -10,17 +10,11 @@ use Rattle.line_buffer.proofs.ListLemmas.{take_within_take}
 use Rattle.line_buffer.specs.Changes.{Entry, begins, deleted, ends, inserted, replaced, with_insert, with_joined_insert, with_typed}
 use Rattle.line_buffer.specs.Character.{is_alphanumeric}
 use Rattle.line_buffer.specs.Line.{Line}
-use Rattle.line_buffer.specs.Undo.{all_taken_back, cursor_before, is_change, text_before}
+use Rattle.line_buffer.specs.Undo.{all_taken_back, is_change}
 
 -- entries taken back from a text, wherever the cursor is, give this one
 abbrev pub TakesBack : List Entry → List ℕ → List ℕ → Type 0
 TakesBack entries text start = (cursor : ℕ) → (all_taken_back entries (record { text = text; cursor = cursor })).text ≡ start
-
--- the text that is left doesn't depend on the cursor
-same-text : (entries : List Entry) (text : List ℕ) (i j : ℕ)
-    → (all_taken_back entries (record { text = text; cursor = i })).text ≡ (all_taken_back entries (record { text = text; cursor = j })).text
-same-text [] text i j = refl
-same-text (e ∷ entries) text i j = same-text entries (text_before e text) (cursor_before e i) (cursor_before e j)
 
 pub takes-back : (entries : List Entry) (l : Line) (text start : List ℕ) → l.text ≡ text → TakesBack entries text start → (all_taken_back entries l).text ≡ start
 takes-back entries l text start is back =

@@ -19,7 +19,7 @@ use Rattle.line_editor.specs.Accept.{replied, reply_to, unhinted_by, validated}
 use Rattle.line_editor.specs.declared.command.Reply.{Reply}
 use Rattle.line_editor.specs.declared.command.Reply.TheVariants as reply
 use Rattle.line_editor.specs.Editor.{Editor, Ruler, edited_of, measuring}
-use Rattle.line_editor.specs.DraftEdits.{after_edit, completed, cursor_moved, kill_popped, kill_yanked, killed_by, perhaps_inserted, replaced_by, typed_in}
+use Rattle.line_editor.specs.DraftEdits.{after_edit, completed, cursor_moved, kill_popped, kill_yanked, killed_by, perhaps_inserted, movement_replaced, typed_in}
 use Rattle.line_editor.specs.HistoryMoves.{come_back, first_shown, is_own_line, line_shown, next_shown, previous_shown, saved_at_end}
 use Rattle.line_editor.specs.Input.{Input, is_vi_command}
 use Rattle.line_editor.specs.Laws.{ComingBack, after_commands, searches}
@@ -63,7 +63,7 @@ text_stays environment (Some text) draft =
     either_stays (length text == 0) draft draft (after_edit environment true (with_text text (edited_of draft)) draft)
     (record { saved = refl; index = refl }) (record { saved = refl; index = refl })
 
-replaced_stays : (environment : Environment) (movement : Movement) (text : Option (List ℕ)) (editor : Editor) → Stays editor.draft (replaced_by environment movement text editor).draft
+replaced_stays : (environment : Environment) (movement : Movement) (text : Option (List ℕ)) (editor : Editor) → Stays editor.draft (movement_replaced environment movement text editor).draft
 replaced_stays environment movement text editor =
     let left : Editor = killed_by environment movement editor (killed_range editor.draft.line movement) in
     then_stays editor.draft left.draft (perhaps_inserted environment text left.draft)
@@ -175,7 +175,7 @@ step_way ruler environment input draft kills (kill movement) none within =
     stays (killed_stays environment movement (ready (kill movement) draft kills) (killed_range draft.line movement))
 step_way ruler environment input draft kills (replace movement text) none within =
     let found : Editor = ready (replace movement text) draft kills in
-    stays (then_stays draft found.draft (replaced_by environment movement text found).draft (record { saved = refl; index = refl }) (replaced_stays environment movement text found))
+    stays (then_stays draft found.draft (movement_replaced environment movement text found).draft (record { saved = refl; index = refl }) (replaced_stays environment movement text found))
 step_way ruler environment input draft kills (yank n anchor) none within =
     let found : Editor = ready (yank n anchor) draft kills in
     stays (yanked_stays environment input anchor n (yanked_text found.kills) found)

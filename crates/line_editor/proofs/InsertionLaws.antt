@@ -1,23 +1,20 @@
 -- What was typed in an insertion of Vi goes with one undo.
-use Rattle.std.proofs.Common.{◌≡◌, ℕ, ◌+◌, ◌≤◌, ◌==◌, ◌||◌, nat_le, min, Bool, true, false, cond, not, ◌&&◌, List, [], ◌∷◌, ◌++◌, length, take, drop, map, Option, Some, None, is_some, option_map, refl, sym, ap, ap₂, ◌∙◌, subst, arith, inl, inr, length-append, length-drop}
+use Rattle.std.proofs.Common.{◌≡◌, ℕ, ◌+◌, ◌≤◌, ◌==◌, ◌||◌, nat_le, Bool, true, false, cond, List, [], ◌∷◌, ◌++◌, length, take, drop, map, Option, Some, None, refl, sym, ap, ap₂, ◌∙◌, subst, arith, inl, inr, length-append, length-drop}
 use Rattle.std.proofs.lemmas.Bool.Decides.{eqb_tells}
 use Rattle.std.proofs.lemmas.List.{length-take-le}
 use Rattle.std.proofs.lemmas.List.Elements.{All-head, All-tail}
-use Rattle.std.proofs.lemmas.List.Sums.{suffix_len-le-length}
 use Rattle.std.proofs.lemmas.Str.{IsUtf8-drop}
 use Rattle.std.specs.Char.{encode_utf8}
-use Rattle.std.specs.List.{All, concat, insert_slice, list_all, list_any, repeat, suffix_len}
-use Rattle.std.specs.Option.{option_and_then}
+use Rattle.std.specs.List.{All, concat, insert_slice, list_all, list_any, repeat}
 use Rattle.std.specs.Str.{IsCharBoundary, IsUtf8}
 use Rattle.line_buffer.proofs.ClusterLemmas.{clusters-cut}
 use Rattle.line_buffer.proofs.FrontLemmas.{length-line_from, line_fits}
 use Rattle.line_buffer.proofs.GroupLemmas.{closed_group}
-use Rattle.line_buffer.specs.Changes.{Changes, Entry, begins, begun, ended, with_entries, with_typed}
+use Rattle.line_buffer.specs.Changes.{Changes, Entry, begun, ended, with_entries, with_typed}
 use Rattle.line_buffer.specs.Cluster.{clusters, place_back, place_on}
 use Rattle.line_buffer.specs.declared.movement.CharSearch.{CharSearch}
 use Rattle.line_buffer.specs.declared.movement.Movement.TheVariants.{BackwardChar, BeginningOfLine, EndOfLine, ForwardChar}
-use Rattle.line_buffer.specs.Line.{Line, after, before, is_no_newline, moved_to, start_of_line}
-use Rattle.line_buffer.specs.Lines.{line_from}
+use Rattle.line_buffer.specs.Line.{Line, after, moved_to}
 use Rattle.line_buffer.specs.Undo.{all_taken_back, is_change, newest_steps}
 use Rattle.line_config.specs.declared.config.EditMode.{EditMode}
 use Rattle.line_config.specs.declared.config.EditMode.TheVariants.{Emacs, Vi}
@@ -27,8 +24,7 @@ use Rattle.line_keys.specs.Count.{is_count_before}
 use Rattle.line_keys.specs.Draft.{Draft}
 use Rattle.line_keys.specs.Item.{Item, key}
 use Rattle.line_keys.specs.Key.{event}
-use Rattle.line_keys.specs.Table as tables
-use Rattle.line_keys.specs.Table.{gives, row_of, stands_for}
+use Rattle.line_keys.specs.Table.{KeyEntry, gives, row_of, stands_for}
 use Rattle.line_keys.specs.declared.keys.KeyCode.TheVariants.{Char, Esc}
 use Rattle.line_keys.specs.declared.keys.KeyEvent.{KeyEvent}
 use Rattle.line_keys.specs.declared.keys.TheConstants.Modifiers.{NONE}
@@ -36,17 +32,17 @@ use Rattle.line_keys.specs.declared.refresher.InputMode.{InputMode}
 use Rattle.line_keys.specs.declared.refresher.InputMode.TheVariants as modes
 use Rattle.line_keys.specs.declared.tables.Grouping.{Grouping}
 use Rattle.line_keys.specs.declared.tables.Grouping.TheVariants as groups
-use Rattle.line_state.specs.Edited.{Edited, undone}
-use Rattle.line_editor.specs.DraftEdits.{after_edit}
+use Rattle.line_state.specs.Edited.{undone}
 use Rattle.line_editor.specs.Editor.{Answer, Editor, Ruler, Step, edited_of, proceeds}
-use Rattle.line_editor.specs.Input.{Input, is_vi_command, is_vi_command_mode}
-use Rattle.line_editor.specs.Keymap.{Keymap, bound_command, key_handler, on_line}
+use Rattle.line_editor.specs.Input.{Input, is_vi_command_mode}
+use Rattle.line_editor.specs.Keymap.{Keymap, bound_command, on_line}
 use Rattle.line_editor.specs.Laws.{InsertionIsOneStep, IsFree, insertion_and_undo, insertion_chars}
-use Rattle.line_editor.specs.Phrase.{listed, of_mode, remembered, with_group}
+use Rattle.line_editor.specs.Phrase.{listed, of_mode, remembered_behind, with_group}
 use Rattle.line_editor.specs.Read.{Read, quiet_read, read_behind}
-use Rattle.line_editor.specs.Run.{End, Run, Turn, Turns, dry, first, none, ready, runs_dry}
+use Rattle.line_editor.specs.Run.{Run, Turn, Turns, dry, first, none, ready, runs_dry}
 use Rattle.line_editor.specs.Step.{step}
 use Rattle.line_editor.specs.Tail.{alone}
+use Rattle.line_editor.proofs.EditLemmas.{moved_text}
 use Rattle.line_editor.proofs.GrownLemmas.{GrownBy, TakesBack, takes-back, typed-grows}
 use Rattle.line_editor.proofs.PhraseLemmas.{nothing-begins, row-read}
 use Rattle.line_editor.proofs.RunLaws.{runs-fit}
@@ -92,10 +88,6 @@ none-of false false true s a b c d is = absurd (cc)
 none-of false false false true a b c d is = absurd (cc)
 none-of false false false false a b c d is = absurd (cc)
 
-moved-text : (l : Line) (place : Option ℕ) → (moved_to l place).text ≡ l.text
-moved-text l None = refl
-moved-text l (Some place) = refl
-
 -- ---- one key
 
 -- no binding and no command of the reader stands before the tables
@@ -110,17 +102,17 @@ module _ (keymap : Keymap) (ruler : Ruler) (environment : Environment) where
   -- the step of a key of the tables that gives a command
   abbrev step_of : Editor → Input → Option InputMode → Grouping → Command → Step
   step_of editor input enters group command =
-      step ruler environment (remembered input.style enters input command input.last_search)
+      step ruler environment (remembered_behind input.style enters input command input.last_search)
       (ready command (with_group group editor.draft) editor.kills) command
 
   turn-of : (editor : Editor) (input : Input) (k : KeyEvent) (more : List Item) (enters : Option InputMode) (group : Grouping) (command : Command)
       → IsFree keymap k → None ≡ stands_for input.style input.mode k → is_count_before input.style input.mode [] k ≡ true
       → record { meaning = gives command; enters = enters; group = group } ≡ (row_of input.style input.mode k editor.draft).entry None
       → Turn keymap ruler environment editor input (key k ∷ more)
-      (step_of editor input enters group command).editor (remembered input.style enters input command input.last_search) more
+      (step_of editor input enters group command).editor (remembered_behind input.style enters input command input.last_search) more
       (step_of editor input enters group command).answer
   turn-of editor input k more enters group command free stays counted is =
-      let entry : tables.Entry = record { meaning = gives command; enters = enters; group = group } in
+      let entry : KeyEntry = record { meaning = gives command; enters = enters; group = group } in
       let behind : Read = listed entry input (quiet_read editor.draft input [] command) in
       record {
         phrase = key k ∷ [];
@@ -203,7 +195,7 @@ module _ (keymap : Keymap) (ruler : Ruler) (environment : Environment) where
           left = commanding change search;
           turns = first there (first back none);
           text = ap (λ (x : Line). x.text) (edited_line environment (list_any is_change (newest_steps 1 middle.draft.changes.entries)) (undone 1 (edited_of middle.draft)) middle.draft ∙ undone_line)
-              ∙ takes-back grown.inside l editor.draft.line.text start.draft.line.text (moved-text editor.draft.line (place_back editor.draft.line 1)) grown.back;
+              ∙ takes-back grown.inside l editor.draft.line.text start.draft.line.text (moved_text editor.draft.line (place_back editor.draft.line 1)) grown.back;
         }
 
     rest-undone : start.draft.changes.open_groups ≡ 0 → (chars : List ℕ) (editor : Editor) (change : Option Command) (search : Option CharSearch)
@@ -212,7 +204,7 @@ module _ (keymap : Keymap) (ruler : Ruler) (environment : Environment) where
     rest-undone closed [] editor change search grown free = ended-and-undone closed editor change search grown free
     rest-undone closed (c ∷ chars) editor change search grown free =
         let step = step_of editor (inserting change search) None groups.Stay (self_insert 1 c) in
-        let left : Input = remembered Vi None (inserting change search) (self_insert 1 c) search in
+        let left : Input = remembered_behind Vi None (inserting change search) (self_insert 1 c) search in
         let turn = turn-of editor (inserting change search) (plain c) (map key (rest_of chars)) None groups.Stay (self_insert 1 c)
         (All-head (IsFree keymap) (plain c) (rest_of chars) free) refl refl refl in
         let more = rest-undone closed chars step.editor left.last_change search (typed-on editor (inserting change search) c 1 grown)
@@ -225,7 +217,7 @@ module _ (keymap : Keymap) (ruler : Ruler) (environment : Environment) where
         → TakenBack editor (inserting change search) (map key (rest_of (c ∷ chars)))
     chars-undone closed c chars editor change search grown free =
         let step = step_of editor (inserting change search) None groups.Stay (self_insert 1 c) in
-        let left : Input = remembered Vi None (inserting change search) (self_insert 1 c) search in
+        let left : Input = remembered_behind Vi None (inserting change search) (self_insert 1 c) search in
         let turn = turn-of editor (inserting change search) (plain c) (map key (rest_of chars)) None groups.Stay (self_insert 1 c)
         (All-head (IsFree keymap) (plain c) (rest_of chars) free) refl refl refl in
         let more = rest-undone closed chars step.editor left.last_change search (typed-on editor (inserting change search) c 0 grown)
@@ -237,7 +229,7 @@ module _ (keymap : Keymap) (ruler : Ruler) (environment : Environment) where
         → start.draft.changes.open_groups ≡ 0 → All (IsFree keymap) (plain k ∷ rest_of (c ∷ chars))
         → is_count_before Vi modes.Command [] (plain k) ≡ true
         → record { meaning = gives command; enters = Some modes.Insert; group = groups.Begin } ≡ (row_of Vi modes.Command (plain k) start.draft).entry None
-        → remembered Vi (Some modes.Insert) (commanding change search) command search ≡ inserting change search
+        → remembered_behind Vi (Some modes.Insert) (commanding change search) command search ≡ inserting change search
         → (step_of start (commanding change search) (Some modes.Insert) groups.Begin command).answer ≡ proceeds
         → Grown start (step_of start (commanding change search) (Some modes.Insert) groups.Begin command).editor 0
         → TakenBack start (commanding change search) (map key (plain k ∷ rest_of (c ∷ chars)))
@@ -250,7 +242,7 @@ module _ (keymap : Keymap) (ruler : Ruler) (environment : Environment) where
         record {
           last = more.last;
           left = more.left;
-          turns = first (subst (λ i. P i proceeds) left (subst (λ a. P (remembered Vi (Some modes.Insert) (commanding change search) command search) a) answers turn)) more.turns;
+          turns = first (subst (λ i. P i proceeds) left (subst (λ a. P (remembered_behind Vi (Some modes.Insert) (commanding change search) command search) a) answers turn)) more.turns;
           text = more.text;
         }
 
@@ -277,7 +269,7 @@ module _ (keymap : Keymap) (ruler : Ruler) (environment : Environment) where
 
       behind_char : Undone 97
       behind_char free = begun-undone 97 c chars change search (move (ForwardChar 1)) closed free refl refl refl refl
-          (just-begun (left_by (move (ForwardChar 1))) refl (moved-text start.draft.line (place_on start.draft.line 1)) (subst (λ (t : List ℕ). (moved_to start.draft.line (place_on start.draft.line 1)).cursor ≤ length t) (sym (moved-text start.draft.line (place_on start.draft.line 1))) (within-on start.draft.line is_text boundary)))
+          (just-begun (left_by (move (ForwardChar 1))) refl (moved_text start.draft.line (place_on start.draft.line 1)) (subst (λ (t : List ℕ). (moved_to start.draft.line (place_on start.draft.line 1)).cursor ≤ length t) (sym (moved_text start.draft.line (place_on start.draft.line 1))) (within-on start.draft.line is_text boundary)))
 
       behind_line : Undone 65
       behind_line free = begun-undone 65 c chars change search (move EndOfLine) closed free refl refl refl refl

@@ -1,12 +1,10 @@
 -- Facts on the motions of operators.
-use Rattle.std.proofs.Common.{◌≡◌, ◌≢◌, ℕ, true, append_assoc, List, [], ◌∷◌, ◌++◌, map, Option, option_map, refl, sym, ◌∙◌, ap, subst}
-use Rattle.std.specs.List.{list_all}
-use Rattle.line_buffer.specs.declared.movement.CharSearch.{CharSearch}
+use Rattle.std.proofs.Common.{◌≡◌, ℕ, true, append_assoc, List, [], ◌∷◌, ◌++◌, map, option_map, refl, sym, ◌∙◌, ap, subst}
 use Rattle.line_buffer.specs.declared.movement.Movement.TheVariants.{ViCharSearch}
 use Rattle.line_config.specs.declared.config.EditMode.TheVariants.{Vi}
 use Rattle.line_parts.specs.Environment.{Environment}
 use Rattle.line_keys.specs.Command.{unknown}
-use Rattle.line_keys.specs.Count.{begins_count, continues_count, is_count_before}
+use Rattle.line_keys.specs.Count.{is_count_before}
 use Rattle.line_keys.specs.Draft.{Draft}
 use Rattle.line_keys.specs.Item.{Item, key}
 use Rattle.line_keys.specs.Motion.{Motion, covers, covers_last, covers_search, no_motion, operated, search_to}
@@ -15,9 +13,9 @@ use Rattle.line_keys.specs.declared.refresher.InputMode.TheVariants as modes
 use Rattle.line_keys.specs.declared.tables.Operator.{Operator}
 use Rattle.line_editor.specs.Input.{Input}
 use Rattle.line_editor.specs.Operation.{Operated, Reaches, by_movement, motion_behind, nowhere, operated_if, to_character, to_last}
-use Rattle.line_editor.specs.Read.{Read, after_count, quiet_read, read_behind, searched}
-use Rattle.line_editor.specs.Shown.{Shown, counting_on, shown_behind}
-use Rattle.line_editor.proofs.KeyFitLemmas.{enter, is-count, keys-fit}
+use Rattle.line_editor.specs.Read.{Read, after_count, quiet_read, read_behind, searched_read}
+use Rattle.line_editor.specs.ItemShown.{ItemShown, counting_on, shown_behind}
+use Rattle.line_editor.proofs.KeyFitLemmas.{enter, keys-fit}
 use Rattle.line_editor.proofs.ListFitLemmas.{nothing-behind, one-item, same-key}
 
 -- the same as `Reaches`, by equations for each motion
@@ -25,7 +23,7 @@ abbrev IsReach : Draft → Input → Operator → Motion → List Item → Read 
 IsReach draft input operator (covers movement) tail read = (tail ≡ []) × (read ≡ quiet_read draft input [] (operated operator movement))
 IsReach draft input operator (covers_search n by) tail read =
     (second : KeyEvent) × (tail ≡ key second ∷ [])
-    × (read ≡ searched draft input (key second ∷ []) (λ movement. operated_if operator movement) n (search_to by second))
+    × (read ≡ searched_read draft input (key second ∷ []) (λ movement. operated_if operator movement) n (search_to by second))
 IsReach draft input operator (covers_last n change) tail read =
     (tail ≡ []) × (read ≡ quiet_read draft input [] (operated_if operator (option_map (λ search. ViCharSearch n (change search)) input.last_search)))
 IsReach draft input operator no_motion tail read = (tail ≡ []) × (read ≡ quiet_read draft input [] unknown)
@@ -42,7 +40,7 @@ IsReach-fit : (d : Draft) (i : Input) (operator : Operator) (motion : Motion) (t
 IsReach-fit d i operator (covers movement) tail more c c' h k = (nothing-behind tail more h.0 k.0, h.1 ∙ sym k.1)
 IsReach-fit d i operator (covers_search n by) tail more c c' h k =
     let one = one-item (key h.0) (key k.0) tail more h.1 k.1 in
-    (one.0, h.2 ∙ ap (λ x. searched d i (key x ∷ []) (λ movement. operated_if operator movement) n (search_to by x)) (same-key h.0 k.0 one.1) ∙ sym k.2)
+    (one.0, h.2 ∙ ap (λ x. searched_read d i (key x ∷ []) (λ movement. operated_if operator movement) n (search_to by x)) (same-key h.0 k.0 one.1) ∙ sym k.2)
 IsReach-fit d i operator (covers_last n change) tail more c c' h k = (nothing-behind tail more h.0 k.0, h.1 ∙ sym k.1)
 IsReach-fit d i operator no_motion tail more c c' h k = (nothing-behind tail more h.0 k.0, h.1 ∙ sym k.1)
 
@@ -71,7 +69,7 @@ enter-nowhere operator n (first ∷ more) = refl
 -- keys of a count are a motion with Enter behind them, which is none
 pub enter-ends-motion : (environment : Environment) (d : Draft) (i : Input) (operator : Operator) (n : ℕ) (typed : List KeyEvent)
     → is_count_before Vi modes.Command typed enter ≡ true
-    → (read : Read) × (later : List Shown) × Operated environment d i operator n (map key typed ++ (key enter ∷ [])) read × (read.shown ≡ counting_on [] typed ++ later)
+    → (read : Read) × (later : List ItemShown) × Operated environment d i operator n (map key typed ++ (key enter ∷ [])) read × (read.shown ≡ counting_on [] typed ++ later)
 enter-ends-motion environment d i operator n typed counted =
     let left : Draft = after_count environment typed d in
     let behind : Read = quiet_read left i [] unknown in

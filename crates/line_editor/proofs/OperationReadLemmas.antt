@@ -1,10 +1,10 @@
 -- Facts on motions that are read.
-use Rattle.std.proofs.Common.{◌≡◌, ℕ, ◌++◌, true, false, List, [], ◌∷◌, map, Result, Ok, Err, refl, sym, ◌∙◌, ap, subst}
+use Rattle.std.proofs.Common.{◌≡◌, ℕ, true, false, List, [], ◌∷◌, Result, Ok, Err, refl, ◌∙◌, ap, subst}
 use Rattle.line_config.specs.Failures.{CountsFailures}
 use Rattle.line_config.specs.declared.config.EditMode.TheVariants.{Vi}
 use Rattle.line_config.specs.declared.error.ReadlineError.{ReadlineError}
-use Rattle.line_keys.specs.Command.{Command, command_of}
-use Rattle.line_keys.specs.Count.{begins_count, count_of}
+use Rattle.line_keys.specs.Command.{command_of}
+use Rattle.line_keys.specs.Count.{begins_count}
 use Rattle.line_keys.specs.Draft.{Draft}
 use Rattle.line_keys.specs.Item.{Item, ReadFault, key}
 use Rattle.line_keys.specs.Motion.{Motion, motion_of, multiplied}
@@ -14,12 +14,11 @@ use Rattle.line_keys.specs.declared.keys.KeyEvent.{KeyEvent}
 use Rattle.line_keys.specs.declared.raw_reader.RawReader as readers
 use Rattle.line_keys.specs.declared.refresher.InputMode.TheVariants as modes
 use Rattle.line_keys.specs.declared.tables.Operator.{Operator}
-use Rattle.line_parts.specs.Environment.{Environment}
 use Rattle.line_editor.specs.Input.{Input}
 use Rattle.line_editor.specs.InputState.{behind_input}
 use Rattle.line_editor.specs.Keymap.{KeyState}
 use Rattle.line_editor.specs.Operation.{Operated, Reaches, motion_behind}
-use Rattle.line_editor.specs.Read.{Read, after_count, read_behind}
+use Rattle.line_editor.specs.Read.{Read}
 use Rattle.line_editor.specs.Reading.{EndsQuietly, GivesQuietly, OnRead, ReadsCount, ReadsPart, TakesItems}
 use Rattle.line_editor.specs.declared.input_state.tails.Behind.{Behind}
 use Rattle.line_editor.proofs.KeyFitLemmas.{enter, enter-ends, is-count, is-no-count}

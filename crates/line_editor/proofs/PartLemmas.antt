@@ -1,5 +1,5 @@
 -- Facts on the parts of a phrase that are read.
-use Rattle.std.proofs.Common.{◌≡◌, ℕ, ◌+◌, ◌≤◌, ◌++◌, List, [], ◌∷◌, length, Result, Ok, Err, true, false, refl, sym, ◌∙◌, ap, arith}
+use Rattle.std.proofs.Common.{◌≡◌, ◌++◌, List, [], Result, Ok, Err, true, false, refl, sym, ◌∙◌, ap, arith}
 use Rattle.line_config.specs.Error.{is_fault, is_io, is_memory}
 use Rattle.line_config.specs.declared.error.ReadlineError.{ReadlineError}
 use Rattle.line_config.specs.declared.error.ReadlineError.TheVariants.{Eof, Interrupted, Io, Memory}
@@ -15,7 +15,7 @@ use Rattle.line_editor.specs.Input.{Input}
 use Rattle.line_editor.specs.Keymap.{KeyState}
 use Rattle.line_editor.specs.Read.{Read, quiet_read}
 use Rattle.line_editor.specs.Reading.{Ends, Gives, OnRead, ReadsPart}
-use Rattle.line_editor.specs.Shown.{asked_behind}
+use Rattle.line_editor.specs.ItemShown.{asked_behind}
 use Rattle.line_editor.proofs.CountLemmas.{rises_stays}
 use Rattle.line_editor.proofs.DrawnLemmas.{frame_then}
 use Rattle.line_editor.proofs.ReadingLemmas.{frame_stays}

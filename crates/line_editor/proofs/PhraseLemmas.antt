@@ -9,7 +9,7 @@ use Rattle.line_keys.specs.Command.{Command}
 use Rattle.line_keys.specs.Count.{begins_count, continues_count, is_count_before}
 use Rattle.line_keys.specs.Draft.{Draft, out_of_group}
 use Rattle.line_keys.specs.Item.{Item, key}
-use Rattle.line_keys.specs.Table.{Entry, count_or_one, row_of, stands_for}
+use Rattle.line_keys.specs.Table.{KeyEntry, count_or_one, row_of, stands_for}
 use Rattle.line_keys.specs.declared.count.Count.{Count}
 use Rattle.line_keys.specs.declared.keys.KeyEvent.{KeyEvent}
 use Rattle.line_keys.specs.declared.refresher.InputMode.{InputMode}
@@ -17,12 +17,12 @@ use Rattle.line_keys.specs.declared.refresher.InputMode.TheVariants as modes
 use Rattle.line_editor.specs.Input.{Input, in_mode}
 use Rattle.line_editor.specs.Keymap.{Keymap, Source, bound_command, by_binding, by_phrase, by_reader, by_table, first_source, on_line, source_of}
 use Rattle.line_editor.specs.Laws.{IsPrefixFree}
-use Rattle.line_editor.specs.Phrase.{Answers, Keyed, Nested, Phrase, Spelled, behind_alt, behind_key, entered_by, listed, of_mode, typed_count}
+use Rattle.line_editor.specs.Phrase.{Answers, Keyed, Phrase, Spelled, behind_alt, behind_key, entered_by, listed, of_mode, typed_count}
 use Rattle.line_editor.specs.Read.{Read, after_count, quiet_read, read_behind}
 use Rattle.line_editor.specs.Sequence.{Sequences, sequences_of}
-use Rattle.line_editor.specs.Shown.{Shown, counting_on, shown_behind}
+use Rattle.line_editor.specs.ItemShown.{ItemShown, counting_on, shown_behind}
 use Rattle.line_editor.specs.Tail.{Tailed, alone}
-use Rattle.line_editor.proofs.KeyFitLemmas.{enter, enter-begins-none, enter-ends, fails, is-count, is-no-count, keys-fit}
+use Rattle.line_editor.proofs.KeyFitLemmas.{enter, enter-begins-none, enter-ends, is-count, is-no-count, keys-fit}
 use Rattle.line_editor.proofs.ListFitLemmas.{nothing-behind}
 use Rattle.line_editor.proofs.TailedLemmas.{Tailed-fit}
 
@@ -59,7 +59,7 @@ none-counts Vi InputMode.Insert first k plain stands = refl
 none-counts Vi InputMode.Replace first k plain stands = refl
 
 -- a key that a source sends to command mode stands for the plain one
-stands-there : (bound own : Option Command) (stands : Option KeyEvent) (entry : Entry) (plain : KeyEvent)
+stands-there : (bound own : Option Command) (stands : Option KeyEvent) (entry : KeyEntry) (plain : KeyEvent)
     → first_source bound own stands entry ≡ by_phrase plain → stands ≡ Some plain
 stands-there (Some b) own stands entry plain is = absurd (cc)
 stands-there None (Some b) stands entry plain is = absurd (cc)
@@ -139,7 +139,7 @@ enter-stands Vi InputMode.Insert = refl
 enter-stands Vi InputMode.Replace = refl
 
 -- a key with nothing behind it in the tables has nothing behind it
-first-answers : (s : Sequences) (w : Environment) (draft : Draft) (input : Input) (last : KeyEvent) (bound own : Option Command) (entry : Entry)
+first-answers : (s : Sequences) (w : Environment) (draft : Draft) (input : Input) (last : KeyEvent) (bound own : Option Command) (entry : KeyEntry)
     → (read : Read) × Tailed s w draft input last entry.meaning [] read → (read : Read) × Answers s w draft input last (first_source bound own None entry) [] read
 first-answers s w draft input last (Some b) own entry given = (quiet_read draft input [] b, (refl, refl))
 first-answers s w draft input last None (Some b) entry given = (quiet_read draft input [] b, (refl, refl))
@@ -149,7 +149,7 @@ pub enter-answers : (keymap : Keymap) (environment : Environment) (draft : Draft
     → (read : Read) × Keyed keymap environment draft input typed enter [] read
 enter-answers keymap environment draft input typed =
     let s = sequences_of keymap.bound draft input (count_or_one typed) in
-    let entry : Entry = (row_of input.style input.mode enter draft).entry typed in
+    let entry : KeyEntry = (row_of input.style input.mode enter draft).entry typed in
     let P : Option KeyEvent → Type 0 = λ o. (read : Read) × Answers s environment draft input enter
     (first_source (bound_command keymap draft input typed enter) (on_line draft.line.text (keymap.own enter)) o entry) [] read in
     subst P (sym (enter-stands input.style input.mode))
@@ -159,7 +159,7 @@ enter-answers keymap environment draft input typed =
 -- Enter ends keys of a count, and the count is a phrase then
 pub enter-ends-count : (keymap : Keymap) (environment : Environment) (draft : Draft) (input : Input) (typed : List KeyEvent)
     → is_count_before input.style input.mode typed enter ≡ true
-    → (read : Read) × (later : List Shown) × Spelled keymap environment draft input (map key typed ++ (key enter ∷ [])) read × (read.shown ≡ counting_on [] typed ++ later)
+    → (read : Read) × (later : List ItemShown) × Spelled keymap environment draft input (map key typed ++ (key enter ∷ [])) read × (read.shown ≡ counting_on [] typed ++ later)
 enter-ends-count keymap environment draft input typed counted =
     let answers = enter-answers keymap environment (after_count environment typed draft) input (typed_count typed) in
     let phrase : Spelled keymap environment draft input (map key typed ++ (key enter ∷ [])) (read_behind typed answers.0) =
@@ -176,7 +176,7 @@ nothing-begins keymap environment draft input =
 -- keys of a count go on to a phrase of their mode
 pub inside-begins : (keymap : Keymap) (environment : Environment) (draft : Draft) (input : Input) (first : KeyEvent)
     → begins_count input.style input.mode first ≡ true → (more : List KeyEvent) → list_all (continues_count input.style) more ≡ true
-    → (read : Read) × (later : List Shown) × Spelled keymap environment draft input (map key (first ∷ more) ++ (key enter ∷ [])) read
+    → (read : Read) × (later : List ItemShown) × Spelled keymap environment draft input (map key (first ∷ more) ++ (key enter ∷ [])) read
     × (read.shown ≡ counting_on [] (first ∷ more) ++ later)
 inside-begins keymap environment draft input first begins more all =
     enter-ends-count keymap environment draft input (first ∷ more) (is-count input.style input.mode first more enter begins all (enter-ends input.style))
@@ -185,19 +185,19 @@ module _ (keymap : Keymap) (environment : Environment) (draft : Draft) (input : 
   abbrev those : Sequences
   those = sequences_of keymap.bound draft input (count_or_one typed)
 
-  abbrev here : Entry
+  abbrev here : KeyEntry
   here = (row_of input.style input.mode k draft).entry typed
 
-  abbrev told_by : Option Command → Option Command → Option KeyEvent → Entry → List Item → Read → Type 0
+  abbrev told_by : Option Command → Option Command → Option KeyEvent → KeyEntry → List Item → Read → Type 0
   told_by bound own stands entry tail read = Answers those environment draft input k (first_source bound own stands entry) tail read
 
   -- what is read behind a key without a binding is read by its meaning
-  pub row-read : (entry : Entry) (tail : List Item) (read : Read)
+  pub row-read : (entry : KeyEntry) (tail : List Item) (read : Read)
       → None ≡ bound_command keymap draft input typed k → None ≡ on_line draft.line.text (keymap.own k) → None ≡ stands_for input.style input.mode k
       → entry ≡ here → Tailed those environment draft input k entry.meaning tail read
       → Keyed keymap environment draft input typed k tail (listed entry input read)
   row-read entry tail read unbound unowned stays is tailed =
-      let A : Entry → Type 0 = λ x. told_by None None None x tail (listed entry input read) in
+      let A : KeyEntry → Type 0 = λ x. told_by None None None x tail (listed entry input read) in
       let B : Option KeyEvent → Type 0 = λ o. told_by None None o here tail (listed entry input read) in
       let C : Option Command → Type 0 = λ o. told_by None o (stands_for input.style input.mode k) here tail (listed entry input read) in
       let D : Option Command → Type 0 = λ o. told_by o (on_line draft.line.text (keymap.own k)) (stands_for input.style input.mode k) here tail (listed entry input read) in

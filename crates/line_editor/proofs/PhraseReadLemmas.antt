@@ -1,5 +1,5 @@
 -- Facts on phrases that are read.
-use Rattle.std.proofs.Common.{◌≡◌, ◌≢◌, ◌+◌, ◌<◌, true, false, ◌++◌, append_assoc, List, [], ◌∷◌, length, map, Option, Some, None, Result, Ok, Err, refl, sym, ◌∙◌, ap, subst, arith}
+use Rattle.std.proofs.Common.{◌≡◌, ◌<◌, true, false, ◌++◌, List, [], ◌∷◌, length, map, Option, Some, None, Result, Ok, Err, refl, sym, ◌∙◌, ap, subst, arith}
 use Rattle.std.proofs.lemmas.List.{length-append}
 use Rattle.std.specs.Prelude.{IfOk}
 use Rattle.line_config.specs.Error.{MemoryOnly, is_memory}
@@ -10,7 +10,7 @@ use Rattle.line_keys.specs.Count.{begins_count, count_of}
 use Rattle.line_keys.specs.Draft.{Draft, KeepsLine, out_of_group, start_text}
 use Rattle.line_keys.specs.Drawing.{DrewNothing, Undrawn}
 use Rattle.line_keys.specs.Item.{Item, ReadFault, key}
-use Rattle.line_keys.specs.Table.{Entry, count_or_one, row_of, stands_for}
+use Rattle.line_keys.specs.Table.{KeyEntry, count_or_one, row_of, stands_for}
 use Rattle.line_keys.specs.declared.cmd.Cmd.{Cmd}
 use Rattle.line_keys.specs.declared.count.Count.{Count}
 use Rattle.line_keys.specs.declared.editor_state.EditorState as editors
@@ -23,11 +23,11 @@ use Rattle.line_editor.specs.Editor.{grouped}
 use Rattle.line_editor.specs.Input.{Input, in_mode}
 use Rattle.line_editor.specs.InputState.{behind_input}
 use Rattle.line_editor.specs.Keymap.{KeyState, Keymap, bound_command, by_phrase, keymap_of, on_line, source_of}
-use Rattle.line_editor.specs.Phrase.{Keyed, Phrase, Spelled, behind_alt, behind_key, changed_by, entered, entered_by, listed, of_mode, remembered, with_group}
+use Rattle.line_editor.specs.Phrase.{Keyed, Phrase, Spelled, behind_alt, behind_key, changed_by, entered, entered_by, listed, of_mode, remembered_behind, with_group}
 use Rattle.line_editor.specs.Read.{Read, after_count, quiet_read, read_behind}
-use Rattle.line_editor.specs.Reading.{Ends, Gives, OnRead, PhraseHere, ReadsCommand, ReadsCount, ReadsPart, entered_here}
+use Rattle.line_editor.specs.Reading.{PhraseHere, ReadsCommand, ReadsCount, ReadsPart, entered_here}
 use Rattle.line_editor.specs.Sequence.{sequences_of}
-use Rattle.line_editor.specs.Shown.{asked_behind}
+use Rattle.line_editor.specs.ItemShown.{asked_behind}
 use Rattle.line_editor.specs.Tail.{Tailed}
 use Rattle.line_editor.specs.declared.input_state.tails.Behind.{Behind}
 use Rattle.line_editor.proofs.CountLemmas.{rises_stays, stays_then}
@@ -36,7 +36,7 @@ use Rattle.line_editor.proofs.GroupLemmas.{start_ended}
 use Rattle.line_editor.proofs.KeyFitLemmas.{is-count, is-no-count}
 use Rattle.line_editor.proofs.PartLemmas.{at_once_part, failure_retold, part_mapped, part_retold, part_then_memory}
 use Rattle.line_editor.proofs.PhraseLemmas.{inside-begins, none-counts, nothing-begins, row-read}
-use Rattle.line_editor.proofs.ReadingLemmas.{count_goes_wrong, counted, frame_stays, key_fails, key_taken, on_error, plainly, unless_fault_then, unless_io}
+use Rattle.line_editor.proofs.ReadingLemmas.{count_goes_wrong, counted, frame_stays, key_fails, key_taken, plainly}
 use Rattle.line_editor.proofs.ShownLemmas.{counts_after, counts_kept, so_far_after}
 
 -- a key without a count, and what belongs to it, is a phrase of its mode
@@ -123,7 +123,7 @@ alone_part e r command input editor keys reader k y plain stands keyed same stay
     (plain_part e r command input editor keys reader keys.input k (Ok y) editor reader (none-counts keys.input.style keys.input.mode k k plain stands)
     (at_once_part e r Behind (λ c d. d) command input y keys.input editor keys reader keyed same))
 
-module _ {X Y : Type 0} (e : editors.Ghosts X) (r : readers.Ghosts Y) (editor : X) (keys : KeyState) (reader : Y) (i : Input) (k : KeyEvent) (typed : Option Count) (count : Count) (entry : Entry)
+module _ {X Y : Type 0} (e : editors.Ghosts X) (r : readers.Ghosts Y) (editor : X) (keys : KeyState) (reader : Y) (i : Input) (k : KeyEvent) (typed : Option Count) (count : Count) (entry : KeyEntry)
     (unbound : None ≡ bound_command (keymap_of keys (r.own_binding reader)) (e.draft editor) i typed k)
     (unowned : None ≡ on_line (e.draft editor).line.text (r.own_binding reader k)) (stays : None ≡ stands_for i.style i.mode k)
     (is_row : entry ≡ (row_of i.style i.mode k (e.draft editor)).entry typed) (is_count : count ≡ count_or_one typed) where
@@ -181,13 +181,13 @@ module _ {X Y : Type 0} (e : editors.Ghosts X) (r : readers.Ghosts Y) (editor : 
         → ReadsPart e r TailedHere [] (e.draft editor) (λ c d. d) (λ (b : Behind). command_of b.command) (λ b. behind_input b i) (Ok b) editor keys reader mid reader'
         → e.draft new ≡ with_group entry.group (e.draft mid) → KeepsLine (e.draft mid) (e.draft new) → (e.draft new).hint ≡ (e.draft mid).hint
         → start_text (e.draft new) ≡ start_text (e.draft mid) → Undrawn e mid new
-        → command y ≡ command_of b.command → input y ≡ remembered i.style entry.enters i (command_of b.command) b.search
+        → command y ≡ command_of b.command → input y ≡ remembered_behind i.style entry.enters i (command_of b.command) b.search
         → ReadsPart e r ByRow [] (e.draft editor) (λ c d. d) command input (Ok y) editor keys reader new reader'
     row_read b y mid new reader' part draft line hint start undrawn same_command same_input =
         let was = part.read in
-        let told : remembered i.style entry.enters i was.read.command was.read.input.last_search ≡ input y =
-        ap (λ c. remembered i.style entry.enters i c was.read.input.last_search) was.command_read
-        ∙ ap (λ (x : Input). remembered i.style entry.enters i (command_of b.command) x.last_search) was.input_read ∙ sym same_input in
+        let told : remembered_behind i.style entry.enters i was.read.command was.read.input.last_search ≡ input y =
+        ap (λ c. remembered_behind i.style entry.enters i c was.read.input.last_search) was.command_read
+        ∙ ap (λ (x : Input). remembered_behind i.style entry.enters i (command_of b.command) x.last_search) was.input_read ∙ sym same_input in
         record {
           read = record {
             items = was.items;

@@ -1,47 +1,39 @@
 -- Facts on phrases that are read.
-use Rattle.std.proofs.Common.{◌≡◌, ◌≢◌, ℕ, Bool, cond, ◌+◌, ◌<◌, ◌≤◌, ◌++◌, append_assoc, List, [], ◌∷◌, length, map, Option, Some, None, option_map, Result, Ok, Err, true, false, inl, inr, refl, sym, ◌∙◌, ap, subst, arith}
+use Rattle.std.proofs.Common.{◌≡◌, ◌≢◌, ℕ, Bool, cond, ◌+◌, ◌≤◌, ◌++◌, append_assoc, List, [], ◌∷◌, length, map, Result, Ok, Err, true, false, inl, inr, refl, sym, ◌∙◌, ap, subst, arith}
 use Rattle.std.specs.Prelude.{OnErr, OnOk}
 use Rattle.std.proofs.lemmas.Bool.{cases_lt}
 use Rattle.std.proofs.lemmas.List.{length-append, length-map}
 use Rattle.line_buffer.specs.declared.layout.GraphemeClusterMode.{GraphemeClusterMode}
 use Rattle.line_buffer.specs.declared.layout.Position.{Position}
 use Rattle.line_buffer.specs.Undo.{first_text}
-use Rattle.line_config.specs.Error.{IoOnlyIf, Rose, UnlessFault, is_fault, is_io, is_memory, max_count}
-use Rattle.line_editor.specs.Binding.{all_sure}
+use Rattle.line_config.specs.Error.{IoOnlyIf, Rose, UnlessFault, is_fault, max_count}
 use Rattle.line_config.specs.Failures.{CountsFailures, UnlessIo}
 use Rattle.line_config.specs.declared.config.EditMode.{EditMode}
 use Rattle.line_config.specs.declared.error.ReadlineError.{ReadlineError}
 use Rattle.line_config.specs.declared.error.ReadlineError.TheVariants.{Eof, Interrupted, Io, Memory}
-use Rattle.line_keys.specs.Command.{Command, command_of}
+use Rattle.line_keys.specs.Command.{Command}
 use Rattle.line_keys.specs.Count.{continues_count}
 use Rattle.line_parts.specs.Asks.{for_hint, is_sure}
 use Rattle.line_parts.specs.Environment.{Environment}
 use Rattle.std.specs.List.{list_all}
 use Rattle.line_keys.specs.Display.{Surface}
-use Rattle.line_keys.specs.ShownLine.{KeepsDrawn}
-use Rattle.line_keys.specs.Draft.{Draft, KeepsLine, KeepsText, hint_shown, hinted, start_text}
-use Rattle.line_keys.specs.Drawing.{DrewLine, DrewNothing, Undrawn}
+use Rattle.line_keys.specs.Draft.{Draft, KeepsText, hinted, start_text}
 use Rattle.line_keys.specs.Frame.{Frame}
 use Rattle.line_keys.specs.ShownLine.{HasRightLayout}
 use Rattle.line_keys.specs.Item.{Item, ReadFault, key}
-use Rattle.line_keys.specs.declared.cmd.Cmd.{Cmd}
 use Rattle.line_keys.specs.declared.count.Count.{Count}
 use Rattle.line_keys.specs.declared.editor_state.EditorState as editors
 use Rattle.line_keys.specs.declared.keys.KeyEvent.{KeyEvent}
-use Rattle.line_parts.specs.declared.highlight.CmdKind.TheVariants.{Other}
 use Rattle.line_keys.specs.declared.raw_reader.RawReader as readers
-use Rattle.line_editor.specs.Editor.{Ruler, grouped, own_ruler, ruler_of}
+use Rattle.line_editor.specs.Editor.{Ruler, own_ruler, ruler_of}
 use Rattle.line_editor.specs.Input.{Input}
-use Rattle.line_editor.specs.Keymap.{KeyState, Keymap}
-use Rattle.line_editor.specs.Phrase.{Phrase, behind_key, of_mode}
+use Rattle.line_editor.specs.Keymap.{KeyState}
 use Rattle.line_editor.specs.Read.{Lacks, Read, quiet_read, read_behind}
-use Rattle.line_editor.specs.Reading.{EitherRose, Ends, EndsCount, EndsQuietly, Gives, GivesQuietly, OnRead, ReadsCommand, ReadsCount, ReadsPart, TakesItems}
-use Rattle.line_editor.specs.Shown.{Shown, any_drawn, asked_behind, counting_on, kept, last_drawn, none_shown, shown_with, shows_line}
-use Rattle.line_editor.proofs.CommandLemmas.{line_kept}
-use Rattle.line_editor.proofs.CountLemmas.{rises_stays}
-use Rattle.line_editor.proofs.DrawnLemmas.{frame_then, hint_trails, keeps_then, stays_in_place}
+use Rattle.line_editor.specs.Reading.{EitherRose, Ends, EndsCount, EndsQuietly, Gives, GivesQuietly, OnRead, ReadsCount, ReadsPart, TakesItems}
+use Rattle.line_editor.specs.ItemShown.{ItemShown, any_drawn, asked_behind, counting_on, kept, last_drawn, none_shown, shown_with, shows_line}
+use Rattle.line_editor.proofs.DrawnLemmas.{frame_then}
 use Rattle.line_editor.proofs.KeyFitLemmas.{enter}
-use Rattle.line_editor.proofs.ShownLemmas.{counting-each, counts_kept, counts_then, drew_none, quiet-any, quiet-last, so_far_counting, so_far_none, so_far_kept, so_far_then}
+use Rattle.line_editor.proofs.ShownLemmas.{counting-each, counts_then, drew_none, quiet-any, quiet-last, so_far_counting, so_far_none, so_far_kept, so_far_then}
 
 -- what holds in any case
 pub on_error : {T E P : Type 0} (result : Result T E) → P → OnErr result P
@@ -275,7 +267,7 @@ module _ {X Y : Type 0} (e : editors.Ghosts X) (r : readers.Ghosts Y) where
           ap (λ t. key k ∷ t) (ends_count.cut ∙ ap (λ t. map key ends_count.more ++ (key last ∷ t)) is)
           ∙ sym (append_assoc (map key (k ∷ ends_count.more)) (key last ∷ items) rest)
 
-      asked_twice : (environment environment' : Environment) (shown : List Shown) (draft : Draft) → environment' ≡ environment
+      asked_twice : (environment environment' : Environment) (shown : List ItemShown) (draft : Draft) → environment' ≡ environment
           → asked_behind environment' shown (hinted environment draft) ≡ hinted environment draft
       asked_twice environment environment' shown draft same =
           ap (λ w. asked_behind w shown (hinted environment draft)) same ∙ by_any (any_drawn shown)
@@ -360,7 +352,7 @@ module _ {X Y : Type 0} (e : editors.Ghosts X) (r : readers.Ghosts Y) where
     -- reading a count went wrong, or the items ended in it
     pub count_goes_wrong : (f : ReadlineError) (editor' : X) (reader' : Y) → ReadsCount e r style k (Err f) editor mid editor' reader'
         → ((more : List KeyEvent) → list_all (continues_count style) more ≡ true
-        → (read : Read) × (later : List Shown) × Comes (map key (k ∷ more) ++ (key enter ∷ [])) read × (read.shown ≡ counting_on [] (k ∷ more) ++ later))
+        → (read : Read) × (later : List ItemShown) × Comes (map key (k ∷ more) ++ (key enter ∷ [])) read × (read.shown ≡ counting_on [] (k ∷ more) ++ later))
         → ReadsPart e r Comes (key k ∷ []) (e.draft editor) begun command input (Err f) editor keys mid editor' reader'
     count_goes_wrong f editor' reader' count ended = record {
       read = λ no.

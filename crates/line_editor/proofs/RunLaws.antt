@@ -8,7 +8,7 @@ use Rattle.line_editor.specs.Keymap.{Keymap}
 use Rattle.line_editor.specs.Laws.{HasOneEnd, SameEnd}
 use Rattle.line_editor.specs.Phrase.{IsBeginning, Phrase, entered}
 use Rattle.line_editor.specs.Read.{Read}
-use Rattle.line_editor.specs.Shown.{Shown, any_drawn, asked_behind}
+use Rattle.line_editor.specs.ItemShown.{ItemShown, any_drawn, asked_behind}
 use Rattle.line_editor.specs.Run.{End, Run, Turn, goes_on, ends, runs_dry, stopped, ready}
 use Rattle.line_editor.specs.Editor.{Editor, Step, Answer, Ruler, proceeds}
 use Rattle.line_editor.specs.Step.{step}
@@ -103,7 +103,7 @@ module _ (keymap : Keymap) (ruler : Ruler) (environment : Environment) where
       absurd (begins.proper (nothing-in m begins.rest fit.0))
 
   -- a phrase that was cut short leaves all but the hint
-  cut-keeps : (shown : List Shown) (draft left : Draft) → left ≡ asked_behind environment shown draft → KeepsText draft left
+  cut-keeps : (shown : List ItemShown) (draft left : Draft) → left ≡ asked_behind environment shown draft → KeepsText draft left
   cut-keeps shown draft left is = by_any (any_drawn shown) is
     where
       by_any : (b : Bool) → left ≡ cond b (hinted environment draft) draft → KeepsText draft left

@@ -1,5 +1,5 @@
 -- Facts on what is read behind a key.
-use Rattle.std.proofs.Common.{◌≡◌, ℕ, true, ◌++◌, List, [], ◌∷◌, map, Option, Some, None, Result, Ok, Err, refl, sym, ◌∙◌, ap, subst}
+use Rattle.std.proofs.Common.{◌≡◌, ℕ, true, ◌++◌, List, [], ◌∷◌, map, Option, Some, None, refl, sym, ◌∙◌, ap, subst}
 use Rattle.std.specs.Prelude.{option_map, slice_get}
 use Rattle.std.specs.Option.{option_or}
 use Rattle.line_buffer.specs.declared.movement.CharSearch.{CharSearch}
@@ -18,7 +18,7 @@ use Rattle.line_keys.specs.declared.tables.Operator.{Operator}
 use Rattle.line_editor.specs.Binding.{Bound}
 use Rattle.line_editor.specs.Input.{Input}
 use Rattle.line_editor.specs.Operation.{Reaches, operated_if, to_character, to_last}
-use Rattle.line_editor.specs.Read.{quiet_read, searched}
+use Rattle.line_editor.specs.Read.{quiet_read, searched_read}
 use Rattle.line_editor.specs.Reading.{EndsInSequence, EndsQuietly, GivesQuietly, IsAnswered, IsInVain}
 use Rattle.line_editor.specs.Sequence.{Sequenced, Sequences, sequences_of}
 use Rattle.line_editor.specs.Tail.{Tailed, alone, begins_sequences, by_character, by_last_search, by_second_in_vain, by_second_key, by_sequence, in_vain, move_or}
@@ -50,15 +50,15 @@ changed_place n change place back search is changed = is ∙ ap (λ x. option_ma
 -- what comes of a search, as items that nothing is drawn after
 searched-as : (d : Draft) (i : Input) (items : List Item) (done : Option Movement → Command) (n : ℕ) (by : ℕ → CharSearch) (second : KeyEvent) (found search : Option CharSearch) (place : Option Movement) (command : Command)
     → found ≡ search_to by second → place ≡ option_map (λ s. ViCharSearch n s) found → command ≡ done place → search ≡ option_or found i.last_search
-    → searched d i items done n (search_to by second) ≡ quiet_read d (record i { last_search = search }) items command
+    → searched_read d i items done n (search_to by second) ≡ quiet_read d (record i { last_search = search }) items command
 searched-as d i items done n by second found search place command is there told kept_search =
-    ap (λ f. searched d i items done n f) (sym is) ∙ by_found found
+    ap (λ f. searched_read d i items done n f) (sym is) ∙ by_found found
     ∙ ap (λ p. quiet_read d (record i { last_search = option_or found i.last_search }) items (done p)) (sym there)
     ∙ ap (λ c. quiet_read d (record i { last_search = option_or found i.last_search }) items c) (sym told)
     ∙ ap (λ x. quiet_read d (record i { last_search = x }) items command) (sym kept_search)
   where
     by_found : (f : Option CharSearch)
-        → searched d i items done n f ≡ quiet_read d (record i { last_search = option_or f i.last_search }) items (done (option_map (λ s. ViCharSearch n s) f))
+        → searched_read d i items done n f ≡ quiet_read d (record i { last_search = option_or f i.last_search }) items (done (option_map (λ s. ViCharSearch n s) f))
     by_found None = refl
     by_found (Some s) = refl
 

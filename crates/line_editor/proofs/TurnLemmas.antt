@@ -22,7 +22,7 @@ use Rattle.line_editor.proofs.AskedLemmas.{sure_all}
 use Rattle.line_editor.specs.Editor.{Answer, ended, grouped, interrupted, own_ruler, proceeds, ruler_of, submitted}
 use Rattle.line_editor.specs.Keymap.{KeyState}
 use Rattle.line_editor.specs.Reading.{KeepsReading, PhraseHere, ReadsCommand, ReadsPart, entered_here}
-use Rattle.line_editor.specs.Shown.{DrewCounts, Shown, any_drawn, ruler_behind, times_drawn}
+use Rattle.line_editor.specs.ItemShown.{DrewCounts, ItemShown, any_drawn, ruler_behind, times_drawn}
 use Rattle.line_editor.specs.Run.{kills_before}
 use Rattle.line_editor.specs.Outcomes.{Advances, AdvancesTo, DrawnAfter, DrewFor, Executed, Executes, TakesTurn, editor_of, session}
 use Rattle.line_editor.specs.declared.command.Status.{Status}
@@ -93,12 +93,12 @@ later_rose : (read read' drew drew' drew'' : ℕ) → read' ≡ read → drew' �
 later_rose read read' drew drew' drew'' same quiet rose below other = let more = rose (omega (arith, other, quiet)) in omega (arith, same, quiet, more)
 
 -- what was read of a phrase keeps what is drawn good, and says which ruler there is behind it
-record ReadWell {X : Type 0} (e : editors.Ghosts X) (old new : X) (shown : List Shown) : Type 0 where
+record ReadWell {X : Type 0} (e : editors.Ghosts X) (old new : X) (shown : List ItemShown) : Type 0 where
   drawn : KeepsDrawn e old new
   in_place : IsInPlace e old → IsInPlace e new
   measured : (indent : ℕ) → ruler_of (e.display new) indent ≡ ruler_behind shown (e.display old) indent
 
-read_well : {X : Type 0} (e : editors.Ghosts X) (old new : X) (shown : List Shown) → Frame e old new → (e.draft new).line ≡ (e.draft old).line
+read_well : {X : Type 0} (e : editors.Ghosts X) (old new : X) (shown : List ItemShown) → Frame e old new → (e.draft new).line ≡ (e.draft old).line
     → (any_drawn shown ≡ false → (e.draft new).hint ≡ (e.draft old).hint) → DrewCounts e shown old new → ReadWell e old new shown
 read_well {X = X} e old new shown frame line hint drew = by_any (any_drawn shown) refl
   where

@@ -1,5 +1,5 @@
 -- Facts on a run that is underway.
-use Rattle.std.proofs.Common.{◌≡◌, ◌≢◌, Bool, true, false, cond, ℕ, ◌+◌, ◌*◌, ◌≤◌, ◌<◌, List, [], ◌∷◌, length, Result, Ok, Err, arith, refl, sym, ◌∙◌, ap, subst, inl, inr}
+use Rattle.std.proofs.Common.{◌≡◌, ◌≢◌, Bool, true, false, cond, ℕ, ◌+◌, ◌*◌, ◌≤◌, ◌<◌, List, length, Result, Ok, Err, arith, refl, sym, ◌∙◌, ap, subst, inl, inr}
 use Rattle.line_buffer.specs.declared.layout.GraphemeClusterMode.{GraphemeClusterMode}
 use Rattle.line_buffer.specs.declared.layout.Position.{Position}
 use Rattle.line_config.specs.Error.{IoOnlyIf}
@@ -12,14 +12,13 @@ use Rattle.line_keys.specs.Draft.{Draft, hinted, start_text}
 use Rattle.line_keys.specs.Drawing.{Refreshes, with_hint}
 use Rattle.line_keys.specs.ShownLine.{HasRightLayout, Redraws}
 use Rattle.line_keys.specs.ShownLine.{ShowsLine}
-use Rattle.line_keys.specs.declared.keys.KeyEvent.{KeyEvent}
 use Rattle.line_keys.specs.declared.editor_state.EditorState as editors
 use Rattle.line_keys.specs.declared.raw_reader.RawReader as readers
 use Rattle.line_editor.specs.Binding.{Bound, all_sure}
 use Rattle.line_editor.specs.Input.{Input}
 use Rattle.line_editor.specs.Keymap.{Keymap, keymap_of}
 use Rattle.line_editor.specs.Reading.{KeepsReading}
-use Rattle.line_editor.specs.Shown.{Shown, any_drawn, asked_behind, ruler_behind}
+use Rattle.line_editor.specs.ItemShown.{ItemShown, any_drawn, asked_behind, ruler_behind}
 use Rattle.line_editor.specs.Run.{CutShort, End, Run, Turns, stopped, dry}
 use Rattle.line_editor.specs.Run as runs
 use Rattle.line_editor.specs.Outcomes.{Advances, NeedsMoreItems, Runs, RunsTo, Session, Stays, TakesTurn, TurnsTo, editor_of, items_read, session}
@@ -31,7 +30,7 @@ use Rattle.line_editor.proofs.GroupLemmas.{start_there}
 use Rattle.line_editor.proofs.RunLemmas.{run-goes, run-ends, run-dry, turns-on}
 
 -- a phrase that was cut short leaves what all changes taken back give
-start_of_cut : (environment : Environment) (shown : List Shown) (draft left : Draft) → left ≡ asked_behind environment shown draft
+start_of_cut : (environment : Environment) (shown : List ItemShown) (draft left : Draft) → left ≡ asked_behind environment shown draft
     → start_text left ≡ start_text draft
 start_of_cut environment shown draft left is = ap start_text is ∙ by_any (any_drawn shown)
   where
@@ -111,7 +110,7 @@ module _ {X Y : Type 0} (e : editors.Ghosts X) (r : readers.Ghosts Y) (indent : 
         ∙ ap h (u.right.drawn.mode ∙ ap (λ (f : Surface). f.mode) u.keeps.both.frame.surface)
 
     -- so is that of a turn, whether a count is typed or not
-    turn_ruler : (shown : List Shown) (ruler : Ruler) → ruler ≡ ruler_behind shown (e.display now.state) indent → ruler ≡ own_ruler (e.display start.state) indent
+    turn_ruler : (shown : List ItemShown) (ruler : Ruler) → ruler ≡ ruler_behind shown (e.display now.state) indent → ruler ≡ own_ruler (e.display start.state) indent
     turn_ruler shown ruler measured = measured ∙ by_any (any_drawn shown)
       where
         by_any : (b : Bool) → cond b (own_ruler (e.display now.state) indent) (ruler_of (e.display now.state) indent) ≡ own_ruler (e.display start.state) indent

@@ -75,8 +75,8 @@ killed_by environment movement editor (Some range) = record {
 }
 
 -- a movement is killed, and a text comes in its place, if there is one
-abbrev pub replaced_by : Environment → Movement → Option (List ℕ) → Editor → Editor
-replaced_by environment movement text editor =
+abbrev pub movement_replaced : Environment → Movement → Option (List ℕ) → Editor → Editor
+movement_replaced environment movement text editor =
     let left = killed_by environment movement editor (killed_range editor.draft.line movement) in
     with_draft left (perhaps_inserted environment text left.draft)
 

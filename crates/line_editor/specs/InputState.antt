@@ -1,5 +1,5 @@
 -- What an input state remembers.
-use Rattle.std.specs.Prelude.{if◌then◌else◌, Option, Some, option_map}
+use Rattle.std.specs.Prelude.{if◌then◌else◌, Some, option_map}
 use Rattle.std.specs.Option.{option_or}
 use Rattle.line_keys.specs.Command.{command_of}
 use Rattle.line_editor.specs.Binding.{bound_of}

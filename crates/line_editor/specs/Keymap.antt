@@ -1,5 +1,5 @@
 -- Which command a key has before the tables are asked.
-use Rattle.std.specs.Prelude.{ℕ, true, List, [], ◌∷◌, Option, Some, None, option_and_then, option_map, unwrap_or}
+use Rattle.std.specs.Prelude.{ℕ, true, List, [], ◌∷◌, Option, Some, None, option_and_then, option_map}
 use Rattle.std.specs.Option.{option_or}
 use Rattle.line_buffer.specs.Changes.{last_insert_of}
 use Rattle.line_config.specs.declared.config.EditMode.{EditMode}
@@ -8,7 +8,7 @@ use Rattle.line_keys.specs.Command as commands
 use Rattle.line_keys.specs.Command.{end_of_file}
 use Rattle.line_keys.specs.Draft.{Draft}
 use Rattle.line_keys.specs.Redo.{bound_anew}
-use Rattle.line_keys.specs.Table.{Entry, count_or_one, row_of, stands_for}
+use Rattle.line_keys.specs.Table.{KeyEntry, count_or_one, row_of, stands_for}
 use Rattle.line_keys.specs.declared.count.Count.{Count}
 use Rattle.line_keys.specs.declared.refresher.InputMode.{InputMode}
 use Rattle.line_keys.specs.declared.refresher.InputMode.TheVariants.{Insert, Replace}
@@ -45,7 +45,7 @@ abbrev pub on_line : List ℕ → Option commands.Command → Option commands.Co
 on_line (_ ∷ _) (Some end_of_file) = None
 on_line _ command = command
 
--- the binding of a key: that of its own, or else that of each key
+-- the binding of a key: its own, or else the one that is for every key
 abbrev pub key_handler : Bound → KeyEvent → Option Handler
 key_handler bound key = option_or (handler_of bound (keys (key ∷ []))) (handler_of bound each_key)
 
@@ -72,10 +72,10 @@ pub data Source : Type 0 where
   by_binding : commands.Command → Source
   by_reader : commands.Command → Source
   by_phrase : KeyEvent → Source
-  by_table : Entry → Source
+  by_table : KeyEntry → Source
 
 -- where a command comes from: the binding's, or else the reader's, or else that of command mode, or else what the tables say
-abbrev pub first_source : Option commands.Command → Option commands.Command → Option KeyEvent → Entry → Source
+abbrev pub first_source : Option commands.Command → Option commands.Command → Option KeyEvent → KeyEntry → Source
 first_source (Some command) _ _ entry = by_binding command
 first_source None (Some command) _ entry = by_reader command
 first_source None None (Some plain) entry = by_phrase plain

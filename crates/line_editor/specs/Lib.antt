@@ -15,7 +15,7 @@ pub mod Operation
 pub mod Phrase
 pub mod Read
 pub mod Sequence
-pub mod Shown
+pub mod ItemShown
 pub mod Tail
 pub mod DrawnVerdict
 pub mod Run

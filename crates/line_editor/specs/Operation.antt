@@ -1,5 +1,5 @@
 -- What an operator of Vi is done to: the motion behind it.
-use Rattle.std.specs.Prelude.{◌≡◌, ℕ, Bool, true, if◌then◌else◌, List, [], ◌∷◌, ◌++◌, map, Option, Some, None, option_map}
+use Rattle.std.specs.Prelude.{◌≡◌, ℕ, true, if◌then◌else◌, List, [], ◌∷◌, ◌++◌, map, Option, Some, None, option_map}
 use Rattle.line_buffer.specs.declared.movement.CharSearch.{CharSearch}
 use Rattle.line_buffer.specs.declared.movement.Movement.{Movement}
 use Rattle.line_buffer.specs.declared.movement.Movement.TheVariants.{ViCharSearch, WholeLine}
@@ -14,7 +14,7 @@ use Rattle.line_keys.specs.declared.keys.KeyEvent.{KeyEvent}
 use Rattle.line_keys.specs.declared.refresher.InputMode.TheVariants as modes
 use Rattle.line_keys.specs.declared.tables.Operator.{Operator}
 use Rattle.line_editor.specs.Input.{Input}
-use Rattle.line_editor.specs.Read.{Read, after_count, quiet_read, read_behind, searched}
+use Rattle.line_editor.specs.Read.{Read, after_count, quiet_read, read_behind, searched_read}
 
 -- the command of an operator over a movement; without one it is Unknown
 abbrev pub operated_if : Operator → Option Movement → Command
@@ -34,7 +34,7 @@ pub data Reaches (draft : Draft) (input : Input) (operator : Operator) : Motion 
   -- the key of the character to search for
   to_character : (n : ℕ) (by : ℕ → CharSearch) (second : KeyEvent)
       → Reaches draft input operator (covers_search n by) (key second ∷ [])
-      (searched draft input (key second ∷ []) (λ movement. operated_if operator movement) n (search_to by second))
+      (searched_read draft input (key second ∷ []) (λ movement. operated_if operator movement) n (search_to by second))
   -- none: the last search, if there is one
   to_last : (n : ℕ) (change : CharSearch → CharSearch)
       → Reaches draft input operator (covers_last n change) []

@@ -21,7 +21,7 @@ use Rattle.line_editor.specs.Input.{Input}
 use Rattle.line_editor.specs.Keymap.{KeyState, keymap_of}
 use Rattle.line_editor.specs.Reading.{FailsByReading, KeepsReading, OutOfItems}
 use Rattle.line_editor.specs.Run.{End, Run, Turn, Turns, dry, kills_before, stopped}
-use Rattle.line_editor.specs.Shown.{DrewCounts, ruler_behind}
+use Rattle.line_editor.specs.ItemShown.{DrewCounts, ruler_behind}
 use Rattle.line_editor.specs.Status.{ComesTo}
 use Rattle.line_editor.specs.Step.{step}
 use Rattle.line_editor.specs.declared.command.Status.{Status}

@@ -1,5 +1,5 @@
 -- Phrases: the items that one command is read from.
-use Rattle.std.specs.Prelude.{◌≡◌, ℕ, Bool, true, if◌then◌else◌, List, [], ◌∷◌, ◌++◌, map, Option, Some, None, unwrap_or}
+use Rattle.std.specs.Prelude.{◌≡◌, true, if◌then◌else◌, List, [], ◌∷◌, ◌++◌, map, Option, Some, None, unwrap_or}
 use Rattle.line_buffer.specs.declared.movement.CharSearch.{CharSearch}
 use Rattle.line_config.specs.declared.config.EditMode.{EditMode}
 use Rattle.line_config.specs.declared.config.EditMode.TheVariants.{Emacs, Vi}
@@ -9,7 +9,7 @@ use Rattle.line_keys.specs.Count.{count_of, is_count_before}
 use Rattle.line_keys.specs.Draft.{Draft, in_group, out_of_group}
 use Rattle.line_keys.specs.Item.{Item, key}
 use Rattle.line_keys.specs.Redo.{becomes_change}
-use Rattle.line_keys.specs.Table.{Entry, count_or_one}
+use Rattle.line_keys.specs.Table.{KeyEntry, count_or_one}
 use Rattle.line_keys.specs.declared.keys.KeyEvent.{KeyEvent}
 use Rattle.line_keys.specs.declared.count.Count.{Count}
 use Rattle.line_keys.specs.declared.refresher.InputMode.{InputMode}
@@ -34,9 +34,9 @@ changed_by mode last command = if becomes_change mode last command then Some com
 
 -- what is remembered of a command of the tables, whose key may enter a mode: in Emacs nothing; in Vi the mode, the change and the
 -- search
-abbrev pub remembered : EditMode → Option InputMode → Input → Command → Option CharSearch → Input
-remembered Emacs enters input command search = input
-remembered Vi enters input command search = record {
+abbrev pub remembered_behind : EditMode → Option InputMode → Input → Command → Option CharSearch → Input
+remembered_behind Emacs enters input command search = input
+remembered_behind Vi enters input command search = record {
   style = Vi;
   mode = unwrap_or enters input.mode;
   last_change = changed_by input.mode input.last_change command;
@@ -44,10 +44,10 @@ remembered Vi enters input command search = record {
 }
 
 -- what a key of the tables comes to with what is read behind it
-abbrev pub listed : Entry → Input → Read → Read
+abbrev pub listed : KeyEntry → Input → Read → Read
 listed entry input read = record read {
   draft = with_group entry.group read.draft;
-  input = remembered input.style entry.enters input read.command read.input.last_search;
+  input = remembered_behind input.style entry.enters input read.command read.input.last_search;
 }
 
 -- a command of the bindings or of the reader is the key's alone, and leaves the draft and the input; one of the tables is read with

@@ -9,24 +9,24 @@ use Rattle.line_keys.specs.Draft.{Draft, hinted}
 use Rattle.line_keys.specs.Item.{Item}
 use Rattle.line_keys.specs.declared.keys.KeyEvent.{KeyEvent}
 use Rattle.line_editor.specs.Input.{Input}
-use Rattle.line_editor.specs.Shown.{Shown, none_shown, shown_with}
+use Rattle.line_editor.specs.ItemShown.{ItemShown, none_shown, shown_with}
 
 -- what items come to: a command, the draft and the input that they leave, and what is drawn after each of them
 pub record Read : Type 0 where
   pub command : Command
   pub draft : Draft
   pub input : Input
-  pub shown : List Shown
+  pub shown : List ItemShown
 
 -- items come to a command, and nothing is drawn after any of them
 abbrev pub quiet_read : Draft → Input → List Item → Command → Read
 quiet_read draft input items command = record { command = command; draft = draft; input = input; shown = none_shown items }
 
 -- items come to what is done by the n-th place of a search, which is kept; or to what is done without a search
-abbrev pub searched : Draft → Input → List Item → (Option Movement → Command) → ℕ → Option CharSearch → Read
-searched draft input items done n (Some search) =
+abbrev pub searched_read : Draft → Input → List Item → (Option Movement → Command) → ℕ → Option CharSearch → Read
+searched_read draft input items done n (Some search) =
     quiet_read draft (record input { last_search = Some search }) items (done (Some (ViCharSearch n search)))
-searched draft input items done n None = quiet_read draft input items (done None)
+searched_read draft input items done n None = quiet_read draft input items (done None)
 
 -- the hint is asked again where a count was typed
 abbrev pub after_count : Environment → List KeyEvent → Draft → Draft
@@ -44,7 +44,7 @@ pub record Lacks (Comes : List Item → Read → Type 0) (items : List Item) : T
   pub read : Read
   pub proper : rest ≢ []
   pub comes : Comes (items ++ rest) read
-  pub shown : List Shown
-  pub later : List Shown
+  pub shown : List ItemShown
+  pub later : List ItemShown
   pub drawn : read.shown ≡ shown ++ later
   pub each : length shown ≡ length items

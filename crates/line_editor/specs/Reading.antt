@@ -1,5 +1,5 @@
 -- Reading a command from the items that a reader has left.
-use Rattle.std.specs.Prelude.{◌≡◌, ◌≢◌, ◌⊎◌, ℕ, ◌+◌, ◌-◌, ◌<◌, ◌≤◌, ◌++◌, [], ◌∷◌, true, false, List, length, map, Option, Some, None, slice_get, Result, Ok, Err, OnErr, IsErrOf}
+use Rattle.std.specs.Prelude.{◌≡◌, ◌⊎◌, ℕ, ◌+◌, ◌-◌, ◌<◌, ◌≤◌, ◌++◌, [], ◌∷◌, true, false, List, length, map, Option, Some, None, slice_get, Result, Ok, Err, OnErr, IsErrOf}
 use Rattle.std.specs.List.{list_all}
 use Rattle.line_config.specs.Error.{IoOnlyIf, Rose, UnlessFault, is_fault, max_count}
 use Rattle.line_config.specs.Failures.{UnlessIo}
@@ -10,27 +10,24 @@ use Rattle.line_parts.specs.Asks.{Asks, for_hint, is_sure}
 use Rattle.line_parts.specs.Environment.{Environment}
 use Rattle.line_keys.specs.Command.{Command, command_of}
 use Rattle.line_keys.specs.Count.{IsCountOf, continues_count, count_of, count_prompt}
-use Rattle.line_keys.specs.Display.{Display}
 use Rattle.line_keys.specs.Draft.{Draft, KeepsLine, KeepsText, hinted, start_text}
 use Rattle.line_keys.specs.Drawing.{Drew, DrewNothing, behind_prompt, with_hint}
 use Rattle.line_keys.specs.Frame.{Frame}
-use Rattle.line_keys.specs.ShownLine.{IsInPlace, Redraws}
-use Rattle.line_keys.specs.ShownLine.{KeepsDrawn}
+use Rattle.line_keys.specs.ShownLine.{Redraws}
 use Rattle.line_keys.specs.declared.cmd.Cmd.{Cmd}
 use Rattle.line_keys.specs.Item.{Item, key}
 use Rattle.line_keys.specs.declared.editor_state.EditorState as editors
 use Rattle.line_keys.specs.declared.raw_reader.RawReader as readers
-use Rattle.line_editor.specs.Editor.{ruler_of}
 use Rattle.line_keys.specs.declared.count.Count.{Count}
 use Rattle.line_keys.specs.declared.count.TypedCount.{TypedCount}
 use Rattle.line_keys.specs.declared.keys.KeyEvent.{KeyEvent}
 use Rattle.line_editor.specs.Input.{Input}
 use Rattle.line_editor.specs.Binding.{Bound, all_sure}
-use Rattle.line_editor.specs.Keymap.{KeyState, Keymap, keymap_of}
+use Rattle.line_editor.specs.Keymap.{KeyState, keymap_of}
 use Rattle.line_editor.specs.Phrase.{Phrase, entered}
 use Rattle.line_editor.specs.Read.{Lacks, Read, quiet_read}
 use Rattle.line_editor.specs.Sequence.{IsReadOn, Sequenced, Sequences, sequence_command}
-use Rattle.line_editor.specs.Shown.{DrewCounts, DrewSoFar, any_drawn, asked_behind, none_shown}
+use Rattle.line_editor.specs.ItemShown.{DrewCounts, DrewSoFar, any_drawn, asked_behind, none_shown}
 use Rattle.line_editor.specs.declared.input_state.sequences.Sequence.{Sequence}
 
 -- the failures of the one or of the other party rose, where both counts can

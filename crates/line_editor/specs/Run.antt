@@ -10,7 +10,7 @@ use Rattle.line_editor.specs.Input.{Input}
 use Rattle.line_editor.specs.Keymap.{Keymap}
 use Rattle.line_editor.specs.Phrase.{IsBeginning, Phrase, entered}
 use Rattle.line_editor.specs.Read.{Read}
-use Rattle.line_editor.specs.Shown.{Shown, asked_behind}
+use Rattle.line_editor.specs.ItemShown.{ItemShown, asked_behind}
 use Rattle.line_editor.specs.Editor.{Editor, Answer, Leaves, Ruler, grouped, proceeds}
 use Rattle.line_editor.specs.Step.{step}
 
@@ -41,7 +41,7 @@ pub data Turns (keymap : Keymap) (ruler : Ruler) (environment : Environment) : E
       → Turns keymap ruler environment editor input items last input'' rest
 
 -- what items that run dry leave: the draft behind the first key, with its hint asked again where the line was drawn, and the kills
-pub record CutShort (keymap : Keymap) (environment : Environment) (input : Input) (items : List Item) (shown : List Shown) (old new : Editor) : Type 0 where
+pub record CutShort (keymap : Keymap) (environment : Environment) (input : Input) (items : List Item) (shown : List ItemShown) (old new : Editor) : Type 0 where
   pub draft : new.draft ≡ asked_behind environment shown (entered keymap old.draft input items)
   pub kills : new.kills ≡ old.kills
 

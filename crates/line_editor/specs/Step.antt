@@ -12,7 +12,7 @@ use Rattle.line_parts.specs.Environment.{Environment}
 use Rattle.line_parts.specs.declared.history.SearchDirection.TheVariants.{Forward, Reverse}
 use Rattle.line_editor.specs.Accept.{accepted, answer_at_end, validated}
 use Rattle.line_editor.specs.Editor.{Editor, Ruler, Step, interrupted, measuring, proceeding, submitted, with_draft}
-use Rattle.line_editor.specs.DraftEdits.{chars_transposed, char_replaced, completed, copied_to, cursor_moved, kill_popped, kill_yanked, killed_by, lines_shifted, overwritten, replaced_by, steps_undone, text_of, typed_in, word_changed, words_transposed, yanked_in}
+use Rattle.line_editor.specs.DraftEdits.{chars_transposed, char_replaced, completed, copied_to, cursor_moved, kill_popped, kill_yanked, killed_by, lines_shifted, overwritten, movement_replaced, steps_undone, text_of, typed_in, word_changed, words_transposed, yanked_in}
 use Rattle.line_editor.specs.HistoryMoves.{end_shown, first_shown, next_shown, previous_shown, search_shown}
 use Rattle.line_editor.specs.Input.{Input}
 
@@ -61,7 +61,7 @@ edited_by ruler environment input draft _ = draft
 abbrev pub step : Ruler → Environment → Input → Editor → Command → Step
 step ruler environment input editor (kill movement) =
     proceeding (killed_by environment movement editor (killed_range editor.draft.line movement))
-step ruler environment input editor (replace movement text) = proceeding (replaced_by environment movement text editor)
+step ruler environment input editor (replace movement text) = proceeding (movement_replaced environment movement text editor)
 step ruler environment input editor (vi_yank_to movement) =
     proceeding (record editor { kills = copied_to editor.kills (text_of editor.draft.line movement) })
 step ruler environment input editor (yank n anchor) =

@@ -15,7 +15,7 @@ use Rattle.line_keys.specs.declared.keys.KeyEvent.{KeyEvent}
 use Rattle.line_keys.specs.declared.tables.Operator.{Operator}
 use Rattle.line_editor.specs.Input.{Input}
 use Rattle.line_editor.specs.Operation.{Operated}
-use Rattle.line_editor.specs.Read.{Read, quiet_read, searched}
+use Rattle.line_editor.specs.Read.{Read, quiet_read, searched_read}
 use Rattle.line_editor.specs.Sequence.{Sequenced, Sequences}
 
 -- a move, or else this command
@@ -23,7 +23,7 @@ abbrev pub move_or : Command → Option Movement → Command
 move_or other (Some movement) = move movement
 move_or other None = other
 
--- the last change again, with a new count if there is one, after the text that came in last; Noop without a change
+-- the last change again, with a new count if there is one; the text that came in last is handed in; Noop without a change
 abbrev pub changed_again : Option ℕ → Option (List ℕ) → Option Command → Command
 changed_again new last (Some change) = redone true new last change
 changed_again new last None = noop
@@ -46,7 +46,7 @@ pub data Tailed (sequences : Sequences) (environment : Environment) (draft : Dra
   -- the key of the character to search for; another key gives Unknown
   by_character : (n : ℕ) (by : ℕ → CharSearch) (second : KeyEvent)
       → Tailed sequences environment draft input last (searches n by) (key second ∷ [])
-      (searched draft input (key second ∷ []) (move_or unknown) n (search_to by second))
+      (searched_read draft input (key second ∷ []) (move_or unknown) n (search_to by second))
   -- none: the last search, if there is one
   by_last_search : (n : ℕ) (change : CharSearch → CharSearch)
       → Tailed sequences environment draft input last (searches_again n change) []

@@ -61,8 +61,8 @@ pub fn enough_undo_gives_the_start()
     ensures { EnoughUndo }
 {}
 
-/// In Vi what was typed from one of the keys a, A, i and I to Esc goes with one undo, where at least one character was typed
-/// and nothing else was done between them.
+/// In Vi's command mode, with no group of changes open and none of these keys bound: one of the keys a, A, i and I, then
+/// characters alone, at least one, and Esc, and then u leave the text that was there before.
 pub fn an_insertion_is_one_step()
     ensures { InsertionIsOneStep }
 {}

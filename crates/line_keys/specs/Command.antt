@@ -103,7 +103,7 @@ is_by_char (BackwardChar _) = true
 is_by_char (ForwardChar _) = true
 is_by_char _ = false
 
--- a kill after this command begins a new slot of the kill ring
+-- the kill ring is reset before this command, so that no killed text joins the one before
 abbrev pub resets_kill_ring : Command → Bool
 resets_kill_ring (kill movement) = is_by_char movement
 resets_kill_ring clear_screen = false

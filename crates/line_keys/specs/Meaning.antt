@@ -14,7 +14,7 @@ use Rattle.line_keys.specs.declared.tables.Grouping.{Grouping}
 use Rattle.line_keys.specs.declared.tables.Grouping.TheVariants.{Begin, End, Stay}
 use Rattle.line_keys.specs.declared.tables.Operator.{Operator}
 
--- which line a row is for: each one, one with a text, or one with a hint behind the cursor at its end
+-- which line a row is for: any, one that is not empty, or one with a hint where the cursor is at its end
 pub data Guard : Type 0 where
   any_line : Guard
   on_text : Guard
@@ -42,19 +42,19 @@ pub data Meaning : Type 0 where
   unlisted : Meaning
 
 -- what a key stands for: its meaning, the mode that it enters, if it enters one, and what becomes of the group of changes
-pub record Entry : Type 0 where
+pub record KeyEntry : Type 0 where
   pub meaning : Meaning
   pub enters : Option InputMode
   pub group : Grouping
 
 -- a meaning alone: the mode stays, and the group of changes
-abbrev pub stays : Meaning → Entry
+abbrev pub stays : Meaning → KeyEntry
 stays meaning = record { meaning = meaning; enters = None; group = Stay }
 
 -- a row: which line it is for, and what its key stands for under the count that is typed, if any
 pub record Row : Type 0 where
   pub guard : Guard
-  pub entry : Option Count → Entry
+  pub entry : Option Count → KeyEntry
 
 -- the count where none is typed: once, in the command's own direction
 abbrev pub one : Count
@@ -64,7 +64,7 @@ one = record { n = 1; positive = true }
 abbrev pub count_or_one : Option Count → Count
 count_or_one typed = unwrap_or typed one
 
--- a row for each line
+-- a row for any line, with a meaning by the count
 abbrev pub meaning_row : (Count → Meaning) → Row
 meaning_row means = record { guard = any_line; entry = λ typed. stays (means (count_or_one typed)) }
 
@@ -140,6 +140,6 @@ moves movement = row (λ count. move (movement count))
 abbrev pub kills : (Count → Movement) → Row
 kills movement = row (λ count. kill (movement count))
 
--- a search for the character that is typed next, and the opposite one for a negative count
+-- a search for the character that is typed next, and another one for a negative count
 abbrev pub search : (ℕ → CharSearch) → (ℕ → CharSearch) → Row
 search forth back = meaning_row (λ count. searches count.n (by_sign (λ _. forth) (λ _. back) count))

@@ -1,4 +1,4 @@
--- What is read behind the first key of a command of Vi: the motion of an operator, or the character of a search or replacement.
+-- What is read behind the first key of a command: the motion of an operator, or the character of a search or a replacement.
 use Rattle.std.specs.Prelude.{ℕ, ◌*◌, ◌==◌, ◌&&◌, Bool, false, if◌then◌else◌, min, List, [], ◌∷◌, find, Option, None, option_map, unwrap_or}
 use Rattle.line_buffer.specs.Search.{opposite}
 use Rattle.line_buffer.specs.declared.movement.At.{At}
@@ -36,7 +36,7 @@ abbrev pub motion_at : Motions → ℕ → Operator → ℕ → Motion
 motion_at motions c operator n =
     unwrap_or (option_map (λ entry. entry.1 operator n) (find (λ entry. entry.0 == c) motions)) no_motion
 
--- how far a change goes by words: to their end, and every other operator to the start of the next one
+-- where an operator goes behind w and W: a change to the end of a word, every other one to the start of the next
 abbrev pub word_place : Operator → At
 word_place Change = AfterEnd
 word_place _ = Start
@@ -77,7 +77,7 @@ motion_by operator (Char c) mods n =
 motion_by operator Backspace mods n = if mods == bits_of NONE then covers (BackwardChar n) else no_motion
 motion_by operator _ mods n = no_motion
 
--- the motion of a key behind an operator, for a key that isn't the operator's own
+-- the motion of a key behind an operator; its own key is none here
 abbrev pub motion_of : Operator → KeyEvent → ℕ → Motion
 motion_of operator key n = motion_by operator key.0 (bits_of key.1) n
 
@@ -114,12 +114,12 @@ operated Dedent movement = dedent movement
 abbrev pub search_to : (ℕ → CharSearch) → KeyEvent → Option CharSearch
 search_to by typed = if is_with NONE typed then option_map by (char_of typed.0) else None
 
--- what comes in place of clusters, by a key code without a modifier: a character, or nothing for Esc
+-- what the second key of a replacement gives, by its code: a character replaces clusters, and Esc does nothing
 abbrev pub replaced_by_code : ℕ → KeyCode → Command
 replaced_by_code n (Char c) = replace_char n c
 replaced_by_code n Esc = noop
 replaced_by_code n _ = unknown
 
--- what comes in place of so many clusters, by the key that is read: a plain character, or nothing for Esc
+-- what the second key of a replacement gives: a plain character replaces so many clusters, and Esc does nothing
 abbrev pub replaced_by : ℕ → KeyEvent → Command
 replaced_by n key = if is_with NONE key then replaced_by_code n key.0 else unknown

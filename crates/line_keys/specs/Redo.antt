@@ -23,19 +23,19 @@ abbrev pub is_repeatable : Command → Bool
 is_repeatable (move _) = true
 is_repeatable command = is_repeatable_change command
 
--- a change that typed characters go on with: a replacement, or a typed character
+-- a last change behind which typed characters belong to it: a replacement, or a typed character
 abbrev pub is_typed_on : Option Command → Bool
 is_typed_on (Some (replace _ _)) = true
 is_typed_on (Some (self_insert _ _)) = true
 is_typed_on _ = false
 
 -- Vi's insert and replace mode: whether a command becomes the last change, which is this so far. A repeatable change does, but
--- not a typed character that goes on with the last change.
+-- not a typed character that belongs to the last change.
 abbrev pub becomes_change_typed : Option Command → Command → Bool
 becomes_change_typed last (self_insert _ _) = not (is_typed_on last)
 becomes_change_typed last command = is_repeatable_change command
 
--- whether a command of Vi's tables becomes the last change, by the mode that its key is read in, and the last change so far
+-- whether a command becomes Vi's last change, by the mode that its key is read in, and the last change so far
 abbrev pub becomes_change : InputMode → Option Command → Command → Bool
 becomes_change InputMode.Command last command = is_repeatable_change command
 becomes_change _ last command = becomes_change_typed last command
@@ -60,7 +60,7 @@ with_count (Some n) movement = counted_anew movement n
 abbrev pub over_text : Option (List ℕ) → Movement
 over_text text = ForwardChar (min 65535 (unwrap_or (option_map (λ t. length t) text) 0))
 
--- what is replaced again by the text that came in last: as many clusters as it has bytes, where it was typed over the line
+-- what is replaced again by the text that came in last: by a replacement of no clusters, as in replace mode, as many as it has bytes
 abbrev pub replaced_again : Option ℕ → Option (List ℕ) → Movement → Movement
 replaced_again new last (ForwardChar n) = if n == 0 then over_text last else with_count new (ForwardChar n)
 replaced_again new last movement = with_count new movement
@@ -70,7 +70,7 @@ abbrev pub typed_again : Bool → ℕ → Option (List ℕ) → ℕ → Command
 typed_again true n (Some text) c = insert n text
 typed_again by_dot n last c = self_insert n c
 
--- a command again, by the dot or for a binding, with a new count if there is one, after the text that came in last
+-- a command again, by the dot or for a binding, with a new count if there is one; the text that came in last is handed in
 abbrev pub redone : Bool → Option ℕ → Option (List ℕ) → Command → Command
 redone by_dot new last (dedent movement) = dedent (with_count new movement)
 redone by_dot new last (indent movement) = indent (with_count new movement)

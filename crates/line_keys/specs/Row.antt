@@ -35,8 +35,8 @@ meaning_of (Meaning.Again new) = again new
 meaning_of Meaning.Unlisted = unlisted
 
 -- what a key stands for, as a value
-abbrev pub entry_of : Entry → table.Entry
-entry_of entry = record { meaning = meaning_of entry.meaning; enters = entry.enters; group = entry.group }
+abbrev pub entry_value : Entry → table.KeyEntry
+entry_value entry = record { meaning = meaning_of entry.meaning; enters = entry.enters; group = entry.group }
 
 -- a motion as a value
 abbrev pub motion_value : Motion → motions.Motion

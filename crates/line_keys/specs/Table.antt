@@ -14,7 +14,7 @@ use Rattle.line_keys.specs.declared.keys.KeyEvent.{KeyEvent}
 use Rattle.line_keys.specs.declared.keys.TheConstants.Modifiers.{ALT, NONE}
 use Rattle.line_keys.specs.declared.refresher.InputMode.{InputMode}
 pub use Rattle.line_keys.specs.EmacsTable.{second_at}
-pub use Rattle.line_keys.specs.Meaning.{Entry, Meaning, Row, again, count_or_one, gives, has_second, meaning_row, one, operates, pastes, replaces_char, searches, searches_again, stays, unlisted}
+pub use Rattle.line_keys.specs.Meaning.{KeyEntry, Meaning, Row, again, count_or_one, gives, has_second, meaning_row, one, operates, pastes, replaces_char, searches, searches_again, stays, unlisted}
 
 -- the row of a key; a key that no table has is unlisted
 abbrev pub row_or_unlisted : Option Row → Row

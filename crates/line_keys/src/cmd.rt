@@ -172,7 +172,7 @@ impl Cmd {
         })
     }
 
-    /// Returns whether a kill after this command begins a new slot of the kill ring.
+    /// Returns whether the kill ring is to be reset before this command, so that no killed text joins the one before.
     pub const fn should_reset_kill_ring(&self) -> bool
         ensures { result ≡ resets_kill_ring (command_of self.now) }
     {

@@ -11,9 +11,9 @@ use line_buffer::{Movement, RepeatCount};
 use line_config::Result;
 
 impl Cmd {
-    /// Returns the command as it is done for a key that a program bound to it. A change of the line, a copy of it or a
-    /// move takes the new count, if there is one, and a replacement without a text of its own the text that came in
-    /// last. Each other command stays as it is.
+    /// Returns the command as it is done for a key that a program bound to it. A repeatable change and a move take the new
+    /// count, if there is one, and a replacement without a text of its own the text that came in last. Each other command
+    /// stays as it is, also one with a count.
     ///
     /// # Errors
     /// That memory ran out.

@@ -3,7 +3,7 @@ ghost use Rattle.std.specs.Prelude.{◌≡◌, Some, option_map};
 ghost use Rattle.line_keys.specs.Command.{command_of};
 ghost use Rattle.line_keys.specs.Meaning.{gives, stays};
 ghost use Rattle.line_keys.specs.Motion.{search_to};
-ghost use Rattle.line_keys.specs.Row.{entry_of, meaning_of, search_for};
+ghost use Rattle.line_keys.specs.Row.{entry_value, meaning_of, search_for};
 ghost use Rattle.line_keys.specs.Table.{own_row, row_of, stands_for};
 
 mod common;
@@ -130,11 +130,11 @@ pub struct Entry {
 pub enum Motion {
     /// What a movement covers.
     Covers(Movement),
-    /// What lies before the n-th place of a character; the character is read next.
+    /// What a search for the n-th place of a character covers; the character is read next.
     Search(RepeatCount, SearchKind),
-    /// What lies before the n-th place of the last search.
+    /// What the last search covers, to its n-th place.
     SearchAgain(RepeatCount),
-    /// What lies before the n-th place of the last search in the other direction.
+    /// What the last search in the other direction covers, to its n-th place.
     SearchBack(RepeatCount),
     /// Nothing: the key is no motion.
     None,
@@ -148,7 +148,7 @@ pub fn entry_of_key<W: Refresher>(
     typed: Option<Count>,
     wrt: &W,
 ) -> Entry
-    ensures { entry_of result ≡ (row_of mode input_mode key (W.draft wrt.now)).entry typed }
+    ensures { entry_value result ≡ (row_of mode input_mode key (W.draft wrt.now)).entry typed }
 {
     if let Some(entry) = own_entry(mode, input_mode, key, typed, wrt) {
         return entry;
@@ -171,7 +171,7 @@ fn own_entry<W: Refresher>(
     typed: Option<Count>,
     wrt: &W,
 ) -> Option<Entry>
-    ensures { option_map entry_of result
+    ensures { option_map entry_value result
         ≡ option_map (λ r. r.entry typed) (own_row mode input_mode key (W.draft wrt.now)) }
 {
     match (mode, input_mode) {
@@ -200,7 +200,7 @@ pub fn stands_for(mode: EditMode, input_mode: InputMode, key: KeyEvent) -> Optio
 
 // Returns what a key of one meaning stands for that enters no mode.
 fn staying(meaning: Meaning) -> Option<Entry>
-    ensures { option_map entry_of result ≡ Some (stays (meaning_of meaning)) }
+    ensures { option_map entry_value result ≡ Some (stays (meaning_of meaning)) }
 {
     Some(Entry {
         meaning,
@@ -211,7 +211,7 @@ fn staying(meaning: Meaning) -> Option<Entry>
 
 // Returns what a key of one command stands for that enters no mode.
 fn command(command: Cmd) -> Option<Entry>
-    ensures { option_map entry_of result ≡ Some (stays (gives (command_of command))) }
+    ensures { option_map entry_value result ≡ Some (stays (gives (command_of command))) }
 {
     staying(Meaning::Command(command))
 }

@@ -10,7 +10,7 @@ ghost use Rattle.line_editor.specs.Input.{first_input};
 ghost use Rattle.line_editor.specs.Keymap.{bound_command, by_binding, by_reader, by_table, handed, nothing_bound, on_line, only_bound, source_of};
 ghost use Rattle.line_editor.specs.Phrase.{IsBeginning, Phrase};
 ghost use Rattle.line_editor.specs.Sequence.{Sequences};
-ghost use Rattle.line_editor.specs.Shown.{kept, shows_count, shows_line};
+ghost use Rattle.line_editor.specs.ItemShown.{kept, shows_count, shows_line};
 ghost use Rattle.line_editor.specs.Tail.{Tailed};
 ghost use Rattle.line_keys.specs.Command.{end_of_file, insert, interrupt, move, noop, self_insert, undo, unknown};
 ghost use Rattle.line_keys.specs.Draft.{Draft, empty_draft, hinted};

@@ -54,7 +54,7 @@ impl<'out, 'prompt, W: Renderer, H: Helper, P: Prompt, S: History> State<
     }
 
     /// Puts a character in place of each of `n` clusters from the cursor on, or of as many as there are. The cursor is then
-    /// on the last of them. At the text's end, and for `n` = 0, nothing happens.
+    /// on the last of them. At the text's end, and for `n` = 0, the line stays. Open groups of changes end in any case.
     ///
     /// # Errors
     /// Those of the parties and of the renderer, and that memory ran out.
@@ -106,7 +106,7 @@ impl<'out, 'prompt, W: Renderer, H: Helper, P: Prompt, S: History> State<
     }
 
     /// Puts a text in place of the `yank_size` bytes before the cursor, which were yanked. Where fewer bytes stand there, or
-    /// they would cut a character, nothing happens.
+    /// they would cut a character, the line stays. Open groups of changes end in any case.
     ///
     /// # Errors
     /// Those of the parties and of the renderer, and that memory ran out.

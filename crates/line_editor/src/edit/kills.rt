@@ -3,7 +3,7 @@ ghost use Rattle.std.specs.Prelude.{◌+◌, ◌||◌, is_some, option_map};
 ghost use Rattle.line_buffer.specs.Kill.{killed_range};
 ghost use Rattle.line_buffer.specs.KillRing.{yank_popped, yanked_text};
 ghost use Rattle.line_editor.specs.Drawings.{has_text, once_for, pop_drawn, yank_drawn};
-ghost use Rattle.line_editor.specs.DraftEdits.{copied_to, kill_popped, kill_yanked, killed_by, replaced_by, text_of};
+ghost use Rattle.line_editor.specs.DraftEdits.{copied_to, kill_popped, kill_yanked, killed_by, movement_replaced, text_of};
 ghost use Rattle.line_editor.specs.InputState.{input_of};
 ghost use Rattle.line_editor.specs.Outcomes.{DoesWithKills, editor_of};
 ghost use Rattle.line_keys.specs.Drawing.{drawn_if, nothing};
@@ -104,7 +104,7 @@ impl<'out, 'prompt, W: Renderer, H: Helper, P: Prompt, S: History> State<
             let put = option_map (λ s. s.now) text.entry in
             let range = killed_range (e.draft self.old).line movement.now in
             DoesWithKills e result self.old kill_ring.old self.new kill_ring.new
-            (replaced_by (e.environment self.old) movement.now put
+            (movement_replaced (e.environment self.old) movement.now put
             (editor_of e self.old kill_ring.old))
             (drawn_if (is_some range || has_text put))
             (once_for (drawn_if (is_some range)) + once_for (drawn_if (has_text put))) }

@@ -23,7 +23,7 @@ impl<'out, 'prompt, W: Renderer, H: Helper, P: Prompt, S: History> State<
     S,
 > {
     /// Exchanges the cluster before the cursor and the one at it, or the last two at the text's end. The cursor goes behind
-    /// both. At the text's start, and with fewer than two clusters, nothing happens.
+    /// both. At the text's start, and with fewer than two clusters, the line stays. Open groups of changes end in any case.
     ///
     /// # Errors
     /// Those of the parties and of the renderer, and that memory ran out.
@@ -52,7 +52,8 @@ impl<'out, 'prompt, W: Renderer, H: Helper, P: Prompt, S: History> State<
         self.show_edit(exchanged)
     }
 
-    /// Changes the case of the next word, and puts the cursor behind it. Without a word nothing happens.
+    /// Changes the case of the next word, and puts the cursor behind it. Without a word the line stays. Open groups of
+    /// changes end in any case.
     ///
     /// # Errors
     /// Those of the parties and of the renderer, and that memory ran out.

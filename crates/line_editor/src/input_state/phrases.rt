@@ -4,7 +4,7 @@ ghost use Rattle.line_config.specs.Error.{MemoryOnly};
 ghost use Rattle.line_editor.specs.Input.{in_mode};
 ghost use Rattle.line_editor.specs.InputState.{input_of, keys_of, read_input};
 ghost use Rattle.line_editor.specs.Keymap.{keymap_of};
-ghost use Rattle.line_editor.specs.Phrase.{Keyed, Phrase, Spelled, changed_by, entered, remembered, with_group};
+ghost use Rattle.line_editor.specs.Phrase.{Keyed, Phrase, Spelled, changed_by, entered, remembered_behind, with_group};
 ghost use Rattle.line_editor.specs.Reading.{ReadsPart};
 ghost use Rattle.line_keys.specs.Command.{command_of};
 ghost use Rattle.line_keys.specs.Draft.{KeepsLine, start_text};
@@ -61,7 +61,7 @@ impl InputState<'_> {
     }
 
     // Reads the rest of a phrase of command mode behind a key with Alt, which stands for a plain key there. The groups of
-    // changes end first, unless the key is bound.
+    // changes end first, unless a binding or the reader has a command for the key.
     fn read_alt<R: RawReader, W: Refresher>(
         &self,
         rdr: &mut R,
@@ -172,7 +172,7 @@ impl InputState<'_> {
     fn listed(&self, mode: InputMode, enters: Option<InputMode>, behind: Behind) -> Read
         ensures command { command_of result.command ≡ command_of behind.command }
         ensures input { let i = input_of self.now in read_input result i
-            ≡ remembered i.style enters (in_mode mode i) (command_of behind.command) behind.search }
+            ≡ remembered_behind i.style enters (in_mode mode i) (command_of behind.command) behind.search }
     {
         match self.mode {
             EditMode::Emacs => self.at_once(mode, behind.command),

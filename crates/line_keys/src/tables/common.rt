@@ -4,7 +4,7 @@ ghost use Rattle.line_keys.specs.Command.{accept_or_insert_line, command_of, unk
 ghost use Rattle.line_keys.specs.CommonTable.{common_ctrl_rows, common_row, deletes};
 ghost use Rattle.line_keys.specs.Key.{bits_of};
 ghost use Rattle.line_keys.specs.Meaning.{by_sign, row_at};
-ghost use Rattle.line_keys.specs.Row.{entry_of};
+ghost use Rattle.line_keys.specs.Row.{entry_value};
 ghost use Rattle.line_keys.specs.declared.cmd.Anchor.TheVariants.{Before};
 
 use crate::cmd::{Anchor, Cmd};
@@ -24,7 +24,7 @@ pub fn common_entry<W: Refresher>(
     wrt: &W,
 ) -> Option<Entry>
     ensures { let row = common_row mode key.0 (bits_of key.1) (W.draft wrt.now) in
-        option_map entry_of result ≡ option_map (λ r. r.entry typed) row }
+        option_map entry_value result ≡ option_map (λ r. r.entry typed) row }
 {
     let count = Count::or_one(typed);
     match key {
@@ -50,7 +50,7 @@ fn common_ctrl<W: Refresher>(
     typed: Option<Count>,
     wrt: &W,
 ) -> Option<Entry>
-    ensures { option_map entry_of result
+    ensures { option_map entry_value result
         ≡ option_map (λ r. r.entry typed) (row_at (common_ctrl_rows mode) c (W.draft wrt.now)) }
 {
     let count = Count::or_one(typed);

@@ -4,7 +4,7 @@ ghost use Rattle.line_keys.specs.Command.{command_of, complete, complete_backwar
 ghost use Rattle.line_keys.specs.EmacsTable.{emacs_alt_rows, emacs_ctrl_alt_rows, emacs_ctrl_rows, emacs_row, second_at, typed_row};
 ghost use Rattle.line_keys.specs.Key.{bits_of};
 ghost use Rattle.line_keys.specs.Meaning.{by_sign, row_at, search};
-ghost use Rattle.line_keys.specs.Row.{entry_of, search_for};
+ghost use Rattle.line_keys.specs.Row.{entry_value, search_for};
 
 use crate::cmd::Cmd;
 use crate::count::Count;
@@ -16,7 +16,7 @@ use line_buffer::{Movement, Word};
 
 /// Returns what a key stands for in the table of Emacs.
 pub fn emacs_entry<W: Refresher>(key: KeyEvent, typed: Option<Count>, wrt: &W) -> Option<Entry>
-    ensures { option_map entry_of result
+    ensures { option_map entry_value result
         ≡ option_map (λ r. r.entry typed) (emacs_row key.0 (bits_of key.1) (W.draft wrt.now)) }
 {
     let count = Count::or_one(typed);
@@ -43,7 +43,7 @@ pub fn emacs_entry<W: Refresher>(key: KeyEvent, typed: Option<Count>, wrt: &W) -
 
 // Returns what is meant by a plain character, which inserts itself.
 fn plain(c: char, typed: Option<Count>) -> Option<Entry>
-    ensures { option_map entry_of result ≡ Some ((typed_row c).entry typed) }
+    ensures { option_map entry_value result ≡ Some ((typed_row c).entry typed) }
 {
     let count = Count::or_one(typed);
     if count.positive {
@@ -54,7 +54,7 @@ fn plain(c: char, typed: Option<Count>) -> Option<Entry>
 
 // Returns what is meant by a character with Ctrl in the table of Emacs.
 fn emacs_ctrl<W: Refresher>(c: char, typed: Option<Count>, _wrt: &W) -> Option<Entry>
-    ensures { option_map entry_of result
+    ensures { option_map entry_value result
         ≡ option_map (λ r. r.entry typed) (row_at emacs_ctrl_rows c (W.draft _wrt.now)) }
 {
     let count = Count::or_one(typed);
@@ -78,7 +78,7 @@ fn emacs_ctrl<W: Refresher>(c: char, typed: Option<Count>, _wrt: &W) -> Option<E
 
 // Returns what is meant by a character with Alt in the table of Emacs.
 fn emacs_alt<W: Refresher>(c: char, typed: Option<Count>, _wrt: &W) -> Option<Entry>
-    ensures { option_map entry_of result
+    ensures { option_map entry_value result
         ≡ option_map (λ r. r.entry typed) (row_at emacs_alt_rows c (W.draft _wrt.now)) }
 {
     let count = Count::or_one(typed);
@@ -99,7 +99,7 @@ fn emacs_alt<W: Refresher>(c: char, typed: Option<Count>, _wrt: &W) -> Option<En
 
 // Returns what is meant by a character with Ctrl and Alt in the table of Emacs.
 fn emacs_ctrl_alt<W: Refresher>(c: char, typed: Option<Count>, _wrt: &W) -> Option<Entry>
-    ensures { option_map entry_of result
+    ensures { option_map entry_value result
         ≡ option_map (λ r. r.entry typed) (row_at emacs_ctrl_alt_rows c (W.draft _wrt.now)) }
 {
     match c {
@@ -125,7 +125,7 @@ pub fn second_key(key: KeyEvent, count: Count) -> Cmd
 // Returns the search of one kind, or of the other for a negative count.
 fn search(forth: SearchKind, back: SearchKind, typed: Option<Count>) -> Option<Entry>
     ensures { let row = search (λ c. search_for forth c) (λ c. search_for back c) in
-        option_map entry_of result ≡ Some (row.entry typed) }
+        option_map entry_value result ≡ Some (row.entry typed) }
 {
     let count = Count::or_one(typed);
     let kind = if count.positive { forth } else { back };

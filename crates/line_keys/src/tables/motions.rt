@@ -46,7 +46,7 @@ impl Operator {
         }
     }
 
-    // Returns how far the operator goes by words.
+    // Returns where the operator goes behind w and W: to the end of a word, or to the start of the next.
     fn word_place(self) -> At
         ensures { result ≡ word_place self }
     {

@@ -3,7 +3,7 @@ ghost use Rattle.std.specs.Prelude.{◌≡◌, Some, option_map};
 ghost use Rattle.line_keys.specs.Command.{command_of};
 ghost use Rattle.line_keys.specs.Key.{bits_of};
 ghost use Rattle.line_keys.specs.Meaning.{gives, row_at};
-ghost use Rattle.line_keys.specs.Row.{entry_of};
+ghost use Rattle.line_keys.specs.Row.{entry_value};
 ghost use Rattle.line_keys.specs.ViTable.{vi_change_rows, vi_char_row, vi_command_row, vi_ctrl_rows, vi_enter_rows, vi_line_rows, vi_move_rows, vi_search_rows};
 ghost use Rattle.line_keys.specs.declared.refresher.InputMode.{InputMode};
 
@@ -17,7 +17,7 @@ use line_buffer::{At, Movement, RepeatCount, Word};
 /// Returns what a key stands for in command mode.
 pub fn vi_command_entry<W: Refresher>(key: KeyEvent, typed: Option<Count>, wrt: &W) -> Option<Entry>
     ensures { let row = vi_command_row key.0 (bits_of key.1) (W.draft wrt.now) in
-        option_map entry_of result ≡ option_map (λ r. r.entry typed) row }
+        option_map entry_value result ≡ option_map (λ r. r.entry typed) row }
 {
     let n = Count::or_one(typed).n;
     match key {
@@ -32,7 +32,7 @@ pub fn vi_command_entry<W: Refresher>(key: KeyEvent, typed: Option<Count>, wrt: 
 
 // Returns what a plain character stands for.
 fn vi_char<W: Refresher>(c: char, typed: Option<Count>, wrt: &W) -> Option<Entry>
-    ensures { option_map entry_of result
+    ensures { option_map entry_value result
         ≡ option_map (λ r. r.entry typed) (vi_char_row c (W.draft wrt.now)) }
 {
     if let Some(entry) = vi_move(c, typed, wrt) {
@@ -52,7 +52,7 @@ fn vi_char<W: Refresher>(c: char, typed: Option<Count>, wrt: &W) -> Option<Entry
 
 // Returns what a plain character stands for that moves.
 fn vi_move<W: Refresher>(c: char, typed: Option<Count>, _wrt: &W) -> Option<Entry>
-    ensures { option_map entry_of result
+    ensures { option_map entry_value result
         ≡ option_map (λ r. r.entry typed) (row_at vi_move_rows c (W.draft _wrt.now)) }
 {
     let n = Count::or_one(typed).n;
@@ -75,7 +75,7 @@ fn vi_move<W: Refresher>(c: char, typed: Option<Count>, _wrt: &W) -> Option<Entr
 
 // Returns what a plain character stands for that searches.
 fn vi_search<W: Refresher>(c: char, typed: Option<Count>, _wrt: &W) -> Option<Entry>
-    ensures { option_map entry_of result
+    ensures { option_map entry_value result
         ≡ option_map (λ r. r.entry typed) (row_at vi_search_rows c (W.draft _wrt.now)) }
 {
     let n = Count::or_one(typed).n;
@@ -92,7 +92,7 @@ fn vi_search<W: Refresher>(c: char, typed: Option<Count>, _wrt: &W) -> Option<En
 
 // Returns what a plain character stands for that enters another mode.
 fn vi_enter<W: Refresher>(c: char, typed: Option<Count>, _wrt: &W) -> Option<Entry>
-    ensures { option_map entry_of result
+    ensures { option_map entry_value result
         ≡ option_map (λ r. r.entry typed) (row_at vi_enter_rows c (W.draft _wrt.now)) }
 {
     let n = Count::or_one(typed).n;
@@ -120,7 +120,7 @@ fn vi_enter<W: Refresher>(c: char, typed: Option<Count>, _wrt: &W) -> Option<Ent
 
 // Returns what a plain character stands for that changes the text or copies from it.
 fn vi_change<W: Refresher>(c: char, typed: Option<Count>, _wrt: &W) -> Option<Entry>
-    ensures { option_map entry_of result
+    ensures { option_map entry_value result
         ≡ option_map (λ r. r.entry typed) (row_at vi_change_rows c (W.draft _wrt.now)) }
 {
     let n = Count::or_one(typed).n;
@@ -143,7 +143,7 @@ fn vi_change<W: Refresher>(c: char, typed: Option<Count>, _wrt: &W) -> Option<En
 
 // Returns what a plain character stands for that goes by lines, or through the history.
 fn vi_line<W: Refresher>(c: char, typed: Option<Count>, _wrt: &W) -> Option<Entry>
-    ensures { option_map entry_of result
+    ensures { option_map entry_value result
         ≡ option_map (λ r. r.entry typed) (row_at vi_line_rows c (W.draft _wrt.now)) }
 {
     let n = Count::or_one(typed).n;
@@ -156,7 +156,7 @@ fn vi_line<W: Refresher>(c: char, typed: Option<Count>, _wrt: &W) -> Option<Entr
 
 // Returns what a character with Ctrl stands for.
 fn vi_ctrl<W: Refresher>(c: char, typed: Option<Count>, _wrt: &W) -> Option<Entry>
-    ensures { option_map entry_of result
+    ensures { option_map entry_value result
         ≡ option_map (λ r. r.entry typed) (row_at vi_ctrl_rows c (W.draft _wrt.now)) }
 {
     let n = Count::or_one(typed).n;
@@ -175,7 +175,7 @@ fn vi_ctrl<W: Refresher>(c: char, typed: Option<Count>, _wrt: &W) -> Option<Entr
 
 // Returns what a key of one command stands for that enters insert mode.
 fn inserting(command: Cmd, group: Grouping) -> Option<Entry>
-    ensures { option_map entry_of result ≡ Some (record {
+    ensures { option_map entry_value result ≡ Some (record {
       meaning = gives (command_of command);
       enters = Some InputMode.Insert;
       group = group;

@@ -2,7 +2,7 @@
 ghost use Rattle.std.specs.Prelude.{◌≡◌, option_map};
 ghost use Rattle.line_keys.specs.Command.{command_of};
 ghost use Rattle.line_keys.specs.Key.{bits_of};
-ghost use Rattle.line_keys.specs.Row.{entry_of};
+ghost use Rattle.line_keys.specs.Row.{entry_value};
 ghost use Rattle.line_keys.specs.ViTable.{typed_char, vi_insert_row};
 
 use crate::cmd::Cmd;
@@ -20,7 +20,7 @@ pub fn vi_insert_entry<W: Refresher>(
     wrt: &W,
 ) -> Option<Entry>
     ensures { let row = vi_insert_row input_mode key.0 (bits_of key.1) (W.draft wrt.now) in
-        option_map entry_of result ≡ option_map (λ r. r.entry _typed) row }
+        option_map entry_value result ≡ option_map (λ r. r.entry _typed) row }
 {
     match key {
         E(K::Char(c), M::NONE) => command(typed_char(input_mode, c)),

@@ -5,7 +5,7 @@ use Rattle.line_keys.specs.declared.keys.TheConstants.Modifiers.{CTRL}
 use Rattle.line_keys.specs.Item.{key}
 use Rattle.line_editor.proofs.SequenceLemmas.{one_in_vain}
 use Rattle.line_editor.specs.Phrase.{of_mode}
-use Rattle.line_editor.specs.Shown.{kept}
+use Rattle.line_editor.specs.ItemShown.{kept}
 use Rattle.line_editor.specs.Tail.{by_second_key}
 use Rattle.tests_keys.proofs.phrases.control_x_begins.Goals as goal
 

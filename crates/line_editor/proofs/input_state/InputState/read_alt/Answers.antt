@@ -1,11 +1,9 @@
-use Rattle.std.proofs.Common.{◌∷◌, [], None, ap, refl, sym, ◌∙◌, option_map}
+use Rattle.std.proofs.Common.{None, ap, sym, ◌∙◌, option_map}
 use Rattle.std.proofs.lemmas.Result.{err_from_is_err_and}
 use Rattle.line_keys.specs.Command.{command_of}
 use Rattle.line_editor.specs.InputState.{input_of, keys_of, read_input}
 use Rattle.line_editor.specs.Keymap.{keymap_of}
-use Rattle.line_editor.specs.Phrase.{Keyed}
 use Rattle.line_editor.specs.declared.input_state.phrases.Read.{Read}
-use Rattle.line_editor.proofs.PartLemmas.{at_once_part}
 use Rattle.line_editor.proofs.PhraseLemmas.{alt-stands, bound-entered, bound-read, own-entered, own-read}
 use Rattle.line_editor.proofs.PhraseReadLemmas.{alone_part, alt_fails, alt_read}
 use Rattle.line_editor.proofs.input_state.InputState.read_alt.Goals as goal

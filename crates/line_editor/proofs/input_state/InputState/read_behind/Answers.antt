@@ -1,8 +1,8 @@
-use Rattle.std.proofs.Common.{◌∷◌, [], ap, refl, sym, ◌∙◌, option_map}
+use Rattle.std.proofs.Common.{ap, sym, ◌∙◌, option_map}
 use Rattle.std.specs.Prelude.{unwrap_or}
 use Rattle.std.proofs.lemmas.Result.{err_from_is_err_and}
 use Rattle.line_keys.specs.Command.{command_of}
-use Rattle.line_keys.specs.Row.{entry_of}
+use Rattle.line_keys.specs.Row.{entry_value}
 use Rattle.line_editor.specs.Input.{in_mode}
 use Rattle.line_editor.specs.InputState.{input_of, keys_of, read_input}
 use Rattle.line_editor.specs.Keymap.{keymap_of}
@@ -46,7 +46,7 @@ returns-in_err-behind g c =
     let unbound = ap (λ o. option_map command_of o) (sym c.in_default.is) ∙ c.in_ok-command.ensures.command own in
     let counted = c.unwrap_or-count.ensures ∙ ap (λ n. unwrap_or c.args.typed n) c.one.ensures in
     let p = err_from_is_err_and c.from_residual-in_err-behind.result c.from_residual-in_err-behind.ensures.1 in
-    rw (p.1, p.2) (row_fails g.W.EditorState g.R.RawReader c.args.wrt.now k c.args.rdr.now i c.args.key c.args.typed _ (entry_of c.entry_of_key-meaning.result) unbound c.in_default-own_command.ensures (sym c.requires) c.entry_of_key-meaning.ensures counted
+    rw (p.1, p.2) (row_fails g.W.EditorState g.R.RawReader c.args.wrt.now k c.args.rdr.now i c.args.key c.args.typed _ (entry_value c.entry_of_key-meaning.result) unbound c.in_default-own_command.ensures (sym c.requires) c.entry_of_key-meaning.ensures counted
     (λ (x : Read). command_of x.command) (λ x. read_input x k.input) _ _ _ c.in_err-behind.ensures)
 
 pub returns : goal.returns
@@ -57,5 +57,5 @@ returns g c =
     let unbound = ap (λ o. option_map command_of o) (sym c.in_default.is) ∙ c.in_ok-command.ensures.command own in
     let counted = c.unwrap_or-count.ensures ∙ ap (λ n. unwrap_or c.args.typed n) c.one.ensures in
     let group = c.in_ok-change_group.ensures in
-    row_read g.W.EditorState g.R.RawReader c.args.wrt.now k c.args.rdr.now i c.args.key c.args.typed _ (entry_of c.entry_of_key-meaning.result) unbound c.in_default-own_command.ensures (sym c.requires) c.entry_of_key-meaning.ensures counted
+    row_read g.W.EditorState g.R.RawReader c.args.wrt.now k c.args.rdr.now i c.args.key c.args.typed _ (entry_value c.entry_of_key-meaning.result) unbound c.in_default-own_command.ensures (sym c.requires) c.entry_of_key-meaning.ensures counted
     (λ (x : Read). command_of x.command) (λ x. read_input x k.input) _ _ _ _ _ c.in_ok-behind.ensures group.draft group.line.0 group.line.1 group.start group.undrawn c.listed.ensures.command c.listed.ensures.input

@@ -1,7 +1,7 @@
 use Rattle.std.proofs.Common.{[]}
 use Rattle.std.proofs.lemmas.Result.{err_from_is_err_and}
 use Rattle.line_keys.specs.Command.{command_of}
-use Rattle.line_editor.specs.InputState.{input_of, keys_of, read_input, told_input}
+use Rattle.line_editor.specs.InputState.{keys_of, read_input, told_input}
 use Rattle.line_editor.specs.declared.input_state.Told.{Told}
 use Rattle.line_editor.specs.declared.input_state.phrases.Read.{Read}
 use Rattle.line_editor.proofs.PartLemmas.{failure_retold}

@@ -1,9 +1,9 @@
-use Rattle.std.proofs.Common.{[], ◌∷◌, refl, sym, ◌∙◌, ap}
+use Rattle.std.proofs.Common.{[], ◌∷◌, refl, ◌∙◌}
 use Rattle.std.specs.String.{string_bytes}
 use Rattle.std.proofs.lemmas.Result.{err_from_is_err_and}
 use Rattle.line_buffer.specs.Search.{opposite}
 use Rattle.line_keys.specs.Item.{key, paste}
-use Rattle.line_editor.specs.Tail.{alone, by_last_change, by_paste, by_replacement}
+use Rattle.line_editor.specs.Tail.{by_last_change, by_paste, by_replacement}
 use Rattle.line_editor.proofs.ReadingLemmas.{fault_dry}
 use Rattle.line_editor.proofs.TailLemmas.{again_read, changed_place, command_read, paste_ends, replacement_ends, search_ends, search_read, stays_read}
 use Rattle.line_editor.proofs.input_state.InputState.read_quietly.Goals as goal
