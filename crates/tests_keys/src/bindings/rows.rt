@@ -36,6 +36,16 @@ const CTRL_X: KeyEvent = KeyEvent(KeyCode::Char('X'), Modifiers::CTRL);
 
 const CTRL_BRACKET: KeyEvent = KeyEvent(KeyCode::Char(']'), Modifiers::CTRL);
 
+const DIGIT_3: KeyEvent = KeyEvent(KeyCode::Char('3'), Modifiers::NONE);
+
+const R: KeyEvent = KeyEvent(KeyCode::Char('R'), Modifiers::NONE);
+
+const ALT_Q: KeyEvent = KeyEvent(KeyCode::Char('q'), Modifiers::ALT);
+
+const ALT_X: KeyEvent = KeyEvent(KeyCode::Char('x'), Modifiers::ALT);
+
+const ESC: KeyEvent = KeyEvent(KeyCode::Esc, Modifiers::NONE);
+
 const HOME: KeyEvent = KeyEvent(KeyCode::Home, Modifiers::NONE);
 
 const LEFT: KeyEvent = KeyEvent(KeyCode::Left, Modifiers::NONE);
@@ -570,6 +580,110 @@ const SEQUENCES: &[Case] = &[
     ),
 ];
 
+/// In Vi a handler is handed the count that is typed in command mode, and none in the others; it sees the mode that the key
+/// is read in, also behind Alt. A sequence's is handed 1 in insert mode.
+const ASKED_IN_VI: &[Case] = &[
+    (
+        Vi,
+        None,
+        &[(On::Keys(&[F5]), Asks(Watcher::ForCount(3, true)))],
+        &[B, ESC, DIGIT_3, F5],
+        "eof",
+        "kkkb",
+        2,
+    ),
+    (
+        Vi,
+        None,
+        &[(On::Keys(&[F5]), Asks(Watcher::ForCount(1, true)))],
+        &[B, ESC, F5],
+        "eof",
+        "kb",
+        0,
+    ),
+    (
+        Vi,
+        None,
+        &[(On::Keys(&[F5]), Asks(Watcher::Sees(false, false, 0)))],
+        &[B, ESC, F5],
+        "eof",
+        "kb",
+        0,
+    ),
+    (
+        Vi,
+        None,
+        &[(On::Keys(&[F5]), Asks(Watcher::Sees(false, false, 0)))],
+        &[B, ESC, R, F5],
+        "eof",
+        "kb",
+        1,
+    ),
+    (
+        Vi,
+        None,
+        &[(On::Keys(&[F5]), Asks(Watcher::ForCount(0, true)))],
+        &[B, ESC, R, F5],
+        "eof",
+        "kb",
+        1,
+    ),
+    (
+        Vi,
+        None,
+        &[(On::Keys(&[Q]), Asks(Watcher::Sees(false, false, 0)))],
+        &[B, ALT_Q],
+        "eof",
+        "bk",
+        1,
+    ),
+    (
+        Vi,
+        None,
+        &[(On::Keys(&[Q]), Asks(Watcher::ForCount(3, true)))],
+        &[B, ALT_3, Q],
+        "eof",
+        "bkkk",
+        3,
+    ),
+    (
+        Vi,
+        None,
+        &[(On::Keys(&[CTRL_X, A]), Asks(Watcher::ForCount(1, true)))],
+        &[CTRL_X, A],
+        "eof",
+        "k",
+        1,
+    ),
+    (
+        Vi,
+        None,
+        &[(On::Keys(&[CTRL_X, A]), Asks(Watcher::ForCount(3, true)))],
+        &[B, ESC, DIGIT_3, CTRL_X, A],
+        "eof",
+        "kb",
+        0,
+    ),
+    (
+        Vi,
+        None,
+        &[(On::Keys(&[ALT_X]), Asks(Watcher::Nothing))],
+        &[B, A, LEFT, ALT_X],
+        "eof",
+        "b",
+        1,
+    ),
+    (
+        Vi,
+        None,
+        &[(On::Keys(&[ALT_Q]), Asks(Watcher::ForCount(0, true)))],
+        &[B, ALT_Q],
+        "eof",
+        "bk",
+        2,
+    ),
+];
+
 #[test]
 fn single_keys_are_bound(rt: HostRuntime) -> Result<(), Fail> {
     for case in SINGLE {
@@ -589,6 +703,14 @@ fn counts_reach_bound_commands(rt: HostRuntime) -> Result<(), Fail> {
 #[test]
 fn handlers_are_asked(rt: HostRuntime) -> Result<(), Fail> {
     for case in ASKED {
+        holds(&rt, rt.alloc(), case)?;
+    }
+    Ok(())
+}
+
+#[test]
+fn handlers_are_asked_in_vi(rt: HostRuntime) -> Result<(), Fail> {
+    for case in ASKED_IN_VI {
         holds(&rt, rt.alloc(), case)?;
     }
     Ok(())
