@@ -149,7 +149,8 @@ impl Told {
     // Returns what is to be remembered of what was read: a command that becomes the last change is copied.
     fn new(alloc: Global, read: Read) -> Result<Told>
         ensures command { IfOk result (λ t. command_of t.command ≡ command_of read.command) }
-        ensures input { (input : Input) → IfOk result (λ t. told_input t input ≡ read_input read input) }
+        ensures input { (input : Input)
+            → IfOk result (λ t. told_input t input ≡ read_input read input) }
         ensures memory { MemoryOnly result }
     {
         let last_cmd = if read.is_change {

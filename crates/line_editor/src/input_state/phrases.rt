@@ -171,8 +171,9 @@ impl InputState<'_> {
     // Returns what a command of the tables is read as, whose key may enter a mode. In Emacs nothing is remembered.
     fn listed(&self, mode: InputMode, enters: Option<InputMode>, behind: Behind) -> Read
         ensures command { command_of result.command ≡ command_of behind.command }
-        ensures input { let i = input_of self.now in read_input result i
-            ≡ remembered_behind i.style enters (in_mode mode i) (command_of behind.command) behind.search }
+        ensures input { let i = input_of self.now in let command = command_of behind.command in
+            read_input result i
+            ≡ remembered_behind i.style enters (in_mode mode i) command behind.search }
     {
         match self.mode {
             EditMode::Emacs => self.at_once(mode, behind.command),
