@@ -9,6 +9,7 @@ pub mod IndentLemmas
 pub mod LineLemmas
 pub mod ListLemmas
 pub mod PartLemmas
+pub mod PlainLemmas
 pub mod RingLemmas
 pub mod RowLemmas
 pub mod SearchLemmas

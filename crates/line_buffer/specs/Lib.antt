@@ -12,6 +12,7 @@ pub mod Laws
 pub mod Line
 pub mod Lines
 pub mod Offset
+pub mod Printable
 pub mod Range
 pub mod RingAction
 pub mod RingLoan

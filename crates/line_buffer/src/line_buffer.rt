@@ -1,6 +1,8 @@
 ghost use Rattle.line_buffer.specs.Offset.{IsOffset, IsOffsetBack, IsOffsetOn};
-ghost use Rattle.std.specs.Prelude.{◌≡◌, ◌^◌, ◌<◌, ◌≤◌, [], ◌==◌, length, take, drop, not, is_some, IfOk, IfSome, IsCharBoundary};
+ghost use Rattle.std.specs.Prelude.{◌≡◌, ◌^◌, ◌<◌, ◌≤◌, [], ◌==◌, length, take, drop, not, is_some, IfOk, IfSome, IsCharBoundary, string_bytes};
+ghost use Rattle.std.specs.List.{list_all};
 ghost use Rattle.line_buffer.specs.Cluster.{place_on, place_back};
+ghost use Rattle.line_buffer.specs.Printable.{is_plain};
 ghost use Rattle.line_buffer.specs.Line.{is_at_end, MovesCursor, PutsCursor, before, after, with_cursor, moved_to, start_of_line, end_of_line, ends_in_white_space};
 
 mod edits;
@@ -12,9 +14,10 @@ mod transposes;
 
 use crate::clusters::{first_len, first_line_len, last_line_start, last_start};
 use crate::movement::RepeatCount;
+use crate::printable::is_plain_text;
 use std::alloc::{AllocError, AllocFailed, Global};
 use std::error::Error;
-use std::fmt::{self, Display, Formatter};
+use std::fmt::{self, Debug, Display, Formatter};
 use std::marker::Model;
 
 /// What is done to the letters of a word. Only ASCII letters change case.
@@ -66,10 +69,12 @@ impl<T: Drop> From<AllocFailed<T>> for OutOfMemory {
 }
 
 /// A text with a cursor, which stands on a character boundary. Places are counted in bytes.
-#[derive(Debug, Drop)]
+#[derive(Drop)]
 pub struct LineBuffer {
     buf: String,
     pos: usize,
+    plain: bool,
+    ghost plain_is: { plain ≡ list_all is_plain (string_bytes buf) },
 }
 
 impl Model for LineBuffer {
@@ -84,6 +89,15 @@ impl Model for LineBuffer {
     ghost invariant = { λ l. IsCharBoundary (string_bytes l.buf) l.pos };
 }
 
+impl Debug for LineBuffer {
+    fn fmt<W: fmt::Write>(&self, f: &mut Formatter<W>) -> fmt::Result {
+        f.debug_struct("LineBuffer")
+            .field("buf", &self.buf)
+            .field("pos", &self.pos)
+            .finish()
+    }
+}
+
 impl LineBuffer {
     /// Returns an empty line. It grows from `alloc`.
     pub fn new(alloc: Global) -> LineBuffer
@@ -92,6 +106,7 @@ impl LineBuffer {
         LineBuffer {
             buf: String::new(alloc),
             pos: 0,
+            plain: true,
         }
     }
 
@@ -108,6 +123,7 @@ impl LineBuffer {
         Ok(LineBuffer {
             buf: String::from_str(alloc, text)?,
             pos,
+            plain: is_plain_text(text),
         })
     }
 
@@ -171,6 +187,13 @@ impl LineBuffer {
         ensures { result ≡ is_at_end self.now }
     {
         self.pos == self.buf.len()
+    }
+
+    /// Returns whether the text is printable ASCII and newlines alone.
+    pub fn is_plain(&self) -> bool
+        ensures { result ≡ list_all is_plain self.now.text }
+    {
+        self.plain
     }
 
     /// Returns whether only white space stands from the cursor on.

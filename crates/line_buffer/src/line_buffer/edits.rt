@@ -10,6 +10,7 @@ ghost use Rattle.line_buffer.specs.Line.{is_at_end, inserted_at, inserted_at_cur
 
 use super::{LineBuffer, OutOfMemory};
 use crate::movement::RepeatCount;
+use crate::printable::is_plain_text;
 use crate::undo::Changeset;
 use std::alloc::Global;
 use std::ops::Range;
@@ -109,6 +110,7 @@ impl LineBuffer {
         self.cursor_is_on_boundary();
         changes.insert_str(place, text)?;
         self.buf.insert_str(place, text)?;
+        self.plain &= is_plain_text(text);
         Ok(())
     }
 
@@ -231,6 +233,7 @@ impl LineBuffer {
         changes.delete(0, self.buf.as_str())?;
         changes.insert_str(0, text)?;
         self.buf = String::from_str(*self.buf.allocator(), text)?;
+        self.plain = is_plain_text(text);
         self.pos = pos;
         Ok(())
     }
@@ -282,6 +285,7 @@ impl LineBuffer {
         ensures cursor { IsCharBoundary self.new.text self.new.cursor }
     {
         self.buf.replace_range(from..to, text)?;
+        self.plain = is_plain_text(text) && (self.plain || is_plain_text(self.buf.as_str()));
         self.pos = from + text.len();
         Ok(())
     }
@@ -315,6 +319,7 @@ impl LineBuffer {
     {
         let at_end = self.pos == self.buf.len();
         self.buf.insert_str(self.pos, text)?;
+        self.plain &= is_plain_text(text);
         self.pos += text.len();
         Ok(at_end)
     }

@@ -157,9 +157,7 @@ impl LineBuffer {
         ensures front { OnOk result (KeepsFront self.old.text self.new.text from) }
         ensures cursor { IsCharBoundary self.new.text self.new.cursor }
     {
-        self.buf.replace_range(from..to, "")?;
-        self.pos = from;
-        Ok(())
+        self.put(from, to, "")
     }
 
     /// Returns the range of the movement, in bytes.
@@ -209,8 +207,8 @@ impl LineBuffer {
         }
     }
 
-    /// Returns the range that a kill by the movement takes.
-    fn killed_range(&self, mvt: &Movement) -> Option<(usize, usize)>
+    /// Returns the range that a kill by the movement takes, in bytes; `None` where it takes nothing.
+    pub fn killed_range(&self, mvt: &Movement) -> Option<(usize, usize)>
         ensures cursor { IsCharBoundary self.now.text self.now.cursor }
         ensures range { IsRangeIfAny result self.now (killed_range self.now mvt.now) }
     {

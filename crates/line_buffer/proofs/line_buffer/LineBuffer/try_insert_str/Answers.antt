@@ -4,6 +4,7 @@ use Rattle.std.specs.List.{insert_slice}
 use Rattle.std.specs.Str.{IsUtf8}
 use Rattle.line_buffer.specs.Changes.{Changes}
 use Rattle.line_buffer.specs.Line.{Line}
+use Rattle.line_buffer.proofs.PlainLemmas.{plain_inserted}
 use Rattle.line_buffer.proofs.TellsLemmas.{front-replaced, behind_insert, still-inserted}
 use Rattle.line_buffer.proofs.BoundaryLemmas.{boundary_before_insert}
 use Rattle.line_buffer.proofs.line_buffer.LineBuffer.try_insert_str.Goals as goal
@@ -35,3 +36,6 @@ returns c =
           (IsUtf8-had _ c.self.inside.buf.ok) (IsUtf8-had _ c.insert_str-2.new.self.ok) c.in_ok-insert_str-2.ensures.bytes c.self.invariant
           (omega (arith, ap (λ (l : Line). l.cursor) c.self.view_is, c.requires.behind)) within;
     }
+
+pub invariant_of-self-inside-2 : goal.invariant_of-self-inside-2
+invariant_of-self-inside-2 c = (grind (arith, plain_inserted), tt)

@@ -1,0 +1,26 @@
+-- Whether a text is plain after a change.
+use Rattle.std.proofs.Common.{◌≡◌, ℕ, ◌&&◌, ◌||◌, List, ◌++◌, take, drop, ap, sym, ◌∙◌, arith}
+use Rattle.std.proofs.lemmas.List.{take-append-drop}
+use Rattle.std.proofs.lemmas.List.Folds.{list_all-append}
+use Rattle.std.specs.List.{insert_slice, list_all, replace_range}
+use Rattle.line_buffer.specs.Printable.{is_plain}
+
+-- a text is plain where what is before a place and what is behind it are
+parts_plain : (text : List ℕ) (place : ℕ) → list_all is_plain text ≡ (list_all is_plain (take place text) && list_all is_plain (drop place text))
+parts_plain text place = ap (list_all is_plain) (sym (take-append-drop place text)) ∙ list_all-append is_plain (take place text) (drop place text)
+
+-- a text with another in place of a range is plain where the other and what is left are
+replaced_parts : (old new text : List ℕ) (from to : ℕ) → new ≡ replace_range old from to text
+    → list_all is_plain new ≡ ((list_all is_plain (take from old) && list_all is_plain text) && list_all is_plain (drop to old))
+replaced_parts old new text from to is =
+    ap (list_all is_plain) is ∙ list_all-append is_plain (take from old ++ text) (drop to old)
+    ∙ ap (λ b. b && list_all is_plain (drop to old)) (list_all-append is_plain (take from old) text)
+
+-- a text with another put in is plain where both were
+pub plain_inserted : (old new text : List ℕ) (place : ℕ) → new ≡ insert_slice old place text → list_all is_plain new ≡ (list_all is_plain old && list_all is_plain text)
+plain_inserted old new text place is = grind (arith, replaced_parts old new text place place is, parts_plain old place)
+
+-- of a text with another in place of a range, what is left of a plain text need not be read again
+pub plain_replaced : (old new text : List ℕ) (from to : ℕ) → new ≡ replace_range old from to text
+    → list_all is_plain new ≡ (list_all is_plain text && (list_all is_plain old || list_all is_plain new))
+plain_replaced old new text from to is = grind (arith, replaced_parts old new text from to is, parts_plain old from, parts_plain old to)
