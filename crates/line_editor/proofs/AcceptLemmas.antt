@@ -1,5 +1,5 @@
 -- Facts on lines that are accepted.
-use Rattle.std.proofs.Common.{◌≡◌, ℕ, ◌+◌, Bool, true, false, cond, not, List, Option, None, Ok, Err, refl, sym, ◌∙◌, ap, subst, arith, inl, inr}
+use Rattle.std.proofs.Common.{◌≡◌, ℕ, ◌+◌, Bool, true, false, cond, not, List, Option, None, Ok, Err, refl, sym, ◌∙◌, ap, subst, arith}
 use Rattle.std.specs.Prelude.{◌||◌, ◌&&◌, if◌then◌else◌, is_some}
 use Rattle.line_buffer.specs.Changes.{adds_end}
 use Rattle.line_buffer.specs.KillRing.{Ring}
@@ -8,7 +8,7 @@ use Rattle.line_config.specs.declared.error.ReadlineError.{ReadlineError}
 use Rattle.line_keys.specs.Command.{accept_line, accept_or_insert_line, end_of_file}
 use Rattle.line_keys.specs.Display.{Display, Surface}
 use Rattle.line_keys.specs.Draft.{Draft, hint_shown, in_group, out_of_group, unhinted}
-use Rattle.line_keys.specs.Drawing.{Does, DoesAsking, Drawing, Drew, DrewLine, Undrawn, nothing, with_hint, with_text}
+use Rattle.line_keys.specs.Drawing.{Does, DoesAsking, Drawing, Drew, DrewLine, Undrawn, drawn_in_full, nothing, text_same, with_hint, with_text}
 use Rattle.line_keys.specs.Frame.{Frame}
 use Rattle.line_keys.specs.ShownLine.{LosesHint, ShowsNoHint}
 use Rattle.line_keys.specs.declared.editor_state.EditorState.{Ghosts}
@@ -27,7 +27,7 @@ use Rattle.line_editor.specs.declared.command.Reply.{Reply}
 use Rattle.line_editor.specs.declared.command.Reply.TheVariants.{GoesOn, Stays, Submits}
 use Rattle.line_editor.specs.DrawnVerdict.{draws_verdict, draws_verdict_on, kind_of_verdict}
 use Rattle.line_editor.proofs.AskedLemmas.{fails_more, sure_all}
-use Rattle.line_editor.proofs.CommandLemmas.{editor_with, executed_wrong, fails_then, line_kept, line_then, perhaps_lit, perhaps_redraws, twice_at_most}
+use Rattle.line_editor.proofs.CommandLemmas.{editor_with, executed_wrong, fails_then, few_by, line_kept, line_then, perhaps_lit, perhaps_redraws, twice_at_most}
 use Rattle.line_editor.proofs.CountLemmas.{rises_twice, rises_within}
 use Rattle.line_editor.proofs.DoneLemmas.{line_after}
 use Rattle.line_editor.proofs.DrawnLemmas.{frame_then, hint_trails, keeps_then, no_hint_line}
@@ -42,7 +42,9 @@ ends_at e x old new input indent kills answer drop is drawn = record {
   steps = record { editor = ap (λ (d : Draft). editor_with d kills) drop.draft; answered = is };
   drew = drop.drew;
   drawn = drawn;
-  change = inl (ap (λ (d : Draft). d.line.text) drop.draft);
+  change = text_same (ap (λ (d : Draft). d.line.text) drop.draft);
+  few = few_by e old new kills end_of_file drop.drew;
+  part = λ is. absurd (cc);
   start = drop.start;
 }
 
@@ -92,7 +94,7 @@ validates e x y z old mid new verdict corrected helped said ends asked shown =
           (subst (λ b. Drew e 1 (if b then with_text (message_of verdict) (kind_of_verdict verdict) else nothing) old new) draws
           (perhaps_after e old mid new undrawn _ (message_of verdict) (kind_of_verdict verdict) shown.drew));
       keeps = keeps_then e old mid new asked.keeps shown.keeps;
-      change = inl (ap (λ (d : Draft). d.line.text) left ∙ ap (λ (l : Line). l.text) (validated_line (e.environment old) (e.draft old)));
+      change = text_same (ap (λ (d : Draft). d.line.text) left ∙ ap (λ (l : Line). l.text) (validated_line (e.environment old) (e.draft old)));
       frame = frame_then e old mid new asked.frame shown.frame;
       fails = record { io = tt; faults = tt; quiet = shown.fails.quiet ∙ asked.fails.quiet };
     }
@@ -170,7 +172,9 @@ module _ {X T U : Type 0} (e : Ghosts X) (x : T) (y : U) (old mid new : X)
     steps = record { editor = ap (λ (d : Draft). editor_with d kills) left_is; answered = refl };
     drew = shown_both;
     drawn = loses_both;
-    change = inl text_is;
+    change = text_same text_is;
+    few = few_by e old new kills accept_line shown_both;
+    part = λ is. absurd (cc);
     start = asked.start ∙ drop.start;
   }
 
@@ -210,7 +214,9 @@ module _ {X T U : Type 0} (e : Ghosts X) (x : T) (y : U) (old mid new : X)
       };
       drew = drawn_by Submits new is shown_both;
       drawn = loses_both;
-      change = inl text_is;
+      change = text_same text_is;
+      few = few_by e old new kills (accept_or_insert_line in_the_middle) (drawn_by Submits new is shown_both);
+      part = λ is. absurd (cc);
       start = asked.start ∙ drop.start;
     }
 
@@ -223,7 +229,9 @@ module _ {X T U : Type 0} (e : Ghosts X) (x : T) (y : U) (old mid new : X)
       };
       drew = drawn_by Stays new is shown_both;
       drawn = record { right = λ was. asked.keeps.right (loses.right was); line = λ there. no_hint_line e new (no_hint (loses.no_hint there)) };
-      change = inl text_is;
+      change = text_same text_is;
+      few = few_by e old new kills (accept_or_insert_line in_the_middle) (drawn_by Stays new is shown_both);
+      part = λ is. absurd (cc);
       start = asked.start ∙ drop.start;
     }
 
@@ -248,11 +256,11 @@ module _ {X T U : Type 0} (e : Ghosts X) (x : T) (y : U) (old mid new : X)
           };
           drew = drawn_by GoesOn last is line;
           drawn = record { right = λ was. line.right; line = λ there. hint_trails e last line.shows };
-          change = inr (
-            line.shows,
-            rises_within 1 (first + second + 1) 3 (e.redraws old) (e.redraws last) (omega arith)
-                (omega (arith, twice_at_most (e.display old) (e.environment old) (e.draft old))) line.redraws,
-          );
+          change = drawn_in_full line.shows
+              (rises_within 1 (first + second + 1) 3 (e.redraws old) (e.redraws last) (omega arith)
+              (omega (arith, twice_at_most (e.display old) (e.environment old) (e.draft old))) line.redraws);
+          few = few_by e old last kills (accept_or_insert_line in_the_middle) (drawn_by GoesOn last is line);
+          part = λ is. absurd (cc);
           start = typed.start ∙ asked.start ∙ drop.start;
         }
 

@@ -1,9 +1,9 @@
 -- Facts on whom a call asks.
 use Rattle.std.proofs.Common.{◌≡◌, Bool, true, false, Option, Some, None, Result, Ok, Err, refl}
-use Rattle.std.specs.Prelude.{ℕ, ◌&&◌, ◌||◌}
+use Rattle.std.specs.Prelude.{ℕ, ◌&&◌}
 use Rattle.line_config.specs.declared.error.ReadlineError.{ReadlineError}
 use Rattle.line_keys.specs.Draft.{Draft}
-use Rattle.line_keys.specs.Drawing.{DoesAsking, Drawing, asked_by, drawn_if}
+use Rattle.line_keys.specs.Drawing.{DoesAsking, Drawing}
 use Rattle.line_keys.specs.Frame.{FailsByParty}
 use Rattle.line_keys.specs.declared.editor_state.EditorState.{Ghosts}
 use Rattle.line_parts.specs.Asks.{Asks, Sureness, for_all, for_hint, for_line, for_look_up, for_verdict, is_sure, nobody}
@@ -50,13 +50,6 @@ sure_history sure line = second_of sure.hints sure.history line
 pub sure_look_up : (sure : Sureness) (found : Option Found) → is_sure sure (asked_for found) ≡ true → is_sure sure for_look_up ≡ true
 sure_look_up sure None all = all
 sure_look_up sure (Some found) all = sure_history sure all
-
--- what is asked for the second of two drawings is asked for both
-pub sure_second : (sure : Sureness) (found more : Bool) → is_sure sure (asked_by (drawn_if (found || more))) ≡ true → is_sure sure (asked_by (drawn_if more)) ≡ true
-sure_second sure true true all = all
-sure_second sure false true all = all
-sure_second sure true false all = refl
-sure_second sure false false all = refl
 
 module _ {X : Type 0} (e : Ghosts X) where
   -- a call that asks few may be said to ask more

@@ -1,44 +1,46 @@
 -- Facts on what commands leave.
-use Rattle.std.proofs.Common.{◌≡◌, ℕ, ◌+◌, ◌≤◌, Bool, true, false, cond, inl, inr, List, Option, Some, None, option_map, Result, Ok, Err, refl, sym, ◌∙◌, ap, subst, arith}
+use Rattle.std.proofs.Common.{◌≡◌, ◌⊎◌, ℕ, ◌+◌, ◌-◌, ◌≤◌, Bool, true, false, cond, inl, inr, List, Option, Some, None, option_map, Result, Ok, Err, refl, sym, ◌∙◌, ap, subst, arith}
 use Rattle.std.proofs.lemmas.Bool.{cases_lt}
 use Rattle.std.specs.Prelude.{◌||◌, ◌==◌, if◌then◌else◌, length, not, is_some}
 use Rattle.line_buffer.specs.Kill.{killed_range}
-use Rattle.line_buffer.specs.KillRing.{Ring, after_yank_pop}
+use Rattle.line_buffer.specs.KillRing.{Ring, after_yank, after_yank_pop}
 use Rattle.line_buffer.specs.Line.{Line, ends_in_white_space}
 use Rattle.line_buffer.specs.declared.movement.Movement.{Movement}
 use Rattle.line_buffer.specs.declared.movement.Movement.TheVariants as By
 use Rattle.line_config.specs.declared.error.ReadlineError.{ReadlineError}
 use Rattle.line_config.specs.Error.{Rose, is_io, max_count}
-use Rattle.line_keys.specs.Command.{Command, accept_line, accept_or_insert_line, command_of, end_of_file, interrupt, kill, newline, replace, vi_yank_to, yank, yank_pop}
+use Rattle.line_keys.specs.Command.{Command, accept_line, accept_or_insert_line, command_of, end_of_file, interrupt, kill, move, newline, replace, self_insert, vi_yank_to, yank, yank_pop}
 use Rattle.line_keys.specs.declared.cmd.Anchor.{Anchor}
 use Rattle.line_keys.specs.declared.cmd.Cmd.{Cmd}
-use Rattle.line_keys.specs.Display.{Display, IsRight, ShowsInFull, Surface, lit_after}
+use Rattle.line_buffer.specs.declared.layout.Position.{Position}
+use Rattle.line_keys.specs.Display.{Display, IsRight, ShowsInFull, Surface, columns_back, columns_on, corner, lit_after}
 use Rattle.line_keys.specs.Draft.{Draft, hint_shown, start_text, unhinted}
-use Rattle.line_keys.specs.Drawing.{Does, DoesAsking, Drawing, Drew, DrewBehind, DrewLine, DrewNothing, Refreshes, asked_by, drawn_if, edit_drawn, ShowsChange, nothing, with_hint, with_text}
+use Rattle.line_keys.specs.Drawing.{CursorWay, Does, DoesAsking, Drawing, Drew, DrewBehind, DrewLine, DrewNothing, DrewPart, Refreshes, ShowsChange, asked_by, behind_prompt, change_drawn, cursor, cursor_over, cursor_redrew, cursor_stayed, cursor_to_end, cursor_went, drawn_if, drawn_in_full, drawn_plainly, edit_drawn, in_part, nothing, text_same, with_hint, with_text}
+use Rattle.line_keys.specs.Plainly.{KilledPlainly, TypedPlainly, has_highlighting}
 use Rattle.line_keys.specs.Frame.{FailsByParty, Frame}
 use Rattle.line_keys.specs.ShownLine.{Redraws}
 use Rattle.line_keys.specs.declared.editor_state.EditorState.{Ghosts}
-use Rattle.line_parts.specs.Asks.{Asks, for_hint, is_sure}
+use Rattle.line_parts.specs.Asks.{Asks, for_hint, is_sure, nobody}
 use Rattle.line_parts.specs.Environment.{Environment, verdict_on}
 use Rattle.line_parts.specs.declared.highlight.CmdKind.{CmdKind}
-use Rattle.line_parts.specs.declared.highlight.CmdKind.TheVariants.{ForcedRefresh, Other}
+use Rattle.line_parts.specs.declared.highlight.CmdKind.TheVariants.{ForcedRefresh, MoveCursor, Other}
 use Rattle.line_state.specs.Moves.{moved}
 use Rattle.line_state.specs.Edited as edits
 use Rattle.line_state.specs.Edited.{pops_text}
 use Rattle.line_editor.specs.Accept.{reply_to}
-use Rattle.line_editor.specs.Drawings.{asked_of, drawing_of, edited_asked, edited_drawn, edited_times, has_text, once_for, pop_drawn, reply_times, times_of, unhinted_drawn, validated_times, verdict_drawn}
-use Rattle.line_editor.specs.Editor.{Editor, Ruler, Step, edited_of, measuring, proceeding, ruler_of, with_draft}
-use Rattle.line_editor.specs.DraftEdits.{after_edit, kill_popped, killed_by, popped_in, movement_replaced, text_inserted}
+use Rattle.line_editor.specs.Drawings.{any_plain_kill, asked_of, drawing_of, draws_in_part, edited_asked, edited_drawn, edited_times, has_text, is_plain_kill, is_plain_typing, kill_drawn, move_drawn, moves_alone, once_for, pop_drawn, replacement_drawn, replacement_times, reply_times, times_of, unhinted_drawn, validated_times, verdict_drawn, yank_drawn}
+use Rattle.line_editor.specs.Editor.{Answer, Editor, Ruler, Step, proceeds, edited_of, measuring, proceeding, ruler_of, with_draft}
+use Rattle.line_editor.specs.DraftEdits.{after_edit, kill_popped, kill_yanked, killed_by, movement_replaced, popped_in, text_inserted, yanked_in}
 use Rattle.line_editor.specs.Input.{Input}
-use Rattle.line_editor.specs.Outcomes.{DoesWithKills, Executed, Executes, editor_of}
+use Rattle.line_editor.specs.Outcomes.{DoesWithKills, DrewFor, Executed, Executes, StepsTo, editor_of}
 use Rattle.line_editor.specs.Status.{answer_at, answer_of}
 use Rattle.line_editor.specs.Step.{edited_by, step}
 use Rattle.line_editor.specs.declared.command.Reply.{Reply}
 use Rattle.line_editor.specs.declared.command.Reply.TheVariants.{GoesOn}
 use Rattle.line_editor.specs.declared.command.Status.{Status}
 use Rattle.line_editor.specs.declared.command.Status.TheVariants.{Proceed}
-use Rattle.line_editor.proofs.AskedLemmas.{fails_more, sure_second}
-use Rattle.line_editor.proofs.CountLemmas.{rises_stays, rises_twice, rises_up_to, rises_within}
+use Rattle.line_editor.proofs.AskedLemmas.{fails_more}
+use Rattle.line_editor.proofs.CountLemmas.{rises_more, rises_stays, rises_twice, rises_up_to, rises_within, stays_rises}
 use Rattle.line_editor.proofs.HistoryMoveLemmas.{always}
 use Rattle.line_editor.proofs.DoneLemmas.{does_nothing, nothing_drawn}
 use Rattle.line_editor.proofs.DrawnLemmas.{frame_then, hint_trails, keeps_then}
@@ -97,6 +99,7 @@ lit_same false true asked asked' last last' same by none = absurd (cc)
 -- no command draws the line in full more than three times
 once_at_most : (drawing : Drawing) → once_for drawing ≤ 1
 once_at_most nothing = omega arith
+once_at_most (in_part position) = omega arith
 once_at_most _ = omega arith
 
 pub twice_at_most : (display : Display) (environment : Environment) (draft : Draft) → validated_times display environment draft ≤ 2
@@ -110,7 +113,11 @@ once_more _ times few = omega (arith, few)
 pub few_drawn : (display : Display) (environment : Environment) (editor : Editor) (command : Command) → times_of display environment editor command ≤ 3
 few_drawn display environment editor newline = omega (arith, once_at_most (unhinted_drawn display editor.draft))
 few_drawn display environment editor (replace movement text) =
-    omega (arith, once_at_most (drawn_if (is_some (killed_range editor.draft.line movement))), once_at_most (drawn_if (has_text text)))
+    twice_for (kill_drawn display environment editor.draft (killed_range editor.draft.line movement)) (has_text text)
+  where
+    twice_for : (drawing : Drawing) (comes : Bool) → (if comes then once_for drawing + 1 else 1) ≤ 3
+    twice_for drawing true = omega (arith, once_at_most drawing)
+    twice_for drawing false = omega arith
 few_drawn display environment editor accept_line =
     let few = twice_at_most display environment editor.draft in omega (arith, few)
 few_drawn display environment editor (accept_or_insert_line in_the_middle) =
@@ -269,11 +276,9 @@ module _ {X : Type 0} (e : Ghosts X) where
 
   -- a change that was drawn with fewer redraws was drawn with more
   pub change_more : (old new : X) (less more : ℕ) → less ≤ more → ShowsChange e less old new → ShowsChange e more old new
-  change_more old new less more within change =
-      elim change [
-        | inl same ↦ inl same
-        | inr drew ↦ inr (drew.0, rises_up_to 1 less more (e.redraws old) (e.redraws new) within drew.1)
-      ]
+  change_more old new less more within (text_same same) = text_same same
+  change_more old new less more within (drawn_in_full shows redraws) = drawn_in_full shows (rises_up_to 1 less more (e.redraws old) (e.redraws new) within redraws)
+  change_more old new less more within (drawn_plainly changed) = drawn_plainly changed
 
   -- what fails behind a step that keeps the frame and counts no failure fails from before it
   pub fails_then : {T : Type 0} (asks : Asks) (r : Result T ReadlineError) (old mid new : X) → Frame e old mid → Frame e mid new → e.failures mid ≡ e.failures old
@@ -309,7 +314,7 @@ module _ {X : Type 0} (e : Ghosts X) where
         start = does.start ∙ start;
         drew = line;
         keeps = record { right = λ was. line.right; line = λ was. hint_trails e new line.shows };
-        change = inr (line.shows, rises_within 1 (first + 1) (first + 1) (e.redraws old) (e.redraws new) (omega arith) (omega arith) line.redraws);
+        change = drawn_in_full line.shows (rises_within 1 (first + 1) (first + 1) (e.redraws old) (e.redraws new) (omega arith) (omega arith) line.redraws);
         frame = frame_then e old mid new frame does.frame;
         fails = fails_then for_hint (Ok x) old mid new frame does.frame none does.fails;
       }
@@ -323,42 +328,100 @@ module _ {X : Type 0} (e : Ghosts X) where
     start = ap start_text refreshed.draft ∙ start;
     drew = refreshed.drew;
     keeps = record { right = λ was. refreshed.drew.right; line = λ was. hint_trails e new refreshed.drew.shows };
-    change = inr (refreshed.drew.shows, refreshed.drew.redraws);
+    change = drawn_in_full refreshed.drew.shows refreshed.drew.redraws;
     frame = refreshed.frame;
     fails = refreshed.fails;
   }
   does_refresh (Err er) old new left start refreshed =
       record { draft = tt; start = tt; drew = tt; keeps = tt; change = tt; frame = refreshed.frame; fails = refreshed.fails }
 
+-- what is drawn of a kill: of a range that was found, a part where it is a plain kill
+abbrev pub killed_as : Bool → Bool → Position → Drawing
+killed_as found plainly position = if found then change_drawn plainly position else nothing
+
+-- that is what is drawn of any kill
+record KilledAs (drawing : Drawing) : Type 0 where
+  found : Bool
+  plainly : Bool
+  position : Position
+  same : killed_as found plainly position ≡ drawing
+
+kill_as : (display : Display) (environment : Environment) (draft : Draft) (range : Option (ℕ × ℕ)) → KilledAs (kill_drawn display environment draft range)
+kill_as display environment draft None = record { found = false; plainly = false; position = corner; same = refl }
+kill_as display environment draft (Some range) = record {
+  found = true;
+  plainly = is_plain_kill display environment draft range;
+  position = columns_back (length draft.line.text - range.0) display.layout.end;
+  same = refl;
+}
+
+-- a part that was drawn, with nothing drawn behind it
+part_kept : {X : Type 0} (e : Ghosts X) (old mid new : X) (position : Position) → DrewNothing e mid new → (e.draft new).line ≡ (e.draft mid).line
+    → DrewPart e position old mid → DrewPart e position old new
+part_kept e old mid new position undrew line drew = record {
+  layout = ap (λ (d : Display). d.layout) undrew.display ∙ drew.layout;
+  lit = ap (λ (d : Display). d.lit) undrew.display ∙ drew.lit ∙ ap (λ (l : Line). lit_after (e.environment old) (e.display old) l Other) (sym line);
+  redraws = undrew.redraws ∙ drew.redraws;
+}
+
+-- a change that was shown, with nothing drawn behind it
+change_kept : {X : Type 0} (e : Ghosts X) (old mid new : X) (most : ℕ) → DrewNothing e mid new → e.draft new ≡ e.draft mid → ShowsChange e most old mid → ShowsChange e most old new
+change_kept e old mid new most undrew same (text_same stays) = text_same (ap (λ (d : Draft). d.line.text) same ∙ stays)
+change_kept e old mid new most undrew same (drawn_in_full shows redraws) =
+    drawn_in_full
+    (record {
+      in_full =
+          subst (λ (d : Draft). ShowsInFull (e.display new) (e.display new).prompt_end d.line (hint_shown d)) (sym same)
+          (subst (λ (d : Display). ShowsInFull d d.prompt_end (e.draft mid).line (hint_shown (e.draft mid))) (sym undrew.display) shows.in_full);
+      own_prompt = ap (λ (d : Display). d.layout.default_prompt) undrew.display ∙ shows.own_prompt;
+    })
+    (rises_stays 1 most (e.redraws old) (e.redraws mid) (e.redraws new) redraws undrew.redraws)
+change_kept e old mid new most undrew same (drawn_plainly changed) = drawn_plainly (record {
+  plainly = subst (λ (d : Draft). TypedPlainly (e.environment old) (e.display old) (e.draft old) d ⊎ KilledPlainly (e.environment old) (e.display old) (e.draft old) d) (sym same) changed.plainly;
+  redraws = undrew.redraws ∙ changed.redraws;
+})
+
 module _ {X : Type 0} (e : Ghosts X) (old mid new : X) (frame : Frame e old mid) where
-  -- without colors a line that may have been drawn leaves the last answer of `highlight_char`
-  found_lit : (found : Bool) → Drew e 1 (drawn_if found) old mid → (e.display old).surface.colors ≡ false → (e.display mid).lit ≡ (e.display old).lit
-  found_lit true drew none = drew.lit ∙ colorless e (e.environment old) (e.display old) (e.draft mid).line Other none
-  found_lit false drew none = ap (λ (d : Display). d.lit) drew.display
+  -- without colors a kill leaves the last answer of `highlight_char`
+  killed_lit : (found plainly : Bool) (p : Position) → Drew e 1 (killed_as found plainly p) old mid → (e.display old).surface.colors ≡ false → (e.display mid).lit ≡ (e.display old).lit
+  killed_lit true true p drew none = drew.lit ∙ colorless e (e.environment old) (e.display old) (e.draft mid).line Other none
+  killed_lit true false p drew none = drew.lit ∙ colorless e (e.environment old) (e.display old) (e.draft mid).line Other none
+  killed_lit false plainly p drew none = ap (λ (d : Display). d.lit) drew.display
 
-  found_redraws : (found : Bool) → Drew e 1 (drawn_if found) old mid → Redraws e (once_for (drawn_if found)) (once_for (drawn_if found)) old mid
-  found_redraws true drew = drew.redraws
-  found_redraws false drew = λ below. (omega (arith, drew.redraws), omega (arith, drew.redraws))
+  killed_redraws : (found plainly : Bool) (p : Position) → Drew e 1 (killed_as found plainly p) old mid
+      → Redraws e (once_for (killed_as found plainly p)) (once_for (killed_as found plainly p)) old mid
+  killed_redraws true true p drew = λ below. (omega (arith, drew.redraws), omega (arith, drew.redraws))
+  killed_redraws true false p drew = drew.redraws
+  killed_redraws false plainly p drew = λ below. (omega (arith, drew.redraws), omega (arith, drew.redraws))
 
-  -- a line that may have been drawn, and then may have been again
-  twice_drawn : (found empty : Bool) → (empty ≡ true → ((e.draft new).line ≡ (e.draft mid).line) × ((e.draft new).hint ≡ (e.draft mid).hint))
-      → Drew e 1 (drawn_if found) old mid → Drew e 1 (drawn_if (not empty)) mid new
-      → Drew e (once_for (drawn_if found) + once_for (drawn_if (not empty))) (drawn_if (found || not empty)) old new
-  twice_drawn true true stays first second =
-      let s = stays refl in
-      subst (λ (h : _). DrewLine e 1 (option_map (λ s. s.display) h) Other old new) (sym s.1)
-      (line_kept e old mid new 1 (hint_shown (e.draft mid)) Other second s.0 first)
-  twice_drawn false true stays first second = record { display = second.display ∙ first.display; redraws = second.redraws ∙ first.redraws }
-  twice_drawn true false stays first second = line_then e old mid new frame (found_lit true first) 1 1 (hint_shown (e.draft new)) Other (found_redraws true first) second
-  twice_drawn false false stays first second = line_then e old mid new frame (found_lit false first) 0 1 (hint_shown (e.draft new)) Other (found_redraws false first) second
+  -- a kill with nothing drawn behind it
+  killed_kept : (found plainly : Bool) (p : Position) → DrewNothing e mid new → (e.draft new).line ≡ (e.draft mid).line → (e.draft new).hint ≡ (e.draft mid).hint
+      → Drew e 1 (killed_as found plainly p) old mid → Drew e 1 (killed_as found plainly p) old new
+  killed_kept true true p undrew line hint drew = part_kept e old mid new p undrew line drew
+  killed_kept true false p undrew line hint drew =
+      subst (λ (h : _). DrewLine e 1 (option_map (λ s. s.display) h) Other old new) (sym hint)
+      (line_kept e old mid new 1 (hint_shown (e.draft mid)) Other undrew line drew)
+  killed_kept false plainly p undrew line hint drew = record { display = undrew.display ∙ drew.display; redraws = undrew.redraws ∙ drew.redraws }
 
-  twice_changed : (found empty : Bool) → Drew e (once_for (drawn_if found) + once_for (drawn_if (not empty))) (drawn_if (found || not empty)) old new
-      → ((found || not empty) ≡ false → (e.draft new).line.text ≡ (e.draft old).line.text)
-      → ShowsChange e (once_for (drawn_if found) + once_for (drawn_if (not empty))) old new
-  twice_changed true true drew same = inr (drew.shows, drew.redraws)
-  twice_changed true false drew same = inr (drew.shows, rises_within 1 2 2 (e.redraws old) (e.redraws new) (omega arith) (omega arith) drew.redraws)
-  twice_changed false false drew same = inr (drew.shows, drew.redraws)
-  twice_changed false true drew same = inl (same refl)
+  abbrev times_for : Bool → Bool → Bool → Position → ℕ
+  times_for found plainly empty p = if not empty then once_for (killed_as found plainly p) + 1 else 1
+
+  -- a kill, and then a text in its place, if there is one
+  twice_drawn : (found plainly empty : Bool) (p : Position) → (empty ≡ true → e.draft new ≡ e.draft mid)
+      → Drew e 1 (killed_as found plainly p) old mid → Drew e 1 (drawn_if (not empty)) mid new
+      → Drew e (times_for found plainly empty p) (if not empty then with_hint else killed_as found plainly p) old new
+  twice_drawn found plainly true p stays first second =
+      killed_kept found plainly p second (ap (λ (d : Draft). d.line) (stays refl)) (ap (λ (d : Draft). d.hint) (stays refl)) first
+  twice_drawn found plainly false p stays first second =
+      line_then e old mid new frame (killed_lit found plainly p first) (once_for (killed_as found plainly p)) 1 (hint_shown (e.draft new)) Other (killed_redraws found plainly p first) second
+
+  twice_changed : (found plainly empty : Bool) (p : Position) → (empty ≡ true → e.draft new ≡ e.draft mid) → ShowsChange e 1 old mid → Drew e 1 (drawn_if (not empty)) mid new
+      → Drew e (times_for found plainly empty p) (if not empty then with_hint else killed_as found plainly p) old new
+      → ShowsChange e (times_for found plainly empty p) old new
+  twice_changed found plainly false p stays first second drew =
+      drawn_in_full drew.shows
+      (rises_within 1 (once_for (killed_as found plainly p) + 1) (once_for (killed_as found plainly p) + 1) (e.redraws old) (e.redraws new) (omega arith) (omega arith) drew.redraws)
+  twice_changed found plainly true p stays first second drew = change_kept e old mid new 1 second (stays refl) first
 
 -- no text leaves the draft as it is
 none_put : (environment : Environment) (text : List ℕ) (draft : Draft) (empty : Bool) → (length text == 0) ≡ empty → empty ≡ true → text_inserted environment text draft ≡ draft
@@ -370,83 +433,85 @@ none_killed : (environment : Environment) (movement : Movement) (editor : Editor
 none_killed environment movement editor None none = refl
 none_killed environment movement editor (Some range) none = absurd (cc)
 
-both_none : (found empty : Bool) → (found || not empty) ≡ false → (found ≡ false) × (empty ≡ true)
-both_none true empty none = absurd (cc)
-both_none false true none = (refl, refl)
-both_none false false none = absurd (cc)
-
 -- a kill, and then a text in its place
-pub replaced : {X T U : Type 0} (e : Ghosts X) (x : T) (r : Result U ReadlineError) (old mid new : X) (kills kills' : Ring) (movement : Movement) (range : Option (ℕ × ℕ)) (text : List ℕ)
-    → DoesWithKills e (Ok x) old kills mid kills' (killed_by (e.environment old) movement (editor_of e old kills) range) (drawn_if (is_some range)) 1
-    → Does e r mid new (text_inserted (e.environment mid) text (e.draft mid)) (drawn_if (not (length text == 0))) 1
-    → DoesWithKills e r old kills new kills'
-    (with_draft (killed_by (e.environment old) movement (editor_of e old kills) range) (text_inserted (e.environment old) text (killed_by (e.environment old) movement (editor_of e old kills) range).draft))
-    (drawn_if (is_some range || not (length text == 0))) (once_for (drawn_if (is_some range)) + once_for (drawn_if (not (length text == 0))))
-replaced e x (Err f) old mid new kills kills' movement range text killed put = record {
-  does = record {
-    draft = tt;
-    start = tt;
-    drew = tt;
-    keeps = tt;
-    change = tt;
-    frame = frame_then e old mid new killed.does.frame put.frame;
-    fails =
-        fails_more e (Err f) (asked_by (drawn_if (not (length text == 0)))) (asked_by (drawn_if (is_some range || not (length text == 0)))) old new
-        (sure_second (e.sure old) (is_some range) (not (length text == 0)))
-        (fails_then e (asked_by (drawn_if (not (length text == 0)))) (Err f) old mid new killed.does.frame put.frame killed.does.fails.quiet put.fails);
-  };
-  kills_left = tt;
-}
-replaced e x (Ok y) old mid new kills kills' movement range text killed put =
-    let stays : ((length text == 0) ≡ true → ((e.draft new).line ≡ (e.draft mid).line) × ((e.draft new).hint ≡ (e.draft mid).hint)) =
-    λ none. let same = put.draft ∙ none_put (e.environment mid) text (e.draft mid) (length text == 0) refl none in
-    (ap (λ (d : Draft). d.line) same, ap (λ (d : Draft). d.hint) same) in
-    let drew : Drew e (once_for (drawn_if (is_some range)) + once_for (drawn_if (not (length text == 0)))) (drawn_if (is_some range || not (length text == 0))) old new =
-    twice_drawn e old mid new killed.does.frame (is_some range) (length text == 0) stays killed.does.drew put.drew in
-    record {
-      does = record {
-        draft = put.draft ∙ ap (λ w. text_inserted w text (e.draft mid)) killed.does.frame.environment ∙ ap (λ d. text_inserted (e.environment old) text d) killed.does.draft;
+module _ {X T : Type 0} (e : Ghosts X) (x : T) (old mid new : X) (kills kills' : Ring) (movement : Movement) (range : Option (ℕ × ℕ)) (text : List ℕ)
+    (killed : DoesWithKills e (Ok x) old kills mid kills' (killed_by (e.environment old) movement (editor_of e old kills) range) (kill_drawn (e.display old) (e.environment old) (e.draft old) range) 1) where
+  abbrev before : Editor
+  before = killed_by (e.environment old) movement (editor_of e old kills) range
+
+  abbrev empty : Bool
+  empty = length text == 0
+
+  abbrev killed_drawn : Drawing
+  killed_drawn = kill_drawn (e.display old) (e.environment old) (e.draft old) range
+
+  abbrev put_in : Draft
+  put_in = text_inserted (e.environment old) text before.draft
+
+  -- whom the text asks is asked for both
+  fails_put : {U : Type 0} (r : Result U ReadlineError) (none : Bool) (asks : Drawing) → Frame e mid new → FailsByParty e (asked_by (drawn_if (not none))) r mid new
+      → FailsByParty e (asked_by (if not none then with_hint else asks)) r old new
+  fails_put r false asks frame fails = fails_then e for_hint r old mid new killed.does.frame frame killed.does.fails.quiet fails
+  fails_put r true asks frame fails =
+      fails_more e r nobody (asked_by asks) old new (λ sure. refl) (fails_then e nobody r old mid new killed.does.frame frame killed.does.fails.quiet fails)
+
+  abbrev Leaves : {U : Type 0} → Result U ReadlineError → Drawing → Type 0
+  Leaves r drawing = Does e r old new put_in (if not empty then with_hint else drawing) (if not empty then once_for drawing + 1 else 1)
+
+  puts : {U : Type 0} (r : Result U ReadlineError) → Does e r mid new (text_inserted (e.environment mid) text (e.draft mid)) (drawn_if (not empty)) 1 → Leaves r killed_drawn
+  puts (Err f) put =
+      record { draft = tt; start = tt; drew = tt; keeps = tt; change = tt; frame = frame_then e old mid new killed.does.frame put.frame; fails = fails_put (Err f) empty killed_drawn put.frame put.fails }
+  puts (Ok y) put =
+      let as_kill = kill_as (e.display old) (e.environment old) (e.draft old) range in
+      let stays : empty ≡ true → e.draft new ≡ e.draft mid = λ none. put.draft ∙ none_put (e.environment mid) text (e.draft mid) empty refl none in
+      let first : Drew e 1 (killed_as as_kill.found as_kill.plainly as_kill.position) old mid = subst (λ (d : Drawing). Drew e 1 d old mid) (sym as_kill.same) killed.does.drew in
+      let drew = twice_drawn e old mid new killed.does.frame as_kill.found as_kill.plainly empty as_kill.position stays first put.drew in
+      subst (λ (d : Drawing). Leaves (Ok y) d) as_kill.same (record {
+        draft = put.draft ∙ ap (λ (w : Environment). text_inserted w text (e.draft mid)) killed.does.frame.environment ∙ ap (λ (d : Draft). text_inserted (e.environment old) text d) killed.does.draft;
         start = put.start ∙ killed.does.start;
         drew = drew;
         keeps = keeps_then e old mid new killed.does.keeps put.keeps;
-        change = twice_changed e old mid new killed.does.frame (is_some range) (length text == 0) drew (λ none.
-            let n = both_none (is_some range) (length text == 0) none in
-            ap (λ (l : Line). l.text) (stays n.1).0 ∙ ap (λ (d : Draft). d.line.text) (killed.does.draft ∙ none_killed (e.environment old) movement (editor_of e old kills) range n.0));
+        change = twice_changed e old mid new killed.does.frame as_kill.found as_kill.plainly empty as_kill.position stays killed.does.change put.drew drew;
         frame = frame_then e old mid new killed.does.frame put.frame;
-        fails = record { io = tt; faults = tt; quiet = put.fails.quiet ∙ killed.does.fails.quiet };
-      };
-      kills_left = killed.kills_left;
-    }
+        fails = fails_put (Ok y) empty (killed_as as_kill.found as_kill.plainly as_kill.position) put.frame put.fails;
+      })
 
--- the same of an equal text
-pub replaced_as : {X T : Type 0} (e : Ghosts X) (r : Result T ReadlineError) (old new : X) (kills kills' : Ring) (movement : Movement) (found : Bool) (put put' : Option (List ℕ)) → put ≡ put'
-    → DoesWithKills e r old kills new kills' (movement_replaced (e.environment old) movement put (editor_of e old kills)) (drawn_if (found || has_text put))
-    (once_for (drawn_if found) + once_for (drawn_if (has_text put)))
-    → DoesWithKills e r old kills new kills' (movement_replaced (e.environment old) movement put' (editor_of e old kills)) (drawn_if (found || has_text put'))
-    (once_for (drawn_if found) + once_for (drawn_if (has_text put')))
-replaced_as e r old new kills kills' movement found put put' same done =
-    subst (λ p. DoesWithKills e r old kills new kills' (movement_replaced (e.environment old) movement p (editor_of e old kills)) (drawn_if (found || has_text p))
-    (once_for (drawn_if found) + once_for (drawn_if (has_text p)))) same done
+  pub replaced : {U : Type 0} (r : Result U ReadlineError)
+      → Does e r mid new (text_inserted (e.environment mid) text (e.draft mid)) (drawn_if (not (length text == 0))) 1
+      → DoesWithKills e r old kills new kills' (with_draft before put_in) (replacement_drawn killed_drawn (Some text)) (replacement_times killed_drawn (Some text))
+  replaced r put = record { does = puts r put; kills_left = always r killed.kills_left }
 
--- what is killed, and nothing comes in its place
-pub only_killed : {X T : Type 0} (e : Ghosts X) (x : T) (old new : X) (kills kills' : Ring) (movement : Movement) (range : Option (ℕ × ℕ))
-    → DoesWithKills e (Ok x) old kills new kills' (killed_by (e.environment old) movement (editor_of e old kills) range) (drawn_if (is_some range)) 1
-    → DoesWithKills e (Ok x) old kills new kills' (killed_by (e.environment old) movement (editor_of e old kills) range) (drawn_if (is_some range || false))
-    (once_for (drawn_if (is_some range)) + once_for (drawn_if false))
-only_killed e x old new kills kills' movement range killed = record {
+-- a kill with nothing in its place
+pub only_killed : {X T U : Type 0} (e : Ghosts X) (x : T) (y : U) (old new : X) (kills kills' : Ring) (left : Editor) (drawing : Drawing)
+    → DoesWithKills e (Ok x) old kills new kills' left drawing 1 → DoesWithKills e (Ok y) old kills new kills' left drawing 1
+only_killed e x y old new kills kills' left drawing killed = record {
   does = record {
     draft = killed.does.draft;
     start = killed.does.start;
-    drew = twice_drawn e old new new killed.does.frame (is_some range) true (λ none. (refl, refl)) killed.does.drew (record { display = refl; redraws = refl });
+    drew = killed.does.drew;
     keeps = killed.does.keeps;
-    change = twice_changed e old new new killed.does.frame (is_some range) true (twice_drawn e old new new killed.does.frame (is_some range) true (λ none. (refl, refl)) killed.does.drew (record { display = refl; redraws = refl })) (λ none.
-        let n = both_none (is_some range) true none in
-        ap (λ (d : Draft). d.line.text) (killed.does.draft ∙ none_killed (e.environment old) movement (editor_of e old kills) range n.0));
+    change = killed.does.change;
     frame = killed.does.frame;
     fails = record { io = tt; faults = tt; quiet = killed.does.fails.quiet };
   };
   kills_left = killed.kills_left;
 }
+
+-- the same of an equal text
+pub replaced_as : {X T : Type 0} (e : Ghosts X) (r : Result T ReadlineError) (old new : X) (kills kills' : Ring) (movement : Movement) (drawing : Drawing) (put put' : Option (List ℕ)) → put ≡ put'
+    → DoesWithKills e r old kills new kills' (movement_replaced (e.environment old) movement put (editor_of e old kills)) (replacement_drawn drawing put) (replacement_times drawing put)
+    → DoesWithKills e r old kills new kills' (movement_replaced (e.environment old) movement put' (editor_of e old kills)) (replacement_drawn drawing put') (replacement_times drawing put')
+replaced_as e r old new kills kills' movement drawing put put' same done =
+    subst (λ (p : Option (List ℕ)). DoesWithKills e r old kills new kills' (movement_replaced (e.environment old) movement p (editor_of e old kills)) (replacement_drawn drawing p) (replacement_times drawing p)) same done
+
+-- the current text of the kill ring that is yanked
+pub yanked_by : {X T : Type 0} (e : Ghosts X) (r : Result T ReadlineError) (old new : X) (kills kills' : Ring) (input : Input) (anchor : Anchor) (n : ℕ) (yanked : Option (List ℕ)) (text : List ℕ)
+    → Some text ≡ yanked → kills' ≡ after_yank kills
+    → Does e r old new (yanked_in (e.environment old) input anchor n text (e.draft old)) (edit_drawn (not (length text == 0))) 1
+    → DoesWithKills e r old kills new kills' (kill_yanked (e.environment old) input anchor n yanked (editor_of e old kills)) (yank_drawn yanked) 1
+yanked_by e r old new kills kills' input anchor n yanked text is ring does =
+    subst (λ (y : Option (List ℕ)). DoesWithKills e r old kills new kills' (kill_yanked (e.environment old) input anchor n y (editor_of e old kills)) (yank_drawn y) 1) is
+    (record { does = does; kills_left = always r ring })
 
 -- a text that takes the place of a yanked one
 pub popped_by : {X T : Type 0} (e : Ghosts X) (r : Result T ReadlineError) (old new : X) (kills kills' : Ring) (popped : Option (ℕ × List ℕ)) (size : ℕ) (text : List ℕ)
@@ -456,6 +521,82 @@ pub popped_by : {X T : Type 0} (e : Ghosts X) (r : Result T ReadlineError) (old 
 popped_by e r old new kills kills' popped size text is ring does =
     subst (λ p. DoesWithKills e r old kills new kills' (kill_popped (e.environment old) p (editor_of e old kills)) (pop_drawn (e.draft old).line p) 1) is
     (record { does = does; kills_left = always r ring })
+
+module _ {X : Type 0} (e : Ghosts X) where
+  -- the cursor is drawn with one full redraw at most
+  cursor_once : (kind : CmdKind) (old new : X) → CursorWay e kind old new → Redraws e 0 1 old new
+  cursor_once kind old new (cursor_stayed n) = stays_rises 1 (e.redraws old) (e.redraws new) n.redraws
+  cursor_once kind old new (cursor_went dark drew) = stays_rises 1 (e.redraws old) (e.redraws new) drew.redraws
+  cursor_once kind old new (cursor_redrew lit d) = rises_more 1 1 1 (e.redraws old) (e.redraws new) (omega arith) d.redraws
+
+  -- nothing is drawn in full more than three times
+  drew_few : (times : ℕ) (drawing : Drawing) (old new : X) → times ≤ 3 → Drew e times drawing old new → Redraws e 0 3 old new
+  drew_few times nothing old new few drew = stays_rises 3 (e.redraws old) (e.redraws new) drew.redraws
+  drew_few times with_hint old new few drew = rises_more times times 3 (e.redraws old) (e.redraws new) few drew.redraws
+  drew_few times (with_text trailing kind) old new few drew = rises_more times times 3 (e.redraws old) (e.redraws new) few drew.redraws
+  drew_few times (behind_prompt prompt) old new few drew = rises_more times times 3 (e.redraws old) (e.redraws new) few drew.redraws
+  drew_few times (in_part position) old new few drew = stays_rises 3 (e.redraws old) (e.redraws new) drew.redraws
+  drew_few times (cursor kind) old new few drew = rises_more 0 1 3 (e.redraws old) (e.redraws new) (omega arith) (cursor_once kind old new drew.way)
+  drew_few times (cursor_over line) old new few drew =
+      rises_more 0 2 3 (e.redraws old) (e.redraws new) (omega arith)
+      (rises_twice 0 1 0 1 (e.redraws old) (e.redraws drew.way) (e.redraws new) (cursor_once MoveCursor old drew.way drew.first.way) (cursor_once MoveCursor drew.way new drew.second.way))
+  drew_few times cursor_to_end old new few drew = stays_rises 3 (e.redraws old) (e.redraws new) drew.redraws
+
+  -- nor by a command
+  pub few_by : (old new : X) (kills : Ring) (command : Command) → DrewFor e (editor_of e old kills) command old new → Redraws e 0 3 old new
+  few_by old new kills command drew =
+      drew_few (times_of (e.display old) (e.environment old) (editor_of e old kills) command) (drawing_of (e.display old) (e.environment old) (editor_of e old kills) command) old new
+      (few_drawn (e.display old) (e.environment old) (editor_of e old kills) command) drew
+
+  -- a plain change draws nothing in full
+  quiet_change : (times : ℕ) (plainly : Bool) (position : Position) (old new : X) → plainly ≡ true → Drew e times (change_drawn plainly position) old new → e.redraws new ≡ e.redraws old
+  quiet_change times true position old new is drew = drew.redraws
+  quiet_change times false position old new is drew = absurd (cc)
+
+  -- nor does a kill of a range
+  quiet_kill : (times : ℕ) (range : Option (ℕ × ℕ)) (old new : X) → any_plain_kill (e.display old) (e.environment old) (e.draft old) range ≡ true
+      → Drew e times (kill_drawn (e.display old) (e.environment old) (e.draft old) range) old new → e.redraws new ≡ e.redraws old
+  quiet_kill times None old new is drew = absurd (cc)
+  quiet_kill times (Some range) old new is drew =
+      quiet_change times (is_plain_kill (e.display old) (e.environment old) (e.draft old) range) (columns_back (length (e.draft old).line.text - range.0) (e.display old).layout.end) old new is drew
+
+  -- nor does a cursor that is drawn alone
+  quiet_way : (kind : CmdKind) (line : Line) (old new : X) → (e.draft new).line ≡ line → not (has_highlighting (e.environment old) (e.display old) line kind) ≡ true
+      → CursorWay e kind old new → e.redraws new ≡ e.redraws old
+  quiet_way kind line old new there dark (cursor_stayed n) = n.redraws
+  quiet_way kind line old new there dark (cursor_went is drew) = drew.redraws
+  quiet_way kind line old new there dark (cursor_redrew lit drew) =
+      let same : has_highlighting (e.environment old) (e.display old) (e.draft new).line kind ≡ has_highlighting (e.environment old) (e.display old) line kind =
+      ap (λ (l : Line). has_highlighting (e.environment old) (e.display old) l kind) there in
+      absurd (cc)
+
+  quiet_move : (movement : Movement) (old new : X) → (e.draft new).line ≡ moved (e.display old).layout movement (e.draft old).line
+      → moves_alone (e.display old) (e.environment old) (e.draft old).line movement ≡ true → Drew e 1 (move_drawn (e.draft old).line movement) old new
+      → e.redraws new ≡ e.redraws old
+  quiet_move By.WholeLine old new there dark drew = quiet_way MoveCursor _ old new there dark drew.way
+  quiet_move By.BeginningOfLine old new there dark drew = quiet_way MoveCursor _ old new there dark drew.way
+  quiet_move By.EndOfLine old new there dark drew = quiet_way MoveCursor _ old new there dark drew.way
+  quiet_move (By.BackwardWord n word) old new there dark drew = quiet_way MoveCursor _ old new there dark drew.way
+  quiet_move (By.ForwardWord n at word) old new there dark drew = quiet_way MoveCursor _ old new there dark drew.way
+  quiet_move (By.ViCharSearch n search) old new there dark drew = quiet_way MoveCursor _ old new there dark drew.way
+  quiet_move By.ViFirstPrint old new there dark drew = absurd (cc)
+  quiet_move (By.BackwardChar n) old new there dark drew = quiet_way MoveCursor _ old new there dark drew.way
+  quiet_move (By.ForwardChar n) old new there dark drew = quiet_way MoveCursor _ old new there dark drew.way
+  quiet_move (By.LineUp n) old new there dark drew = quiet_way MoveCursor _ old new there dark drew.way
+  quiet_move (By.LineDown n) old new there dark drew = quiet_way MoveCursor _ old new there dark drew.way
+  quiet_move By.WholeBuffer old new there dark drew = quiet_way MoveCursor _ old new there dark drew.way
+  quiet_move By.BeginningOfBuffer old new there dark drew = quiet_way MoveCursor _ old new there dark drew.way
+  quiet_move By.EndOfBuffer old new there dark drew = quiet_way MoveCursor _ old new there dark drew.way
+
+  -- a command that draws a part draws nothing in full
+  quiet_part : (input : Input) (indent : ℕ) (old new : X) (kills kills' : Ring) (command : Command) (answer : Answer) → StepsTo e old input indent kills command new kills' answer
+      → DrewFor e (editor_of e old kills) command old new → draws_in_part (e.display old) (e.environment old) (e.draft old) command ≡ true → e.redraws new ≡ e.redraws old
+  quiet_part input indent old new kills kills' (self_insert n c) answer steps drew is =
+      quiet_change 1 (is_plain_typing (e.display old) (e.environment old) (e.draft old) n c) (columns_on 1 (e.display old).layout.cursor) old new is drew
+  quiet_part input indent old new kills kills' (kill movement) answer steps drew is = quiet_kill 1 (killed_range (e.draft old).line movement) old new is drew
+  quiet_part input indent old new kills kills' (move movement) answer steps drew is =
+      quiet_move movement old new (ap (λ (x : Editor). x.draft.line) steps.editor ∙ sym (measured_by (e.display old) indent movement (e.draft old).line)) is drew
+  quiet_part input indent old new kills kills' _ answer steps drew is = absurd (cc)
 
 module _ {X : Type 0} (e : Ghosts X) (old new : X) (input : Input) (indent : ℕ) (kills kills' : Ring) (command : Command) where
   -- a command that was executed
@@ -479,17 +620,23 @@ module _ {X : Type 0} (e : Ghosts X) (old new : X) (input : Input) (indent : ℕ
       → drawing_of (e.display old) (e.environment old) (editor_of e old kills) command ≡ drawing
       → DoesAsking e asks (Ok x) old new left.draft drawing (times_of (e.display old) (e.environment old) (editor_of e old kills) command) → kills' ≡ left.kills
       → Executes e (Ok Proceed) old input indent kills command new kills'
-  does_ok x asks left drawing steps draws does ring = executed_ok Proceed (record {
-    steps = record {
-      editor = editor_is _ _ _ _ does.draft ring ∙ sym (ap (λ (s : Step). s.editor) steps);
-      answered = ap (λ (s : Step). s.answer) steps;
-    };
-    drew = subst (λ d. Drew e (times_of (e.display old) (e.environment old) (editor_of e old kills) command) d old new) (sym draws) does.drew;
-    drawn = does.keeps;
-    change = change_more e old new (times_of (e.display old) (e.environment old) (editor_of e old kills) command) 3
-        (few_drawn (e.display old) (e.environment old) (editor_of e old kills) command) does.change;
-    start = does.start;
-  }) does.frame does.fails.quiet
+  does_ok x asks left drawing steps draws does ring =
+      let stepped : StepsTo e old input indent kills command new kills' proceeds = record {
+        editor = editor_is _ _ _ _ does.draft ring ∙ sym (ap (λ (s : Step). s.editor) steps);
+        answered = ap (λ (s : Step). s.answer) steps;
+      } in
+      let drew : DrewFor e (editor_of e old kills) command old new =
+      subst (λ d. Drew e (times_of (e.display old) (e.environment old) (editor_of e old kills) command) d old new) (sym draws) does.drew in
+      executed_ok Proceed (record {
+        steps = stepped;
+        drew = drew;
+        drawn = does.keeps;
+        change = change_more e old new (times_of (e.display old) (e.environment old) (editor_of e old kills) command) 3
+            (few_drawn (e.display old) (e.environment old) (editor_of e old kills) command) does.change;
+        few = few_by e old new kills command drew;
+        part = λ is. quiet_part e input indent old new kills kills' command proceeds stepped drew is;
+        start = does.start;
+      }) does.frame does.fails.quiet
 
   pub proceeds_ok : {T : Type 0} (x : T) (left : Editor) (drawing : Drawing)
       → step (ruler_of (e.display old) indent) (e.environment old) input (editor_of e old kills) command ≡ proceeding left

@@ -1,27 +1,26 @@
 -- Facts on edits that are shown.
-use Rattle.std.proofs.Common.{◌≡◌, inl, inr, ℕ, Bool, true, false, List, Option, Some, None, is_some, Result, Ok, Err, refl, sym, ◌∙◌, ap, subst, arith}
+use Rattle.std.proofs.Common.{◌≡◌, ◌⊎◌, inl, inr, ap₂, ℕ, [], ◌∷◌, length, Bool, true, false, List, Option, Some, Result, Ok, Err, refl, sym, ◌∙◌, ap, subst, arith}
 use Rattle.std.specs.Prelude.{if◌then◌else◌}
 use Rattle.line_config.specs.declared.error.ReadlineError.{ReadlineError}
-use Rattle.line_buffer.specs.Kill.{ring_with_killed}
-use Rattle.line_buffer.specs.KillRing.{Ring}
-use Rattle.line_buffer.specs.Line.{Line}
+use Rattle.line_buffer.specs.Line.{Line, inserted_at_cursor, without}
 use Rattle.line_buffer.specs.Undo.{first_text}
-use Rattle.line_buffer.specs.declared.movement.Movement.{Movement}
 use Rattle.line_keys.specs.Display.{Display, HasCursorAt, lit_after}
 use Rattle.line_keys.specs.Draft.{Draft, hinted, hint_shown, start_text}
-use Rattle.line_keys.specs.Drawing.{Does, DoesAsking, Drew, DrewCursor, DrewLine, DrewNothing, Refreshes, ShowsEdit, Undrawn, cursor, drawn_if, edit_drawn, nothing, with_hint}
+use Rattle.line_keys.specs.Drawing.{ChangedPlainly, Does, DoesAsking, Drew, DrewCursor, DrewLine, DrewNothing, Refreshes, ShowsChange, ShowsEdit, Undrawn, cursor, drawn_if, drawn_in_full, drawn_plainly, edit_drawn, nothing, text_same, with_hint}
 use Rattle.line_keys.specs.Frame.{FailsByParty}
-use Rattle.line_keys.specs.ShownLine.{HasCursorDrawn}
+use Rattle.line_keys.specs.Plainly.{KilledPlainly, TypedPlainly, kills_plainly, types_plainly}
+use Rattle.line_keys.specs.ShownLine.{HasCursorDrawn, HasRightLayout}
 use Rattle.line_keys.specs.declared.editor_state.EditorState.{Ghosts}
 use Rattle.line_parts.specs.Asks.{Asks, for_hint, is_sure, nobody}
 use Rattle.line_parts.specs.Environment.{Environment}
 use Rattle.line_parts.specs.declared.highlight.CmdKind.{CmdKind}
 use Rattle.line_parts.specs.declared.highlight.CmdKind.TheVariants.{MoveCursor, Other}
-use Rattle.line_state.specs.Edited.{Edited, without_range}
-use Rattle.line_editor.specs.Editor.{edited_of, with_edited}
-use Rattle.line_editor.specs.DraftEdits.{after_edit, killed_by}
-use Rattle.line_editor.specs.Outcomes.{DoesWithKills, editor_of}
-use Rattle.line_editor.proofs.DrawnLemmas.{drawn_stays, frame_then, hint_trails, keeps_move, keeps_then}
+use Rattle.line_parts.specs.Hint.{Suggestion}
+use Rattle.line_state.specs.Edited.{Edited}
+use Rattle.line_editor.specs.Editor.{with_edited}
+use Rattle.line_editor.specs.DraftEdits.{after_edit}
+use Rattle.line_editor.proofs.CountLemmas.{stays_then}
+use Rattle.line_editor.proofs.DrawnLemmas.{drawn_stays, frame_then, hint_trails, keeps_move, keeps_then, right_after, way_after}
 
 -- what leaves all but the draft draws nothing
 pub nothing_drawn : {X : Type 0} (e : Ghosts X) (old new : X)
@@ -70,16 +69,14 @@ module _ {X : Type 0} (e : Ghosts X) (old mid new : X) (undrawn : Undrawn e old 
   nothing_after : DrewNothing e mid new → DrewNothing e old new
   nothing_after drew = record { display = drew.display ∙ undrawn.drew.display; redraws = drew.redraws ∙ undrawn.drew.redraws }
 
-  pub cursor_after : (kind : CmdKind) → HasCursorDrawn e new → DrewCursor e kind mid new → DrewCursor e kind old new
-  cursor_after kind placed drew =
+  pub cursor_after : (kind : CmdKind) → (e.draft new).line ≡ (e.draft mid).line → HasCursorDrawn e new → DrewCursor e kind mid new → DrewCursor e kind old new
+  cursor_after kind line placed drew =
       let P : Display → Type 0 = λ d. HasCursorAt d (e.draft new).line in
+      let Q : Line → Type 0 = λ l. HasCursorAt (e.display mid) l in
       record {
-        drew = elim drew.drew [
-          | inl d ↦ inl (line_after 1 None kind d)
-          | inr n ↦ inr (nothing_after n)
-        ];
-        still = λ at. nothing_after (drew.still (subst P (sym undrawn.drew.display) at));
-        placed = inl placed;
+        way = way_after e old mid new undrawn.drew.display undrawn.frame.environment undrawn.drew.redraws kind drew.way;
+        still = λ was at. let there = subst P (sym undrawn.drew.display) at in nothing_after (drew.still (subst Q line there) there);
+        placed = λ was. placed;
       }
 
   -- failures behind such a step are failures from before it
@@ -107,7 +104,7 @@ module _ {X : Type 0} (e : Ghosts X) (old mid new : X) (undrawn : Undrawn e old 
           start = ap start_text asked ∙ first;
           drew = drew;
           keeps = record { right = λ was. drew.right; line = λ was. hint_trails e new drew.shows };
-          change = inr (drew.shows, drew.redraws);
+          change = drawn_in_full drew.shows drew.redraws;
           frame = frame_then e old mid new undrawn.frame shows.frame;
           fails = fails_after for_hint (Ok x) shows.fails;
         }
@@ -119,13 +116,16 @@ module _ {X : Type 0} (e : Ghosts X) (old mid new : X) (undrawn : Undrawn e old 
         record { draft = tt; start = tt; drew = tt; keeps = tt; change = tt; frame = frame_then e old mid new undrawn.frame shows.frame; fails = fails_after nobody (Err er) shows.fails }
     done_unreported (Ok x) text shows =
         let same : (e.draft mid).line.text ≡ (e.draft old).line.text = ap (λ (d : Draft). d.line.text) draft ∙ text in
+        let right : HasRightLayout e old → HasRightLayout e new =
+        λ was. right_after e old mid new undrawn.drew.display same (ap (λ (d : Draft). d.line) shows.draft) shows.right was in
         record {
           draft = shows.draft ∙ draft;
           start = ap start_text (shows.draft ∙ draft) ∙ first;
-          drew = cursor_after MoveCursor shows.placed shows.drew;
-          keeps = keeps_move e old mid new MoveCursor same (ap (λ (d : Draft). d.hint) draft ∙ hint) undrawn.drew.display undrawn.drew.redraws undrawn.frame.environment
-              shows.draft shows.frame.environment shows.right shows.drew shows.placed;
-          change = inl (ap (λ (d : Draft). d.line.text) (shows.draft ∙ draft) ∙ text);
+          drew = cursor_after MoveCursor (ap (λ (d : Draft). d.line) shows.draft) shows.placed shows.drew;
+          keeps = keeps_move e MoveCursor old new (frame_then e old mid new undrawn.frame shows.frame) (ap (λ (d : Draft). d.line.text) (shows.draft ∙ draft) ∙ text)
+              (ap (λ (d : Draft). d.hint) (shows.draft ∙ draft) ∙ hint) right
+              (way_after e old mid new undrawn.drew.display undrawn.frame.environment undrawn.drew.redraws MoveCursor shows.drew.way) (λ was. shows.placed);
+          change = text_same (ap (λ (d : Draft). d.line.text) (shows.draft ∙ draft) ∙ text);
           frame = frame_then e old mid new undrawn.frame shows.frame;
           fails = fails_after nobody (Ok x) shows.fails;
         }
@@ -181,6 +181,10 @@ line_reported e r old mid new edited left undrawn draft same first shows =
     edit_reported e r old mid new (with_edited (e.draft old) edited) (with_edited (e.draft old) left) undrawn draft
     (ap (λ x. with_edited (e.draft old) x) same) first refl shows
 
+-- a draft with another line and hint
+abbrev lined : Draft → Line → Option Suggestion → Draft
+lined draft line hint = record draft { line = line; hint = hint }
+
 -- where nothing happens, all stays
 pub does_nothing : {X T : Type 0} (e : Ghosts X) (asks : Asks) (x : T) (old new : X) (most : ℕ) → Undrawn e old new → e.draft new ≡ e.draft old
     → DoesAsking {T = T} e asks (Ok x) old new (e.draft old) nothing most
@@ -189,7 +193,7 @@ does_nothing e asks x old new most undrawn same = record {
   start = ap start_text same;
   drew = undrawn.drew;
   keeps = drawn_stays e old new undrawn.frame.environment undrawn.drew (ap (λ (d : Draft). d.line) same) (ap (λ (d : Draft). d.hint) same);
-  change = inl (ap (λ (d : Draft). d.line.text) same);
+  change = text_same (ap (λ (d : Draft). d.line.text) same);
   frame = undrawn.frame;
   fails = record { io = tt; faults = tt; quiet = undrawn.failures };
 }
@@ -209,17 +213,12 @@ does_after e asks (Err er) old mid new left left' reported undrawn line hint fir
   fails = fails_after e old mid new undrawn asks (Err er) does.fails;
 }
 does_after e asks (Ok x) old mid new left left' reported undrawn line hint first same does =
-    let n = undrawn.drew.redraws in
     record {
       draft = does.draft ∙ same;
       start = does.start ∙ first;
       drew = drawn_after reported does.drew;
       keeps = keeps_then e old mid new (drawn_stays e old mid undrawn.frame.environment undrawn.drew line hint) does.keeps;
-      change = elim does.change [
-        | inl stays ↦ inl (stays ∙ ap (λ (l : Line). l.text) line)
-        | inr drew ↦
-            inr (drew.0, λ below. let s = drew.1 (omega (arith, below, n)) in (omega (arith, s.0, n), omega (arith, s.1, n)))
-      ];
+      change = change_after does.change;
       frame = frame_then e old mid new undrawn.frame does.frame;
       fails = fails_after e old mid new undrawn asks (Ok x) does.fails;
     }
@@ -228,24 +227,26 @@ does_after e asks (Ok x) old mid new left left' reported undrawn line hint first
     drawn_after true drew = line_after e old mid new undrawn 1 (hint_shown (e.draft new)) Other drew
     drawn_after false drew = nothing_after e old mid new undrawn drew
 
--- a kill that finds no text
-pub kills_nothing : {X T : Type 0} (e : Ghosts X) (x : T) (old new : X) (kills kills' : Ring) (movement : Movement) (range : Option (ℕ × ℕ)) (edited : Edited)
-    → is_some range ≡ false → Undrawn e old new → e.draft new ≡ with_edited (e.draft old) edited
-    → edited ≡ without_range range (edited_of (e.draft old)) → kills' ≡ ring_with_killed (e.draft old).line movement range kills
-    → DoesWithKills e {T = T} (Ok x) old kills new kills' (killed_by (e.environment old) movement (editor_of e old kills) range) (drawn_if (is_some range)) 1
-kills_nothing e x old new kills kills' movement (Some range) edited found undrawn draft same ring = absurd (cc)
-kills_nothing e x old new kills kills' movement None edited found undrawn draft same ring =
-    record { does = does_nothing e nobody x old new 1 undrawn (draft ∙ ap (λ y. with_edited (e.draft old) y) same); kills_left = ring }
+    -- a plain change has no more to be asked of what stays than the line and the hint
+    plain_after : ChangedPlainly e mid new → ChangedPlainly e old new
+    plain_after changed =
+        let P : Environment → Type 0 = λ w. TypedPlainly w (e.display mid) (e.draft mid) (e.draft new) ⊎ KilledPlainly w (e.display mid) (e.draft mid) (e.draft new) in
+        let Q : Display → Type 0 = λ d. TypedPlainly (e.environment old) d (e.draft mid) (e.draft new) ⊎ KilledPlainly (e.environment old) d (e.draft mid) (e.draft new) in
+        record {
+          plainly = elim (subst Q undrawn.drew.display (subst P undrawn.frame.environment changed.plainly)) [
+            | inl t ↦ inl (record { char = t.char; plain = typed_plain t.char ∙ t.plain; line = t.line ∙ ap (λ (l : Line). inserted_at_cursor l (t.char ∷ [])) line })
+            | inr k ↦ inr (record { from = k.from; plain = killed_plain k.from ∙ k.plain; line = k.line ∙ ap (λ (l : Line). without l (Some (k.from, length l.text))) line })
+          ];
+          redraws = changed.redraws ∙ undrawn.drew.redraws;
+        }
+      where
+        typed_plain : (c : ℕ) → types_plainly (e.environment old) (e.display old) (e.draft old) (e.draft new) c ≡ types_plainly (e.environment old) (e.display old) (e.draft mid) (e.draft new) c
+        typed_plain c = ap₂ (λ (l : Line) (h : Option Suggestion). types_plainly (e.environment old) (e.display old) (lined (e.draft old) l h) (e.draft new) c) (sym line) (sym hint)
 
--- a kill that is shown
-pub kill_done : {X T : Type 0} (e : Ghosts X) (r : Result T ReadlineError) (old mid new : X) (kills kills' : Ring) (movement : Movement) (range : Option (ℕ × ℕ)) (edited : Edited)
-    → is_some range ≡ true → Undrawn e old mid → e.draft mid ≡ with_edited (e.draft old) edited
-    → edited ≡ without_range range (edited_of (e.draft old)) → first_text edited.changes edited.line ≡ start_text (e.draft old)
-    → kills' ≡ ring_with_killed (e.draft old).line movement range kills
-    → Redrawn e r mid new
-    → DoesWithKills e r old kills new kills' (killed_by (e.environment old) movement (editor_of e old kills) range) (drawn_if (is_some range)) 1
-kill_done e r old mid new kills kills' movement None edited found undrawn draft same first ring shows = absurd (cc)
-kill_done e (Ok x) old mid new kills kills' movement (Some range) edited found undrawn draft same first ring shows =
-    record { does = line_reported e (Ok x) old mid new edited (without_range (Some range) (edited_of (e.draft old))) undrawn draft same first shows; kills_left = ring }
-kill_done e (Err er) old mid new kills kills' movement (Some range) edited found undrawn draft same first ring shows =
-    record { does = line_reported e (Err er) old mid new edited (without_range (Some range) (edited_of (e.draft old))) undrawn draft same first shows; kills_left = tt }
+        killed_plain : (from : ℕ) → kills_plainly (e.environment old) (e.display old) (e.draft old) (e.draft new) from ≡ kills_plainly (e.environment old) (e.display old) (e.draft mid) (e.draft new) from
+        killed_plain from = ap₂ (λ (l : Line) (h : Option Suggestion). kills_plainly (e.environment old) (e.display old) (lined (e.draft old) l h) (e.draft new) from) (sym line) (sym hint)
+
+    change_after : ShowsChange e 1 mid new → ShowsChange e 1 old new
+    change_after (text_same stays) = text_same (stays ∙ ap (λ (l : Line). l.text) line)
+    change_after (drawn_in_full shows redraws) = drawn_in_full shows (stays_then 1 1 (e.redraws old) (e.redraws mid) (e.redraws new) undrawn.drew.redraws redraws)
+    change_after (drawn_plainly changed) = drawn_plainly (plain_after changed)

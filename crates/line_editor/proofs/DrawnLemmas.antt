@@ -1,11 +1,14 @@
 -- Facts on what is drawn of a line.
-use Rattle.std.proofs.Common.{◌≡◌, inl, inr, ℕ, List, Option, None, option_map, refl, sym, ◌∙◌, ap, subst, arith}
+use Rattle.std.proofs.Common.{◌≡◌, inl, inr, ℕ, true, false, List, Option, Some, None, is_some, option_map, refl, sym, ◌∙◌, ap, subst, arith}
 use Rattle.line_buffer.specs.Line.{Line}
-use Rattle.line_keys.specs.Display.{Display, HasCursorAt, ShowsInFull, IsRight, ShowsText, shown_end}
+use Rattle.line_buffer.specs.declared.layout.Layout.{Layout}
+use Rattle.line_buffer.specs.declared.layout.Position.{Position}
+use Rattle.line_keys.specs.Display.{Display, HasCursorAt, ShowsInFull, IsRight, ShowsText, Surface, end_position, lit_after, shown_end}
 use Rattle.line_keys.specs.Draft.{Draft, hint_shown}
-use Rattle.line_keys.specs.Drawing.{DrewCursor, DrewNothing}
+use Rattle.line_keys.specs.Drawing.{CursorWay, DrewCursorAlone, DrewLine, DrewNothing, cursor_redrew, cursor_stayed, cursor_went}
 use Rattle.line_keys.specs.Frame.{Frame}
-use Rattle.line_keys.specs.ShownLine.{Shows, HasCursorDrawn, IsInPlace}
+use Rattle.line_keys.specs.Plainly.{has_highlighting}
+use Rattle.line_keys.specs.ShownLine.{HasCursorDrawn, HasRightLayout, IsInPlace, Shows}
 use Rattle.line_keys.specs.ShownLine.{KeepsDrawn, LosesHint, MayTrail, ShowsLine, ShowsNoHint}
 use Rattle.line_keys.specs.declared.editor_state.EditorState.{Ghosts}
 use Rattle.line_parts.specs.Environment.{Environment, verdict_on}
@@ -105,30 +108,136 @@ module _ {X : Type 0} (e : Ghosts X) (old new : X) (same : e.environment new ≡
         ];
       }
 
--- a cursor that is moved in the line, and then drawn there, keeps what is drawn good
-pub keeps_move : {X : Type 0} (e : Ghosts X) (old middle new : X) (kind : CmdKind)
-    → (e.draft middle).line.text ≡ (e.draft old).line.text → (e.draft middle).hint ≡ (e.draft old).hint
-    → e.display middle ≡ e.display old → e.redraws middle ≡ e.redraws old → e.environment middle ≡ e.environment old
-    → e.draft new ≡ e.draft middle → e.environment new ≡ e.environment middle
-    → (ShowsText (e.display middle) (e.draft middle).line.text → IsRight (e.display new) (e.draft middle).line)
-    → DrewCursor e kind middle new → HasCursorDrawn e new
-    → KeepsDrawn e old new
-keeps_move e old middle new kind text hint same count environment draft' environment' right drew placed =
-    let P : Draft → Type 0 = λ d. IsRight (e.display new) d.line in
-    let Q : Display → Type 0 = λ d. ShowsText d (e.draft old).line.text in
-    let R : List ℕ → Type 0 = λ t. ShowsText (e.display middle) t in
+-- a line that was shown is shown with another cursor, where the cursor alone was drawn there
+line_goes : {X : Type 0} (e : Ghosts X) (kind : CmdKind) (old new : X) → Frame e old new
+    → (e.draft new).line.text ≡ (e.draft old).line.text → (e.draft new).hint ≡ (e.draft old).hint
+    → DrewCursorAlone e kind old new → HasCursorDrawn e new → ShowsLine e old → ShowsLine e new
+line_goes e kind old new frame text hint drew cursor s =
+    let full = s.shows.in_full in
     record {
-      right = λ was_right. subst P (sym draft') (right (subst R (sym text) (subst Q (sym same) was_right.drawn)));
-      line =
-          λ shown.
-          elim drew.drew [
-            | inl d ↦ nothing_trails e new d.shows
-            | inr n ↦
-                line_moved e old new (environment' ∙ environment) (ap (λ (d : Draft). d.line.text) draft' ∙ text)
-                (ap (λ (d : Draft). d.hint) draft' ∙ hint)
-                (record { display = n.display ∙ same; redraws = n.redraws ∙ count }) placed shown
-          ];
+      trailing = s.trailing;
+      shows = record {
+        in_full = record {
+          layout = record {
+            prompt = ap (λ (l : Layout). l.prompt_size) drew.layout ∙ full.layout.prompt ∙ sym frame.prompt_end;
+            cursor = cursor;
+            ends = ap (λ (l : Layout). l.end) drew.layout ∙ full.layout.ends
+                ∙ ap (λ (x : Surface). shown_end x.measure (e.display old).prompt_end (e.draft old).line.text s.trailing) (sym frame.surface)
+                ∙ ap (λ (x : Position). shown_end (e.display new).surface.measure x (e.draft old).line.text s.trailing) (sym frame.prompt_end)
+                ∙ ap (λ (x : List ℕ). shown_end (e.display new).surface.measure (e.display new).prompt_end x s.trailing) (sym text);
+            has_info = ap (λ (l : Layout). l.has_info) drew.layout ∙ full.layout.has_info;
+            mode = ap (λ (l : Layout). l.grapheme_cluster_mode) drew.layout ∙ full.layout.mode ∙ ap (λ (x : Surface). x.mode) (sym frame.surface);
+          };
+          position = drew.position full.position;
+          shows = drew.text ∙ full.shows ∙ sym text;
+          origin = drew.origin ∙ full.origin ∙ sym frame.prompt_end;
+        };
+        own_prompt = ap (λ (l : Layout). l.default_prompt) drew.layout ∙ s.shows.own_prompt;
+      };
+      trails = trails_on (e.environment old) (e.environment new) (e.draft old) (e.draft new) s.trailing frame.environment text hint s.trails;
     }
+
+-- how the cursor was drawn behind a step that draws nothing is how it was drawn from before it
+module _ {X : Type 0} (e : Ghosts X) (old mid new : X) (same : e.display mid ≡ e.display old) (environment : e.environment mid ≡ e.environment old)
+    (count : e.redraws mid ≡ e.redraws old) (kind : CmdKind) where
+  lit_before : (e.display new).lit ≡ lit_after (e.environment mid) (e.display mid) (e.draft new).line kind → (e.display new).lit ≡ lit_after (e.environment old) (e.display old) (e.draft new).line kind
+  lit_before lit =
+      lit ∙ ap (λ (w : Environment). lit_after w (e.display mid) (e.draft new).line kind) environment
+      ∙ ap (λ (d : Display). lit_after (e.environment old) d (e.draft new).line kind) same
+
+  alone_after : DrewCursorAlone e kind mid new → DrewCursorAlone e kind old new
+  alone_after drew = record {
+    layout = drew.layout ∙ ap (λ (d : Display). record d.layout { cursor = (e.display new).layout.cursor }) same;
+    position = λ at. drew.position (subst (λ (d : Display). d.screen.position ≡ d.layout.cursor) (sym same) at);
+    text = drew.text ∙ ap (λ (d : Display). d.screen.text) same;
+    origin = drew.origin ∙ ap (λ (d : Display). d.screen.origin) same;
+    lit = lit_before drew.lit;
+    redraws = drew.redraws ∙ count;
+  }
+
+  line_before : DrewLine e 1 None kind mid new → DrewLine e 1 None kind old new
+  line_before drew = record {
+    shows = drew.shows;
+    right = drew.right;
+    lit = lit_before drew.lit;
+    redraws = λ below. let s = drew.redraws (omega (arith, below, count)) in (omega (arith, s.0, count), omega (arith, s.1, count));
+  }
+
+  highlighted_before : has_highlighting (e.environment mid) (e.display mid) (e.draft new).line kind ≡ has_highlighting (e.environment old) (e.display old) (e.draft new).line kind
+  highlighted_before =
+      ap (λ (w : Environment). has_highlighting w (e.display mid) (e.draft new).line kind) environment
+      ∙ ap (λ (d : Display). has_highlighting (e.environment old) d (e.draft new).line kind) same
+
+  pub way_after : CursorWay e kind mid new → CursorWay e kind old new
+  way_after (cursor_stayed n) = cursor_stayed (record { display = n.display ∙ same; redraws = n.redraws ∙ count })
+  way_after (cursor_went dark drew) = cursor_went (sym highlighted_before ∙ dark) (alone_after drew)
+  way_after (cursor_redrew lit drew) = cursor_redrew (sym highlighted_before ∙ lit) (line_before drew)
+
+-- a line that was shown is shown with its cursor moved, where that was drawn
+line_led : {X : Type 0} (e : Ghosts X) (kind : CmdKind) (old new : X) → Frame e old new
+    → (e.draft new).line.text ≡ (e.draft old).line.text → (e.draft new).hint ≡ (e.draft old).hint
+    → CursorWay e kind old new → HasCursorDrawn e new → ShowsLine e old → ShowsLine e new
+line_led e kind old new frame text hint (cursor_stayed n) cursor shown = line_moved e old new frame.environment text hint n cursor shown
+line_led e kind old new frame text hint (cursor_went dark drew) cursor shown = line_goes e kind old new frame text hint drew cursor shown
+line_led e kind old new frame text hint (cursor_redrew lit drew) cursor shown = nothing_trails e new drew.shows
+
+-- a right layout stays right where the text stays and the cursor is drawn
+pub right_after : {X : Type 0} (e : Ghosts X) (old mid new : X) → e.display mid ≡ e.display old → (e.draft mid).line.text ≡ (e.draft old).line.text
+    → (e.draft new).line ≡ (e.draft mid).line → (ShowsText (e.display mid) (e.draft mid).line.text → IsRight (e.display new) (e.draft mid).line)
+    → HasRightLayout e old → HasRightLayout e new
+right_after e old mid new same text line right was =
+    subst (λ (l : Line). IsRight (e.display new) l) (sym line)
+    (right (subst (λ (t : List ℕ). ShowsText (e.display mid) t) (sym text) (subst (λ (d : Display). ShowsText d (e.draft old).line.text) (sym same) was.drawn)))
+
+-- a line that is shown has a right layout
+nothing_behind : (d : Display) (text : List ℕ) (trailing : Option (List ℕ)) → is_some trailing ≡ false
+    → shown_end d.surface.measure d.prompt_end text trailing ≡ end_position d.surface.measure d.prompt_end text
+nothing_behind d text None none = refl
+nothing_behind d text (Some t) none = absurd (cc)
+
+pub shown_right : {X : Type 0} (e : Ghosts X) (editor : X) → ShowsLine e editor → HasRightLayout e editor
+shown_right e editor s =
+    let full = s.shows.in_full in
+    record {
+      drawn = record {
+        prompt = full.layout.prompt;
+        ends = λ bare. full.layout.ends ∙ nothing_behind (e.display editor) (e.draft editor).line.text s.trailing (sym full.layout.has_info ∙ bare);
+        mode = full.layout.mode;
+        position = full.position;
+        shows = full.shows;
+        origin = full.origin;
+      };
+      cursor = full.layout.cursor;
+    }
+
+-- a line with a right layout is shown where nothing stands behind it
+pub right_shown : {X : Type 0} (e : Ghosts X) (editor : X) → HasRightLayout e editor → (e.display editor).layout.has_info ≡ false
+    → (e.display editor).layout.default_prompt ≡ true → ShowsLine e editor
+right_shown e editor right bare own = nothing_trails e editor (record {
+  in_full = record {
+    layout = record {
+      prompt = right.drawn.prompt;
+      cursor = right.cursor;
+      ends = right.drawn.ends bare;
+      has_info = bare;
+      mode = right.drawn.mode;
+    };
+    position = right.drawn.position;
+    shows = right.drawn.shows;
+    origin = right.drawn.origin;
+  };
+  own_prompt = own;
+})
+
+-- a cursor that is moved in the line, and then drawn there, keeps what is drawn good
+pub keeps_move : {X : Type 0} (e : Ghosts X) (kind : CmdKind) (old new : X) → Frame e old new
+    → (e.draft new).line.text ≡ (e.draft old).line.text → (e.draft new).hint ≡ (e.draft old).hint
+    → (HasRightLayout e old → HasRightLayout e new) → CursorWay e kind old new → (HasCursorDrawn e old → HasCursorDrawn e new)
+    → KeepsDrawn e old new
+keeps_move e kind old new frame text hint right way placed = record {
+  right = right;
+  line = λ shown. line_led e kind old new frame text hint way (placed shown.shows.in_full.layout.cursor) shown;
+}
 
 -- where the hint is taken away, what is drawn stays good
 pub hint_lost : {X : Type 0} (e : Ghosts X) (old new : X) → LosesHint e old new → KeepsDrawn e old new

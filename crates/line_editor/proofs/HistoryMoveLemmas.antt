@@ -1,5 +1,5 @@
 -- Facts on moves in the history, and on what is drawn where a step that draws nothing comes first.
-use Rattle.std.proofs.Common.{◌≡◌, ℕ, ◌+◌, ◌-◌, ◌≤◌, ◌==◌, ◌++◌, Bool, true, false, cond, List, [], length, take, drop, inl, Option, Some, None, Result, Ok, Err, eqb, not, is_some, option_map, refl, sym, ◌∙◌, ap, subst, arith}
+use Rattle.std.proofs.Common.{◌≡◌, ℕ, ◌+◌, ◌-◌, ◌≤◌, ◌==◌, ◌++◌, Bool, true, false, cond, List, [], length, take, drop, Option, Some, None, Result, Ok, Err, eqb, not, is_some, option_map, refl, sym, ◌∙◌, ap, subst, arith}
 use Rattle.std.specs.Prelude.{if◌then◌else◌, IsCharBoundary, IsUtf8, OnOk, option_and_then}
 use Rattle.std.specs.List.{slice_range, starts_with}
 use Rattle.std.proofs.Math.Seq.{take-append_seam}
@@ -11,7 +11,7 @@ use Rattle.std.proofs.lemmas.Str.{IsCharBoundary-from_take}
 use Rattle.line_config.specs.declared.error.ReadlineError.{ReadlineError}
 use Rattle.line_config.specs.Error.{Rose}
 use Rattle.line_keys.specs.Draft.{Draft, start_text}
-use Rattle.line_keys.specs.Drawing.{Does, DoesAsking, DrewNothing, Paints, Undrawn, drawn_if, nothing, with_hint}
+use Rattle.line_keys.specs.Drawing.{Does, DoesAsking, DrewNothing, Paints, Undrawn, drawn_if, nothing, text_same, with_hint}
 use Rattle.line_keys.specs.Frame.{FailsByParty, FailsByRenderer, Frame}
 use Rattle.line_keys.specs.declared.editor_state.EditorState.{Ghosts}
 use Rattle.line_parts.specs.Asks.{Asks, for_hint, for_line, for_look_up, nobody}
@@ -49,7 +49,7 @@ still_done e asks (Ok x) old new left draft line hint first undrew frame fails =
   start = ap start_text draft ∙ first;
   drew = undrew;
   keeps = drawn_stays e old new frame.environment undrew (ap (λ (d : Draft). d.line) draft ∙ line) (ap (λ (d : Draft). d.hint) draft ∙ hint);
-  change = inl (ap (λ (d : Draft). d.line.text) draft ∙ ap (λ l. l.text) line);
+  change = text_same (ap (λ (d : Draft). d.line.text) draft ∙ ap (λ l. l.text) line);
   frame = frame;
   fails = fails;
 }

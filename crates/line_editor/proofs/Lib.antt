@@ -37,3 +37,4 @@ pub mod UnderwayLemmas
 pub mod TurnLaws
 pub mod UndoLaws
 pub mod TwoRunsLaws
+pub mod PlainlyLemmas

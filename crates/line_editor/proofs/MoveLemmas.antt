@@ -1,25 +1,30 @@
 -- Facts on a cursor that is moved.
-use Rattle.std.proofs.Common.{◌≡◌, ℕ, Bool, true, false, inl, inr, List, [], ◌∷◌, Option, Some, None, is_some, Result, Ok, refl, sym, ap, subst, ◌∙◌}
+use Rattle.std.proofs.Common.{◌≡◌, ℕ, Bool, true, false, List, [], ◌∷◌, Option, Some, None, is_some, Result, Ok, Err, refl, sym, ap, subst, ◌∙◌, arith}
 use Rattle.std.specs.Prelude.{if◌then◌else◌}
 use Rattle.line_buffer.specs.Changes.{Entry}
-use Rattle.line_buffer.specs.Line.{Line, after, moved_to}
+use Rattle.line_buffer.specs.Line.{Line, after, moved_to, with_cursor}
 use Rattle.line_buffer.specs.Undo.{all_taken_back, first_text, taken_back, text_before}
 use Rattle.line_buffer.specs.Word.{word_on}
+use Rattle.line_buffer.specs.declared.layout.Position.{Position}
 use Rattle.line_buffer.specs.declared.movement.At.TheVariants.{Start}
 use Rattle.line_buffer.specs.declared.movement.Word.TheVariants.{Big}
 use Rattle.line_config.specs.declared.error.ReadlineError.{ReadlineError}
 use Rattle.line_keys.specs.Draft.{Draft, start_text}
-use Rattle.line_keys.specs.Drawing.{Does, DoesAsking, Drawing, DrawsCursor, DrewCursor, MovesTo, Undrawn, cursor_over, drawn_if}
+use Rattle.line_keys.specs.Display.{Display, HasCursorAt, ShowsText, cursor_position}
+use Rattle.line_keys.specs.Drawing.{CursorWay, Does, DoesAsking, Drawing, DrawsCursor, DrewCursor, MovesTo, PutsCursorAt, Undrawn, cursor_over, cursor_stayed, drawn_if, text_same}
+use Rattle.line_keys.specs.Frame.{FailsByRenderer, Frame}
+use Rattle.line_keys.specs.ShownLine.{HasCursorDrawn}
 use Rattle.line_keys.specs.declared.editor_state.EditorState.{Ghosts}
 use Rattle.line_parts.specs.Asks.{Asks, nobody}
 use Rattle.line_parts.specs.Environment.{Environment}
+use Rattle.line_parts.specs.declared.highlight.CmdKind.{CmdKind}
 use Rattle.line_parts.specs.declared.highlight.CmdKind.TheVariants.{MoveCursor}
 use Rattle.line_parts.specs.History.{begins_blank}
 use Rattle.line_state.specs.Edited.{Edited, with_place}
 use Rattle.line_state.specs.Moves.{to_first_print}
 use Rattle.line_editor.specs.Editor.{edited_of, with_edited}
 use Rattle.line_editor.proofs.DoneLemmas.{cursor_after, does_after}
-use Rattle.line_editor.proofs.DrawnLemmas.{frame_then, keeps_move, keeps_then}
+use Rattle.line_editor.proofs.DrawnLemmas.{frame_then, keeps_move, keeps_then, right_after, way_after}
 use Rattle.line_editor.proofs.EditLemmas.{moved_text}
 
 -- what all changes taken back give is a matter of the text, and not of the cursor
@@ -47,18 +52,85 @@ pub move_drawn : {X T U : Type 0} (e : Ghosts X) (x : T) (y : U) (old middle new
 move_drawn e x y old middle new edited place undrawn draft is draws =
     let made : e.draft middle ≡ record (e.draft old) { line = moved_to (e.draft old).line place } =
     draft ∙ ap (λ x. with_edited (e.draft old) x) is in
-    let moved : (e.draft middle).line ≡ moved_to (e.draft old).line place = ap (λ (d : Draft). d.line) made in
-    let text' = ap (λ (l : Line). l.text) moved ∙ moved_text (e.draft old).line place in
+    let all = draws.draft ∙ made in
+    let text : (e.draft middle).line.text ≡ (e.draft old).line.text = ap (λ (d : Draft). d.line.text) made ∙ moved_text (e.draft old).line place in
+    let frame : Frame e old new = frame_then e old middle new undrawn.frame draws.frame in
     record {
-      draft = draws.draft ∙ made;
-      text = ap (λ (d : Draft). d.line.text) draws.draft ∙ text';
+      draft = all;
+      text = ap (λ (d : Draft). d.line.text) draws.draft ∙ text;
       start = ap start_text (draws.draft ∙ draft) ∙ first_placed (edited_of (e.draft old)) edited place is;
-      drew = cursor_after e old middle new undrawn MoveCursor draws.placed draws.drew;
-      keeps = keeps_move e old middle new MoveCursor text' (ap (λ (d : Draft). d.hint) made) undrawn.drew.display
-          undrawn.drew.redraws undrawn.frame.environment draws.draft draws.frame.environment draws.right draws.drew draws.placed;
-      frame = frame_then e old middle new undrawn.frame draws.frame;
+      drew = cursor_after e old middle new undrawn MoveCursor (ap (λ (d : Draft). d.line) draws.draft) draws.placed draws.drew;
+      keeps = keeps_move e MoveCursor old new frame (ap (λ (d : Draft). d.line.text) draws.draft ∙ text) (ap (λ (d : Draft). d.hint) all)
+          (right_after e old middle new undrawn.drew.display text (ap (λ (d : Draft). d.line) draws.draft) draws.right)
+          (way_after e old middle new undrawn.drew.display undrawn.frame.environment undrawn.drew.redraws MoveCursor draws.drew.way) (λ was. draws.placed);
+      frame = frame;
       fails = record { io = tt; faults = tt; quiet = draws.fails.quiet ∙ undrawn.failures };
     }
+
+-- what fails behind a step that draws nothing fails from before it
+fails_later : {X T : Type 0} (e : Ghosts X) (old mid new : X) → Undrawn e old mid → (r : Result T ReadlineError) → FailsByRenderer e r mid new → FailsByRenderer e r old new
+fails_later e old mid new undrawn (Ok x) fails = record { io = tt; faults = tt; quiet = fails.quiet ∙ undrawn.failures }
+fails_later e old mid new undrawn (Err f) fails = record {
+  io = λ i below. let n = undrawn.failures in let more = fails.io i (omega (arith, below, n)) in omega (arith, more, n);
+  faults = fails.faults;
+  quiet = λ no. fails.quiet no ∙ undrawn.failures;
+}
+
+-- a cursor that was moved, and then drawn at a position that is the line's where the kept one was
+module _ {X : Type 0} (e : Ghosts X) (old middle new : X) (kind : CmdKind) (line : Line) (position : Position) (edited : Edited) (undrawn : Undrawn e old middle)
+    (made : e.draft middle ≡ with_edited (e.draft old) edited) (goes : edited ≡ record (edited_of (e.draft old)) { line = line })
+    (text : edited.line.text ≡ (e.draft old).line.text) (first : first_text edited.changes edited.line ≡ start_text (e.draft old))
+    (measured : HasCursorAt (e.display middle) (with_cursor (e.draft middle).line (e.draft old).line.cursor)
+    → position ≡ cursor_position (e.display middle).surface.measure (e.display middle).prompt_end (e.draft middle).line) where
+  draft : e.draft middle ≡ record (e.draft old) { line = line }
+  draft = made ∙ ap (λ (x : Edited). with_edited (e.draft old) x) goes
+
+  start : start_text (e.draft middle) ≡ start_text (e.draft old)
+  start = ap start_text made ∙ first
+
+  same_text : (e.draft middle).line.text ≡ (e.draft old).line.text
+  same_text = ap (λ (d : Draft). d.line.text) made ∙ text
+
+  -- the position is the line's, where the kept cursor was
+  placed_there : HasCursorDrawn e old → position ≡ cursor_position (e.display middle).surface.measure (e.display middle).prompt_end (e.draft middle).line
+  placed_there was =
+      measured (subst (λ (s : List ℕ). HasCursorAt (e.display middle) (record { text = s; cursor = (e.draft old).line.cursor })) (sym same_text)
+      (subst (λ (d : Display). HasCursorAt d (e.draft old).line) (sym undrawn.drew.display) was))
+
+  pub followed : {T : Type 0} (r : Result T ReadlineError) → PutsCursorAt e r middle new kind position → MovesTo e r old new kind line
+  followed (Err f) puts = record {
+    draft = puts.draft ∙ draft;
+    text = ap (λ (d : Draft). d.line.text) puts.draft ∙ same_text;
+    start = ap start_text puts.draft ∙ start;
+    drew = tt;
+    keeps = tt;
+    frame = frame_then e old middle new undrawn.frame puts.frame;
+    fails = fails_later e old middle new undrawn (Err f) puts.fails;
+  }
+  followed (Ok x) puts =
+      let frame : Frame e old new = frame_then e old middle new undrawn.frame puts.frame in
+      let lines : (e.draft new).line ≡ (e.draft middle).line = ap (λ (d : Draft). d.line) puts.draft in
+      let way : CursorWay e kind old new = way_after e old middle new undrawn.drew.display undrawn.frame.environment undrawn.drew.redraws kind puts.way in
+      record {
+        draft = puts.draft ∙ draft;
+        text = ap (λ (d : Draft). d.line.text) puts.draft ∙ same_text;
+        start = ap start_text puts.draft ∙ start;
+        drew = record {
+          way = way;
+          still = λ was at.
+              let there : (e.display middle).layout.cursor ≡ cursor_position (e.display middle).surface.measure (e.display middle).prompt_end (e.draft middle).line =
+              subst (λ (l : Line). HasCursorAt (e.display middle) l) lines (subst (λ (d : Display). HasCursorAt d (e.draft new).line) (sym undrawn.drew.display) at) in
+              let n = puts.still (there ∙ sym (placed_there was)) in
+              record { display = n.display ∙ undrawn.drew.display; redraws = n.redraws ∙ undrawn.drew.redraws };
+          placed = λ was. puts.placed (placed_there was);
+        };
+        keeps = keeps_move e kind old new frame (ap (λ (d : Draft). d.line.text) puts.draft ∙ same_text) (ap (λ (d : Draft). d.hint) (puts.draft ∙ draft))
+            (λ was. puts.right (placed_there was.cursor) (subst (λ (s : List ℕ). ShowsText (e.display middle) s) (sym same_text)
+            (subst (λ (d : Display). ShowsText d (e.draft old).line.text) (sym undrawn.drew.display) was.drawn)))
+            way (λ was. puts.placed (placed_there was));
+        frame = frame;
+        fails = record { io = tt; faults = tt; quiet = puts.fails.quiet ∙ undrawn.failures };
+      }
 
 -- where the cursor has no place to go to, what is done instead is done from before
 pub else_done : {X T : Type 0} (e : Ghosts X) (r : Result T ReadlineError) (old mid new : X) (found : Bool) (place : Option ℕ) (moved : Draft)
@@ -85,9 +157,9 @@ else_done e r old mid new found place moved left there reported asked answer mis
 -- the cursor stays, and nothing is drawn
 pub cursor_stays : {X : Type 0} (e : Ghosts X) (editor : X) → DrewCursor e MoveCursor editor editor
 cursor_stays e editor = record {
-  drew = inr (record { display = refl; redraws = refl });
-  still = λ at. record { display = refl; redraws = refl };
-  placed = inr refl;
+  way = cursor_stayed (record { display = refl; redraws = refl });
+  still = λ was at. record { display = refl; redraws = refl };
+  placed = λ was. was;
 }
 
 abbrev on_line : Line → Draft → Draft
@@ -102,7 +174,7 @@ module _ {X T : Type 0} (e : Ghosts X) (x : T) (old mid : X) (way : Line) (first
     start = second.start ∙ first.start;
     drew = record { way = mid; on_way = ap (λ (d : Draft). d.line) first.draft; frame = first.frame; first = first.drew; second = second.drew };
     keeps = keeps_then e old mid new first.keeps second.keeps;
-    change = inl (second.text ∙ first.text);
+    change = text_same (second.text ∙ first.text);
     frame = frame_then e old mid new first.frame second.frame;
     fails = record { io = tt; faults = tt; quiet = second.fails.quiet ∙ first.fails.quiet };
   }
@@ -113,7 +185,7 @@ module _ {X T : Type 0} (e : Ghosts X) (x : T) (old mid : X) (way : Line) (first
     start = first.start;
     drew = record { way = mid; on_way = ap (λ (d : Draft). d.line) first.draft; frame = first.frame; first = first.drew; second = cursor_stays e mid };
     keeps = first.keeps;
-    change = inl first.text;
+    change = text_same first.text;
     frame = first.frame;
     fails = record { io = tt; faults = tt; quiet = first.fails.quiet };
   }

@@ -1,5 +1,5 @@
 -- Facts on turns of a program's state.
-use Rattle.std.proofs.Common.{◌≡◌, ◌∙◌, ℕ, ◌+◌, ◌-◌, ◌≤◌, ◌<◌, Bool, true, false, cond, List, [], length, sym, Result, Ok, Err, inl, inr, refl, ap, subst, arith}
+use Rattle.std.proofs.Common.{◌≡◌, ◌∙◌, ℕ, ◌+◌, ◌-◌, ◌<◌, Bool, true, false, cond, List, [], length, sym, Result, Ok, Err, refl, ap, subst, arith}
 use Rattle.line_buffer.specs.KillRing.{Ring}
 use Rattle.line_buffer.specs.Line.{Line}
 use Rattle.line_config.specs.Error.{is_fault, is_io, max_count}
@@ -7,16 +7,14 @@ use Rattle.line_config.specs.declared.error.ReadlineError.{ReadlineError}
 use Rattle.line_config.specs.declared.error.ReadlineError.TheVariants.{Eof}
 use Rattle.line_keys.specs.Command.{Command, command_of}
 use Rattle.line_keys.specs.Draft.{hint_shown}
-use Rattle.line_parts.specs.declared.highlight.CmdKind.{CmdKind}
-use Rattle.line_parts.specs.declared.highlight.CmdKind.TheVariants.{MoveCursor, Other}
-use Rattle.line_keys.specs.Drawing.{Drawing, Drew, DrewCursor, DrewLine, DrewNothing, ShowsChange, behind_prompt, cursor, cursor_over, cursor_to_end, drawn_if, nothing, with_hint, with_text}
+use Rattle.line_parts.specs.declared.highlight.CmdKind.TheVariants.{Other}
+use Rattle.line_keys.specs.Drawing.{Drew, DrewLine, DrewNothing, drawn_if}
 use Rattle.line_keys.specs.Frame.{Frame}
 use Rattle.line_keys.specs.ShownLine.{IsInPlace, Redraws}
 use Rattle.line_keys.specs.ShownLine.{KeepsDrawn}
 use Rattle.line_keys.specs.declared.cmd.Cmd.{Cmd}
 use Rattle.line_keys.specs.declared.editor_state.EditorState as editors
 use Rattle.line_keys.specs.declared.raw_reader.RawReader as readers
-use Rattle.line_editor.specs.Drawings.{drawing_of, times_of}
 use Rattle.line_parts.specs.Asks.{for_all, for_hint, is_sure}
 use Rattle.line_editor.proofs.AskedLemmas.{sure_all}
 use Rattle.line_editor.specs.Editor.{Answer, ended, grouped, interrupted, own_ruler, proceeds, ruler_of, submitted}
@@ -28,33 +26,13 @@ use Rattle.line_editor.specs.Outcomes.{Advances, AdvancesTo, DrawnAfter, DrewFor
 use Rattle.line_editor.specs.declared.command.Status.{Status}
 use Rattle.line_editor.specs.declared.run.Turned.{Turned}
 use Rattle.line_editor.specs.declared.run.Turned.TheVariants as turned
-use Rattle.line_editor.proofs.CommandLemmas.{few_drawn}
-use Rattle.line_editor.proofs.CountLemmas.{rises_more, rises_twice, stays_rises}
+use Rattle.line_editor.proofs.CountLemmas.{rises_more, rises_twice}
 use Rattle.line_editor.proofs.DrawnLemmas.{drawn_stays, frame_then, hint_trails, keeps_then, stays_in_place}
 use Rattle.line_editor.proofs.PhraseReadLemmas.{has_item}
 use Rattle.line_editor.proofs.ReadingLemmas.{ruler_there}
 use Rattle.line_editor.proofs.RunLemmas.{leaves-by}
 
 module _ {X : Type 0} (e : editors.Ghosts X) where
-  -- the cursor is drawn with one full redraw at most
-  cursor_once : (kind : CmdKind) (old new : X) → DrewCursor e kind old new → Redraws e 0 1 old new
-  cursor_once kind old new drew = elim drew.drew [
-    | inl d ↦ rises_more 1 1 1 (e.redraws old) (e.redraws new) (omega arith) d.redraws
-    | inr n ↦ stays_rises 1 (e.redraws old) (e.redraws new) n.redraws
-  ]
-
-  -- nor does a drawing
-  drew_few : (times : ℕ) (drawing : Drawing) (old new : X) → times ≤ 3 → Drew e times drawing old new → Redraws e 0 3 old new
-  drew_few times nothing old new few drew = stays_rises 3 (e.redraws old) (e.redraws new) drew.redraws
-  drew_few times with_hint old new few drew = rises_more times times 3 (e.redraws old) (e.redraws new) few drew.redraws
-  drew_few times (with_text trailing kind) old new few drew = rises_more times times 3 (e.redraws old) (e.redraws new) few drew.redraws
-  drew_few times (behind_prompt prompt) old new few drew = rises_more times times 3 (e.redraws old) (e.redraws new) few drew.redraws
-  drew_few times (cursor kind) old new few drew = rises_more 0 1 3 (e.redraws old) (e.redraws new) (omega arith) (cursor_once kind old new drew)
-  drew_few times (cursor_over line) old new few drew =
-      rises_more 0 2 3 (e.redraws old) (e.redraws new) (omega arith)
-      (rises_twice 0 1 0 1 (e.redraws old) (e.redraws drew.way) (e.redraws new) (cursor_once MoveCursor old drew.way drew.first) (cursor_once MoveCursor drew.way new drew.second))
-  drew_few times cursor_to_end old new few drew = stays_rises 3 (e.redraws old) (e.redraws new) drew.redraws
-
   module _ (old middle new : X) (keeps : KeepsDrawn e old middle) (in_place : IsInPlace e old → IsInPlace e middle) where
     -- what is drawn after an answer, where it was good before the command
     drawn_then : (answer : Answer) → DrawnAfter e answer middle new → DrawnAfter e answer old new
@@ -63,22 +41,6 @@ module _ {X : Type 0} (e : editors.Ghosts X) where
     drawn_then ended drawn = record { own_prompt = drawn.own_prompt; right = λ r. drawn.right (keeps.right r); no_hint = λ s. drawn.no_hint (keeps.line s) }
     drawn_then interrupted drawn =
         record { at_end = drawn.at_end; in_place = λ at. drawn.in_place (in_place at); ends = λ s. drawn.ends (keeps.line s) }
-
-  -- a change behind a step that keeps the text is one from before it
-  change_then : (old middle new : X) (n : ℕ) → (e.draft middle).line.text ≡ (e.draft old).line.text → Redraws e 0 n old middle
-      → ShowsChange e 3 middle new → ShowsChange e (3 + n) old new
-  change_then old middle new n text redraws change =
-      elim change [
-        | inl same ↦ inl (same ∙ text)
-        | inr drew ↦
-            inr (
-              drew.0,
-              λ below.
-                  let s = redraws (omega (arith, below)) in
-                  let t = drew.1 (omega (arith, below, s.1)) in
-                  (omega (arith, s.0, t.0), omega (arith, s.1, t.1)),
-            )
-      ]
 
 -- what stays while a command is read and executed
 pub keeps_turn : {X Y : Type 0} (e : editors.Ghosts X) (r : readers.Ghosts Y) (old middle new : X) (keys keys' : KeyState) (reader reader' : Y)
@@ -136,8 +98,6 @@ module _ {X Y : Type 0} (e : editors.Ghosts X) (r : readers.Ghosts Y) (old middl
       let was = read.read in
       let well = read_well e old middle was.read.shown read.keeps.frame read.line.line was.hint was.drew in
       let reading : Redraws e 0 n old middle = λ below. let s = read.redraws (omega (arith, below)) in (omega (arith, s.0), omega (arith, s.1)) in
-      let few : Redraws e 0 3 middle new = drew_few e (times_of (e.display middle) (e.environment middle) (editor_of e middle ready) (command_of c)) (drawing_of (e.display middle) (e.environment middle) (editor_of e middle ready) (command_of c)) middle new
-      (few_drawn (e.display middle) (e.environment middle) (editor_of e middle ready) (command_of c)) done.drew in
       let D : Ring → Type 0 = λ k. DrewFor e (editor_of e middle k) (command_of c) middle new in
       let C : Command → Type 0 = λ command. DrewFor e (editor_of e middle (kills_before command kills)) command middle new in
       record {
@@ -155,15 +115,16 @@ module _ {X Y : Type 0} (e : editors.Ghosts X) (r : readers.Ghosts Y) (old middl
         measured = well.measured indent;
         found = middle;
         as_read = was.begun_there ∙ ap (λ command. grouped command was.read.draft) (sym was.command_read);
+        text = ap (λ (l : Line). l.text) read.line.line;
         counted = was.drew;
         drew = subst C (sym was.command_read) (subst D reset done.drew);
         frame = read.keeps.frame;
         drawn = drawn_then e old middle new well.drawn well.in_place answer done.drawn;
-        change = change_then e old middle new n (ap (λ (l : Line). l.text) read.line.line) reading done.change;
+        change = done.change;
         start = done.start ∙ read.start;
         redraws =
             rises_more 0 (n + 3) (3 + n) (e.redraws old) (e.redraws new) (omega arith)
-            (rises_twice 0 n 0 3 (e.redraws old) (e.redraws middle) (e.redraws new) reading few);
+            (rises_twice 0 n 0 3 (e.redraws old) (e.redraws middle) (e.redraws new) reading done.few);
         fewer = has_item e r _ _ _ _ reader reader' was.items was.read was.cut was.comes;
       }
 

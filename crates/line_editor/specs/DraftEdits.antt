@@ -66,11 +66,15 @@ kill_popped environment (Some popped) editor = record {
   kills = after_yank_pop editor.kills;
 }
 
+-- a range of the text goes, and the hint is asked again
+abbrev pub range_killed : Environment → ℕ × ℕ → Draft → Draft
+range_killed environment range draft = after_edit environment true (without_range (Some range) (edited_of draft)) draft
+
 -- a range is killed; without a range nothing happens
 abbrev pub killed_by : Environment → Movement → Editor → Option (ℕ × ℕ) → Editor
 killed_by environment movement editor None = editor
 killed_by environment movement editor (Some range) = record {
-  draft = after_edit environment true (without_range (Some range) (edited_of editor.draft)) editor.draft;
+  draft = range_killed environment range editor.draft;
   kills = ring_with_killed editor.draft.line movement (Some range) editor.kills;
 }
 

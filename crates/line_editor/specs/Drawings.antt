@@ -1,5 +1,5 @@
 -- What each command draws.
-use Rattle.std.specs.Prelude.{ℕ, ◌+◌, ◌==◌, ◌||◌, Bool, false, not, if◌then◌else◌, List, length, Option, Some, None, is_some}
+use Rattle.std.specs.Prelude.{ℕ, ◌+◌, ◌-◌, ◌==◌, ◌&&◌, ◌||◌, Bool, false, not, if◌then◌else◌, List, length, Option, Some, None, is_some}
 use Rattle.std.specs.List.{list_any}
 use Rattle.line_buffer.specs.Cluster.{place_on}
 use Rattle.line_buffer.specs.Kill.{killed_range}
@@ -11,16 +11,19 @@ use Rattle.line_buffer.specs.Undo.{is_change, newest_steps}
 use Rattle.line_buffer.specs.declared.movement.Movement.{Movement}
 use Rattle.line_buffer.specs.declared.movement.Movement.TheVariants.{ViFirstPrint}
 use Rattle.line_keys.specs.Command.{Command, accept_line, accept_or_insert_line, beginning_of_history, capitalize_word, clear_screen, complete_hint, dedent, downcase_word, end_of_file, end_of_history, history_search_backward, history_search_forward, indent, insert, interrupt, kill, line_down_or_next_history, line_up_or_previous_history, move, newline, next_history, overwrite, previous_history, repaint, replace, replace_char, self_insert, transpose_chars, transpose_words, undo, upcase_word, yank, yank_pop}
-use Rattle.line_keys.specs.Display.{Display}
+use Rattle.line_keys.specs.Display.{Display, columns_back, columns_on}
 use Rattle.line_keys.specs.Draft.{Draft, unhinted}
-use Rattle.line_keys.specs.Drawing.{Drawing, asked_by, cursor, cursor_over, cursor_to_end, drawn_if, edit_drawn, nothing, with_hint, with_text}
+use Rattle.line_keys.specs.Drawing.{Drawing, asked_by, change_drawn, cursor, cursor_over, cursor_to_end, drawn_if, edit_drawn, in_part, nothing, with_hint, with_text}
+use Rattle.line_keys.specs.Plainly.{has_highlighting, kills_plainly, types_plainly}
 use Rattle.line_parts.specs.Asks.{Asks, for_all, for_verdict, nobody}
 use Rattle.line_parts.specs.Environment.{Environment, verdict_on}
 use Rattle.line_parts.specs.Verdict.{message_of}
 use Rattle.line_parts.specs.declared.highlight.CmdKind.TheVariants.{ForcedRefresh, MoveCursor}
 use Rattle.line_parts.specs.declared.history.SearchDirection.TheVariants.{Forward, Reverse}
 use Rattle.line_state.specs.Edited.{pops_text}
+use Rattle.line_state.specs.Moves.{moved}
 use Rattle.line_editor.specs.Accept.{reply_to}
+use Rattle.line_editor.specs.DraftEdits.{range_killed, typed_in}
 use Rattle.line_editor.specs.Editor.{Editor}
 use Rattle.line_editor.specs.HistoryMoves.{asked_back, asked_in_search, asked_on, asked_to_end, search_of, way_ends}
 use Rattle.line_editor.specs.DrawnVerdict.{draws_verdict, kind_of_verdict}
@@ -67,9 +70,34 @@ abbrev pub pop_drawn : Line → Option (ℕ × List ℕ) → Drawing
 pop_drawn line None = nothing
 pop_drawn line (Some popped) = edit_drawn (pops_text line popped.0 popped.1)
 
+-- plain typing of n copies of a character, of which there is one then
+abbrev pub is_plain_typing : Display → Environment → Draft → ℕ → ℕ → Bool
+is_plain_typing display environment draft n c =
+    (n == 1) && types_plainly environment display draft (typed_in environment n c draft) c
+
+-- what is drawn of n copies of a character that are typed
+abbrev pub typing_drawn : Display → Environment → Draft → ℕ → ℕ → Drawing
+typing_drawn display environment draft n c =
+    change_drawn (is_plain_typing display environment draft n c) (columns_on 1 display.layout.cursor)
+
+-- whether a kill of a range is a plain one: it goes to the text's end
+abbrev pub is_plain_kill : Display → Environment → Draft → ℕ × ℕ → Bool
+is_plain_kill display environment draft range =
+    (range.1 == length draft.line.text) && kills_plainly environment display draft (range_killed environment range draft) range.0
+
+-- what is drawn of a kill: nothing where there is no range
+abbrev pub kill_drawn : Display → Environment → Draft → Option (ℕ × ℕ) → Drawing
+kill_drawn display environment draft None = nothing
+kill_drawn display environment draft (Some range) =
+    change_drawn (is_plain_kill display environment draft range) (columns_back (length draft.line.text - range.0) display.layout.end)
+
+-- what is drawn of a kill and a text in its place: the line with its hint where a text comes, and else the kill
+abbrev pub replacement_drawn : Drawing → Option (List ℕ) → Drawing
+replacement_drawn killed text = if has_text text then with_hint else killed
+
 -- what a command draws that proceeds and leaves the kill ring; those that are left to the program above draw nothing
 abbrev pub edited_drawn : Display → Environment → Draft → Command → Drawing
-edited_drawn display environment draft (self_insert n c) = with_hint
+edited_drawn display environment draft (self_insert n c) = typing_drawn display environment draft n c
 edited_drawn display environment draft newline = with_hint
 edited_drawn display environment draft (insert n text) = edit_drawn (not (length text == 0))
 edited_drawn display environment draft (replace_char n c) = edit_drawn (is_some (place_on draft.line n))
@@ -100,9 +128,10 @@ edited_drawn display environment draft _ = nothing
 
 -- what a command draws
 abbrev pub drawing_of : Display → Environment → Editor → Command → Drawing
-drawing_of display environment editor (kill movement) = drawn_if (is_some (killed_range editor.draft.line movement))
+drawing_of display environment editor (kill movement) =
+    kill_drawn display environment editor.draft (killed_range editor.draft.line movement)
 drawing_of display environment editor (replace movement text) =
-    drawn_if (is_some (killed_range editor.draft.line movement) || has_text text)
+    replacement_drawn (kill_drawn display environment editor.draft (killed_range editor.draft.line movement)) text
 drawing_of display environment editor (yank n anchor) = yank_drawn (yanked_text editor.kills)
 drawing_of display environment editor yank_pop = pop_drawn editor.draft.line (yank_popped editor.kills)
 drawing_of display environment editor end_of_file = unhinted_drawn display editor.draft
@@ -143,10 +172,16 @@ asked_of display environment editor (yank n anchor) = asked_by (drawing_of displ
 asked_of display environment editor yank_pop = asked_by (drawing_of display environment editor yank_pop)
 asked_of display environment editor command = edited_asked display environment editor.draft command
 
--- a line is drawn in full once, where it is drawn at all
+-- how often a drawing of the line draws it in full: never where nothing is drawn, or a change in part
 abbrev pub once_for : Drawing → ℕ
 once_for nothing = 0
+once_for (in_part position) = 0
 once_for drawing = 1
+
+-- how often a kill and a text in its place draw the line, where they draw it in full: once for the text, and before it once for a kill
+-- that is drawn in full
+abbrev pub replacement_times : Drawing → Option (List ℕ) → ℕ
+replacement_times killed text = if has_text text then once_for killed + 1 else 1
 
 -- how often the line is drawn in full by a command that proceeds and leaves the kill ring: a newline takes the hint away first
 abbrev pub edited_times : Display → Draft → Command → ℕ
@@ -167,9 +202,29 @@ reply_times reply times = times
 -- `DrewCursor` says how often it is drawn
 abbrev pub times_of : Display → Environment → Editor → Command → ℕ
 times_of display environment editor (replace movement text) =
-    once_for (drawn_if (is_some (killed_range editor.draft.line movement))) + once_for (drawn_if (has_text text))
+    replacement_times (kill_drawn display environment editor.draft (killed_range editor.draft.line movement)) text
 times_of display environment editor accept_line = validated_times display environment editor.draft
 times_of display environment editor (accept_or_insert_line in_the_middle) =
     reply_times (reply_to (verdict_on environment editor.draft.line.text) (in_the_middle || ends_in_white_space editor.draft.line))
     (validated_times display environment editor.draft)
 times_of display environment editor command = edited_times display editor.draft command
+
+-- whether a kill is a plain one, of a range if there is one
+abbrev pub any_plain_kill : Display → Environment → Draft → Option (ℕ × ℕ) → Bool
+any_plain_kill display environment draft None = false
+any_plain_kill display environment draft (Some range) = is_plain_kill display environment draft range
+
+-- whether a move draws the cursor alone: there is no highlighting where it goes, and it does not go in two, as to the first printing
+-- character
+abbrev pub moves_alone : Display → Environment → Line → Movement → Bool
+moves_alone display environment line ViFirstPrint = false
+moves_alone display environment line movement =
+    not (has_highlighting environment display (moved display.layout movement line) MoveCursor)
+
+-- whether a command is plain typing, a plain kill, or a move that draws the cursor alone
+abbrev pub draws_in_part : Display → Environment → Draft → Command → Bool
+draws_in_part display environment draft (self_insert n c) = is_plain_typing display environment draft n c
+draws_in_part display environment draft (kill movement) =
+    any_plain_kill display environment draft (killed_range draft.line movement)
+draws_in_part display environment draft (move movement) = moves_alone display environment draft.line movement
+draws_in_part display environment draft _ = false

@@ -1,5 +1,5 @@
 -- Commands, turns and runs of a program's state, input state, reader and kill ring.
-use Rattle.std.specs.Prelude.{◌≡◌, ◌⊎◌, ℕ, ◌+◌, ◌-◌, ◌*◌, ◌<◌, List, [], length, Result, IfOk, OnOk, Ok, Err}
+use Rattle.std.specs.Prelude.{◌≡◌, ◌⊎◌, true, ℕ, ◌+◌, ◌-◌, ◌*◌, ◌<◌, List, [], length, Result, IfOk, OnOk, Ok, Err}
 use Rattle.line_buffer.specs.KillRing.{Ring}
 use Rattle.line_config.specs.Error.{FaultsOnly, IoOnlyIf, UnlessFault}
 use Rattle.line_config.specs.Failures.{UnlessIo}
@@ -10,12 +10,11 @@ use Rattle.line_keys.specs.Command.{Command}
 use Rattle.line_keys.specs.Draft.{hinted, start_text}
 use Rattle.line_keys.specs.Drawing.{Does, Drawing, Drew, DrewNothing, ShowsChange}
 use Rattle.line_keys.specs.Frame.{Frame, PartyFailed}
-use Rattle.line_keys.specs.ShownLine.{HasRightLayout, IsAtEnd, IsInPlace, Redraws}
+use Rattle.line_keys.specs.ShownLine.{GoesToEnd, HasRightLayout, HasShownEnd, IsAtEnd, IsInPlace, KeepsDrawn, LosesHint, Redraws, ShowsLine, ShowsNoHint}
 use Rattle.line_keys.specs.Item.{Item}
-use Rattle.line_keys.specs.ShownLine.{GoesToEnd, HasShownEnd, KeepsDrawn, LosesHint, ShowsLine, ShowsNoHint}
 use Rattle.line_keys.specs.declared.editor_state.EditorState as editors
 use Rattle.line_keys.specs.declared.raw_reader.RawReader as readers
-use Rattle.line_editor.specs.Drawings.{asked_of, drawing_of, times_of}
+use Rattle.line_editor.specs.Drawings.{asked_of, drawing_of, draws_in_part, times_of}
 use Rattle.line_editor.specs.Editor.{Answer, Editor, Leaves, Ruler, ended, grouped, interrupted, own_ruler, proceeds, ruler_of, submitted}
 use Rattle.line_editor.specs.Input.{Input}
 use Rattle.line_editor.specs.Keymap.{KeyState, keymap_of}
@@ -68,13 +67,16 @@ module _ {X : Type 0} (e : editors.Ghosts X) where
       Drew e (times_of (e.display old) (e.environment old) editor command)
       (drawing_of (e.display old) (e.environment old) editor command) old new
 
-  -- a command that was executed and answered: its step and its drawing; what is drawn stays good, a changed text is drawn, and what
-  -- all changes taken back give stays
+  -- a command that was executed and answered: its step and its drawing; what is drawn stays good, and a changed text is drawn; at most
+  -- three full redraws are made, and none by plain typing, a plain kill or a move that draws the cursor alone; and what all changes taken
+  -- back give stays
   pub record Executed (state : X) (input : Input) (indent : ℕ) (kills : Ring) (command : Command) (state' : X) (kills' : Ring) (answer : Answer) : Type 0 where
     pub steps : StepsTo state input indent kills command state' kills' answer
     pub drew : DrewFor (editor_of state kills) command state state'
     pub drawn : DrawnAfter answer state state'
     pub change : ShowsChange e 3 state state'
+    pub few : Redraws e 0 3 state state'
+    pub part : draws_in_part (e.display state) (e.environment state) (e.draft state) command ≡ true → e.redraws state' ≡ e.redraws state
     pub start : start_text (e.draft state') ≡ start_text (e.draft state)
 
   -- what executing a command leaves; an error of input or output comes only where the renderer or one whom the command asks fails
@@ -104,11 +106,12 @@ module _ {X Y : Type 0} (e : editors.Ghosts X) (r : readers.Ghosts Y) where
     pub measured : ruler ≡ ruler_behind turn.read.shown (e.display before.state) indent
     pub found : X
     pub as_read : e.draft found ≡ grouped turn.read.command turn.read.draft
+    pub text : (e.draft found).line.text ≡ (e.draft before.state).line.text
     pub counted : DrewCounts e turn.read.shown before.state found
     pub drew : DrewFor e (editor_of e found (kills_before turn.read.command before.kills)) turn.read.command found after.state
     pub frame : Frame e before.state found
     pub drawn : DrawnAfter e answer before.state after.state
-    pub change : ShowsChange e (3 + items_read before after) before.state after.state
+    pub change : ShowsChange e 3 found after.state
     pub start : start_text (e.draft after.state) ≡ start_text (e.draft before.state)
     pub redraws : Redraws e 0 (3 + items_read before after) before.state after.state
     pub fewer : length (r.rest after.reader) < length (r.rest before.reader)

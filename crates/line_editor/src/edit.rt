@@ -1,17 +1,22 @@
 //! The line while it is edited, and how it is drawn.
-ghost use Rattle.std.specs.Prelude.{IsCharBoundary, if◌then◌else◌, ◌≡◌, ◌≤◌, true, Option, Some, None, option_map, is_some, length, IfOk, OnOk, OnErr, IsOk};
+ghost use Rattle.std.specs.Prelude.{IsCharBoundary, if◌then◌else◌, ◌≡◌, ◌≤◌, ◌+◌, ◌++◌, ◌∷◌, [], ℕ, nat_lt, List, true, false, Option, Some, None, option_map, is_some, length, IfOk, OnOk, OnErr, IsOk};
 ghost use Rattle.std.specs.Borrow.{GName};
 ghost use Rattle.line_config.specs.Error.{MemoryOnly};
 ghost use Rattle.line_editor.specs.Editor.{Begins};
 ghost use Rattle.line_editor.specs.Info.{shown_info};
-ghost use Rattle.line_keys.specs.Display.{lit_after, never_drawn};
+ghost use Rattle.std.specs.List.{list_all};
+ghost use Rattle.line_buffer.specs.Line.{Line, inserted_at_cursor, is_at_end};
+ghost use Rattle.line_buffer.specs.Printable.{is_plain, is_printable};
+ghost use Rattle.line_keys.specs.Display.{IsRight, ShowsText, columns_back, columns_on, lit_after, never_drawn};
 ghost use Rattle.line_keys.specs.Draft.{empty_draft, hinted, KeepsText};
-ghost use Rattle.line_keys.specs.Drawing.{Paints, ShowsEdit, Undrawn};
+ghost use Rattle.line_keys.specs.Drawing.{Paints, ShowsEdit, ShowsEnd, Undrawn};
 ghost use Rattle.line_keys.specs.Frame.{FailsOnlyIf, Frame};
-ghost use Rattle.line_keys.specs.ShownLine.{Shows};
+ghost use Rattle.line_keys.specs.Plainly.{has_highlighting, leaves_bare};
+ghost use Rattle.line_keys.specs.ShownLine.{HasRightLayout, Shows};
 ghost use Rattle.line_parts.specs.Asks.{for_hint, is_sure};
 ghost use Rattle.line_parts.specs.Helped.{environment_by, sure_by};
 ghost use Rattle.line_parts.specs.Hint.{suggestion_of};
+ghost use Rattle.line_parts.specs.declared.highlight.CmdKind.TheVariants.{Other};
 
 mod drawing;
 mod hints;
@@ -262,6 +267,90 @@ impl<'out, 'prompt, W: Renderer, H: Helper, P: Prompt, S: History> State<
             let lit = self.parties.highlight_char(self.edited.line(), kind);
             self.view.set_highlight_char(lit);
         }
+    }
+
+    // Asks `highlight_char`, where colors are on. Returns whether there is highlighting.
+    fn has_highlighting(&mut self, kind: CmdKind) -> bool
+        ensures answer { let e = ⟦<Self as EditorState>⟧ in result ≡ has_highlighting
+            (e.environment self.old) (e.display self.old) (e.draft self.old).line kind }
+        ensures display { let e = ⟦<Self as EditorState>⟧ in
+            let line = (e.draft self.old).line in
+            let lit = lit_after (e.environment self.old) (e.display self.old) line kind in
+            e.display self.new ≡ record (e.display self.old) { lit = lit } }
+        ensures stays { let e = ⟦<Self as EditorState>⟧ in (e.draft self.new ≡ e.draft self.old)
+            × (e.redraws self.new ≡ e.redraws self.old)
+            × (e.failures self.new ≡ e.failures self.old) }
+        ensures hint { self.new.hint ≡ self.old.hint }
+        ensures frame { Frame ⟦<Self as EditorState>⟧ self.old self.new }
+    {
+        let was_lit = self.view.highlight_char();
+        self.ask_highlight(kind);
+        self.highlighter().is_some() && (was_lit || self.view.highlight_char())
+    }
+
+    // Asks for the hint and `highlight_char`. Returns whether there is no hint and no highlighting.
+    #[tactic(auto, using(crate::proofs::EditLemmas::shown_hint))]
+    fn leaves_bare(&mut self) -> Result<bool>
+        ensures draft { let e = ⟦<Self as EditorState>⟧ in OnOk result
+            (e.draft self.new ≡ hinted (e.environment self.old) (e.draft self.old)) }
+        ensures answer { let e = ⟦<Self as EditorState>⟧ in IfOk result (λ bare. bare
+            ≡ leaves_bare (e.environment self.old) (e.display self.old) (e.draft self.new)) }
+        ensures display { let e = ⟦<Self as EditorState>⟧ in
+            let line = (e.draft self.old).line in
+            let lit = lit_after (e.environment self.old) (e.display self.old) line Other in
+            OnOk result (e.display self.new ≡ record (e.display self.old) { lit = lit }) }
+        ensures text { let d = ⟦<Self as EditorState>⟧.draft in
+            KeepsText (d self.old) (d self.new) }
+        ensures redraws { let e = ⟦<Self as EditorState>⟧ in
+            e.redraws self.new ≡ e.redraws self.old }
+        ensures frame { Frame ⟦<Self as EditorState>⟧ self.old self.new }
+        ensures fails { let e = ⟦<Self as EditorState>⟧ in FailsOnlyIf result
+            (is_sure (e.sure self.old) for_hint ≡ true → ⊥)
+            (e.failures self.old) (e.failures self.new) }
+        ensures quiet { let e = ⟦<Self as EditorState>⟧ in
+            e.failures self.new ≡ e.failures self.old }
+    {
+        self.hint()?;
+        let lit = self.has_highlighting(CmdKind::Other);
+        Ok(self.hint.is_none() && !lit)
+    }
+
+    // Asks for the hint of a line that got a character at its end, and draws that character, or all again.
+    #[tactic(auto, using(crate::proofs::EditLemmas::shown_hint))]
+    pub(crate) fn show_typed(&mut self, c: char) -> Result<()>
+        requires printable { is_printable c ≡ true }
+        requires free { let d = ⟦<Self as EditorState>⟧.display self.old in
+            nat_lt (d.layout.cursor.col + 1) d.surface.columns ≡ true }
+        ensures shows { let e = ⟦<Self as EditorState>⟧ in ShowsEnd e result self.old self.new
+            (columns_on 1 (e.display self.old).layout.cursor) }
+        ensures right { let e = ⟦<Self as EditorState>⟧ in (line : Line) → is_at_end line ≡ true
+            → list_all is_plain line.text ≡ true → IsRight (e.display self.old) line
+            → (e.draft self.old).line ≡ inserted_at_cursor line (c ∷ [])
+            → OnOk result (HasRightLayout e self.new) }
+    {
+        if !self.leaves_bare()? {
+            return self.draw(Info::Hint);
+        }
+        self.view.write_char(c)
+    }
+
+    // Asks for the hint of a line that lost so many printable characters at its end, and clears them, or draws all again.
+    #[tactic(auto, using(crate::proofs::EditLemmas::shown_hint))]
+    pub(crate) fn show_killed(&mut self, count: usize) -> Result<()>
+        requires { count ≤ (⟦<Self as EditorState>⟧.display self.old).layout.end.col }
+        ensures shows { let e = ⟦<Self as EditorState>⟧ in ShowsEnd e result self.old self.new
+            (columns_back count (e.display self.old).layout.end) }
+        ensures right { let e = ⟦<Self as EditorState>⟧ in (front gone : List ℕ)
+            → list_all is_plain front ≡ true → list_all is_printable gone ≡ true
+            → length gone ≡ count → (e.display self.old).layout.has_info ≡ false
+            → ShowsText (e.display self.old) (front ++ gone)
+            → (e.draft self.old).line ≡ record { text = front; cursor = length front }
+            → OnOk result (HasRightLayout e self.new) }
+    {
+        if !self.leaves_bare()? {
+            return self.draw(Info::Hint);
+        }
+        self.view.take_back(count)
     }
 
     // Asks for the hint and draws the line again where an edit was reported. Else the drawn cursor goes to where the line's is.

@@ -1,5 +1,5 @@
 -- What is drawn of a line, and what a full redraw of it would give.
-use Rattle.std.specs.Prelude.{◌≡◌, ℕ, ◌+◌, Bool, false, if◌then◌else◌, nat_lt, min, List, take, Option, Some, None, is_some, OnOk, Result}
+use Rattle.std.specs.Prelude.{◌≡◌, ℕ, ◌+◌, ◌-◌, Bool, false, if◌then◌else◌, nat_lt, min, List, take, Option, Some, None, is_some, OnOk, Result}
 use Rattle.line_buffer.specs.Line.{Line}
 use Rattle.line_buffer.specs.declared.layout.Position.{Position}
 use Rattle.line_buffer.specs.declared.layout.Layout.{Layout}
@@ -102,13 +102,17 @@ pub record IsRight (display : Display) (line : Line) : Type 0 where
   pub drawn : ShowsText display line.text
   pub cursor : HasCursorAt display line
 
--- the cursor goes to the end of what is shown: the kept one does, and the drawn one with it, and all else stays
-pub record GoesToShownEnd {T : Type 0} (result : Result T ReadlineError) (old new : Display) : Type 0 where
-  pub layout : OnOk result (new.layout ≡ record old.layout { cursor = old.layout.end })
+-- the cursor goes to a position: the kept one does, and the drawn one with it, and all else stays
+pub record GoesToPosition {T : Type 0} (result : Result T ReadlineError) (old new : Display) (place : Position) : Type 0 where
+  pub layout : OnOk result (new.layout ≡ record old.layout { cursor = place })
   pub position : old.screen.position ≡ old.layout.cursor → OnOk result (new.screen.position ≡ new.layout.cursor)
   pub shows : new.screen.text ≡ old.screen.text
   pub origin : new.screen.origin ≡ old.screen.origin
   pub lit : new.lit ≡ old.lit
+
+-- the cursor goes to the end of what is shown
+abbrev pub GoesToShownEnd : {T : Type 0} → Result T ReadlineError → Display → Display → Type 0
+GoesToShownEnd result old new = GoesToPosition result old new old.layout.end
 
 -- the last answer of `highlight_char`, after it was asked where colors are shown
 abbrev pub lit_after : Environment → Display → Line → CmdKind → Bool
@@ -124,3 +128,15 @@ abbrev pub next_column : ℕ → Position → Position
 next_column columns position =
     if nat_lt (position.col + 1) columns then record { row = position.row; col = position.col + 1 }
     else record { row = next_row position.row; col = 0 }
+
+-- so many columns on, on the same row
+abbrev pub columns_on : ℕ → Position → Position
+columns_on columns position = record { row = position.row; col = position.col + columns }
+
+-- so many columns back, on the same row
+abbrev pub columns_back : ℕ → Position → Position
+columns_back columns position = record { row = position.row; col = position.col - columns }
+
+-- the layout with its cursor and its end at a position
+abbrev pub ending_at : Position → Layout → Layout
+ending_at position layout = record layout { cursor = position; end = position }

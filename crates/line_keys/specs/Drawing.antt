@@ -1,25 +1,27 @@
 -- What a call draws.
-use Rattle.std.specs.Prelude.{◌≡◌, ◌⊎◌, ℕ, Bool, false, if◌then◌else◌, MatchBool, List, Option, None, OnOk, Result}
+use Rattle.std.specs.Prelude.{◌≡◌, ◌⊎◌, ℕ, Bool, true, false, if◌then◌else◌, MatchBool, List, Option, None, OnOk, Result}
 use Rattle.line_buffer.specs.Line.{Line}
 use Rattle.line_config.specs.declared.error.ReadlineError.{ReadlineError}
-use Rattle.line_keys.specs.Display.{HasCursorAt, IsRight, ShowsInFull, ShowsText, corner, lit_after}
+use Rattle.line_buffer.specs.declared.layout.Position.{Position}
+use Rattle.line_keys.specs.Display.{HasCursorAt, IsRight, ShowsInFull, ShowsText, corner, cursor_position, ending_at, lit_after}
 use Rattle.line_keys.specs.Draft.{Draft, KeepsText, hint_shown, hinted, start_text}
 use Rattle.line_keys.specs.Frame.{FailsByParty, FailsByRenderer, Frame}
-use Rattle.line_keys.specs.ShownLine.{HasCursorDrawn, HasRightLayout, Redraws, Shows}
-use Rattle.line_keys.specs.ShownLine.{KeepsDrawn}
+use Rattle.line_keys.specs.Plainly.{KilledPlainly, TypedPlainly, has_highlighting, leaves_bare}
+use Rattle.line_keys.specs.ShownLine.{HasCursorDrawn, HasRightLayout, IsInPlace, KeepsDrawn, Redraws, Shows}
 use Rattle.line_keys.specs.declared.editor_state.EditorState.{Ghosts}
 use Rattle.line_parts.specs.Asks.{Asks, for_hint, nobody}
 use Rattle.line_parts.specs.declared.highlight.CmdKind.{CmdKind}
 use Rattle.line_parts.specs.declared.highlight.CmdKind.TheVariants.{MoveCursor, Other}
 
 -- what is drawn: nothing; the line in full with its hint; with another text behind it or none, for a kind that `highlight_char` is
--- told; with its hint behind another prompt; the cursor where the line's is; the cursor at a place on its way, and then where the
--- line's is; or the cursor at the end of what is shown
+-- told; with its hint behind another prompt; only what changed at its end, which is then at a position; the cursor where the line's is;
+-- the cursor at a place on its way, and then where the line's is; or the cursor at the end of what is shown
 pub data Drawing : Type 0 where
   nothing : Drawing
   with_hint : Drawing
   with_text : Option (List ℕ) → CmdKind → Drawing
   behind_prompt : List ℕ → Drawing
+  in_part : Position → Drawing
   cursor : CmdKind → Drawing
   cursor_over : Line → Drawing
   cursor_to_end : Drawing
@@ -28,6 +30,7 @@ pub data Drawing : Type 0 where
 abbrev pub asked_by : Drawing → Asks
 asked_by with_hint = for_hint
 asked_by (behind_prompt prompt) = for_hint
+asked_by (in_part position) = for_hint
 asked_by drawing = nobody
 
 -- nothing was drawn
@@ -49,12 +52,32 @@ pub record DrewBehind {X : Type 0} (e : Ghosts X) (times : ℕ) (prompt : List �
   pub lit : (e.display new).lit ≡ lit_after (e.environment old) (e.display old) (e.draft new).line Other
   pub redraws : Redraws e times times old new
 
--- the cursor was drawn: the line in full with nothing behind it, or nothing, which is so where the kept cursor is the line's already;
--- a line that changed has its cursor drawn
+-- nothing was drawn in full: the kept cursor and end went to this position, where the line ends, and `highlight_char` was asked
+pub record DrewPart {X : Type 0} (e : Ghosts X) (position : Position) (old new : X) : Type 0 where
+  pub layout : (e.display new).layout ≡ ending_at position (e.display old).layout
+  pub lit : (e.display new).lit ≡ lit_after (e.environment old) (e.display old) (e.draft new).line Other
+  pub redraws : e.redraws new ≡ e.redraws old
+
+-- the drawn cursor went where the kept one did, and nothing else was drawn; `highlight_char` was asked for this kind
+pub record DrewCursorAlone {X : Type 0} (e : Ghosts X) (kind : CmdKind) (old new : X) : Type 0 where
+  pub layout : (e.display new).layout ≡ record (e.display old).layout { cursor = (e.display new).layout.cursor }
+  pub position : IsInPlace e old → IsInPlace e new
+  pub text : (e.display new).screen.text ≡ (e.display old).screen.text
+  pub origin : (e.display new).screen.origin ≡ (e.display old).screen.origin
+  pub lit : (e.display new).lit ≡ lit_after (e.environment old) (e.display old) (e.draft new).line kind
+  pub redraws : e.redraws new ≡ e.redraws old
+
+-- how the cursor was drawn: not at all; alone, where the line is not highlighted; or else by the line in full with nothing behind it
+pub data CursorWay {X : Type 0} (e : Ghosts X) (kind : CmdKind) (old new : X) : Type 0 where
+  cursor_stayed : DrewNothing e old new → CursorWay e kind old new
+  cursor_went : has_highlighting (e.environment old) (e.display old) (e.draft new).line kind ≡ false → DrewCursorAlone e kind old new → CursorWay e kind old new
+  cursor_redrew : has_highlighting (e.environment old) (e.display old) (e.draft new).line kind ≡ true → DrewLine e 1 None kind old new → CursorWay e kind old new
+
+-- the kept cursor, if it was that of the old line, is that of the new one; where it was so already, nothing was drawn
 pub record DrewCursor {X : Type 0} (e : Ghosts X) (kind : CmdKind) (old new : X) : Type 0 where
-  pub drew : DrewLine e 1 None kind old new ⊎ DrewNothing e old new
-  pub still : HasCursorAt (e.display old) (e.draft new).line → DrewNothing e old new
-  pub placed : HasCursorDrawn e new ⊎ ((e.draft new).line ≡ (e.draft old).line)
+  pub way : CursorWay e kind old new
+  pub still : HasCursorDrawn e old → HasCursorAt (e.display old) (e.draft new).line → DrewNothing e old new
+  pub placed : HasCursorDrawn e old → HasCursorDrawn e new
 
 -- the cursor was drawn on the way to where the line's is, and then there
 pub record DrewCursorOver {X : Type 0} (e : Ghosts X) (line : Line) (old new : X) : Type 0 where
@@ -77,6 +100,7 @@ Drew e times nothing old new = DrewNothing e old new
 Drew e times with_hint old new = DrewLine e times (hint_shown (e.draft new)) Other old new
 Drew e times (with_text trailing kind) old new = DrewLine e times trailing kind old new
 Drew e times (behind_prompt prompt) old new = DrewBehind e times prompt old new
+Drew e times (in_part position) old new = DrewPart e position old new
 Drew e times (cursor kind) old new = DrewCursor e kind old new
 Drew e times (cursor_over line) old new = DrewCursorOver e line old new
 Drew e times cursor_to_end old new = DrewCursorAtEnd e old new
@@ -88,6 +112,10 @@ edit_drawn reported = if reported then with_hint else cursor MoveCursor
 -- the line with its hint, where there is something to draw
 abbrev pub drawn_if : Bool → Drawing
 drawn_if found = if found then with_hint else nothing
+
+-- what is drawn of a change: where it is a plain one only what changed, and else the line with its hint
+abbrev pub change_drawn : Bool → Position → Drawing
+change_drawn plainly position = if plainly then in_part position else with_hint
 
 -- nothing is drawn and no failure is counted: only the draft may change
 pub record Undrawn {X : Type 0} (e : Ghosts X) (old new : X) : Type 0 where
@@ -111,10 +139,18 @@ pub record Refreshes {X T : Type 0} (e : Ghosts X) (result : Result T ReadlineEr
   pub frame : Frame e old new
   pub fails : FailsByParty e (asked_by drawing) result old new
 
--- a text that changed was drawn in full with its hint, with so many full redraws at most
-abbrev pub ShowsChange : {X : Type 0} → Ghosts X → ℕ → X → X → Type 0
-ShowsChange e most old new =
-    ((e.draft new).line.text ≡ (e.draft old).line.text) ⊎ (Shows e new (hint_shown (e.draft new)) × Redraws e 1 most old new)
+-- the text changed by plain typing or by a plain kill, and nothing was drawn in full
+pub record ChangedPlainly {X : Type 0} (e : Ghosts X) (old new : X) : Type 0 where
+  pub plainly : TypedPlainly (e.environment old) (e.display old) (e.draft old) (e.draft new)
+      ⊎ KilledPlainly (e.environment old) (e.display old) (e.draft old) (e.draft new)
+  pub redraws : e.redraws new ≡ e.redraws old
+
+-- the text did not change; or it was drawn in full with its hint, with so many full redraws at most; or in part, where it changed
+-- plainly
+pub data ShowsChange {X : Type 0} (e : Ghosts X) (most : ℕ) (old new : X) : Type 0 where
+  text_same : (e.draft new).line.text ≡ (e.draft old).line.text → ShowsChange e most old new
+  drawn_in_full : Shows e new (hint_shown (e.draft new)) → Redraws e 1 most old new → ShowsChange e most old new
+  drawn_plainly : ChangedPlainly e old new → ShowsChange e most old new
 
 -- what a call leaves that edits the line or moves its cursor: the draft, and the text that all changes taken back give; and what it
 -- draws, a line with so many full redraws: what is drawn stays good, and a changed text is drawn; of the parties it asks these alone
@@ -130,6 +166,28 @@ pub record DoesAsking {X T : Type 0} (e : Ghosts X) (asks : Asks) (result : Resu
 -- the same of a call that asks for what it draws alone
 abbrev pub Does : {X T : Type 0} → Ghosts X → Result T ReadlineError → X → X → Draft → Drawing → ℕ → Type 0
 Does e result old new left drawing times = DoesAsking e (asked_by drawing) result old new left drawing times
+
+-- what showing a change of the line's end leaves: the hint is asked again; where there is none and no highlighting, only what changed is
+-- drawn, and the line then ends at this position; else the line is drawn in full with its hint; all but the hint stays in any case
+pub record ShowsEnd {X T : Type 0} (e : Ghosts X) (result : Result T ReadlineError) (old new : X) (position : Position) : Type 0 where
+  pub draft : OnOk result (e.draft new ≡ hinted (e.environment old) (e.draft old))
+  pub text : KeepsText (e.draft old) (e.draft new)
+  pub drew : OnOk result (Drew e 1 (change_drawn (leaves_bare (e.environment old) (e.display old) (hinted (e.environment old) (e.draft old))) position) old new)
+  pub frame : Frame e old new
+  pub fails : FailsByParty e for_hint result old new
+
+-- what taking the drawn cursor to a position leaves: the draft as it was, and a right layout where the position is that of the line's
+-- cursor
+pub record PutsCursorAt {X T : Type 0} (e : Ghosts X) (result : Result T ReadlineError) (old new : X) (kind : CmdKind) (position : Position) : Type 0 where
+  pub draft : e.draft new ≡ e.draft old
+  pub way : OnOk result (CursorWay e kind old new)
+  pub still : (e.display old).layout.cursor ≡ position → OnOk result (DrewNothing e old new)
+  pub right : position ≡ cursor_position (e.display old).surface.measure (e.display old).prompt_end (e.draft old).line
+      → ShowsText (e.display old) (e.draft old).line.text → OnOk result (HasRightLayout e new)
+  pub placed : position ≡ cursor_position (e.display old).surface.measure (e.display old).prompt_end (e.draft old).line
+      → OnOk result (HasCursorDrawn e new)
+  pub frame : Frame e old new
+  pub fails : FailsByRenderer e result old new
 
 -- what drawing the cursor leaves: the draft as it was, and the kept cursor where the line's is
 pub record DrawsCursor {X T : Type 0} (e : Ghosts X) (result : Result T ReadlineError) (old new : X) (kind : CmdKind) : Type 0 where

@@ -14,6 +14,7 @@ pub mod Draft
 pub mod Display
 pub mod Frame
 pub mod ShownLine
+pub mod Plainly
 pub mod Drawing
 pub use Rattle.line_parts.specs.Shown
 pub use Rattle.line_parts.specs.Context

@@ -1,9 +1,10 @@
 -- Where a text ends on a screen, measured cluster by cluster.
-use Rattle.std.specs.Prelude.{ℕ, ◌+◌, min, eqb, ◌==◌, nat_le, Bool, true, false, List, [], ◌∷◌, chars, if◌then◌else◌}
-use Rattle.std.specs.List.{fold, ends_with}
+use Rattle.std.specs.Prelude.{◌≡◌, ◌<◌, ℕ, ◌+◌, min, eqb, ◌==◌, nat_le, Bool, true, false, List, [], ◌∷◌, chars, if◌then◌else◌}
+use Rattle.std.specs.List.{fold, ends_with, list_all}
 use Rattle.line_keys.specs.Display.{next_row}
 use Rattle.unicode_segmentation.specs.Grapheme.{graphemes}
 use Rattle.unicode_width.specs.Width.{str_width}
+use Rattle.line_buffer.specs.Printable.{is_plain}
 use Rattle.line_buffer.specs.declared.layout.Position.{Position}
 
 -- the cluster ends in a newline
@@ -34,3 +35,8 @@ wrapped columns p = if p.col == columns then start_below p else p
 -- where a text ends that begins at the origin: its clusters are put down one after another
 unfoldable pub measured : ℕ → List ℕ → Position → Position
 measured columns text origin = wrapped columns (fold (after_cluster columns) origin (graphemes true text))
+
+-- the text is printable ASCII and newlines, begins at a column of a row, and ends there
+abbrev pub EndsPlain : ℕ → List ℕ → Position → Position → Type 0
+EndsPlain columns text origin end =
+    (list_all is_plain text ≡ true) × (origin.col < columns) × (end ≡ measured columns text origin)

@@ -1,15 +1,17 @@
 //! A screen that keeps what it shows, from which a program draws.
-ghost use Rattle.std.specs.Prelude.{◌≡◌, ℕ, ◌+◌, ◌<◌, min, [], ◌∷◌, ◌++◌, List, All, length, false, Ok, Some, None, IfOk, OnOk, OnErr, is_some, option_map, string_bytes};
+ghost use Rattle.std.specs.Prelude.{◌≡◌, ℕ, ◌+◌, ◌<◌, min, [], ◌∷◌, ◌++◌, List, length, take, true, false, Ok, Some, None, IfOk, IfSome, OnOk, OnErr, is_some, option_map, string_bytes};
+ghost use Rattle.std.specs.List.{list_all};
+ghost use Rattle.std.specs.Option.{ForSome};
 ghost use Rattle.line_config.specs.Error.{MemoryOnly, max_count};
+ghost use Rattle.line_buffer.specs.Printable.{is_printable};
 ghost use Rattle.line_buffer.specs.declared.layout.GraphemeClusterMode.TheVariants.{Unicode};
-ghost use Rattle.line_state.specs.Printable.{IsPrintable};
 ghost use Rattle.line_state.specs.ScreenState.{Agrees, EndsBehind, HasRoom, Tries, shown_by, with_shown};
-ghost use Rattle.line_screen.specs.Measure.{measured};
+ghost use Rattle.line_screen.specs.Measure.{EndsPlain, measured};
 ghost use Rattle.line_screen.specs.Surroundings.{Clears, KeepsSurroundings, blank_screen};
 
-use crate::measure::measured;
+use crate::measure::{measured, measured_plain};
 use crate::surroundings::Surroundings;
-use line_buffer::{GraphemeClusterMode, Layout, LineBuffer, Position, Unit};
+use line_buffer::{GraphemeClusterMode, Layout, LineBuffer, Position, Unit, is_printable_text};
 use line_config::{Prompt, Result};
 use line_keys::raw_reader::RawReader;
 use line_parts::Highlighter;
@@ -31,12 +33,15 @@ pub struct Plain<R: RawReader> {
     place: Position,
     text: String,
     origin: Position,
+    // Where the text ends, if it is known to be printable ASCII and newlines.
+    end: Option<Position>,
     prompt: String,
     hint: Option<String>,
     redraws: u64,
     failures: u64,
     reader: PhantomData<R>,
     ghost some_columns: { 0 < columns },
+    ghost ends: { ForSome end (λ e. EndsPlain columns (string_bytes text) origin e) },
 }
 
 impl<R: RawReader> Plain<R> {
@@ -63,6 +68,7 @@ impl<R: RawReader> Plain<R> {
             place: ORIGIN,
             text: String::new(alloc),
             origin: ORIGIN,
+            end: Some(ORIGIN),
             prompt: String::new(alloc),
             hint: None,
             redraws: 0,
@@ -123,10 +129,62 @@ impl<R: RawReader> Plain<R> {
     {
         self.text.clear();
         self.origin = ORIGIN;
+        self.end = Some(ORIGIN);
         self.place = ORIGIN;
         self.prompt.clear();
         self.hint = None;
     }
+
+    /// Returns where the text ends. It is measured where this is not known.
+    fn text_end(&self) -> Position
+        ensures { result
+            ≡ measured self.now.columns (string_bytes self.now.text) self.now.origin }
+    {
+        match self.end {
+            Some(end) => end,
+            None => measured(self.columns, self.text.as_str(), self.origin),
+        }
+    }
+
+    /// Returns where the text ends with `more` behind it, if this is known. It looks at `more` alone.
+    fn end_with(&self, more: &str) -> Option<Position>
+        ensures { IfSome result (λ e.
+            EndsPlain self.now.columns (string_bytes self.now.text ++ more.now) self.now.origin e) }
+    {
+        let end = self.end?;
+        if !is_printable_text(more) {
+            return None;
+        }
+        Some(measured(self.columns, more, end))
+    }
+
+    /// Returns where the first `kept` bytes of the text end, if this is known. It looks at the rest alone.
+    fn end_of_first(&self, kept: usize) -> Option<Position>
+        ensures { IfSome result (λ e.
+            EndsPlain self.now.columns (take kept (string_bytes self.now.text)) self.now.origin e) }
+    {
+        let end = self.end?;
+        let gone = self.text.as_str().get(kept..)?;
+        let columns = Unit::try_from(gone.len()).ok()?;
+        if !is_printable_text(gone) || end.col < columns {
+            return None;
+        }
+        Some(Position {
+            row: end.row,
+            col: end.col - columns,
+        })
+    }
+}
+
+/// Returns where the line ends that begins at `origin`, if it is printable ASCII and newlines, and `origin` a column of
+/// a row.
+fn plain_end(columns: Unit, line: &LineBuffer, origin: Position) -> Option<Position>
+    ensures { IfSome result (λ e. EndsPlain columns line.now.text origin e) }
+{
+    if !line.is_plain() || columns <= origin.col {
+        return None;
+    }
+    Some(measured_plain(columns, line.as_str(), origin))
 }
 
 /// Returns the hint as text of its own.
@@ -218,6 +276,7 @@ impl<R: RawReader> Renderer for Plain<R> {
         self.hint = hint;
         self.place = new_layout.cursor;
         self.origin = new_layout.prompt_size;
+        self.end = plain_end(self.columns, line, self.origin);
         self.redraws = self.redraws.saturating_add(1);
         Ok(())
     }
@@ -229,7 +288,7 @@ impl<R: RawReader> Renderer for Plain<R> {
     /// The text is shown behind what is shown already, and the cursor goes to its end. Where memory is refused, nothing
     /// changes.
     fn write_and_flush(&mut self, buf: &str) -> Result<()>
-        ensures shown { (c : ℕ) → buf.now ≡ c ∷ [] → IsPrintable c
+        ensures shown { (c : ℕ) → buf.now ≡ c ∷ [] → is_printable c ≡ true
             → HasRoom (⟦<Self as ScreenState>⟧.surface self.old)
             (⟦<Self as ScreenState>⟧.screen self.old)
             → OnOk result (⟦<Self as ScreenState>⟧.screen self.new
@@ -245,7 +304,9 @@ impl<R: RawReader> Renderer for Plain<R> {
         ensures refused { OnErr result (⟦<Self as ScreenState>⟧.screen self.new
             ≡ ⟦<Self as ScreenState>⟧.screen self.old) }
     {
+        let end = self.end_with(buf);
         self.text.push_str(buf)?;
+        self.end = end;
         self.place = measured(self.columns, buf, self.place);
         Ok(())
     }
@@ -280,7 +341,8 @@ impl<R: RawReader> Renderer for Plain<R> {
         ensures position { (⟦<Self as ScreenState>⟧.screen self.new).position
             ≡ (⟦<Self as ScreenState>⟧.screen self.old).position }
         ensures cleared { (kept gone : List ℕ)
-            → (⟦<Self as ScreenState>⟧.screen self.old).text ≡ kept ++ gone → All IsPrintable gone
+            → (⟦<Self as ScreenState>⟧.screen self.old).text ≡ kept ++ gone
+            → list_all is_printable gone ≡ true
             → EndsBehind (⟦<Self as ScreenState>⟧.surface self.old)
             (⟦<Self as ScreenState>⟧.screen self.old) (length gone)
             → OnOk result (⟦<Self as ScreenState>⟧.screen self.new
@@ -288,10 +350,11 @@ impl<R: RawReader> Renderer for Plain<R> {
         ensures keeps { KeepsSurroundings ⟦<Self as ScreenState>⟧ ⟦<Self as Surroundings>⟧
             self.old self.new }
     {
-        let end = measured(self.columns, self.text.as_str(), self.origin);
+        let end = self.text_end();
         let gone = usize::from(end.col.saturating_sub(self.place.col));
         let kept = self.text.len().saturating_sub(gone);
         if end.row == self.place.row && self.text.is_char_boundary(kept) {
+            self.end = self.end_of_first(kept);
             self.text.truncate(kept);
         }
         Ok(())

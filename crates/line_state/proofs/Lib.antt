@@ -1,1 +1,3 @@
 pub mod EditedLemmas
+pub mod PlainTextLemmas
+pub mod DrawnPartLemmas

@@ -1,11 +1,13 @@
 -- What contracts see of what is drawn of a line.
-use Rattle.std.specs.Prelude.{◌≡◌, ◌≤◌, Bool, true, List, ℕ, Option, Result, OnOk}
-use Rattle.line_buffer.specs.Line.{Line}
+use Rattle.std.specs.Prelude.{◌≡◌, ◌≤◌, Bool, true, false, List, [], ◌∷◌, ◌++◌, length, ℕ, Option, Result, OnOk}
+use Rattle.std.specs.List.{list_all}
+use Rattle.line_buffer.specs.Line.{Line, inserted_at_cursor, is_at_end}
+use Rattle.line_buffer.specs.Printable.{is_plain, is_printable}
 use Rattle.line_buffer.specs.declared.layout.Layout.{Layout}
 use Rattle.line_buffer.specs.declared.layout.Position.{Position}
 use Rattle.line_config.specs.Error.{IsOneMore, Rose}
 use Rattle.line_config.specs.declared.error.ReadlineError.{ReadlineError}
-use Rattle.line_keys.specs.Display.{IsFullRedraw, ShowsInFull, corner}
+use Rattle.line_keys.specs.Display.{IsFullRedraw, IsRight, ShowsInFull, ShowsText, columns_back, columns_on, corner, ending_at}
 use Rattle.line_keys.specs.Frame.{FailsOnlyIf}
 use Rattle.line_state.specs.declared.drawn.Drawn.{Ghosts}
 
@@ -52,4 +54,19 @@ pub record DrawsNoneInFull {X T : Type 0} (d : Ghosts X) (result : Result T Read
 
 -- a layout once the screen was cleared: its cursor and its end are at the corner
 abbrev pub cleared : Layout → Layout
-cleared layout = record layout { cursor = corner; end = corner }
+cleared layout = ending_at corner layout
+
+-- a printable character was written where the kept cursor is, with nothing of the line behind it: cursor and end go one column on
+pub record Writes {X T : Type 0} (d : Ghosts X) (result : Result T ReadlineError) (old new : X) (c : ℕ) : Type 0 where
+  pub layout : OnOk result ((d.display new).layout ≡ ending_at (columns_on 1 (d.display old).layout.cursor) (d.display old).layout)
+  pub right : (line : Line) → is_at_end line ≡ true → list_all is_plain line.text ≡ true → IsRight (d.display old) line
+      → OnOk result (IsRight (d.display new) (inserted_at_cursor line (c ∷ [])))
+  pub part : DrawsNoneInFull d result old new
+
+-- the last characters of what is shown were taken away, printable ones: cursor and end go as many columns back from the end
+pub record TakesBack {X T : Type 0} (d : Ghosts X) (result : Result T ReadlineError) (old new : X) (count : ℕ) : Type 0 where
+  pub layout : OnOk result ((d.display new).layout ≡ ending_at (columns_back count (d.display old).layout.end) (d.display old).layout)
+  pub right : (front gone : List ℕ) → list_all is_plain front ≡ true → list_all is_printable gone ≡ true → length gone ≡ count
+      → (d.display old).layout.has_info ≡ false → ShowsText (d.display old) (front ++ gone)
+      → OnOk result (IsRight (d.display new) (record { text = front; cursor = length front }))
+  pub part : DrawsNoneInFull d result old new

@@ -1,8 +1,8 @@
 pub mod Drawn
 pub mod Edited
 pub mod Moves
-pub mod Printable
 pub mod ScreenState
+pub mod Shown
 pub use Rattle.line_buffer.specs.Line
 pub use Rattle.line_buffer.specs.Changes
 pub use Rattle.line_keys.specs.Display

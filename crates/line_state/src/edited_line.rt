@@ -3,6 +3,7 @@ ghost use Rattle.std.specs.Prelude.{◌≡◌, IsCharBoundary, ◌≤◌, [], fa
 ghost use Rattle.std.specs.List.{list_any};
 ghost use Rattle.line_buffer.specs.Changes.{adds_end, begun, ended, last_insert_of, no_changes};
 ghost use Rattle.line_buffer.specs.Kill.{killed_range, ring_with_killed};
+ghost use Rattle.line_buffer.specs.Offset.{IsRangeIfAny};
 ghost use Rattle.line_buffer.specs.Range.{range_of, text_in, unless_empty};
 ghost use Rattle.line_buffer.specs.Undo.{is_change, newest_steps};
 ghost use Rattle.line_state.specs.Edited.{EditsTo, Finds, undone, with_copies, without_range};
@@ -78,6 +79,13 @@ impl EditedLine {
     {
         let _ = self.line.insert(c, n, &mut self.changes)?;
         Ok(())
+    }
+
+    /// Returns the range that a kill of the movement takes, in bytes; `None` where it takes nothing.
+    pub fn killed_range(&self, movement: &Movement) -> Option<(usize, usize)>
+        ensures { IsRangeIfAny result self.now.line (killed_range self.now.line movement.now) }
+    {
+        self.line.killed_range(movement)
     }
 
     /// Kills the text of a movement, and keeps it in `kill_ring` as `LineBuffer::kill` does. Returns whether there was a

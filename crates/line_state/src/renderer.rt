@@ -1,9 +1,10 @@
 //! What draws the prompt, the line and the cursor.
-ghost use Rattle.std.specs.Prelude.{◌≡◌, ℕ, ◌+◌, ◌<◌, List, [], ◌∷◌, ◌++◌, length, All, Option, is_some, option_map, OnOk};
+ghost use Rattle.std.specs.Prelude.{◌≡◌, ℕ, ◌+◌, ◌<◌, List, [], ◌∷◌, ◌++◌, length, true, Option, is_some, option_map, OnOk};
+ghost use Rattle.std.specs.List.{list_all};
 ghost use Rattle.line_config.specs.Error.{IsOneMore};
+ghost use Rattle.line_buffer.specs.Printable.{is_plain, is_printable};
 ghost use Rattle.line_buffer.specs.declared.layout.Position.{Position};
 ghost use Rattle.line_keys.specs.Display.{IsFullRedraw, next_column};
-ghost use Rattle.line_state.specs.Printable.{IsPrintable, IsPrintableOrNewline};
 ghost use Rattle.line_state.specs.ScreenState.{Agrees, DrawsPart, EndsBehind, HasRoom, Tries, shown_by, with_shown};
 
 use crate::screen_state::ScreenState;
@@ -86,7 +87,7 @@ pub trait Renderer: ScreenState {
     /// Writes a text where the cursor stands. Where that is the end of the shown text, a column is free behind it, and the
     /// text is one printable ASCII character, the character is shown and the cursor goes one column on.
     fn write_and_flush(&mut self, buf: &str) -> Result<()>
-        ensures shown { (c : ℕ) → buf.now ≡ c ∷ [] → IsPrintable c
+        ensures shown { (c : ℕ) → buf.now ≡ c ∷ [] → is_printable c ≡ true
             → HasRoom (Self.surface self.old) (Self.screen self.old)
             → OnOk result (Self.screen self.new ≡ with_shown (Self.screen self.old) c) }
         ensures part { DrawsPart Self.ScreenState result self.old self.new };
@@ -109,7 +110,7 @@ pub trait Renderer: ScreenState {
     fn clear_to_eol(&mut self) -> Result<()>
         ensures position { (Self.screen self.new).position ≡ (Self.screen self.old).position }
         ensures cleared { (kept gone : List ℕ) → (Self.screen self.old).text ≡ kept ++ gone
-            → All IsPrintable gone
+            → list_all is_printable gone ≡ true
             → EndsBehind (Self.surface self.old) (Self.screen self.old) (length gone)
             → OnOk result (Self.screen self.new ≡ record (Self.screen self.old) { text = kept }) }
         ensures part { DrawsPart Self.ScreenState result self.old self.new };
@@ -165,7 +166,7 @@ pub trait Renderer: ScreenState {
 
     // Behind printable ASCII and newlines, a printable ASCII character takes one column.
     ghost one_column: { (r : Self) (s : List ℕ) (c : ℕ) (o : Position)
-        → o.col < (Self.surface r).columns → All IsPrintableOrNewline s → IsPrintable c
+        → o.col < (Self.surface r).columns → list_all is_plain s ≡ true → is_printable c ≡ true
         → (Self.surface r).measure (s ++ c ∷ []) o
         ≡ next_column (Self.surface r).columns ((Self.surface r).measure s o) };
 }

@@ -1,13 +1,17 @@
 //! What is drawn of a line: the renderer, the prompt, and the layout that is kept of them.
-ghost use Rattle.std.specs.Prelude.{◌≡◌, ◌↔◌, if◌then◌else◌, Some, None, ℕ, Bool, true, false, List, Option, is_some, option_map, IsOk, OnOk, OnErr, IsTrue};
+ghost use Rattle.std.specs.Prelude.{◌≡◌, ◌↔◌, ◌+◌, ◌-◌, ◌≤◌, nat_lt, if◌then◌else◌, Some, None, ℕ, Bool, true, false, List, length, drop, Option, is_some, option_map, IsOk, IfSome, OnOk, OnErr, IsTrue};
 ghost use Rattle.line_buffer.specs.declared.layout.Position.{Position};
-ghost use Rattle.line_keys.specs.Display.{GoesToShownEnd, corner, cursor_position, never_drawn};
-ghost use Rattle.line_state.specs.Drawn.{ColorsAreOn, DrawsInFull, DrawsNoneInFull, RedrawsKept, cleared};
+ghost use Rattle.std.specs.List.{list_all};
+ghost use Rattle.line_buffer.specs.Line.{with_cursor};
+ghost use Rattle.line_buffer.specs.Printable.{is_plain, is_printable};
+ghost use Rattle.line_keys.specs.Display.{GoesToPosition, GoesToShownEnd, HasCursorAt, columns_back, corner, cursor_position, never_drawn};
+ghost use Rattle.line_state.specs.Drawn.{ColorsAreOn, DrawsInFull, DrawsNoneInFull, RedrawsKept, TakesBack, Writes, cleared};
+ghost use Rattle.line_state.specs.Shown.{IsShownPlain, KnowsEnd, StandsAtEnd};
 
 use crate::drawn::Drawn;
 use crate::renderer::Renderer;
 use crate::screen_state::ScreenState;
-use line_buffer::{Layout, LineBuffer, Position};
+use line_buffer::{Layout, LineBuffer, Position, Unit, is_printable_text};
 use line_config::{Prompt, Result};
 use line_parts::Highlighter;
 
@@ -27,11 +31,19 @@ pub struct View<'out, 'prompt, W: Renderer, P: Prompt> {
     prompt: &'prompt P,
     prompt_size: Position,
     layout: Layout,
-    // Whether the renderer stands at the kept cursor, with the line drawn.
+    // Whether the renderer is known to stand at the kept cursor, with the line drawn.
     in_place: bool,
+    // Whether the kept cursor was last drawn as that of a line behind the own prompt.
+    at_cursor: bool,
+    // Whether what is shown of the line is known to be printable ASCII and newlines, and how many characters at its
+    // end are known to be printable then.
+    shows_plain: bool,
+    printable_at_end: usize,
     highlight_char: bool,
     ghost measured: { (W.surface out.now).measure (P.raw_text prompt.now) corner ≡ prompt_size },
     ghost placed: { in_place ≡ true → (W.screen out.now).position ≡ layout.cursor },
+    ghost known: { shows_plain ≡ true
+        → IsShownPlain (W.surface out.now) (W.screen out.now) layout printable_at_end },
 }
 
 impl<W: Renderer, P: Prompt> Drop for View<'_, '_, W, P> {
@@ -42,6 +54,9 @@ impl<W: Renderer, P: Prompt> Drop for View<'_, '_, W, P> {
             prompt_size: _,
             layout: _,
             in_place: _,
+            at_cursor: _,
+            shows_plain: _,
+            printable_at_end: _,
             highlight_char: _,
         } = self;
     }
@@ -68,6 +83,22 @@ fn if_drawn(drawn: bool, layout: &Layout) -> Option<&Layout>
     ensures { option_map (λ l. l.now) result ≡ if drawn then Some layout.now else None }
 {
     if drawn { Some(layout) } else { None }
+}
+
+// Returns the length of the text's last line if that is printable ASCII, and else 0.
+fn printable_at_end(text: &str) -> usize
+    ensures fits { result ≤ length text.now }
+    ensures printable { list_all is_printable (drop (length text.now - result) text.now) ≡ true }
+{
+    let last_line = match text.rfind('\n') {
+        Some(newline) => &text[newline + 1..],
+        None => text,
+    };
+    if is_printable_text(last_line) {
+        last_line.len()
+    } else {
+        0
+    }
 }
 
 // Returns whether two layouts are the same but for whose prompt stands there.
@@ -100,6 +131,9 @@ impl<'out, 'prompt, W: Renderer, P: Prompt> View<'out, 'prompt, W, P> {
             prompt_size,
             layout,
             in_place: false,
+            at_cursor: false,
+            shows_plain: false,
+            printable_at_end: 0,
             highlight_char: false,
         }
     }
@@ -165,10 +199,14 @@ impl<'out, 'prompt, W: Renderer, P: Prompt> View<'out, 'prompt, W, P> {
             .compute_layout(prompt_size, default_prompt, line, info);
         let old_layout = if_drawn(self.in_place, &self.layout);
         self.in_place = false;
+        self.shows_plain = false;
         self.out
             .refresh_line(prompt, line, info, old_layout, &new_layout, highlighter)?;
         self.layout = new_layout;
         self.in_place = true;
+        self.at_cursor = default_prompt;
+        self.shows_plain = line.is_plain();
+        self.printable_at_end = printable_at_end(line.as_str());
         Ok(())
     }
 
@@ -192,19 +230,123 @@ impl<'out, 'prompt, W: Renderer, P: Prompt> View<'out, 'prompt, W, P> {
             .out
             .compute_layout(self.prompt_size, own_prompt, line, info);
         self.in_place = false;
+        self.shows_plain = false;
         self.out
             .refresh_line(self.prompt, line, info, None, &self.layout, highlighter)?;
         self.in_place = has_places_of(&self.layout, &measured);
+        self.at_cursor = self.in_place;
+        self.shows_plain = self.in_place && line.is_plain();
+        self.printable_at_end = printable_at_end(line.as_str());
         Ok(())
     }
 
-    /// Returns whether the kept cursor is where a full redraw would have the line's.
-    pub fn is_cursor_drawn(&self, line: &LineBuffer) -> bool
-        ensures { let d = ⟦<Self as Drawn>⟧.display self.now in IsTrue result
-            ↔ (d.layout.cursor ≡ cursor_position d.surface.measure d.prompt_end line.now) }
+    /// Returns where the cursor of the line is in a full redraw behind the own prompt.
+    pub fn cursor_position(&self, line: &LineBuffer) -> Position
+        ensures { let d = ⟦<Self as Drawn>⟧.display self.now in
+            result ≡ cursor_position d.surface.measure d.prompt_end line.now }
     {
         let before = &line.as_str()[..line.pos()];
-        self.layout.cursor == self.out.calculate_position(before, self.prompt_size)
+        self.out.calculate_position(before, self.prompt_size)
+    }
+
+    /// Returns where the cursor of the line is in a full redraw behind the own prompt, if the kept cursor is where that of
+    /// byte `from` is. In a line of printable ASCII and newlines it looks at no more than what stands between the two, where
+    /// that has no newline and the cursor stays on its row.
+    pub fn cursor_position_from(&self, line: &LineBuffer, from: usize) -> Position
+        ensures { let d = ⟦<Self as Drawn>⟧.display self.now in
+            HasCursorAt d (with_cursor line.now from)
+            → result ≡ cursor_position d.surface.measure d.prompt_end line.now }
+    {
+        match self.position_near(line, from) {
+            Some(position) => position,
+            None => self.cursor_position(line),
+        }
+    }
+
+    // Returns where the cursor of the line is, on the row of the kept cursor, which is that of byte `from`. `None` where it
+    // is on another row, where more than printable ASCII stands between the two, where the line has more than that and
+    // newlines, and where the kept cursor was not drawn as a line's.
+    fn position_near(&self, line: &LineBuffer, from: usize) -> Option<Position>
+        ensures { let d = ⟦<Self as Drawn>⟧.display self.now in
+            IfSome result (λ position. HasCursorAt d (with_cursor line.now from)
+            → position ≡ cursor_position d.surface.measure d.prompt_end line.now) }
+    {
+        if !self.in_place || !self.at_cursor || !line.is_plain() {
+            return None;
+        }
+        if line.pos() < from {
+            self.position_back(line, from)
+        } else {
+            self.position_on(line, from)
+        }
+    }
+
+    // The same where the line's cursor is before byte `from`.
+    fn position_back(&self, line: &LineBuffer, from: usize) -> Option<Position>
+        requires { list_all is_plain line.now.text ≡ true }
+        ensures { let d = ⟦<Self as Drawn>⟧.display self.now in
+            IfSome result (λ position. HasCursorAt d (with_cursor line.now from)
+            → position ≡ cursor_position d.surface.measure d.prompt_end line.now) }
+    {
+        let _columns = self.out.get_columns();
+        let between = line.as_str().get(line.pos()..from)?;
+        let columns = Unit::try_from(between.len()).ok()?;
+        if !is_printable_text(between) || self.layout.cursor.col < columns {
+            return None;
+        }
+        Some(Position {
+            row: self.layout.cursor.row,
+            col: self.layout.cursor.col - columns,
+        })
+    }
+
+    // The same where the line's cursor is not before byte `from`.
+    fn position_on(&self, line: &LineBuffer, from: usize) -> Option<Position>
+        requires { list_all is_plain line.now.text ≡ true }
+        ensures { let d = ⟦<Self as Drawn>⟧.display self.now in
+            IfSome result (λ position. HasCursorAt d (with_cursor line.now from)
+            → position ≡ cursor_position d.surface.measure d.prompt_end line.now) }
+    {
+        let between = line.as_str().get(from..line.pos())?;
+        let columns = Unit::try_from(between.len()).ok()?;
+        let col = self.layout.cursor.col.checked_add(columns)?;
+        if !is_printable_text(between) || self.out.get_columns() <= col {
+            return None;
+        }
+        Some(Position {
+            row: self.layout.cursor.row,
+            col,
+        })
+    }
+
+    /// Returns whether a column is left on the row behind the one where the kept cursor is.
+    pub fn has_free_column(&self) -> bool
+        ensures { let d = ⟦<Self as Drawn>⟧.display self.now in
+            result ≡ nat_lt (d.layout.cursor.col + 1) d.surface.columns }
+    {
+        self.layout.cursor.col < self.out.get_columns() - 1
+    }
+
+    /// Takes the kept cursor to a position, and the drawn one with it. Nothing is drawn where it is there already.
+    ///
+    /// # Errors
+    /// Those of the renderer.
+    pub fn move_cursor(&mut self, position: Position) -> Result<()>
+        ensures moved { let d = ⟦<Self as Drawn>⟧.display in
+            GoesToPosition result (d self.old) (d self.new) position }
+        ensures still { (⟦<Self as Drawn>⟧.display self.old).layout.cursor ≡ position
+            → IsOk result }
+        ensures part { DrawsNoneInFull ⟦<Self as Drawn>⟧ result self.old self.new }
+    {
+        if self.layout.cursor == position {
+            return Ok(());
+        }
+        let in_place = self.in_place;
+        self.in_place = false;
+        self.out.move_cursor(self.layout.cursor, position)?;
+        self.layout.cursor = position;
+        self.in_place = in_place;
+        Ok(())
     }
 
     /// Takes the drawn cursor to where what is shown ends, a text behind the line included.
@@ -218,14 +360,93 @@ impl<'out, 'prompt, W: Renderer, P: Prompt> View<'out, 'prompt, W, P> {
             layout.cursor ≡ layout.end → IsOk result }
         ensures part { DrawsNoneInFull ⟦<Self as Drawn>⟧ result self.old self.new }
     {
-        if self.layout.cursor == self.layout.end {
-            return Ok(());
-        }
+        self.at_cursor = false;
+        self.move_cursor(self.layout.end)
+    }
+
+    // Returns whether the renderer is known to stand at the end of what is shown, printable ASCII and newlines.
+    fn stands_at_end(&self) -> bool
+        ensures { result ≡ true → StandsAtEnd (W.surface self.now.out.now)
+            (W.screen self.now.out.now) self.now.layout self.now.printable_at_end }
+    {
+        self.knows_end(0) && self.layout.cursor == self.layout.end
+    }
+
+    // Returns whether the renderer is known to stand at the kept cursor, and what is shown to be printable ASCII and
+    // newlines with nothing behind it, of which at least `count` characters at the end are printable.
+    fn knows_end(&self, count: usize) -> bool
+        ensures { result ≡ true → KnowsEnd (W.surface self.now.out.now)
+            (W.screen self.now.out.now) self.now.layout self.now.printable_at_end count }
+    {
+        self.in_place && self.shows_plain && !self.layout.has_info && count <= self.printable_at_end
+    }
+
+    /// Writes one printable ASCII character where the kept cursor is, at the line's end, with a column left behind it.
+    /// The kept cursor and end go one column on.
+    ///
+    /// # Errors
+    /// Those of the renderer.
+    pub fn write_char(&mut self, c: char) -> Result<()>
+        requires printable { is_printable c ≡ true }
+        requires free { let d = ⟦<Self as Drawn>⟧.display self.old in
+            nat_lt (d.layout.cursor.col + 1) d.surface.columns ≡ true }
+        ensures { Writes ⟦<Self as Drawn>⟧ result self.old self.new c }
+    {
+        let _columns = self.out.get_columns();
+        let known = self.stands_at_end();
+        self.in_place = false;
+        self.shows_plain = false;
+        self.out.write_and_flush(c.encode_utf8(&mut [0; 4]))?;
+        self.layout.cursor.col += 1;
+        self.layout.end = self.layout.cursor;
+        self.printable_at_end = self.printable_at_end.saturating_add(1);
+        self.in_place = known;
+        self.shows_plain = known;
+        Ok(())
+    }
+
+    /// Takes the last `count` characters of what is shown away, printable ASCII on the row of the kept end. The kept
+    /// cursor and end go where they began.
+    ///
+    /// # Errors
+    /// Those of the renderer.
+    pub fn take_back(&mut self, count: usize) -> Result<()>
+        requires { count ≤ (⟦<Self as Drawn>⟧.display self.old).layout.end.col }
+        ensures { TakesBack ⟦<Self as Drawn>⟧ result self.old self.new count }
+    {
+        let columns = self.end_column();
+        self.move_cursor(Position {
+            row: self.layout.end.row,
+            col: columns - count as Unit,
+        })?;
+        self.clear_behind(count)
+    }
+
+    // Returns the column of the kept end.
+    fn end_column(&self) -> Unit
+        ensures { result ≡ self.now.layout.end.col }
+    {
+        self.layout.end.col
+    }
+
+    // Takes the last `count` characters of what is shown away, which stand behind the kept cursor. The kept end goes
+    // there.
+    fn clear_behind(&mut self, count: usize) -> Result<()>
+        requires fits { count ≤ (⟦<Self as Drawn>⟧.display self.old).layout.end.col }
+        requires placed { let layout = (⟦<Self as Drawn>⟧.display self.old).layout in
+            layout.cursor ≡ columns_back count layout.end }
+        ensures { TakesBack ⟦<Self as Drawn>⟧ result self.old self.new count }
+    {
+        let _columns = self.out.get_columns();
+        let known = self.knows_end(count);
         let in_place = self.in_place;
         self.in_place = false;
-        self.out.move_cursor(self.layout.cursor, self.layout.end)?;
-        self.layout.cursor = self.layout.end;
+        self.shows_plain = false;
+        self.out.clear_to_eol()?;
+        self.layout.end = self.layout.cursor;
+        self.printable_at_end = self.printable_at_end.saturating_sub(count);
         self.in_place = in_place;
+        self.shows_plain = known;
         Ok(())
     }
 
@@ -253,6 +474,7 @@ impl<'out, 'prompt, W: Renderer, P: Prompt> View<'out, 'prompt, W, P> {
         ensures part { DrawsNoneInFull ⟦<Self as Drawn>⟧ result self.old self.new }
     {
         self.in_place = false;
+        self.shows_plain = false;
         self.out.clear_screen()?;
         self.layout.cursor = Position { row: 0, col: 0 };
         self.layout.end = Position { row: 0, col: 0 };
@@ -270,6 +492,7 @@ impl<'out, 'prompt, W: Renderer, P: Prompt> View<'out, 'prompt, W, P> {
         ensures part { DrawsNoneInFull ⟦<Self as Drawn>⟧ result self.old self.new }
     {
         self.in_place = false;
+        self.shows_plain = false;
         self.out.move_cursor_at_leftmost(rdr)
     }
 

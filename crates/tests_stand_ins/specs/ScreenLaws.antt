@@ -1,10 +1,10 @@
 -- What the measure of the tests' screen promises.
-use Rattle.std.proofs.Common.{◌≡◌, ℕ, ◌+◌, ◌<◌, List, [], ◌∷◌, ◌++◌, ◌∙◌, arith}
-use Rattle.std.specs.List.{fold, All}
+use Rattle.std.proofs.Common.{true, ◌≡◌, ℕ, ◌+◌, ◌<◌, List, [], ◌∷◌, ◌++◌, ◌∙◌, arith}
+use Rattle.std.specs.List.{fold, list_all}
 use Rattle.std.proofs.lemmas.Bool.Decides.{nat_tests}
 use Rattle.std.proofs.lemmas.List.Sums.{fold-append}
 use Rattle.line_buffer.specs.declared.layout.Position.{Position}
-use Rattle.line_state.specs.Printable.{IsPrintable, IsPrintableOrNewline}
+use Rattle.line_buffer.specs.Printable.{is_plain, is_printable}
 use Rattle.line_keys.specs.Display.{next_column}
 use Rattle.tests_stand_ins.specs.Screen.{after_byte, measured_by_bytes}
 
@@ -24,13 +24,13 @@ pub measured_by_bytes-below : (columns : ℕ) (text : List ℕ) (origin : Positi
 unfolding measured_by_bytes
 measured_by_bytes-below columns text origin below = fold-below columns text origin below
 
-after_byte-printable : (columns : ℕ) (p : Position) (c : ℕ) → IsPrintable c
+after_byte-printable : (columns : ℕ) (p : Position) (c : ℕ) → is_printable c ≡ true
     → after_byte columns p c ≡ next_column columns p
 after_byte-printable columns p c print = grind (arith, nat_tests)
 
 -- a printable ASCII character takes one column
 pub measured_by_bytes-push : (columns : ℕ) (text : List ℕ) (c : ℕ) (origin : Position) → origin.col < columns
-    → All IsPrintableOrNewline text → IsPrintable c
+    → list_all is_plain text ≡ true → is_printable c ≡ true
     → measured_by_bytes columns (text ++ c ∷ []) origin ≡ next_column columns (measured_by_bytes columns text origin)
 unfolding measured_by_bytes
 measured_by_bytes-push columns text c origin below all print =
@@ -38,7 +38,7 @@ measured_by_bytes-push columns text c origin below all print =
     ∙ after_byte-printable columns (fold (after_byte columns) origin text) c print
 
 -- from a place with room on the row, it goes one column on
-pub measured_by_bytes-one : (columns c : ℕ) (place : Position) → place.col + 1 < columns → IsPrintable c
+pub measured_by_bytes-one : (columns c : ℕ) (place : Position) → place.col + 1 < columns → is_printable c ≡ true
     → measured_by_bytes columns (c ∷ []) place ≡ record { row = place.row; col = place.col + 1 }
 unfolding measured_by_bytes
 measured_by_bytes-one columns c place room print =

@@ -2,13 +2,15 @@
 ghost use Rattle.std.specs.Prelude.{◌≡◌, ◌==◌, ◌&&◌, not, is_some, length};
 ghost use Rattle.line_buffer.specs.Cluster.{place_on};
 ghost use Rattle.line_editor.specs.DraftEdits.{char_replaced, overwritten, popped_in, text_inserted, typed_in, yanked_in};
+ghost use Rattle.line_editor.specs.Drawings.{typing_drawn};
 ghost use Rattle.line_editor.specs.InputState.{input_of};
-ghost use Rattle.line_keys.specs.Drawing.{Does, drawn_if, edit_drawn, with_hint};
+ghost use Rattle.line_keys.specs.Drawing.{Does, drawn_if, edit_drawn};
+ghost use Rattle.line_keys.specs.Plainly.{is_bare, takes_char};
 ghost use Rattle.line_state.specs.Edited.{pops_text};
 
 use crate::edit::State;
 use crate::input_state::InputState;
-use line_buffer::RepeatCount;
+use line_buffer::{RepeatCount, is_printable};
 use line_config::{Prompt, Result};
 use line_keys::cmd::Anchor;
 use line_keys::editor_state::EditorState;
@@ -24,16 +26,44 @@ impl<'out, 'prompt, W: Renderer, H: Helper, P: Prompt, S: History> State<
     P,
     S,
 > {
-    /// Inserts `n` copies of a character at the cursor, which goes behind them.
+    /// Inserts `n` copies of a character at the cursor, which goes behind them, and asks for the hint. Where the line is
+    /// printable ASCII and newlines, with no hint, no text behind it and no highlighting, before and after, one printable
+    /// ASCII character at its end is drawn alone, if a column is left behind it. Else the line is drawn again.
     ///
     /// # Errors
     /// Those of the parties and of the renderer, and that memory ran out.
     pub fn edit_insert(&mut self, c: char, n: RepeatCount) -> Result<()>
-        ensures { let e = ⟦<Self as EditorState>⟧ in Does e result self.old self.new
-            (typed_in (e.environment self.old) n c (e.draft self.old)) with_hint 1 }
+        ensures { let e = ⟦<Self as EditorState>⟧ in
+            let w = e.environment self.old in let d = e.draft self.old in
+            Does e result self.old self.new (typed_in w n c d)
+            (typing_drawn (e.display self.old) w d n c) 1 }
     {
+        let plainly = self.takes_chars(c, n);
         self.edited.insert(c, n)?;
-        self.refresh_line()
+        if !plainly {
+            return self.refresh_line();
+        }
+        self.show_typed(c)
+    }
+
+    // Returns whether there is one copy of a character, and the line takes it plainly.
+    fn takes_chars(&self, c: char, n: RepeatCount) -> bool
+        ensures { let e = ⟦<Self as EditorState>⟧ in
+            result ≡ ((n == 1) && takes_char (e.display self.now) (e.draft self.now) c) }
+    {
+        n == 1
+            && is_printable(c)
+            && self.edited.line().is_cursor_at_end()
+            && self.view.has_free_column()
+            && self.is_bare()
+    }
+
+    // Returns whether the line is printable ASCII and newlines, with no hint and no text drawn behind it.
+    pub(crate) fn is_bare(&self) -> bool
+        ensures { let e = ⟦<Self as EditorState>⟧ in
+            result ≡ is_bare (e.display self.now) (e.draft self.now) }
+    {
+        self.edited.line().is_plain() && self.hint.is_none() && !self.view.layout().has_info
     }
 
     /// Inserts a text at the cursor, which stays before it. The empty text changes nothing.

@@ -1,16 +1,17 @@
 //! What takes text out of the line, and what the kill ring gives back.
-ghost use Rattle.std.specs.Prelude.{◌+◌, ◌||◌, is_some, option_map};
+ghost use Rattle.std.specs.Prelude.{◌≡◌, ◌≤◌, ◌-◌, ◌==◌, ◌&&◌, true, length, option_map, IsCharBoundary};
 ghost use Rattle.line_buffer.specs.Kill.{killed_range};
 ghost use Rattle.line_buffer.specs.KillRing.{yank_popped, yanked_text};
-ghost use Rattle.line_editor.specs.Drawings.{has_text, once_for, pop_drawn, yank_drawn};
+ghost use Rattle.line_editor.specs.Drawings.{kill_drawn, pop_drawn, replacement_drawn, replacement_times, yank_drawn};
 ghost use Rattle.line_editor.specs.DraftEdits.{copied_to, kill_popped, kill_yanked, killed_by, movement_replaced, text_of};
 ghost use Rattle.line_editor.specs.InputState.{input_of};
 ghost use Rattle.line_editor.specs.Outcomes.{DoesWithKills, editor_of};
-ghost use Rattle.line_keys.specs.Drawing.{drawn_if, nothing};
+ghost use Rattle.line_keys.specs.Drawing.{nothing};
+ghost use Rattle.line_keys.specs.Plainly.{gives_end};
 
 use crate::edit::State;
 use crate::input_state::InputState;
-use line_buffer::{KillRing, Mode, Movement, RepeatCount};
+use line_buffer::{KillRing, Mode, Movement, RepeatCount, is_printable_text};
 use line_config::{Prompt, Result};
 use line_keys::cmd::Anchor;
 use line_keys::editor_state::EditorState;
@@ -26,8 +27,10 @@ impl<'out, 'prompt, W: Renderer, H: Helper, P: Prompt, S: History> State<
     P,
     S,
 > {
-    /// Kills the text of a movement and keeps it in `kill_ring` as `LineBuffer::kill` does, asks for the hint and draws the
-    /// line again. Where there is nothing to kill, nothing happens.
+    /// Kills the text of a movement and keeps it in `kill_ring` as `LineBuffer::kill` does, and asks for the hint. Where the
+    /// line is printable ASCII and newlines, with no hint, no text behind it and no highlighting, before and after, printable
+    /// ASCII that is killed at its end is cleared from its row, if kept cursor and end are on one row and go back no further
+    /// than its first column. Else the line is drawn again. Where there is nothing to kill, nothing happens.
     ///
     /// # Errors
     /// Those of the parties and of the renderer, and that memory ran out. The line is text with its cursor on a boundary,
@@ -37,12 +40,38 @@ impl<'out, 'prompt, W: Renderer, H: Helper, P: Prompt, S: History> State<
             let range = killed_range (e.draft self.old).line movement.now in
             DoesWithKills e result self.old kill_ring.old self.new kill_ring.new
             (killed_by (e.environment self.old) movement.now
-            (editor_of e self.old kill_ring.old) range) (drawn_if (is_some range)) 1 }
+            (editor_of e self.old kill_ring.old) range)
+            (kill_drawn (e.display self.old) (e.environment self.old) (e.draft self.old) range) 1 }
     {
-        if self.edited.kill(movement, kill_ring)? {
+        let Some((from, to)) = self.edited.killed_range(movement) else {
+            return Ok(());
+        };
+        let len = self.edited.line().len();
+        let plainly = self.gives_range(from, to);
+        self.edited.kill(movement, kill_ring)?;
+        if !plainly {
             return self.refresh_line();
         }
-        Ok(())
+        self.show_killed(len - from)
+    }
+
+    // Returns whether a range ends the text, and the line gives it plainly.
+    fn gives_range(&self, from: usize, to: usize) -> bool
+        requires { IsCharBoundary (⟦<Self as EditorState>⟧.draft self.now).line.text from }
+        ensures answer { let e = ⟦<Self as EditorState>⟧ in let d = e.draft self.now in
+            result ≡ ((to == length d.line.text) && gives_end (e.display self.now) d from) }
+        ensures fits { let e = ⟦<Self as EditorState>⟧ in result ≡ true
+            → length (e.draft self.now).line.text - from ≤ (e.display self.now).layout.end.col }
+    {
+        let line = self.edited.line();
+        let layout = self.view.layout();
+        let gone = &line.as_str()[from..];
+        to == line.len()
+            && is_printable_text(gone)
+            && layout.cursor.row == layout.end.row
+            && line.pos().saturating_sub(from) <= usize::from(layout.cursor.col)
+            && gone.len() <= usize::from(layout.end.col)
+            && self.is_bare()
     }
 
     // Copies the text of a movement to the kill ring, if there is one.
@@ -102,12 +131,13 @@ impl<'out, 'prompt, W: Renderer, H: Helper, P: Prompt, S: History> State<
     ) -> Result<()>
         ensures { let e = ⟦<Self as EditorState>⟧ in
             let put = option_map (λ s. s.now) text.entry in
-            let range = killed_range (e.draft self.old).line movement.now in
+            let d = e.draft self.old in
+            let killed = kill_drawn (e.display self.old) (e.environment self.old) d
+            (killed_range d.line movement.now) in
             DoesWithKills e result self.old kill_ring.old self.new kill_ring.new
             (movement_replaced (e.environment self.old) movement.now put
             (editor_of e self.old kill_ring.old))
-            (drawn_if (is_some range || has_text put))
-            (once_for (drawn_if (is_some range)) + once_for (drawn_if (has_text put))) }
+            (replacement_drawn killed put) (replacement_times killed put) }
     {
         self.edit_kill(movement, kill_ring)?;
         match text {

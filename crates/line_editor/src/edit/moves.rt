@@ -9,7 +9,7 @@ ghost use Rattle.line_buffer.specs.declared.movement.Movement.TheVariants.{LineD
 ghost use Rattle.line_editor.specs.Drawings.{move_drawn};
 ghost use Rattle.line_editor.specs.HistoryMoves.{asked_back, asked_on, next_shown, previous_shown, way_ends};
 ghost use Rattle.line_keys.specs.Display.{GoesToShownEnd};
-ghost use Rattle.line_keys.specs.Drawing.{Does, DoesAsking, DrawsCursor, MovesTo, Paints, Undrawn, cursor, drawn_if};
+ghost use Rattle.line_keys.specs.Drawing.{Does, DoesAsking, DrawsCursor, MovesTo, Paints, PutsCursorAt, Undrawn, cursor, drawn_if};
 ghost use Rattle.line_keys.specs.ShownLine.{IsAtEnd};
 ghost use Rattle.line_keys.specs.ShownLine.{HasShownEnd, ShowsLine};
 ghost use Rattle.line_parts.specs.Asks.{nobody};
@@ -18,7 +18,7 @@ ghost use Rattle.line_parts.specs.declared.history.SearchDirection.TheVariants.{
 ghost use Rattle.line_state.specs.Moves.{moved};
 
 use crate::edit::{Info, State};
-use line_buffer::{At, CharSearch, Movement, RepeatCount, Word};
+use line_buffer::{At, CharSearch, Movement, Position, RepeatCount, Word};
 use line_config::{Prompt, Result};
 use line_keys::editor_state::EditorState;
 use line_parts::{CmdKind, Helper, History};
@@ -32,19 +32,30 @@ impl<'out, 'prompt, W: Renderer, H: Helper, P: Prompt, S: History> State<
     P,
     S,
 > {
-    /// Takes the drawn cursor to where the line's cursor is: draws the line in full, with nothing behind it. Nothing is
-    /// drawn where the kept cursor is there already. `kind` is what `highlight_char` is told.
+    /// Takes the drawn cursor to where the line's cursor is. Nothing is drawn where the kept cursor is there already. Where
+    /// `highlight_char` says that the line is highlighted, or said so the time before, the line is drawn in full, with nothing
+    /// behind it. `kind` is what `highlight_char` is told.
     ///
     /// # Errors
     /// Those of the renderer.
     pub fn move_cursor(&mut self, kind: CmdKind) -> Result<()>
         ensures { DrawsCursor ⟦<Self as EditorState>⟧ result self.old self.new kind }
     {
-        if self.view.is_cursor_drawn(self.edited.line()) {
+        let position = self.view.cursor_position(self.edited.line());
+        self.put_cursor(position, kind)
+    }
+
+    // Takes the drawn cursor to a position: alone, or with the line in full where it is highlighted.
+    fn put_cursor(&mut self, position: Position, kind: CmdKind) -> Result<()>
+        ensures { PutsCursorAt ⟦<Self as EditorState>⟧ result self.old self.new kind position }
+    {
+        if self.view.layout().cursor == position {
             return Ok(());
         }
-        self.ask_highlight(kind);
-        self.draw(Info::Nothing)
+        if self.has_highlighting(kind) {
+            return self.draw(Info::Nothing);
+        }
+        self.view.move_cursor(position)
     }
 
     /// Moves the cursor `n` clusters back, or as many as there are. The drawn cursor goes along.
@@ -253,10 +264,12 @@ impl<'out, 'prompt, W: Renderer, H: Helper, P: Prompt, S: History> State<
             MovesTo e result self.old self.new kind
             (moved (e.display self.old).layout movement.now (e.draft self.old).line) }
     {
-        if self.edited.move_by(movement, self.view.layout()) {
-            self.move_cursor(kind)?;
+        let from = self.edited.line().pos();
+        if !self.edited.move_by(movement, self.view.layout()) {
+            return Ok(());
         }
-        Ok(())
+        let position = self.view.cursor_position_from(self.edited.line(), from);
+        self.put_cursor(position, kind)
     }
 
     /// Takes the drawn cursor to where what is shown ends, a hint or message behind the line included.

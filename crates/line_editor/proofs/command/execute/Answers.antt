@@ -1,7 +1,6 @@
 use Rattle.std.proofs.lemmas.Result.{err_from_is_err_and}
-use Rattle.std.proofs.Common.{is_some, option_map, refl}
+use Rattle.std.proofs.Common.{option_map, refl}
 use Rattle.std.specs.String.{string_bytes}
-use Rattle.line_buffer.specs.Kill.{killed_range}
 use Rattle.line_keys.specs.Command.{command_of}
 use Rattle.line_editor.specs.InputState.{input_of}
 use Rattle.line_editor.proofs.CommandLemmas.{edits_else, edits_ok, edits_wrong, proceeds_ok, replaced_as}
@@ -27,11 +26,15 @@ returns-in-Kill g c =
 
 pub returns-in-Replace : goal.returns-in-Replace
 returns-in-Replace g c =
-    let line = c.args.state.now.edited.line in
     rw c.in-Replace.is
     (proceeds_ok _ c.args.state.now _ (input_of c.args.input_state.now) c.args.config.now.indent_size _ _ _ c.in_ok-replace-in-Replace.field-0 _ _ refl refl
-    (replaced_as _ _ c.args.state.now _ _ _ c.in-Replace.movement (is_some (killed_range line c.in-Replace.movement)) _ (option_map string_bytes c.in-Replace.text) c.as_deref.ensures.value
+    (replaced_as _ _ c.args.state.now _ _ _ c.in-Replace.movement _ _ (option_map string_bytes c.in-Replace.text) c.as_deref.ensures.value
     c.in_ok-replace-in-Replace.ensures))
+
+pub returns-in-Yank : goal.returns-in-Yank
+returns-in-Yank g c =
+    rw c.in-Yank.is
+    (proceeds_ok _ c.args.state.now _ (input_of c.args.input_state.now) c.args.config.now.indent_size _ _ _ _ _ _ refl refl c.in_ok-yank_killed-in-Yank.ensures)
 
 pub returns-in-YankPop : goal.returns-in-YankPop
 returns-in-YankPop g c =

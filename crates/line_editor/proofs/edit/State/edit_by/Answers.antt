@@ -10,3 +10,15 @@ returns-in-Move g c =
 
 pub returns-in-Repaint : goal.returns-in-Repaint
 returns-in-Repaint g c = rw c.in-Repaint.is (does_refresh _ _ c.args.self.now _ _ refl c.refresh_line.ensures)
+
+pub returns-in-SelfInsert : goal.returns-in-SelfInsert
+returns-in-SelfInsert g c = rw c.in-SelfInsert.is c.edit_insert.ensures
+
+pub returns-in-Undo : goal.returns-in-Undo
+returns-in-Undo g c = rw c.in-Undo.is c.undo.ensures
+
+pub returns-in-HistorySearchBackward : goal.returns-in-HistorySearchBackward
+returns-in-HistorySearchBackward g c = rw c.in-HistorySearchBackward.is c.edit_history_search.ensures
+
+pub returns-in-HistorySearchForward : goal.returns-in-HistorySearchForward
+returns-in-HistorySearchForward g c = rw c.in-HistorySearchForward.is c.edit_history_search-in-HistorySearchForward.ensures

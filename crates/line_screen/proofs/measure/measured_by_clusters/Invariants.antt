@@ -3,7 +3,7 @@ use Rattle.std.specs.List.{fold}
 use Rattle.unicode_segmentation.specs.Grapheme.{graphemes}
 use Rattle.unicode_segmentation.specs.Iter.{graphemes_left}
 use Rattle.line_screen.specs.Measure.{after_cluster}
-use Rattle.line_screen.proofs.measure.measured.Given as goal
+use Rattle.line_screen.proofs.measure.measured_by_clusters.Given as goal
 
 -- the clusters that are left take this place to where the text ends
 abbrev pub invariant-loop-cluster : goal.invariant-loop-cluster
