@@ -20,7 +20,7 @@ fn prints(rt: &impl Abort, alloc: Global, case: Case) -> Result<(), Fail> {
 const SCRIPTS: &[Case] = &[
     (
         "type ab\nkey Left\ntype c\nkey Enter\n",
-        "outcome submitted\nline acb\ncursor 2\nplace 0\nat 0 4\nredraws 5\n",
+        "outcome submitted\nline acb\ncursor 2\nplace 0\nat 0 4\nredraws 2\n",
         0,
     ),
     (
@@ -30,12 +30,12 @@ const SCRIPTS: &[Case] = &[
     ),
     (
         "type ab\nkey C-a\nkey C-d\nkey Enter\n",
-        "outcome submitted\nline b\ncursor 0\nplace 0\nat 0 2\nredraws 5\n",
+        "outcome submitted\nline b\ncursor 0\nplace 0\nat 0 2\nredraws 2\n",
         0,
     ),
     (
         "type ab\nkey C-a\nkey C-c\n",
-        "outcome interrupted\nline ab\ncursor 0\nplace 0\nat 0 4\nredraws 4\n",
+        "outcome interrupted\nline ab\ncursor 0\nplace 0\nat 0 4\nredraws 1\n",
         2,
     ),
     ("type a\nkey Left\nkey Foo\n", "bad script line 3\n", 4),
@@ -56,37 +56,43 @@ const SCRIPTS: &[Case] = &[
     ),
     (
         "history a\nhistory b\nhistory b\nhistory \ntype x\nkey Enter\n",
-        "outcome submitted\nline x\ncursor 1\nplace 2\nat 0 3\nredraws 2\n",
+        "outcome submitted\nline x\ncursor 1\nplace 2\nat 0 3\nredraws 1\n",
         0,
     ),
     ("type a\nhistory a\n", "bad script line 2\n", 4),
     // what stands behind a submit is not read by the editor, but has to be good
     (
         "type a\nkey Enter\ntype b\nkey PasteStart\nkey C-c",
-        "outcome submitted\nline a\ncursor 1\nplace 0\nat 0 3\nredraws 2\n",
+        "outcome submitted\nline a\ncursor 1\nplace 0\nat 0 3\nredraws 1\n",
         0,
     ),
     ("type a\n\nkey Enter\nkey\n", "bad script line 4\n", 4),
     // an open bracket asks for another line, and one at fault stays with its message
     (
         "brackets\ntype (\nkey Enter\ntype )\nkey Enter\n",
-        "outcome submitted\nline (\\n)\ncursor 3\nplace 0\nat 1 1\nredraws 4\n",
+        "outcome submitted\nline (\\n)\ncursor 3\nplace 0\nat 1 1\nredraws 2\n",
         0,
     ),
     (
         "brackets\ntype ]\nkey Enter\n",
-        "outcome eof\nline ]\ncursor 1\nplace 0\nat 0 3\nredraws 3\n",
+        "outcome eof\nline ]\ncursor 1\nplace 0\nat 0 3\nredraws 2\n",
         1,
     ),
     (
         "type ]\nkey Enter\n",
-        "outcome submitted\nline ]\ncursor 1\nplace 0\nat 0 3\nredraws 2\n",
+        "outcome submitted\nline ]\ncursor 1\nplace 0\nat 0 3\nredraws 1\n",
         0,
+    ),
+    // the next character takes the message away by a full redraw
+    (
+        "brackets\ntype ]\nkey Enter\ntype xy\n",
+        "outcome eof\nline ]xy\ncursor 3\nplace 0\nat 0 5\nredraws 3\n",
+        1,
     ),
     // a setting given twice: what is on stays on, and the later prompt and columns count
     (
         "brackets\nbrackets\ntype ]\nkey Enter\n",
-        "outcome eof\nline ]\ncursor 1\nplace 0\nat 0 3\nredraws 3\n",
+        "outcome eof\nline ]\ncursor 1\nplace 0\nat 0 3\nredraws 2\n",
         1,
     ),
     (
@@ -96,34 +102,34 @@ const SCRIPTS: &[Case] = &[
     ),
     (
         "prompt abcdef\ncolumns 10\ncolumns 12\nprompt abc\ntype 123456789\n",
-        "outcome eof\nline 123456789\ncursor 9\nplace 0\nat 1 0\nredraws 10\n",
+        "outcome eof\nline 123456789\ncursor 9\nplace 0\nat 1 0\nredraws 2\n",
         1,
     ),
     (
         "prompt abc\ncolumns 12\ncolumns 10\nprompt \ntype 123456789\n",
-        "outcome eof\nline 123456789\ncursor 9\nplace 0\nat 0 9\nredraws 10\n",
+        "outcome eof\nline 123456789\ncursor 9\nplace 0\nat 0 9\nredraws 1\n",
         1,
     ),
     // a hint is shown behind the line, and is no part of it; moves keep it, and Right at the end takes it
     (
         "hints\nhistory git status\ntype gi\nkey C-a\nkey C-e\n",
-        "outcome eof\nline gi\ncursor 2\nplace 1\nat 0 4\nredraws 5\n",
+        "outcome eof\nline gi\ncursor 2\nplace 1\nat 0 4\nredraws 3\n",
         1,
     ),
     (
         "hints\nhistory git status\ntype gi\nkey C-a\nkey C-e\nkey Right\n",
-        "outcome eof\nline git status\ncursor 10\nplace 1\nat 0 12\nredraws 6\n",
+        "outcome eof\nline git status\ncursor 10\nplace 1\nat 0 12\nredraws 4\n",
         1,
     ),
     // 77 and 78 characters behind a prompt of two columns, on 80 columns
     (
         "type 12345678901234567890123456789012345678901234567890123456789012345678901234567\n",
-        "outcome eof\nline 12345678901234567890123456789012345678901234567890123456789012345678901234567\ncursor 77\nplace 0\nat 0 79\nredraws 78\n",
+        "outcome eof\nline 12345678901234567890123456789012345678901234567890123456789012345678901234567\ncursor 77\nplace 0\nat 0 79\nredraws 1\n",
         1,
     ),
     (
         "type 123456789012345678901234567890123456789012345678901234567890123456789012345678\n",
-        "outcome eof\nline 123456789012345678901234567890123456789012345678901234567890123456789012345678\ncursor 78\nplace 0\nat 1 0\nredraws 79\n",
+        "outcome eof\nline 123456789012345678901234567890123456789012345678901234567890123456789012345678\ncursor 78\nplace 0\nat 1 0\nredraws 2\n",
         1,
     ),
 ];
@@ -146,18 +152,18 @@ const FAULTS: &[Case] = &[
     ),
     (
         "type ab\nkey PasteStart\nkey Enter\n",
-        "outcome fault\nline ab\ncursor 2\nplace 0\nat 0 4\nredraws 3\n",
+        "outcome fault\nline ab\ncursor 2\nplace 0\nat 0 4\nredraws 1\n",
         3,
     ),
     (
         "history x\nhistory a\\\\b\\nc\nkey Up\nkey Left\nkey PasteStart\ntype q\nkey C-c\n",
-        "outcome fault\nline a\\\\b\\nc\ncursor 4\nplace 1\nat 1 0\nredraws 3\n",
+        "outcome fault\nline a\\\\b\\nc\ncursor 4\nplace 1\nat 1 0\nredraws 2\n",
         3,
     ),
     // the mark is the second key of C-], and the text is read where a key is
     (
         "type a\nkey C-]\npaste x\nkey Enter\n",
-        "outcome fault\nline a\ncursor 1\nplace 0\nat 0 3\nredraws 2\n",
+        "outcome fault\nline a\ncursor 1\nplace 0\nat 0 3\nredraws 1\n",
         3,
     ),
 ];
@@ -194,22 +200,22 @@ const RING: &[(usize, usize, &str)] = &[
     (
         4,
         3,
-        "outcome eof\nline 1\ncursor 1\nplace 0\nat 0 3\nredraws 13\n",
+        "outcome eof\nline 1\ncursor 1\nplace 0\nat 0 3\nredraws 5\n",
     ),
     (
         60,
         59,
-        "outcome eof\nline 1\ncursor 1\nplace 0\nat 0 3\nredraws 232\n",
+        "outcome eof\nline 1\ncursor 1\nplace 0\nat 0 3\nredraws 61\n",
     ),
     (
         61,
         59,
-        "outcome eof\nline 2\ncursor 1\nplace 0\nat 0 3\nredraws 235\n",
+        "outcome eof\nline 2\ncursor 1\nplace 0\nat 0 3\nredraws 61\n",
     ),
     (
         61,
         60,
-        "outcome eof\nline 61\ncursor 2\nplace 0\nat 0 4\nredraws 236\n",
+        "outcome eof\nline 61\ncursor 2\nplace 0\nat 0 4\nredraws 62\n",
     ),
 ];
 
@@ -325,37 +331,67 @@ impl Write for Faulty {
 const ROWS: &[Case] = &[
     (
         "type xxxxxxxxxxxxxxxxxxxxxxxxxxxxxx\nkey C-a\nkey M--\ntype 23\nkey Left\nkey Enter\n",
-        "outcome submitted\nline xxxxxxxxxxxxxxxxxxxxxxxxxxxxxx\ncursor 23\nplace 0\nat 0 25\nredraws 37\n",
+        "outcome submitted\nline xxxxxxxxxxxxxxxxxxxxxxxxxxxxxx\ncursor 23\nplace 0\nat 0 25\nredraws 5\n",
         0,
     ),
     (
         "columns 10\ntype abcdefg\n",
-        "outcome eof\nline abcdefg\ncursor 7\nplace 0\nat 0 9\nredraws 8\n",
+        "outcome eof\nline abcdefg\ncursor 7\nplace 0\nat 0 9\nredraws 1\n",
         1,
     ),
     (
         "columns 10\ntype abcdefgh\n",
-        "outcome eof\nline abcdefgh\ncursor 8\nplace 0\nat 1 0\nredraws 9\n",
+        "outcome eof\nline abcdefgh\ncursor 8\nplace 0\nat 1 0\nredraws 2\n",
         1,
     ),
     (
         "columns 10\ntype abcdefgh\nkey Backspace\n",
-        "outcome eof\nline abcdefg\ncursor 7\nplace 0\nat 0 9\nredraws 10\n",
+        "outcome eof\nline abcdefg\ncursor 7\nplace 0\nat 0 9\nredraws 3\n",
+        1,
+    ),
+    (
+        "columns 10\ntype abcdefghi\nkey C-u\n",
+        "outcome eof\nline \ncursor 0\nplace 0\nat 0 2\nredraws 3\n",
+        1,
+    ),
+    (
+        "columns 10\ntype abcd\nkey M-Backspace\n",
+        "outcome eof\nline \ncursor 0\nplace 0\nat 0 2\nredraws 1\n",
+        1,
+    ),
+    (
+        "columns 10\ntype abcde\nkey C-a\nkey C-k\n",
+        "outcome eof\nline \ncursor 0\nplace 0\nat 0 2\nredraws 1\n",
+        1,
+    ),
+    (
+        "columns 10\ntype abcdefghij\nkey C-a\nkey C-k\n",
+        "outcome eof\nline \ncursor 0\nplace 0\nat 0 2\nredraws 3\n",
         1,
     ),
     (
         "type ab\\n\nkey Backspace\n",
-        "outcome eof\nline ab\ncursor 2\nplace 0\nat 0 4\nredraws 5\n",
+        "outcome eof\nline ab\ncursor 2\nplace 0\nat 0 4\nredraws 3\n",
+        1,
+    ),
+    (
+        "type a\\nb\nkey Backspace\n",
+        "outcome eof\nline a\\n\ncursor 2\nplace 0\nat 1 0\nredraws 2\n",
         1,
     ),
     (
         "columns 10\ntype abcdefgh\\nx\n",
-        "outcome eof\nline abcdefgh\\nx\ncursor 10\nplace 0\nat 1 1\nredraws 11\n",
+        "outcome eof\nline abcdefgh\\nx\ncursor 10\nplace 0\nat 1 1\nredraws 3\n",
         1,
     ),
     (
         "type é\n",
-        "outcome eof\nline é\ncursor 3\nplace 0\nat 0 3\nredraws 3\n",
+        "outcome eof\nline é\ncursor 3\nplace 0\nat 0 3\nredraws 2\n",
+        1,
+    ),
+    (
+        "type 日\ntype a\n",
+        "outcome eof\nline 日a\ncursor 4\nplace 0\nat 0 5\nredraws 3\n",
         1,
     ),
     (
@@ -364,8 +400,23 @@ const ROWS: &[Case] = &[
         1,
     ),
     (
+        "key M-5\npaste ab\n",
+        "outcome eof\nline ab\ncursor 2\nplace 0\nat 0 4\nredraws 4\n",
+        1,
+    ),
+    (
+        "key M-3\ntype x\n",
+        "outcome eof\nline xxx\ncursor 3\nplace 0\nat 0 5\nredraws 4\n",
+        1,
+    ),
+    (
+        "type abc\nkey M-9\ntype 999999\nkey Left\n",
+        "outcome eof\nline abc\ncursor 0\nplace 0\nat 0 2\nredraws 9\n",
+        1,
+    ),
+    (
         "type abc\nkey M-9\nkey C-_\nkey M-9\nkey C-_\n",
-        "outcome eof\nline \ncursor 0\nplace 0\nat 0 2\nredraws 9\n",
+        "outcome eof\nline \ncursor 0\nplace 0\nat 0 2\nredraws 6\n",
         1,
     ),
     (
@@ -373,44 +424,50 @@ const ROWS: &[Case] = &[
         "outcome eof\nline a\\nb\ncursor 3\nplace 0\nat 1 1\nredraws 2\n",
         1,
     ),
+    // one character that is pasted is drawn in full, as a longer text is
+    (
+        "paste a\n",
+        "outcome eof\nline a\ncursor 1\nplace 0\nat 0 3\nredraws 2\n",
+        1,
+    ),
     (
         "type one two\nkey C-w\nkey C-a\nkey C-k\nkey C-y\nkey M-y\n",
-        "outcome eof\nline two\ncursor 3\nplace 0\nat 0 5\nredraws 13\n",
+        "outcome eof\nline two\ncursor 3\nplace 0\nat 0 5\nredraws 3\n",
         1,
     ),
     (
         "type ab\nkey C-t\n",
-        "outcome eof\nline ba\ncursor 2\nplace 0\nat 0 4\nredraws 4\n",
+        "outcome eof\nline ba\ncursor 2\nplace 0\nat 0 4\nredraws 2\n",
         1,
     ),
     (
         "type ab cd\nkey C-a\nkey M-u\n",
-        "outcome eof\nline AB cd\ncursor 2\nplace 0\nat 0 4\nredraws 8\n",
+        "outcome eof\nline AB cd\ncursor 2\nplace 0\nat 0 4\nredraws 2\n",
         1,
     ),
     (
         "type abc\\nd\nkey Up\n",
-        "outcome eof\nline abc\\nd\ncursor 0\nplace 0\nat 0 2\nredraws 7\n",
+        "outcome eof\nline abc\\nd\ncursor 0\nplace 0\nat 0 2\nredraws 2\n",
         1,
     ),
     (
         "type abcabc\nkey C-a\nkey C-]\ntype c\n",
-        "outcome eof\nline abcabc\ncursor 1\nplace 0\nat 0 3\nredraws 9\n",
+        "outcome eof\nline abcabc\ncursor 1\nplace 0\nat 0 3\nredraws 1\n",
         1,
     ),
     (
         "type abc\nkey M-0\nkey Left\n",
-        "outcome eof\nline abc\ncursor 2\nplace 0\nat 0 4\nredraws 7\n",
+        "outcome eof\nline abc\ncursor 2\nplace 0\nat 0 4\nredraws 3\n",
         1,
     ),
     (
         "type abc\nkey M--\ntype 0\nkey Left\n",
-        "outcome eof\nline abc\ncursor 2\nplace 0\nat 0 4\nredraws 8\n",
+        "outcome eof\nline abc\ncursor 2\nplace 0\nat 0 4\nredraws 4\n",
         1,
     ),
     (
         "prompt 0123456789\ncolumns 10\ntype a\n",
-        "outcome eof\nline a\ncursor 1\nplace 0\nat 1 1\nredraws 2\n",
+        "outcome eof\nline a\ncursor 1\nplace 0\nat 1 1\nredraws 1\n",
         1,
     ),
     (
@@ -418,9 +475,15 @@ const ROWS: &[Case] = &[
         "outcome submitted\nline git status\ncursor 10\nplace 1\nat 0 12\nredraws 5\n",
         0,
     ),
+    // a kill takes the hint away by a full redraw
+    (
+        "hints\nhistory ab\ntype a\nkey C-a\nkey C-k\n",
+        "outcome eof\nline \ncursor 0\nplace 1\nat 0 2\nredraws 3\n",
+        1,
+    ),
     (
         "history rustc\nhistory cargo\ntype a\nkey M-<\nkey M->\nkey Enter\n",
-        "outcome submitted\nline a\ncursor 1\nplace 2\nat 0 3\nredraws 4\n",
+        "outcome submitted\nline a\ncursor 1\nplace 2\nat 0 3\nredraws 3\n",
         0,
     ),
     (
@@ -442,37 +505,37 @@ fn edits_by_the_table_of_emacs(rt: HostRuntime) -> Result<(), Fail> {
 const VI_ROWS: &[Case] = &[
     (
         "mode vi\ntype a\nkey Esc\nkey Enter\n",
-        "outcome submitted\nline a\ncursor 0\nplace 0\nat 0 2\nredraws 3\n",
+        "outcome submitted\nline a\ncursor 0\nplace 0\nat 0 2\nredraws 1\n",
         0,
     ),
     (
         "mode vi\ntype a b c d e f g h\nkey Esc\ntype 02d3w\n",
-        "outcome eof\nline g h\ncursor 0\nplace 0\nat 0 2\nredraws 23\n",
+        "outcome eof\nline g h\ncursor 0\nplace 0\nat 0 2\nredraws 6\n",
         1,
     ),
     (
         "mode vi\ntype a b c d e f g h\nkey Esc\ntype 02d3wu\n",
-        "outcome eof\nline a b c d e f g h\ncursor 12\nplace 0\nat 0 14\nredraws 24\n",
+        "outcome eof\nline a b c d e f g h\ncursor 12\nplace 0\nat 0 14\nredraws 7\n",
         1,
     ),
     (
         "mode vi\ntype ab\nkey Esc\ntype d2d\n",
-        "outcome eof\nline ab\ncursor 1\nplace 0\nat 0 3\nredraws 6\n",
+        "outcome eof\nline ab\ncursor 1\nplace 0\nat 0 3\nredraws 3\n",
         1,
     ),
     (
         "mode vi\ntype ab\nkey Esc\ntype d2d2dd\n",
-        "outcome eof\nline \ncursor 0\nplace 0\nat 0 2\nredraws 9\n",
+        "outcome eof\nline \ncursor 0\nplace 0\nat 0 2\nredraws 5\n",
         1,
     ),
     (
         "mode vi\ntype ab\nkey Esc\ntype czy\n",
-        "outcome eof\nline ayb\ncursor 2\nplace 0\nat 0 4\nredraws 5\n",
+        "outcome eof\nline ayb\ncursor 2\nplace 0\nat 0 4\nredraws 2\n",
         1,
     ),
     (
         "mode vi\ntype ab\nkey C-d\n",
-        "outcome submitted\nline ab\ncursor 2\nplace 0\nat 0 4\nredraws 3\n",
+        "outcome submitted\nline ab\ncursor 2\nplace 0\nat 0 4\nredraws 1\n",
         0,
     ),
     (
@@ -483,66 +546,72 @@ const VI_ROWS: &[Case] = &[
     // no key of Vi: the cursor stays
     (
         "mode vi\ntype ab\nkey C-a\nkey C-c\n",
-        "outcome interrupted\nline ab\ncursor 2\nplace 0\nat 0 4\nredraws 3\n",
+        "outcome interrupted\nline ab\ncursor 2\nplace 0\nat 0 4\nredraws 1\n",
         2,
     ),
     (
         "mode vi\ntype foo bar\nkey Esc\ntype 0cwx\nkey Esc\ntype w.\n",
-        "outcome eof\nline x x\ncursor 2\nplace 0\nat 0 4\nredraws 16\n",
+        "outcome eof\nline x x\ncursor 2\nplace 0\nat 0 4\nredraws 4\n",
         1,
     ),
     (
         "mode vi\ntype abcabc\nkey Esc\ntype 0fb;x\n",
-        "outcome eof\nline abcac\ncursor 4\nplace 0\nat 0 6\nredraws 12\n",
+        "outcome eof\nline abcac\ncursor 4\nplace 0\nat 0 6\nredraws 2\n",
         1,
     ),
     (
         "mode vi\ntype abcdef\nkey Esc\ntype 0x3.\n",
-        "outcome eof\nline ef\ncursor 0\nplace 0\nat 0 2\nredraws 13\n",
+        "outcome eof\nline ef\ncursor 0\nplace 0\nat 0 2\nredraws 5\n",
+        1,
+    ),
+    // what the dot puts in is drawn in full
+    (
+        "mode vi\ntype a\nkey Esc\ntype .\n",
+        "outcome eof\nline aa\ncursor 0\nplace 0\nat 0 2\nredraws 2\n",
         1,
     ),
     (
         "mode vi\ntype abc\nkey Esc\ntype 0Rxy\nkey Esc\n",
-        "outcome eof\nline xyc\ncursor 1\nplace 0\nat 0 3\nredraws 9\n",
+        "outcome eof\nline xyc\ncursor 1\nplace 0\nat 0 3\nredraws 3\n",
         1,
     ),
     (
         "mode vi\ntype ab\nkey M-0\ntype x\n",
-        "outcome eof\nline b\ncursor 0\nplace 0\nat 0 2\nredraws 5\n",
+        "outcome eof\nline b\ncursor 0\nplace 0\nat 0 2\nredraws 2\n",
         1,
     ),
     // Enter ends the open change group of an insert, and one redraw shows that
     (
         "mode vi\ntype a\nkey Esc\ntype ab\nkey Enter\n",
-        "outcome submitted\nline ab\ncursor 2\nplace 0\nat 0 4\nredraws 6\n",
+        "outcome submitted\nline ab\ncursor 2\nplace 0\nat 0 4\nredraws 2\n",
         0,
     ),
     // the input ends inside of a count, whose prompt shows the number behind the operator alone
     (
         "mode vi\ntype abc\nkey Esc\ntype 02d3\n",
-        "outcome eof\nline abc\ncursor 0\nplace 0\nat 0 9\nredraws 9\n",
+        "outcome eof\nline abc\ncursor 0\nplace 0\nat 0 9\nredraws 4\n",
         1,
     ),
     // the mark is no motion, and the text is read where a key is
     (
         "mode vi\ntype ab\nkey Esc\ntype d\npaste x\n",
-        "outcome fault\nline ab\ncursor 1\nplace 0\nat 0 3\nredraws 4\n",
+        "outcome fault\nline ab\ncursor 1\nplace 0\nat 0 3\nredraws 1\n",
         3,
     ),
     // the later style counts: Esc goes back in Vi alone
     (
         "mode emacs\nmode vi\ntype ab\nkey Esc\n",
-        "outcome eof\nline ab\ncursor 1\nplace 0\nat 0 3\nredraws 4\n",
+        "outcome eof\nline ab\ncursor 1\nplace 0\nat 0 3\nredraws 1\n",
         1,
     ),
     (
         "mode vi\nmode emacs\ntype ab\nkey Esc\n",
-        "outcome eof\nline ab\ncursor 2\nplace 0\nat 0 4\nredraws 3\n",
+        "outcome eof\nline ab\ncursor 2\nplace 0\nat 0 4\nredraws 1\n",
         1,
     ),
     (
         "mode emacs\ntype ab\nkey C-a\nkey C-c\n",
-        "outcome interrupted\nline ab\ncursor 0\nplace 0\nat 0 4\nredraws 4\n",
+        "outcome interrupted\nline ab\ncursor 0\nplace 0\nat 0 4\nredraws 1\n",
         2,
     ),
 ];
@@ -559,7 +628,7 @@ fn edits_by_the_tables_of_vi(rt: HostRuntime) -> Result<(), Fail> {
 const WHOLE: &[Case] = &[
     (
         "type a\nkey Enter\n",
-        "outcome submitted\nline a\ncursor 1\nplace 0\nat 0 3\nredraws 2\n",
+        "outcome submitted\nline a\ncursor 1\nplace 0\nat 0 3\nredraws 1\n",
         0,
     ),
     ("key\n", "bad script line 1\n", 4),

@@ -33,6 +33,7 @@ mod kills;
 mod logs;
 mod moves;
 mod nothing;
+mod partial;
 mod refusals;
 mod rows;
 mod screens;
@@ -46,7 +47,7 @@ mod yanks;
 
 /// What the editor stands on: the style, whether the screen has colors, the history's lines, whether there is a helper,
 /// its hint and verdict, for which kind `highlight_char` answers yes, which of its hints and verdicts and which of the
-/// history's look-ups fails, from 1 on, or 0 for none, and whether they fail by an error of their own.
+/// history's look-ups fails, from 1 on, or 0 for none, and whether they fail by an error of their own; and the prompt.
 #[derive(Clone, Copy)]
 struct Setup {
     style: EditMode,
@@ -59,6 +60,7 @@ struct Setup {
     failing_answer: u64,
     failing_look_up: u64,
     refuses: bool,
+    prompt: &'static str,
 }
 
 /// A screen without colors, an empty history, and a helper that hints nothing and takes each line.
@@ -73,6 +75,7 @@ const PLAIN: Setup = Setup {
     failing_answer: 0,
     failing_look_up: 0,
     refuses: false,
+    prompt: "> ",
 };
 
 type Editor<'out, 'prompt> = State<'out, 'prompt, Recorder, Advisor, &'static str, Shelf>;
@@ -206,7 +209,7 @@ type Place = (Unit, Unit);
 
 /// What the steps leave: how the last one ended, and what its error says, if a party failed by an error of its own; the
 /// line with a bar at its cursor, and the place in the history; where the cursor and the end are drawn, if rows may be
-/// full; how often they drew all, how often they beeped, and how many other calls they made of the renderer.
+/// full; and their calls of the renderer in order, by the letters of `LETTERS`.
 #[derive(Clone, Copy)]
 struct Outcome<'l> {
     end: &'static str,
@@ -214,32 +217,40 @@ struct Outcome<'l> {
     line: &'l str,
     place: usize,
     drawn: Option<(Place, Place)>,
-    draws: u64,
-    beeps: u64,
-    others: u64,
+    calls: &'l str,
 }
 
-/// A line that is left in an editor over an empty history, after so many draws, with no end of the run.
-fn leaving(line: &str, draws: u64) -> Outcome<'_> {
+/// How a call of the renderer is written down, and its letter: all is drawn, the drawn cursor moves, a text is written,
+/// the rest of the row is cleared, the screen is cleared, the cursor goes to the first column, and it beeps.
+const LETTERS: &[(&str, char)] = &[
+    ("draw ", 'd'),
+    ("move (", 'm'),
+    ("write ", 'w'),
+    ("clear to ", 'c'),
+    ("clear screen", 's'),
+    ("move to ", 'l'),
+    ("beep", 'b'),
+];
+
+/// A line that is left in an editor over an empty history, by these calls of the renderer, with no end of the run.
+fn leaving<'l>(line: &'l str, calls: &'l str) -> Outcome<'l> {
     Outcome {
         end: "proceeds",
         said: "",
         line,
         place: 0,
         drawn: None,
-        draws,
-        beeps: 0,
-        others: 0,
+        calls,
     }
 }
 
-/// The line with a bar at its cursor, steps, the line that they leave, and how often they draw.
-type Case = (&'static str, &'static [Step], &'static str, u64);
+/// The line with a bar at its cursor, steps, the line that they leave, and their calls of the renderer.
+type Case = (&'static str, &'static [Step], &'static str, &'static str);
 
 /// What the steps leave of an editor over an empty history without hints.
 fn leaves(rt: &impl Abort, alloc: Global, case: &Case) -> std::result::Result<(), Fail> {
-    let (start, steps, line, draws) = case;
-    does(rt, alloc, &PLAIN, start, steps, &leaving(line, *draws))
+    let (start, steps, line, calls) = case;
+    does(rt, alloc, &PLAIN, start, steps, &leaving(line, calls))
 }
 
 /// The text before the bar, and the text behind it.
@@ -269,25 +280,51 @@ fn does(
     wanted: &Outcome<'_>,
 ) -> std::result::Result<(), Fail> {
     let mut screen = Recorder::new(alloc, 80, setup.colors, 0);
-    edits(rt, alloc, setup, &mut screen, start, steps, wanted)?;
-    let (draws, beeps) = (count(&screen, "draw "), count(&screen, "beep"));
-    let others = count(&screen, "")
-        .saturating_sub(draws)
-        .saturating_sub(beeps);
-    let found = (draws, beeps, others);
-    let draws = wanted.draws.saturating_add(made(rt, start));
-    let counts = (draws, wanted.beeps, wanted.others);
-    assert_eq!(rt; found, counts, "calls from {start:?} to {:?}", wanted.line);
+    does_on(rt, alloc, setup, &mut screen, start, steps, wanted)
+}
+
+/// The same on this screen.
+fn does_on(
+    rt: &impl Abort,
+    alloc: Global,
+    setup: &Setup,
+    screen: &mut Recorder,
+    start: &str,
+    steps: &[Step],
+    wanted: &Outcome<'_>,
+) -> std::result::Result<(), Fail> {
+    edits(rt, alloc, setup, screen, start, steps, wanted)?;
+    let calls = letters(alloc, screen, made(rt, start))?;
+    assert_eq!(rt;
+        calls.as_str(),
+        wanted.calls,
+        "calls from {start:?} to {:?}",
+        wanted.line
+    );
     Ok(())
 }
 
-/// How many of the renderer's calls begin so.
-fn count(screen: &Recorder, call: &str) -> u64 {
-    let mut found: u64 = 0;
-    for line in screen.log().lines() {
-        found = found.saturating_add(u64::from(line.starts_with(call)));
+/// The letters of the renderer's calls, but for so many at first.
+fn letters(alloc: Global, screen: &Recorder, first: u64) -> Result<String> {
+    let mut letters = String::new(alloc);
+    let mut before = first;
+    for call in screen.log().lines() {
+        if before == 0 {
+            letters.push(letter(call))?;
+        }
+        before = before.saturating_sub(1);
     }
-    found
+    Ok(letters)
+}
+
+/// The letter of a call, and a question mark for one that no editor makes.
+fn letter(call: &str) -> char {
+    for (start, letter) in LETTERS {
+        if call.starts_with(*start) {
+            return *letter;
+        }
+    }
+    '?'
 }
 
 /// Does the steps with the helper or without one, and looks at the state.
@@ -324,7 +361,8 @@ fn goes_on(
     session: (&str, &[Step], &Outcome<'_>),
 ) -> std::result::Result<(), Fail> {
     let history = shelved(alloc, setup)?;
-    let mut state = State::new(alloc, screen, &"> ", helper, Context::new(&history))?;
+    let context = Context::new(&history);
+    let mut state = State::new(alloc, screen, &setup.prompt, helper, context)?;
     is_left(rt, alloc, setup, &mut state, session)?;
     if is_fault(session.2.end) {
         keeps(rt, &history, setup.entries)?;

@@ -19,105 +19,99 @@ const REFUSED_SO: Verdict = (true, false, Some("no"));
 
 const CUT: Verdict = (false, false, None);
 
-/// The verdict, the line with a bar at its cursor, steps, how the last one ends, the line that is left, and draws.
+/// The verdict, the line with a bar at its cursor, steps, how the last one ends, the line that is left, and the calls of
+/// the renderer.
 type Case = (
     Verdict,
     &'static str,
     &'static [Step],
     &'static str,
     &'static str,
-    u64,
+    &'static str,
 );
 
 /// What the steps leave, on this editor with the case's verdict.
 fn ends(rt: &impl Abort, alloc: Global, setup: &Setup, case: &Case) -> Result<(), Fail> {
-    let (verdict, start, steps, end, line, draws) = case;
+    let (verdict, start, steps, end, line, calls) = case;
     let setup = Setup {
         verdict: *verdict,
         ..*setup
     };
     let wanted = Outcome {
         end: *end,
-        ..leaving(line, *draws)
+        ..leaving(line, calls)
     };
     does(rt, alloc, &setup, start, steps, &wanted)
 }
 
-const ENTER: Step = AcceptOrInsertLine(true);
+const RET: Step = AcceptOrInsertLine(true);
 
-const ENTER_AT_END: Step = AcceptOrInsertLine(false);
+const AT_END: Step = AcceptOrInsertLine(false);
 
 const LINES: &[Case] = &[
-    (TAKEN, "|", &[AcceptLine], "submits", "|", 0),
-    (TAKEN, "a|b", &[AcceptLine], "submits", "a|b", 0),
-    (TAKEN_SO, "a|b", &[AcceptLine], "submits", "a|b", 1),
-    (REFUSED, "a|b", &[AcceptLine], "submits", "a|b", 0),
-    (REFUSED_SO, "a|b", &[AcceptLine], "submits", "a|b", 1),
-    (CUT, "a|b", &[AcceptLine], "submits", "a|b", 0),
-    (TAKEN, "|", &[ENTER], "submits", "|", 0),
-    (TAKEN, "a|", &[ENTER], "submits", "a|", 0),
-    (TAKEN, "|a\nb", &[ENTER], "submits", "|a\nb", 0),
-    (TAKEN_SO, "日|本", &[ENTER], "submits", "日|本", 1),
-    (REFUSED, "|", &[ENTER], "proceeds", "\n|", 1),
-    (REFUSED, "a|b", &[ENTER], "proceeds", "a\n|b", 1),
-    (REFUSED_SO, "a|b", &[ENTER], "proceeds", "a|b", 1),
-    (REFUSED_SO, "a|", &[ENTER], "proceeds", "a|", 1),
-    (CUT, "a|", &[ENTER], "proceeds", "a\n|", 1),
-    (CUT, "e|\u{301}", &[ENTER], "proceeds", "e\n|\u{301}", 1),
-    (TAKEN, "|", &[ENTER_AT_END], "submits", "|", 0),
-    (TAKEN, "a|", &[ENTER_AT_END], "submits", "a|", 0),
-    (TAKEN, "a| \n\t", &[ENTER_AT_END], "submits", "a| \n\t", 0),
+    (TAKEN, "|", &[AcceptLine], "submits", "|", ""),
+    (TAKEN, "a|b", &[AcceptLine], "submits", "a|b", ""),
+    (TAKEN_SO, "a|b", &[AcceptLine], "submits", "a|b", "d"),
+    (REFUSED, "a|b", &[AcceptLine], "submits", "a|b", ""),
+    (REFUSED_SO, "a|b", &[AcceptLine], "submits", "a|b", "d"),
+    (CUT, "a|b", &[AcceptLine], "submits", "a|b", ""),
+    (TAKEN, "|", &[RET], "submits", "|", ""),
+    (TAKEN, "a|", &[RET], "submits", "a|", ""),
+    (TAKEN, "|a\nb", &[RET], "submits", "|a\nb", ""),
+    (TAKEN_SO, "日|本", &[RET], "submits", "日|本", "d"),
+    (REFUSED, "|", &[RET], "proceeds", "\n|", "d"),
+    (REFUSED, "a|b", &[RET], "proceeds", "a\n|b", "d"),
+    (REFUSED_SO, "a|b", &[RET], "proceeds", "a|b", "d"),
+    (REFUSED_SO, "a|", &[RET], "proceeds", "a|", "d"),
+    (CUT, "a|", &[RET], "proceeds", "a\n|", "d"),
+    (CUT, "e|\u{301}", &[RET], "proceeds", "e\n|\u{301}", "d"),
+    (TAKEN, "|", &[AT_END], "submits", "|", ""),
+    (TAKEN, "a|", &[AT_END], "submits", "a|", ""),
+    (TAKEN, "a| \n\t", &[AT_END], "submits", "a| \n\t", ""),
+    (TAKEN, "a|\u{3000}", &[AT_END], "submits", "a|\u{3000}", ""),
+    (TAKEN, "|a", &[AT_END], "proceeds", "\n|a", "d"),
+    (TAKEN, "a|\nb", &[AT_END], "proceeds", "a\n|\nb", "d"),
+    (TAKEN_SO, "a|", &[AT_END], "submits", "a|", "d"),
+    (TAKEN_SO, "a|b", &[AT_END], "proceeds", "a\n|b", "dd"),
+    (REFUSED, "a|", &[AT_END], "proceeds", "a\n|", "d"),
+    (REFUSED_SO, "a|", &[AT_END], "proceeds", "a|", "d"),
+    (REFUSED_SO, "a|b", &[AT_END], "proceeds", "a|b", "d"),
+    (CUT, "a|b", &[AT_END], "proceeds", "a\n|b", "d"),
     (
         TAKEN,
-        "a|\u{3000}",
-        &[ENTER_AT_END],
-        "submits",
-        "a|\u{3000}",
-        0,
-    ),
-    (TAKEN, "|a", &[ENTER_AT_END], "proceeds", "\n|a", 1),
-    (TAKEN, "a|\nb", &[ENTER_AT_END], "proceeds", "a\n|\nb", 1),
-    (TAKEN_SO, "a|", &[ENTER_AT_END], "submits", "a|", 1),
-    (TAKEN_SO, "a|b", &[ENTER_AT_END], "proceeds", "a\n|b", 2),
-    (REFUSED, "a|", &[ENTER_AT_END], "proceeds", "a\n|", 1),
-    (REFUSED_SO, "a|", &[ENTER_AT_END], "proceeds", "a|", 1),
-    (REFUSED_SO, "a|b", &[ENTER_AT_END], "proceeds", "a|b", 1),
-    (CUT, "a|b", &[ENTER_AT_END], "proceeds", "a\n|b", 1),
-    (
-        TAKEN,
-        "|日本\ne\u{301}x",
+        "|日\ne\u{301}",
         &[AcceptLine],
         "submits",
-        "|日本\ne\u{301}x",
-        0,
+        "|日\ne\u{301}",
+        "",
     ),
     (
         TAKEN,
-        "日本\ne\u{301}x|",
+        "日\ne\u{301}|",
         &[AcceptLine],
         "submits",
-        "日本\ne\u{301}x|",
-        0,
+        "日\ne\u{301}|",
+        "",
     ),
     (
         CUT,
-        "日本\ne\u{301}x|",
-        &[ENTER],
+        "日\ne\u{301}|",
+        &[RET],
         "proceeds",
-        "日本\ne\u{301}x\n|",
-        1,
+        "日\ne\u{301}\n|",
+        "d",
     ),
     (
         TAKEN,
-        "日本\ne\u{301}x|",
-        &[ENTER_AT_END],
+        "日\ne\u{301}|",
+        &[AT_END],
         "submits",
-        "日本\ne\u{301}x|",
-        0,
+        "日\ne\u{301}|",
+        "",
     ),
-    (TAKEN, "|", &[EndOfFile], "eof", "|", 0),
-    (TAKEN, "a|b", &[EndOfFile], "proceeds", "a|b", 0),
-    (TAKEN, "\n|", &[EndOfFile], "proceeds", "\n|", 0),
+    (TAKEN, "|", &[EndOfFile], "eof", "|", ""),
+    (TAKEN, "a|b", &[EndOfFile], "proceeds", "a|b", ""),
+    (TAKEN, "\n|", &[EndOfFile], "proceeds", "\n|", ""),
 ];
 
 #[test]
@@ -135,20 +129,20 @@ const HINTED: Setup = Setup {
 
 /// The hint is taken away before all else, by one full drawing.
 const HINTS: &[Case] = &[
-    (TAKEN, "a|b", &[AcceptLine], "submits", "a|b", 1),
-    (TAKEN_SO, "a|b", &[AcceptLine], "submits", "a|b", 2),
-    (REFUSED, "a|b", &[AcceptLine], "submits", "a|b", 1),
-    (REFUSED_SO, "a|b", &[AcceptLine], "submits", "a|b", 2),
-    (CUT, "a|b", &[AcceptLine], "submits", "a|b", 1),
-    (TAKEN, "a|b", &[ENTER], "submits", "a|b", 1),
-    (REFUSED, "a|b", &[ENTER], "proceeds", "a\n|b", 2),
-    (REFUSED_SO, "a|b", &[ENTER], "proceeds", "a|b", 2),
-    (CUT, "a|b", &[ENTER], "proceeds", "a\n|b", 2),
-    (TAKEN, "a|b", &[ENTER_AT_END], "proceeds", "a\n|b", 2),
-    (TAKEN_SO, "a|b", &[ENTER_AT_END], "proceeds", "a\n|b", 3),
-    (TAKEN, "|", &[EndOfFile], "eof", "|", 1),
-    (TAKEN, "a|b", &[EndOfFile], "proceeds", "a|b", 1),
-    (TAKEN, "a|b", &[Newline], "proceeds", "a\n|b", 2),
+    (TAKEN, "a|b", &[AcceptLine], "submits", "a|b", "d"),
+    (TAKEN_SO, "a|b", &[AcceptLine], "submits", "a|b", "dd"),
+    (REFUSED, "a|b", &[AcceptLine], "submits", "a|b", "d"),
+    (REFUSED_SO, "a|b", &[AcceptLine], "submits", "a|b", "dd"),
+    (CUT, "a|b", &[AcceptLine], "submits", "a|b", "d"),
+    (TAKEN, "a|b", &[RET], "submits", "a|b", "d"),
+    (REFUSED, "a|b", &[RET], "proceeds", "a\n|b", "dd"),
+    (REFUSED_SO, "a|b", &[RET], "proceeds", "a|b", "dd"),
+    (CUT, "a|b", &[RET], "proceeds", "a\n|b", "dd"),
+    (TAKEN, "a|b", &[AT_END], "proceeds", "a\n|b", "dd"),
+    (TAKEN_SO, "a|b", &[AT_END], "proceeds", "a\n|b", "ddd"),
+    (TAKEN, "|", &[EndOfFile], "eof", "|", "d"),
+    (TAKEN, "a|b", &[EndOfFile], "proceeds", "a|b", "d"),
+    (TAKEN, "a|b", &[Newline], "proceeds", "a\n|b", "dd"),
 ];
 
 #[test]
@@ -163,16 +157,23 @@ const X: Step = SelfInsert(1, 'x');
 
 /// The group of the verdict ends those that are open, which is drawn where one of them holds a change.
 const GROUPS: &[Case] = &[
-    (TAKEN, "|", &[Begin, X, AcceptLine], "submits", "x|", 2),
-    (TAKEN, "|", &[Begin, X, ENTER], "submits", "x|", 2),
-    (REFUSED, "|", &[Begin, X, ENTER], "proceeds", "x\n|", 3),
-    (REFUSED_SO, "|", &[Begin, X, ENTER], "proceeds", "x|", 2),
-    (CUT, "|", &[Begin, X, ENTER], "proceeds", "x\n|", 2),
-    (CUT, "|", &[Begin, X, AcceptLine], "submits", "x|", 1),
-    (TAKEN, "|", &[Begin, AcceptLine], "submits", "|", 0),
-    (TAKEN, "|", &[Begin, X, End, AcceptLine], "submits", "x|", 1),
-    (CUT, "|", &[Begin, X, ENTER, Undo(1)], "proceeds", "x|", 3),
-    (CUT, "|", &[Begin, X, ENTER, Undo(2)], "proceeds", "|", 3),
+    (TAKEN, "|", &[Begin, X, AcceptLine], "submits", "x|", "wd"),
+    (TAKEN, "|", &[Begin, X, RET], "submits", "x|", "wd"),
+    (REFUSED, "|", &[Begin, X, RET], "proceeds", "x\n|", "wdd"),
+    (REFUSED_SO, "|", &[Begin, X, RET], "proceeds", "x|", "wd"),
+    (CUT, "|", &[Begin, X, RET], "proceeds", "x\n|", "wd"),
+    (CUT, "|", &[Begin, X, AcceptLine], "submits", "x|", "w"),
+    (TAKEN, "|", &[Begin, AcceptLine], "submits", "|", ""),
+    (
+        TAKEN,
+        "|",
+        &[Begin, X, End, AcceptLine],
+        "submits",
+        "x|",
+        "w",
+    ),
+    (CUT, "|", &[Begin, X, RET, Undo(1)], "proceeds", "x|", "wdd"),
+    (CUT, "|", &[Begin, X, RET, Undo(2)], "proceeds", "|", "wdd"),
 ];
 
 #[test]
@@ -190,13 +191,13 @@ const ALONE: Setup = Setup {
 
 /// Without a helper each line is valid, and no group begins or ends.
 const UNHELPED: &[Case] = &[
-    (CUT, "a|b", &[AcceptLine], "submits", "a|b", 0),
-    (REFUSED_SO, "a|b", &[ENTER], "submits", "a|b", 0),
-    (CUT, "a|b", &[ENTER_AT_END], "proceeds", "a\n|b", 1),
-    (CUT, "a|", &[ENTER_AT_END], "submits", "a|", 0),
-    (CUT, "|", &[Begin, X, ENTER], "submits", "x|", 1),
-    (CUT, "a|b", &[CompleteHint], "proceeds", "a|b", 0),
-    (CUT, "a|b", &[EndOfFile], "proceeds", "a|b", 0),
+    (CUT, "a|b", &[AcceptLine], "submits", "a|b", ""),
+    (REFUSED_SO, "a|b", &[RET], "submits", "a|b", ""),
+    (CUT, "a|b", &[AT_END], "proceeds", "a\n|b", "d"),
+    (CUT, "a|", &[AT_END], "submits", "a|", ""),
+    (CUT, "|", &[Begin, X, RET], "submits", "x|", "w"),
+    (CUT, "a|b", &[CompleteHint], "proceeds", "a|b", ""),
+    (CUT, "a|b", &[EndOfFile], "proceeds", "a|b", ""),
 ];
 
 #[test]
@@ -214,12 +215,12 @@ const VI: Setup = Setup {
 
 /// In Vi's insert mode a yank leaves the cursor behind its text.
 const IN_VI: &[Case] = &[
-    (TAKEN, "|", &[EndOfFile], "eof", "|", 0),
-    (TAKEN, "a|b", &[EndOfFile], "submits", "a|b", 0),
-    (CUT, "a|b", &[EndOfFile], "submits", "a|b", 0),
-    (REFUSED_SO, "a|b", &[EndOfFile], "submits", "a|b", 0),
-    (TAKEN, "a|b", &[ENTER], "submits", "a|b", 0),
-    (TAKEN, "a|b", &[Insert(1, "xy")], "proceeds", "axy|b", 1),
+    (TAKEN, "|", &[EndOfFile], "eof", "|", ""),
+    (TAKEN, "a|b", &[EndOfFile], "submits", "a|b", ""),
+    (CUT, "a|b", &[EndOfFile], "submits", "a|b", ""),
+    (REFUSED_SO, "a|b", &[EndOfFile], "submits", "a|b", ""),
+    (TAKEN, "a|b", &[RET], "submits", "a|b", ""),
+    (TAKEN, "a|b", &[Insert(1, "xy")], "proceeds", "axy|b", "d"),
 ];
 
 #[test]
@@ -238,11 +239,11 @@ const LIT: Setup = Setup {
 
 /// Where the last answer of `highlight_char` was yes, one full drawing comes before all else.
 const HIGHLIGHTED: &[Case] = &[
-    (TAKEN, "a|b", &[AcceptLine], "submits", "a|b", 1),
-    (TAKEN, "a|b", &[ENTER, ENTER], "submits", "a|b", 1),
-    (TAKEN, "a|b", &[EndOfFile], "proceeds", "a|b", 1),
-    (TAKEN, "|", &[EndOfFile], "eof", "|", 1),
-    (CUT, "a|b", &[Newline], "proceeds", "a\n|b", 2),
+    (TAKEN, "a|b", &[AcceptLine], "submits", "a|b", "d"),
+    (TAKEN, "a|b", &[RET, RET], "submits", "a|b", "d"),
+    (TAKEN, "a|b", &[EndOfFile], "proceeds", "a|b", "d"),
+    (TAKEN, "|", &[EndOfFile], "eof", "|", "d"),
+    (CUT, "a|b", &[Newline], "proceeds", "a\n|b", "dd"),
 ];
 
 #[test]
@@ -259,8 +260,7 @@ const INTERRUPTED: &[&str] = &["|a", "a|b", "|a\nb", "a|\nb", "日|本", "e|\u{3
 fn interrupts(rt: &impl Abort, alloc: Global, setup: &Setup, start: &str) -> Result<(), Fail> {
     let wanted = Outcome {
         end: "interrupted",
-        others: 1,
-        ..leaving(start, 0)
+        ..leaving(start, "m")
     };
     does(rt, alloc, setup, start, &[Interrupt], &wanted)
 }

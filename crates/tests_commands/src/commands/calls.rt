@@ -1,8 +1,8 @@
 //! Calls of the state that draw or save, among commands.
 
 use super::Step::{self, *};
+use super::steps::{ARG, WHOLE, WHY};
 use super::{Case, Outcome, PLAIN, Place, Setup, does, edits, leaves, leaving};
-use line_buffer::Movement::*;
 use line_state::Renderer;
 use std::alloc::Global;
 use std::process::Abort;
@@ -11,27 +11,19 @@ use tests_parties::advisor::Tip;
 use tests_stand_ins::broken::Broken;
 use tests_stand_ins::recorder::Recorder;
 
+const PASTE: Step = Insert(1, "x");
+
 /// Nothing is drawn by the calls themselves.
 const SAVED: &[Case] = &[
-    ("|", &[Backup, Restore], "|", 0),
-    ("a|b", &[Backup], "a|b", 0),
-    ("a|b", &[Backup, Restore], "a|b", 0),
-    ("a|b", &[Restore, Repaint], "|", 1),
-    (
-        "a|b",
-        &[Backup, Kill(WholeLine), Restore, Repaint],
-        "a|b",
-        2,
-    ),
-    (
-        "日|\n本",
-        &[Backup, Insert(1, "x"), Restore, Repaint],
-        "日|\n本",
-        2,
-    ),
-    ("a|b", &[Backup, Restore, Undo(1)], "|", 1),
-    ("a|b", &[Backup, Restore, Undo(2)], "ab|", 1),
-    ("a|b", &[Backup, Restore, Undo(3)], "a|", 1),
+    ("|", &[Backup, Restore], "|", ""),
+    ("a|b", &[Backup], "a|b", ""),
+    ("a|b", &[Backup, Restore], "a|b", ""),
+    ("a|b", &[Restore, Repaint], "|", "d"),
+    ("a|b", &[Backup, WHOLE, Restore, Repaint], "a|b", "mcd"),
+    ("日|\n本", &[Backup, PASTE, Restore, Repaint], "日|\n本", "dd"),
+    ("a|b", &[Backup, Restore, Undo(1)], "|", "d"),
+    ("a|b", &[Backup, Restore, Undo(2)], "ab|", "d"),
+    ("a|b", &[Backup, Restore, Undo(3)], "a|", "d"),
 ];
 
 #[test]
@@ -42,33 +34,29 @@ fn save_and_put_back(rt: HostRuntime) -> Result<(), Fail> {
     Ok(())
 }
 
-/// The line with a bar at its cursor, steps, the bar where they leave it, how often they draw, and other calls.
-type Called = (&'static str, &'static [Step], &'static str, u64, u64);
-
-fn draws(rt: &impl Abort, alloc: Global, setup: &Setup, case: &Called) -> Result<(), Fail> {
-    let (start, steps, line, draws, others) = case;
-    let wanted = Outcome {
-        others: *others,
-        ..leaving(line, *draws)
-    };
-    does(rt, alloc, setup, start, steps, &wanted)
+/// The steps draw the same with a hint and without one.
+fn draws(rt: &impl Abort, alloc: Global, case: &Case) -> Result<(), Fail> {
+    let (start, steps, line, calls) = case;
+    for setup in [PLAIN, HINTED] {
+        does(rt, alloc, &setup, start, steps, &leaving(line, calls))?;
+    }
+    Ok(())
 }
 
-const DRAWN: &[Called] = &[
-    ("|", &[PaintAll], "|", 1, 0),
-    ("|", &[PaintKept], "|", 1, 0),
-    ("日|本", &[PaintAll, PaintKept], "日|本", 2, 0),
-    ("a|b", &[ClearAlone, Repaint], "a|b", 1, 1),
-    ("a|b", &[ClearAlone, PaintAll], "a|b", 1, 1),
-    ("a|b", &[GoLeftmost], "a|b", 0, 1),
-    ("a|b", &[GoLeftmost, PaintAll], "a|b", 1, 1),
+const DRAWN: &[Case] = &[
+    ("|", &[PaintAll], "|", "d"),
+    ("|", &[PaintKept], "|", "d"),
+    ("日|本", &[PaintAll, PaintKept], "日|本", "dd"),
+    ("a|b", &[ClearAlone, Repaint], "a|b", "sd"),
+    ("a|b", &[ClearAlone, PaintAll], "a|b", "sd"),
+    ("a|b", &[GoLeftmost], "a|b", "l"),
+    ("a|b", &[GoLeftmost, PaintAll], "a|b", "ld"),
 ];
 
 #[test]
 fn draw_again(rt: HostRuntime) -> Result<(), Fail> {
     for case in DRAWN {
-        draws(&rt, rt.alloc(), &PLAIN, case)?;
-        draws(&rt, rt.alloc(), &HINTED, case)?;
+        draws(&rt, rt.alloc(), case)?;
     }
     Ok(())
 }
@@ -85,13 +73,13 @@ fn keeps(rt: &impl Abort, alloc: Global, case: &Kept) -> Result<(), Fail> {
     let (setup, start, steps, cursor, end) = case;
     let wanted = Outcome {
         drawn: Some((*cursor, *end)),
-        ..leaving(start, 0)
+        ..leaving(start, "")
     };
     let mut screen = Recorder::new(alloc, 80, setup.colors, 0);
     edits(rt, alloc, setup, &mut screen, start, steps, &wanted)
 }
 
-const BACK_AGAIN: &[Step] = &[Backup, Kill(WholeLine), Restore];
+const BACK_AGAIN: &[Step] = &[Backup, WHOLE, Restore];
 
 const LAYOUTS: &[Kept] = &[
     (PLAIN, "a|b", &[ClearAlone], (0, 0), (0, 0)),
@@ -103,32 +91,15 @@ const LAYOUTS: &[Kept] = &[
     (PLAIN, "a|b", &[GoToEnd], (0, 4), (0, 4)),
     (HINTED, "a|b", &[GoToEnd], (0, 6), (0, 6)),
     (PLAIN, "a|b", &[GoToEnd, GoToCursor], (0, 3), (0, 4)),
+    (HINTED, "a|b", &[GoToEnd, GoToCursor], (0, 3), (0, 6)),
     (PLAIN, "a|b", BACK_AGAIN, (0, 2), (0, 2)),
     (HINTED, "a|b", BACK_AGAIN, (0, 2), (0, 4)),
     (HINTED, "a|b", &[AskHint, AskVerdict], (0, 3), (0, 4)),
-    (HINTED, "a|b", &[PaintMessage("why")], (0, 3), (0, 7)),
-    (
-        HINTED,
-        "a|b",
-        &[PaintMessage("why"), PaintKept],
-        (0, 3),
-        (0, 7),
-    ),
-    (HINTED, "a|b", &[PaintBehind("(arg: 2) ")], (0, 10), (0, 13)),
-    (
-        HINTED,
-        "a|b",
-        &[PaintBehind("(arg: 2) "), PaintKept],
-        (0, 10),
-        (0, 13),
-    ),
-    (
-        HINTED,
-        "a|b",
-        &[PaintBehind("(arg: 2) "), PaintAll],
-        (0, 3),
-        (0, 6),
-    ),
+    (HINTED, "a|b", &[WHY], (0, 3), (0, 7)),
+    (HINTED, "a|b", &[WHY, PaintKept], (0, 3), (0, 7)),
+    (HINTED, "a|b", &[ARG], (0, 10), (0, 13)),
+    (HINTED, "a|b", &[ARG, PaintKept], (0, 10), (0, 13)),
+    (HINTED, "a|b", &[ARG, PaintAll], (0, 3), (0, 6)),
 ];
 
 #[test]

@@ -3,12 +3,13 @@
 //! taken back, and the history is as it was.
 
 use super::Step::{self, *};
+use super::steps::{COPY, FILL, WHOLE, YANK};
 use super::{Outcome, PLAIN, Setup, does, edits, leaving, made};
 use line_buffer::At::*;
-use line_buffer::CharSearch;
+use line_buffer::CharSearch as By;
 use line_buffer::Movement::*;
 use line_buffer::Word::*;
-use line_keys::cmd::Anchor;
+use line_keys::cmd::Anchor::*;
 use std::alloc::Global;
 use std::process::Abort;
 use std::test::Fail;
@@ -25,9 +26,7 @@ const FAILS: Outcome<'static> = Outcome {
     line: "|",
     place: 0,
     drawn: None,
-    draws: 0,
-    beeps: 0,
-    others: 0,
+    calls: "",
 };
 
 const IS_CUT: Outcome<'static> = Outcome {
@@ -95,6 +94,7 @@ const CUT: Setup = Setup {
 
 const EDITS: &[Case] = &[
     (PLAIN, "a|b", &[SelfInsert(1, 'x')], 1),
+    (PLAIN, "ab|", &[SelfInsert(1, 'x')], 1),
     (PLAIN, "日|本", &[SelfInsert(3, 'é')], 1),
     (PLAIN, "a|b", &[Insert(1, "日\n")], 1),
     (PLAIN, "a|b", &[Newline], 1),
@@ -102,13 +102,12 @@ const EDITS: &[Case] = &[
     (PLAIN, "日|本", &[ReplaceChar(1, 'x')], 1),
     (PLAIN, "日|本", &[Overwrite('x')], 1),
     (PLAIN, "日|本", &[Kill(BackwardChar(1))], 1),
-    (PLAIN, "a|b", &[Replace(EndOfLine, Some("x"))], 2),
-    (
-        PLAIN,
-        "a|b",
-        &[ViYankTo(WholeLine), Yank(2, Anchor::After)],
-        1,
-    ),
+    (PLAIN, "ab|", &[Kill(BackwardChar(1))], 2),
+    (PLAIN, "a|b", &[Kill(EndOfLine)], 1),
+    (PLAIN, "a|b", &[WHOLE], 2),
+    (PLAIN, "a|b", &[FILL], 2),
+    (PLAIN, "a|b", &[Replace(WholeLine, Some("x"))], 3),
+    (PLAIN, "a|b", &[COPY, Yank(2, After)], 1),
     (PLAIN, "a|b", &[PopText(1, "日")], 1),
     (PLAIN, "日|本", &[TransposeChars], 1),
     (PLAIN, "日| 本", &[TransposeWords(1)], 1),
@@ -162,28 +161,27 @@ fn in_others(rt: HostRuntime) -> Result<(), Fail> {
 }
 
 /// How often the steps before the last one call the renderer, and the case.
-const LATER: &[(u64, Case)] = &[
-    (1, (PLAIN, "日|本", &[Begin, Newline, End, Undo(65535)], 1)),
-    (
-        2,
-        (
-            PLAIN,
-            "ab|",
-            &[Kill(WholeLine), Yank(1, Anchor::Before), YankPop],
-            1,
-        ),
-    ),
-    (1, (OVER_ONE, "日|", &[PreviousHistory, NextHistory], 1)),
-    (1, (OVER_ONE, "日|", &[BeginningOfHistory, EndOfHistory], 1)),
-    (1, (PLAIN, "日|本", &[GoToEnd, GoToCursor], 1)),
-    (1, (PLAIN, "日|本", &[ClearAlone, Repaint], 1)),
-    (2, (HINTED, "日|本", &[Newline, Newline], 2)),
+type Later = (u64, Setup, &'static str, &'static [Step], u64);
+
+fn fails_later(rt: &impl Abort, alloc: Global, case: &Later) -> Result<(), Fail> {
+    let (before, setup, start, steps, calls) = case;
+    fails(rt, alloc, *before, &(*setup, *start, *steps, *calls))
+}
+
+const LATER: &[Later] = &[
+    (1, PLAIN, "日|本", &[Begin, Newline, End, Undo(65535)], 1),
+    (3, PLAIN, "ab|", &[WHOLE, YANK, YankPop], 1),
+    (1, OVER_ONE, "日|", &[PreviousHistory, NextHistory], 1),
+    (1, OVER_ONE, "日|", &[BeginningOfHistory, EndOfHistory], 1),
+    (1, PLAIN, "日|本", &[GoToEnd, GoToCursor], 1),
+    (1, PLAIN, "日|本", &[ClearAlone, Repaint], 1),
+    (2, HINTED, "日|本", &[Newline, Newline], 2),
 ];
 
 #[test]
 fn after_others(rt: HostRuntime) -> Result<(), Fail> {
-    for (before, case) in LATER {
-        fails(&rt, rt.alloc(), *before, case)?;
+    for case in LATER {
+        fails_later(&rt, rt.alloc(), case)?;
     }
     Ok(())
 }
@@ -206,12 +204,7 @@ const CALLS: &[Case] = &[
     (PLAIN, "日|本", &[Go(EndOfBuffer)], 1),
     (PLAIN, "日|本", &[Go(BackwardWord(1, Vi))], 1),
     (PLAIN, "日|本", &[Go(ForwardWord(1, AfterEnd, Vi))], 1),
-    (
-        PLAIN,
-        "日|本",
-        &[Go(ViCharSearch(1, CharSearch::Backward('日')))],
-        1,
-    ),
+    (PLAIN, "日|本", &[Go(ViCharSearch(1, By::Backward('日')))], 1),
     (PLAIN, "日\n|本", &[Go(LineUp(1))], 1),
     (PLAIN, "日|\n本", &[Go(LineDown(1))], 1),
 ];
@@ -257,19 +250,16 @@ fn lacks(
 
 const UNHINTED_EDITS: &[Case] = &[
     (PLAIN, "a|b", &[SelfInsert(1, 'x')], 1),
+    (PLAIN, "ab|", &[SelfInsert(1, 'x')], 1),
     (HINTED, "日|本", &[SelfInsert(3, 'é')], 1),
     (PLAIN, "a|b", &[Insert(1, "日\n")], 1),
     (HINTED, "a|b", &[Newline], 1),
     (PLAIN, "日|本", &[ReplaceChar(1, 'x')], 1),
     (PLAIN, "日|本", &[Overwrite('x')], 1),
     (PLAIN, "日|本", &[Kill(BackwardChar(1))], 1),
-    (PLAIN, "a|b", &[Replace(EndOfLine, Some("x"))], 2),
-    (
-        PLAIN,
-        "a|b",
-        &[ViYankTo(WholeLine), Yank(2, Anchor::After)],
-        1,
-    ),
+    (PLAIN, "ab|", &[Kill(BackwardChar(1))], 1),
+    (PLAIN, "a|b", &[FILL], 2),
+    (PLAIN, "a|b", &[COPY, Yank(2, After)], 1),
     (PLAIN, "a|b", &[PopText(1, "日")], 1),
     (PLAIN, "日|本", &[TransposeChars], 1),
     (PLAIN, "日| 本", &[TransposeWords(1)], 1),
@@ -373,20 +363,20 @@ fn in_look_ups(rt: HostRuntime) -> Result<(), Fail> {
     Ok(())
 }
 
-/// Which answer of the helper would fail, 0 for none; steps that do not ask for it, and look no line up; and how often they
-/// draw.
-type Unasked = (u64, &'static [Step], u64);
+/// Which answer of the helper would fail, 0 for none; steps that do not ask for it, and look no line up; and their calls of
+/// the renderer.
+type Unasked = (u64, &'static [Step], &'static str);
 
 /// The helper answers three times before them.
 const UNASKED: &[Unasked] = &[
-    (4, &[PaintMessage("é")], 1),
-    (4, &[NextHistory], 0),
-    (0, &[AskHint], 0),
+    (4, &[PaintMessage("é")], "d"),
+    (4, &[NextHistory], ""),
+    (0, &[AskHint], ""),
 ];
 
 /// Does the steps where this answer and the first look-up would fail.
 fn asks_nobody(rt: &impl Abort, alloc: Global, case: &Unasked) -> Result<(), Fail> {
-    let (answer, steps, draws) = case;
+    let (answer, steps, calls) = case;
     let setup = Setup {
         failing_answer: *answer,
         failing_look_up: 1,
@@ -395,7 +385,7 @@ fn asks_nobody(rt: &impl Abort, alloc: Global, case: &Unasked) -> Result<(), Fai
     };
     let wanted = Outcome {
         place: 1,
-        ..leaving("日|本", *draws)
+        ..leaving("日|本", calls)
     };
     does(rt, alloc, &setup, "日|本", steps, &wanted)
 }

@@ -1,12 +1,8 @@
 //! All that the renderer is asked, call by call, for each kind of command and for the state's own calls.
 
 use super::Step::{self, *};
-use super::{Outcome, PLAIN, Setup, count, edits, leaving, made};
-use line_buffer::At::*;
-use line_buffer::CharSearch as Search;
+use super::{Outcome, PLAIN, Setup, edits, leaving, letters, made};
 use line_buffer::Movement::*;
-use line_buffer::Word::*;
-use line_keys::cmd::Anchor::*;
 use line_parts::CmdKind;
 use std::alloc::Global;
 use std::process::Abort;
@@ -16,24 +12,21 @@ use tests_stand_ins::recorder::Recorder;
 
 mod colored;
 
-/// The editor, the line with a bar at its cursor, steps of which each way leaves the same, how the last one ends, the line
-/// and the place in the history that they leave, and each call of the renderer.
-type Case = (
-    Setup,
-    &'static str,
-    &'static [&'static [Step]],
-    &'static str,
-    &'static str,
-    usize,
-    &'static str,
-);
+/// The editor, the line with a bar at its cursor, and steps of which each way leaves the same.
+pub(super) type Ways = (Setup, &'static str, &'static [&'static [Step]]);
 
-fn logs(rt: &impl Abort, alloc: Global, case: &Case) -> Result<(), Fail> {
-    let (setup, start, ways, end, line, place, log) = case;
+/// How the last step ends, and the line and the place in the history that are left.
+pub(super) type Left = (&'static str, &'static str, usize);
+
+/// The steps, what they leave, and each call of the renderer.
+pub(super) type Case = (Ways, Left, &'static str);
+
+pub(super) fn logs(rt: &impl Abort, alloc: Global, case: &Case) -> Result<(), Fail> {
+    let ((setup, start, ways), (end, line, place), log) = case;
     let wanted = Outcome {
         end,
         place: *place,
-        ..leaving(line, 0)
+        ..leaving(line, "")
     };
     for steps in *ways {
         asks(rt, alloc, setup, start, steps, &wanted, log)?;
@@ -53,12 +46,30 @@ fn asks(
 ) -> Result<(), Fail> {
     let mut screen = Recorder::new(alloc, 80, setup.colors, 0);
     edits(rt, alloc, setup, &mut screen, start, steps, wanted)?;
-    let mut calls = made(rt, start);
-    for _ in log.lines() {
-        calls = calls.saturating_add(1);
-    }
-    assert_eq!(rt; count(&screen, ""), calls, "{} not {log}", screen.log());
-    assert!(rt; screen.log().ends_with(log), "{} not {log}", screen.log());
+    ends_with(rt, alloc, &screen, log)?;
+    let calls = letters(alloc, &screen, made(rt, start))?;
+    assert_eq!(rt;
+        calls.len(),
+        log.lines().count(),
+        "{} not {log}",
+        screen.log()
+    );
+    Ok(())
+}
+
+/// Looks at the last calls of the renderer.
+pub(super) fn ends_with(
+    rt: &impl Abort,
+    alloc: Global,
+    screen: &Recorder,
+    log: &str,
+) -> Result<(), Fail> {
+    let wanted = format!(in alloc; "{log}\n")?;
+    assert!(rt;
+        screen.log().ends_with(&wanted),
+        "{} not {log}",
+        screen.log()
+    );
     Ok(())
 }
 
@@ -116,92 +127,74 @@ const CUT: Setup = Setup {
 /// A line of the history is drawn once with the hint; a search in vain beeps.
 const WALKS: &[Case] = &[
     (
-        OVER_ONE,
-        "a|b",
-        &[
-            &[PreviousHistory, NextHistory],
-            &[BeginningOfHistory, EndOfHistory],
-            &[LineUpOrPreviousHistory(1), LineDownOrNextHistory(1)],
-        ],
-        "proceeds",
-        "a|b",
-        1,
+        (
+            OVER_ONE,
+            "a|b",
+            &[
+                &[PreviousHistory, NextHistory],
+                &[BeginningOfHistory, EndOfHistory],
+                &[LineUpOrPreviousHistory(1), LineDownOrNextHistory(1)],
+            ],
+        ),
+        ("proceeds", "a|b", 1),
         "draw \"> \" \"one\" 3 Some(\"!!\") old 0:2 0:3 0:6+ new 0:2 0:5 0:7+ after an edit
-draw \"> \" \"ab\" 1 Some(\"!!\") old 0:2 0:5 0:7+ new 0:2 0:3 0:6+ after an edit
-",
+draw \"> \" \"ab\" 1 Some(\"!!\") old 0:2 0:5 0:7+ new 0:2 0:3 0:6+ after an edit",
     ),
     (
-        OVER_ONE,
-        "a|b",
-        &[&[NextHistory, EndOfHistory, LineDownOrNextHistory(1)]],
-        "proceeds",
-        "a|b",
-        1,
+        (
+            OVER_ONE,
+            "a|b",
+            &[&[NextHistory, EndOfHistory, LineDownOrNextHistory(1)]],
+        ),
+        ("proceeds", "a|b", 1),
         "",
     ),
     (
-        OVER_ONE,
-        "a|b",
-        &[&[PreviousHistory, PreviousHistory, BeginningOfHistory]],
-        "proceeds",
-        "one|",
-        0,
-        "draw \"> \" \"one\" 3 Some(\"!!\") old 0:2 0:3 0:6+ new 0:2 0:5 0:7+ after an edit
-",
+        (
+            OVER_ONE,
+            "a|b",
+            &[&[PreviousHistory, PreviousHistory, BeginningOfHistory]],
+        ),
+        ("proceeds", "one|", 0),
+        "draw \"> \" \"one\" 3 Some(\"!!\") old 0:2 0:3 0:6+ new 0:2 0:5 0:7+ after an edit",
     ),
     (
-        OVER_ONE,
-        "o|b",
-        &[&[HistorySearchBackward]],
-        "proceeds",
-        "o|ne",
-        0,
-        "draw \"> \" \"one\" 1 Some(\"!!\") old 0:2 0:3 0:6+ new 0:2 0:3 0:7+ after an edit
-",
+        (OVER_ONE, "o|b", &[&[HistorySearchBackward]]),
+        ("proceeds", "o|ne", 0),
+        "draw \"> \" \"one\" 1 Some(\"!!\") old 0:2 0:3 0:6+ new 0:2 0:3 0:7+ after an edit",
     ),
     (
-        OVER_ONE,
-        "a|b",
-        &[&[HistorySearchBackward]],
-        "proceeds",
-        "a|b",
-        0,
+        (OVER_ONE, "a|b", &[&[HistorySearchBackward]]),
+        ("proceeds", "a|b", 0),
+        "beep",
+    ),
+    (
+        (OVER_ONE, "a|b", &[&[HistorySearchForward]]),
+        ("proceeds", "a|b", 1),
+        "beep",
+    ),
+    (
+        (
+            RICH,
+            "a|b",
+            &[&[HistorySearchBackward, HistorySearchForward]],
+        ),
+        ("proceeds", "a|b", 0),
         "beep
-",
+beep",
     ),
     (
-        OVER_ONE,
-        "a|b",
-        &[&[HistorySearchForward]],
-        "proceeds",
-        "a|b",
-        1,
-        "beep
-",
-    ),
-    (
-        RICH,
-        "a|b",
-        &[&[HistorySearchBackward, HistorySearchForward]],
-        "proceeds",
-        "a|b",
-        0,
-        "beep
-beep
-",
-    ),
-    (
-        RICH,
-        "a|b",
-        &[&[
-            PreviousHistory,
-            NextHistory,
-            BeginningOfHistory,
-            EndOfHistory,
-        ]],
-        "proceeds",
-        "a|b",
-        0,
+        (
+            RICH,
+            "a|b",
+            &[&[
+                PreviousHistory,
+                NextHistory,
+                BeginningOfHistory,
+                EndOfHistory,
+            ]],
+        ),
+        ("proceeds", "a|b", 0),
         "",
     ),
 ];
@@ -217,112 +210,75 @@ fn of_walks(rt: HostRuntime) -> Result<(), Fail> {
 /// What ends the line takes the hint away first, if one is there; an interrupt takes the cursor to the end.
 const ENDS: &[Case] = &[
     (
-        RICH,
-        "|",
-        &[&[EndOfFile]],
-        "eof",
-        "|",
-        0,
-        "draw \"> \" \"\" 0 None old 0:2 0:2 0:4+ new 0:2 0:2 0:2 for the last time
-",
+        (RICH, "|", &[&[EndOfFile]]),
+        ("eof", "|", 0),
+        "draw \"> \" \"\" 0 None old 0:2 0:2 0:4+ new 0:2 0:2 0:2 for the last time",
     ),
-    (COLOURED, "|", &[&[EndOfFile]], "eof", "|", 0, ""),
-    (COLOURED, "a|b", &[&[EndOfFile]], "proceeds", "a|b", 0, ""),
+    ((COLOURED, "|", &[&[EndOfFile]]), ("eof", "|", 0), ""),
     (
-        RICH,
-        "a|b",
-        &[&[Interrupt]],
-        "interrupted",
-        "a|b",
-        0,
-        "move (0, 3) to (0, 6)
-",
-    ),
-    (
-        COLOURED,
-        "ab|",
-        &[&[Interrupt]],
-        "interrupted",
-        "ab|",
-        0,
+        (COLOURED, "a|b", &[&[EndOfFile]]),
+        ("proceeds", "a|b", 0),
         "",
     ),
     (
-        RICH,
-        "a|b",
-        &[&[AcceptLine]],
-        "submits",
-        "a|b",
-        0,
-        "draw \"> \" \"ab\" 1 None old 0:2 0:3 0:6+ new 0:2 0:3 0:4 for the last time
-",
+        (RICH, "a|b", &[&[Interrupt]]),
+        ("interrupted", "a|b", 0),
+        "move (0, 3) to (0, 6)",
     ),
-    (COLOURED, "a|b", &[&[AcceptLine]], "submits", "a|b", 0, ""),
     (
-        LIT,
-        "a|b",
-        &[&[Move(EndOfLine), AcceptLine]],
-        "submits",
-        "ab|",
-        0,
+        (COLOURED, "ab|", &[&[Interrupt]]),
+        ("interrupted", "ab|", 0),
+        "",
+    ),
+    (
+        (RICH, "a|b", &[&[AcceptLine]]),
+        ("submits", "a|b", 0),
+        "draw \"> \" \"ab\" 1 None old 0:2 0:3 0:6+ new 0:2 0:3 0:4 for the last time",
+    ),
+    (
+        (COLOURED, "a|b", &[&[AcceptLine]]),
+        ("submits", "a|b", 0),
+        "",
+    ),
+    (
+        (LIT, "a|b", &[&[Move(EndOfLine), AcceptLine]]),
+        ("submits", "ab|", 0),
         "draw \"> \" \"ab\" 2 None old 0:2 0:3 0:4 new 0:2 0:4 0:4 after a move
-draw \"> \" \"ab\" 2 None old 0:2 0:4 0:4 new 0:2 0:4 0:4 for the last time
-",
+draw \"> \" \"ab\" 2 None old 0:2 0:4 0:4 new 0:2 0:4 0:4 for the last time",
     ),
     (
-        SAID,
-        "a|b",
-        &[&[AcceptLine], &[AcceptOrInsertLine(true)]],
-        "submits",
-        "a|b",
-        0,
+        (SAID, "a|b", &[&[AcceptLine], &[AcceptOrInsertLine(true)]]),
+        ("submits", "a|b", 0),
         "draw \"> \" \"ab\" 1 None old 0:2 0:3 0:6+ new 0:2 0:3 0:4 for the last time
-draw \"> \" \"ab\" 1 Some(\"ok\") old 0:2 0:3 0:4 new 0:2 0:3 0:6+ for the last time
-",
+draw \"> \" \"ab\" 1 Some(\"ok\") old 0:2 0:3 0:4 new 0:2 0:3 0:6+ for the last time",
     ),
     (
-        REFUSED,
-        "a|b",
-        &[&[AcceptOrInsertLine(true)]],
-        "proceeds",
-        "a|b",
-        0,
+        (REFUSED, "a|b", &[&[AcceptOrInsertLine(true)]]),
+        ("proceeds", "a|b", 0),
         "draw \"> \" \"ab\" 1 None old 0:2 0:3 0:6+ new 0:2 0:3 0:4 for the last time
-draw \"> \" \"ab\" 1 Some(\"no\") old 0:2 0:3 0:4 new 0:2 0:3 0:6+ after an edit
-",
+draw \"> \" \"ab\" 1 Some(\"no\") old 0:2 0:3 0:4 new 0:2 0:3 0:6+ after an edit",
     ),
     (
-        CUT,
-        "a|b",
-        &[&[AcceptOrInsertLine(true)]],
-        "proceeds",
-        "a\n|b",
-        0,
+        (CUT, "a|b", &[&[AcceptOrInsertLine(true)]]),
+        ("proceeds", "a\n|b", 0),
         "draw \"> \" \"ab\" 1 None old 0:2 0:3 0:6+ new 0:2 0:3 0:4 for the last time
-draw \"> \" \"a\\nb\" 2 Some(\"!!\") old 0:2 0:3 0:4 new 0:2 1:0 1:3+ after an edit
-",
+draw \"> \" \"a\\nb\" 2 Some(\"!!\") old 0:2 0:3 0:4 new 0:2 1:0 1:3+ after an edit",
     ),
     (
-        RICH,
-        "a|b",
-        &[&[AcceptOrInsertLine(false)]],
-        "proceeds",
-        "a\n|b",
-        0,
+        (RICH, "a|b", &[&[AcceptOrInsertLine(false)]]),
+        ("proceeds", "a\n|b", 0),
         "draw \"> \" \"ab\" 1 None old 0:2 0:3 0:6+ new 0:2 0:3 0:4 for the last time
-draw \"> \" \"a\\nb\" 2 Some(\"!!\") old 0:2 0:3 0:4 new 0:2 1:0 1:3+ after an edit
-",
+draw \"> \" \"a\\nb\" 2 Some(\"!!\") old 0:2 0:3 0:4 new 0:2 1:0 1:3+ after an edit",
     ),
     (
-        REFUSED_ALONE,
-        "a|b",
-        &[&[AcceptOrInsertLine(true), SelfInsert(1, 'x')]],
-        "proceeds",
-        "ax|b",
-        0,
+        (
+            REFUSED_ALONE,
+            "a|b",
+            &[&[AcceptOrInsertLine(true), SelfInsert(1, 'x')]],
+        ),
+        ("proceeds", "ax|b", 0),
         "draw \"> \" \"ab\" 1 Some(\"no\") old 0:2 0:3 0:4 new 0:2 0:3 0:6+ plain
-draw \"> \" \"axb\" 2 None old 0:2 0:3 0:6+ new 0:2 0:4 0:5 plain
-",
+draw \"> \" \"axb\" 2 None old 0:2 0:3 0:6+ new 0:2 0:4 0:5 plain",
     ),
 ];
 
@@ -337,77 +293,43 @@ fn of_ends(rt: HostRuntime) -> Result<(), Fail> {
 /// Without colors or a hint, and with a hint that completes nothing.
 const OTHERS: &[Case] = &[
     (
-        VAIN,
-        "a|b",
-        &[&[CompleteHint]],
-        "proceeds",
-        "ab|",
-        0,
+        (VAIN, "a|b", &[&[CompleteHint]]),
+        ("proceeds", "ab|", 0),
         "beep
-draw \"> \" \"ab\" 2 Some(\"!!\") old 0:2 0:3 0:6+ new 0:2 0:4 0:6+ after an edit
-",
+draw \"> \" \"ab\" 2 Some(\"!!\") old 0:2 0:3 0:6+ new 0:2 0:4 0:6+ after an edit",
     ),
-    (COLOURED, "ab|", &[&[GoToEnd]], "proceeds", "ab|", 0, ""),
+    ((COLOURED, "ab|", &[&[GoToEnd]]), ("proceeds", "ab|", 0), ""),
     (
-        COLOURED,
-        "a|b",
-        &[&[PaintBehind("(arg: 2) "), AcceptLine]],
-        "submits",
-        "a|b",
-        0,
+        (COLOURED, "a|b", &[&[PaintBehind("(arg: 2) "), AcceptLine]]),
+        ("submits", "a|b", 0),
         "draw \"(arg: 2) \" \"ab\" 1 None old 0:2 0:3 0:4 new 0:9 0:10 0:11 after an edit
-draw \"> \" \"ab\" 1 None old 0:9 0:10 0:11 new 0:2 0:3 0:4 for the last time
-",
+draw \"> \" \"ab\" 1 None old 0:9 0:10 0:11 new 0:2 0:3 0:4 for the last time",
     ),
     (
-        COLOURED,
-        "a|b",
-        &[&[CompleteHint]],
-        "proceeds",
-        "a|b",
-        0,
+        (COLOURED, "a|b", &[&[CompleteHint]]),
+        ("proceeds", "a|b", 0),
         "",
     ),
     (
-        PLAIN,
-        "a|b",
-        &[&[SelfInsert(1, '日')]],
-        "proceeds",
-        "a日|b",
-        0,
-        "draw \"> \" \"a日b\" 4 None old 0:2 0:3 0:4 new 0:2 0:6 0:7 plain
-",
+        (PLAIN, "a|b", &[&[SelfInsert(1, '日')]]),
+        ("proceeds", "a日|b", 0),
+        "draw \"> \" \"a日b\" 4 None old 0:2 0:3 0:4 new 0:2 0:6 0:7 plain",
     ),
     (
-        PLAIN,
-        "a|b",
-        &[&[PaintKept]],
-        "proceeds",
-        "a|b",
-        0,
-        "draw \"> \" \"ab\" 1 None old none new 0:2 0:3 0:4 plain
-",
+        (PLAIN, "a|b", &[&[PaintKept]]),
+        ("proceeds", "a|b", 0),
+        "draw \"> \" \"ab\" 1 None old none new 0:2 0:3 0:4 plain",
     ),
     (
-        HINTED,
-        "a|b",
-        &[&[Move(EndOfLine), PaintAll]],
-        "proceeds",
-        "ab|",
-        0,
-        "draw \"> \" \"ab\" 2 None old 0:2 0:3 0:6+ new 0:2 0:4 0:4 plain
-draw \"> \" \"ab\" 2 Some(\"!!\") old 0:2 0:4 0:4 new 0:2 0:4 0:6+ plain
-",
+        (HINTED, "a|b", &[&[Move(EndOfLine), PaintAll]]),
+        ("proceeds", "ab|", 0),
+        "move (0, 3) to (0, 4)
+draw \"> \" \"ab\" 2 Some(\"!!\") old 0:2 0:4 0:6+ new 0:2 0:4 0:6+ plain",
     ),
     (
-        COLOURED,
-        "a|b",
-        &[&[PaintKept]],
-        "proceeds",
-        "a|b",
-        0,
-        "draw \"> \" \"ab\" 1 None old none new 0:2 0:3 0:4 after an edit
-",
+        (COLOURED, "a|b", &[&[PaintKept]]),
+        ("proceeds", "a|b", 0),
+        "draw \"> \" \"ab\" 1 None old none new 0:2 0:3 0:4 after an edit",
     ),
 ];
 

@@ -10,20 +10,20 @@ use std::test::Fail;
 use tests_parties::advisor::Tip;
 
 const IDLE: &[Case] = &[
-    ("a|b", &[Abort], "a|b", 0),
-    ("a|b", &[Complete], "a|b", 0),
-    ("a|b", &[CompleteBackward], "a|b", 0),
-    ("a|b", &[ForwardSearchHistory], "a|b", 0),
-    ("a|b", &[ReverseSearchHistory], "a|b", 0),
-    ("a|b", &[QuotedInsert], "a|b", 0),
-    ("a|b", &[Suspend], "a|b", 0),
-    ("a|b", &[Noop], "a|b", 0),
-    ("a|b", &[Unknown], "a|b", 0),
-    ("a|b", &[Move(WholeLine)], "a|b", 0),
-    ("a|b", &[Move(WholeBuffer)], "a|b", 0),
-    ("a|b", &[CompleteHint], "a|b", 0),
-    ("a|b", &[Repaint], "a|b", 1),
-    ("|", &[Repaint, Repaint], "|", 2),
+    ("a|b", &[Abort], "a|b", ""),
+    ("a|b", &[Complete], "a|b", ""),
+    ("a|b", &[CompleteBackward], "a|b", ""),
+    ("a|b", &[ForwardSearchHistory], "a|b", ""),
+    ("a|b", &[ReverseSearchHistory], "a|b", ""),
+    ("a|b", &[QuotedInsert], "a|b", ""),
+    ("a|b", &[Suspend], "a|b", ""),
+    ("a|b", &[Noop], "a|b", ""),
+    ("a|b", &[Unknown], "a|b", ""),
+    ("a|b", &[Move(WholeLine)], "a|b", ""),
+    ("a|b", &[Move(WholeBuffer)], "a|b", ""),
+    ("a|b", &[CompleteHint], "a|b", ""),
+    ("a|b", &[Repaint], "a|b", "d"),
+    ("|", &[Repaint, Repaint], "|", "dd"),
 ];
 
 #[test]
@@ -71,22 +71,28 @@ const COMPLETED_AFTER_EACH: &[Step] = &[
     CompleteHint,
 ];
 
-/// The editor, the line with a bar at its cursor, steps, the line that they leave, and how often they draw.
-type Start = (Setup, &'static str, &'static [Step], &'static str, u64);
+/// The editor, the line with a bar at its cursor, steps, the line that they leave, and their calls of the renderer.
+type Start = (
+    Setup,
+    &'static str,
+    &'static [Step],
+    &'static str,
+    &'static str,
+);
 
 const STARTS: &[Start] = &[
-    (RICH, "|", EACH, "|", 0),
-    (RICH, "a|", EACH, "a|", 0),
-    (RICH, "日|本\ne\u{301}", EACH, "日|本\ne\u{301}", 0),
-    (VI, "a|b", EACH, "a|b", 0),
-    (RICH, "a|", COMPLETED_AFTER_EACH, "a!!|", 1),
+    (RICH, "|", EACH, "|", ""),
+    (RICH, "a|", EACH, "a|", ""),
+    (RICH, "日|本\ne\u{301}", EACH, "日|本\ne\u{301}", ""),
+    (VI, "a|b", EACH, "a|b", ""),
+    (RICH, "a|", COMPLETED_AFTER_EACH, "a!!|", "d"),
 ];
 
 fn idles(rt: &impl Abort, alloc: Global, case: &Start) -> Result<(), Fail> {
-    let (setup, start, steps, line, draws) = case;
+    let (setup, start, steps, line, calls) = case;
     let wanted = Outcome {
         place: setup.entries.len(),
-        ..leaving(line, *draws)
+        ..leaving(line, calls)
     };
     does(rt, alloc, setup, start, steps, &wanted)
 }
@@ -103,11 +109,14 @@ fn with_a_history_and_a_hint(rt: HostRuntime) -> Result<(), Fail> {
 const CLEARED: &[&str] = &["|", "a|", "|a", "日|本\ne\u{301}"];
 
 fn clears(rt: &impl Abort, alloc: Global, start: &str) -> Result<(), Fail> {
-    let wanted = Outcome {
-        others: 1,
-        ..leaving(start, 1)
-    };
-    does(rt, alloc, &PLAIN, start, &[ClearScreen], &wanted)
+    does(
+        rt,
+        alloc,
+        &PLAIN,
+        start,
+        &[ClearScreen],
+        &leaving(start, "sd"),
+    )
 }
 
 #[test]

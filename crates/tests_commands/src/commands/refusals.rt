@@ -2,17 +2,19 @@
 //! what is left, or the command was not reached.
 
 use super::Step::*;
+use super::steps::{BACK, COPY, PUT, REST, WHOLE, YANK};
 use super::{Editor, PLAIN, Setup, Step, done, halves, shelved};
 use line_buffer::At::*;
 use line_buffer::Movement::*;
 use line_buffer::Word::*;
-use line_buffer::{CharSearch, GraphemeClusterMode, KillRing};
+use line_buffer::{CharSearch as By, GraphemeClusterMode, KillRing};
 use line_config::{Config, ReadlineError, Result};
 use line_editor::Bindings;
 use line_editor::command::{Status, execute};
 use line_editor::edit::State;
 use line_editor::input_state::InputState;
-use line_keys::cmd::{Anchor, Cmd};
+use line_keys::cmd::Anchor::{self, *};
+use line_keys::cmd::Cmd;
 use line_keys::refresher::Refresher;
 use line_parts::{Context, History};
 use std::alloc::Global;
@@ -89,6 +91,8 @@ fn refuses(rt: &impl Abort, alloc: Global, case: &Case) -> std::result::Result<(
     Ok(())
 }
 
+const WORD: Step = Kill(BackwardWord(1, Emacs));
+
 const EDITS: &[Case] = &[
     (PLAIN, "日|本", &[SelfInsert(9, 'é')], "日ééééééééé|本"),
     (PLAIN, "日|本", &[Newline], "日\n|本"),
@@ -96,51 +100,21 @@ const EDITS: &[Case] = &[
     (PLAIN, "|日本", &[ReplaceChar(2, 'é')], "é|é"),
     (PLAIN, "|日本", &[Overwrite('é')], "é|本"),
     (PLAIN, "日|本", &[Replace(EndOfLine, Some("ab"))], "日|ab"),
-    (
-        PLAIN,
-        "日|本",
-        &[Kill(WholeLine), Yank(3, Anchor::Before)],
-        "日本日本日本|",
-    ),
-    (
-        PLAIN,
-        "日|本",
-        &[ViYankTo(WholeLine), Yank(1, Anchor::After)],
-        "日本日本|",
-    ),
+    (PLAIN, "日|本", &[WHOLE, Yank(3, Before)], "日本日本日本|"),
+    (PLAIN, "日|本", &[COPY, PUT], "日本日本|"),
     (PLAIN, "日|本", &[PopText(3, "abcdef")], "abcdef|本"),
     (PLAIN, "日本|", &[TransposeChars], "本日|"),
     (PLAIN, "日 本|", &[TransposeWords(1)], "本 日|"),
     (PLAIN, "|日a", &[UpcaseWord], "日A|"),
     (PLAIN, "|日A", &[DowncaseWord], "日a|"),
     (PLAIN, "|aBé", &[CapitalizeWord], "Abé|"),
-    (PLAIN, "日|本", &[Kill(BackwardChar(1))], "|本"),
-    (PLAIN, "日|本", &[Put(2, "é", Anchor::After)], "日本éé|"),
-    (
-        PLAIN,
-        "a é|",
-        &[
-            Kill(BackwardChar(1)),
-            Kill(BackwardWord(1, Emacs)),
-            Yank(1, Anchor::Before),
-        ],
-        "a |",
-    ),
-    (
-        PLAIN,
-        "日 本|",
-        &[
-            Kill(BackwardWord(1, Emacs)),
-            Reset,
-            Kill(BackwardWord(1, Emacs)),
-            Yank(1, Anchor::Before),
-            YankPop,
-        ],
-        "本|",
-    ),
+    (PLAIN, "日|本", &[BACK], "|本"),
+    (PLAIN, "日|本", &[Put(2, "é", After)], "日本éé|"),
+    (PLAIN, "a é|", &[BACK, WORD, YANK], "a |"),
+    (PLAIN, "日 本|", &[WORD, Reset, WORD, YANK, YankPop], "本|"),
     (PLAIN, "日|\n本", &[Indent(WholeBuffer)], "  日|\n  本"),
     (PLAIN, "  日|\n 本", &[Dedent(WholeBuffer)], "日|\n本"),
-    (PLAIN, "日|本", &[Kill(EndOfLine), Undo(1)], "日本|"),
+    (PLAIN, "日|本", &[REST, Undo(1)], "日本|"),
     (
         PLAIN,
         "日|本",
@@ -217,7 +191,7 @@ const MOVES: &[Case] = &[
     (
         PLAIN,
         "|日本",
-        &[Move(ViCharSearch(1, CharSearch::Forward('本')))],
+        &[Move(ViCharSearch(1, By::Forward('本')))],
         "日|本",
     ),
     (PLAIN, " 日|", &[Move(ViFirstPrint)], " |日"),

@@ -1,6 +1,7 @@
 //! Whole sessions, each key's command after the other, with a reset of the kill ring where a run makes one.
 
-use super::Step::{self, *};
+use super::Step::*;
+use super::steps::{BACK, FRONT, HOME, LEFT, ON, PUT, REST, WHOLE, X, YANK};
 use super::{Case, leaves};
 use line_buffer::At::*;
 use line_buffer::CharSearch as Search;
@@ -8,12 +9,6 @@ use line_buffer::Movement::{self, *};
 use line_buffer::Word::*;
 use line_keys::cmd::Anchor::*;
 use std::test::Fail;
-
-const HOME: Step = Move(BeginningOfLine);
-
-const LEFT: Step = Move(BackwardChar(1));
-
-const X: Step = SelfInsert(1, 'x');
 
 const TO_WORD_END: Movement = ForwardWord(1, AfterEnd, Vi);
 
@@ -24,55 +19,38 @@ const TO_C: Movement = ViCharSearch(1, Search::ForwardBefore('c'));
 const EMACS: &[Case] = &[
     (
         "one two|",
-        &[
-            Kill(BackwardWord(1, Big)),
-            HOME,
-            Reset,
-            Kill(EndOfLine),
-            Yank(1, Before),
-            YankPop,
-        ],
+        &[Kill(BackwardWord(1, Big)), HOME, Reset, REST, YANK, YankPop],
         "two|",
-        5,
+        "mcmcdd",
     ),
-    ("ab|", &[TransposeChars], "ba|", 1),
-    ("ab cd|", &[HOME, UpcaseWord], "AB| cd", 2),
-    ("abc\nd|", &[LineUpOrPreviousHistory(1)], "|abc\nd", 1),
-    ("abcabc|", &[HOME, Move(TO_C)], "a|bcabc", 2),
+    ("ab|", &[TransposeChars], "ba|", "d"),
+    ("ab cd|", &[HOME, UpcaseWord], "AB| cd", "md"),
+    ("abc\nd|", &[LineUpOrPreviousHistory(1)], "|abc\nd", "m"),
+    ("abcabc|", &[HOME, Move(TO_C)], "a|bcabc", "mm"),
     (
         "xxxxxxxxxxxxxxxxxxxxxxxxxxxxxx|",
         &[HOME, Move(ForwardChar(23))],
         "xxxxxxxxxxxxxxxxxxxxxxx|xxxxxxx",
-        2,
+        "mm",
     ),
-    ("ab\n|", &[Kill(BackwardChar(1))], "ab|", 1),
-    ("abc|", &[Move(BackwardChar(9999))], "|abc", 1),
+    ("ab\n|", &[BACK], "ab|", "d"),
+    ("abc|", &[Move(BackwardChar(9999))], "|abc", "m"),
     (
         "abc|",
         &[Move(BackwardChar(65535)), Move(ForwardChar(2))],
         "ab|c",
-        2,
+        "mm",
     ),
-    ("ab|", &[Move(WholeLine)], "ab|", 0),
+    ("ab|", &[Move(WholeLine)], "ab|", ""),
     (
         "|",
         &[X, X, SelfInsert(4, 'x'), SelfInsert(0, 'x')],
         "xxxxxx|",
-        4,
+        "wwdd",
     ),
-    ("|", &[SelfInsert(1, 'a'), X, Undo(9), Undo(9)], "|", 3),
-    (
-        "a|",
-        &[Kill(BeginningOfLine), Yank(0, Before), YankPop],
-        "|",
-        2,
-    ),
-    (
-        "a|",
-        &[Kill(BeginningOfLine), Yank(3, After), YankPop],
-        "aaa|",
-        3,
-    ),
+    ("|", &[SelfInsert(1, 'a'), X, Undo(9), Undo(9)], "|", "wwd"),
+    ("a|", &[FRONT, Yank(0, Before), YankPop], "|", "mcd"),
+    ("a|", &[FRONT, Yank(3, After), YankPop], "aaa|", "mcdd"),
 ];
 
 #[test]
@@ -84,31 +62,31 @@ fn of_emacs(rt: HostRuntime) -> Result<(), Fail> {
 }
 
 const VI: &[Case] = &[
-    ("a|", &[LEFT], "|a", 1),
+    ("a|", &[LEFT], "|a", "m"),
     (
         "a b c d e f g h|",
         &[LEFT, HOME, Kill(ForwardWord(6, Start, Vi))],
         "|g h",
-        3,
+        "mmd",
     ),
     (
         "a b c d e f g h|",
         &[HOME, Kill(ForwardWord(6, Start, Vi)), Undo(1)],
         "a b c d e f |g h",
-        3,
+        "mdd",
     ),
-    ("a|b", &[Kill(WholeLine)], "|", 1),
+    ("a|b", &[WHOLE], "|", "mc"),
     (
         "abcabc|",
-        &[LEFT, HOME, Move(TO_B), Move(TO_B), Kill(ForwardChar(1))],
+        &[LEFT, HOME, Move(TO_B), Move(TO_B), ON],
         "abca|c",
-        5,
+        "mmmmd",
     ),
     (
         "abcdef|",
-        &[LEFT, HOME, Kill(ForwardChar(1)), Kill(ForwardChar(3))],
+        &[LEFT, HOME, ON, Kill(ForwardChar(3))],
         "|ef",
-        4,
+        "mmdd",
     ),
     (
         "abc|",
@@ -120,7 +98,7 @@ const VI: &[Case] = &[
             LEFT,
         ],
         "x|yc",
-        4,
+        "mddm",
     ),
     (
         "foo bar|",
@@ -134,7 +112,7 @@ const VI: &[Case] = &[
             Replace(TO_WORD_END, Some("x")),
         ],
         "x |x",
-        8,
+        "mmddmmcd",
     ),
     (
         "a\nb c|",
@@ -145,18 +123,13 @@ const VI: &[Case] = &[
             Dedent(WholeLine),
         ],
         "  a\n|b c",
-        4,
+        "mmdd",
     ),
     (
         "éb|",
-        &[
-            Kill(EndOfBuffer),
-            LEFT,
-            ViYankTo(TO_WORD_END),
-            Yank(1, After),
-        ],
+        &[Kill(EndOfBuffer), LEFT, ViYankTo(TO_WORD_END), PUT],
         "ébb|",
-        2,
+        "md",
     ),
 ];
 

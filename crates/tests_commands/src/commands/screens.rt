@@ -2,57 +2,56 @@
 //! a wide character takes three and may end on another row than it began on.
 
 use super::Step::*;
-use super::{Outcome, PLAIN, Place, Setup, Step, edits, leaving};
+use super::steps::{BACK, END, HOME, LEFT, ON, REST, RIGHT, WHOLE, X};
+use super::{Outcome, PLAIN, Place, Setup, Step, does_on, leaving};
 use line_buffer::Movement::*;
 use line_buffer::Unit;
-use line_keys::cmd::Anchor;
+use line_keys::cmd::Anchor::*;
 use std::alloc::Global;
 use std::process::Abort;
 use std::test::Fail;
 use tests_parties::advisor::Tip;
 use tests_stand_ins::recorder::Recorder;
 
-/// The line with a bar at its cursor, steps, the line that they leave, and where the cursor and the end are drawn.
-type Case = (&'static str, &'static [Step], &'static str, Place, Place);
+/// The line with a bar at its cursor, steps, the line that they leave, their calls of the renderer, and where the cursor
+/// and the end are drawn.
+pub(super) type Case = (
+    &'static str,
+    &'static [Step],
+    &'static str,
+    &'static str,
+    Place,
+    Place,
+);
 
-fn draws(
+pub(super) fn draws(
     rt: &impl Abort,
     alloc: Global,
     columns: Unit,
     setup: &Setup,
     case: &Case,
 ) -> Result<(), Fail> {
-    let (start, steps, line, cursor, end) = case;
+    let (start, steps, line, calls, cursor, end) = case;
     let wanted = Outcome {
         drawn: Some((*cursor, *end)),
-        ..leaving(line, 0)
+        ..leaving(line, calls)
     };
     let mut screen = Recorder::new(alloc, columns.max(1), setup.colors, 0);
-    edits(rt, alloc, setup, &mut screen, start, steps, &wanted)
+    does_on(rt, alloc, setup, &mut screen, start, steps, &wanted)
 }
-
-const X: Step = SelfInsert(1, 'x');
-
-const BACK: Step = Kill(BackwardChar(1));
 
 /// Each byte has a row of its own, the prompt's two among them.
 const ONE: &[Case] = &[
-    ("|", &[Repaint], "|", (2, 0), (2, 0)),
-    ("|", &[X], "x|", (3, 0), (3, 0)),
-    ("|", &[SelfInsert(1, '日')], "日|", (5, 0), (5, 0)),
-    ("a|b", &[Move(EndOfLine)], "ab|", (4, 0), (4, 0)),
-    ("a|b", &[Move(BeginningOfLine)], "|ab", (2, 0), (4, 0)),
-    (
-        "e\u{301}|",
-        &[Move(BackwardChar(1))],
-        "|e\u{301}",
-        (2, 0),
-        (5, 0),
-    ),
-    ("日|本", &[BACK], "|本", (2, 0), (5, 0)),
-    ("a|\nb", &[Newline], "a\n|\nb", (4, 0), (6, 0)),
-    ("a\nb|", &[Move(LineUp(1))], "a|\nb", (3, 0), (5, 0)),
-    ("ab|", &[Kill(WholeLine)], "|", (2, 0), (2, 0)),
+    ("|", &[Repaint], "|", "d", (2, 0), (2, 0)),
+    ("|", &[X], "x|", "d", (3, 0), (3, 0)),
+    ("|", &[SelfInsert(1, '日')], "日|", "d", (5, 0), (5, 0)),
+    ("a|b", &[END], "ab|", "m", (4, 0), (4, 0)),
+    ("a|b", &[HOME], "|ab", "m", (2, 0), (4, 0)),
+    ("e\u{301}|", &[LEFT], "|e\u{301}", "m", (2, 0), (5, 0)),
+    ("日|本", &[BACK], "|本", "d", (2, 0), (5, 0)),
+    ("a|\nb", &[Newline], "a\n|\nb", "d", (4, 0), (6, 0)),
+    ("a\nb|", &[Move(LineUp(1))], "a|\nb", "m", (3, 0), (5, 0)),
+    ("ab|", &[WHOLE], "|", "d", (2, 0), (2, 0)),
 ];
 
 #[test]
@@ -65,28 +64,16 @@ fn of_one_column(rt: HostRuntime) -> Result<(), Fail> {
 
 /// The prompt fills the first row.
 const TWO: &[Case] = &[
-    ("|", &[Repaint], "|", (1, 0), (1, 0)),
-    ("|", &[SelfInsert(1, '日')], "日|", (2, 1), (2, 1)),
-    ("a|", &[X], "ax|", (2, 0), (2, 0)),
-    ("ab|", &[BACK], "a|", (1, 1), (1, 1)),
-    ("ab|", &[Newline], "ab\n|", (3, 0), (3, 0)),
-    ("a|", &[Newline], "a\n|", (2, 0), (2, 0)),
-    (
-        "e\u{301}|x",
-        &[Move(EndOfLine)],
-        "e\u{301}x|",
-        (3, 0),
-        (3, 0),
-    ),
-    ("ab\nc|", &[Move(LineUp(1))], "a|b\nc", (1, 1), (3, 1)),
-    (
-        "日|",
-        &[Kill(WholeLine), Yank(2, Anchor::Before)],
-        "日日|",
-        (4, 0),
-        (4, 0),
-    ),
-    ("日a|", &[TransposeChars], "a日|", (3, 0), (3, 0)),
+    ("|", &[Repaint], "|", "d", (1, 0), (1, 0)),
+    ("|", &[SelfInsert(1, '日')], "日|", "d", (2, 1), (2, 1)),
+    ("a|", &[X], "ax|", "d", (2, 0), (2, 0)),
+    ("ab|", &[BACK], "a|", "d", (1, 1), (1, 1)),
+    ("ab|", &[Newline], "ab\n|", "d", (3, 0), (3, 0)),
+    ("a|", &[Newline], "a\n|", "d", (2, 0), (2, 0)),
+    ("e\u{301}|x", &[END], "e\u{301}x|", "m", (3, 0), (3, 0)),
+    ("ab\nc|", &[Move(LineUp(1))], "a|b\nc", "m", (1, 1), (3, 1)),
+    ("日|", &[WHOLE, Yank(2, Before)], "日日|", "dd", (4, 0), (4, 0)),
+    ("日a|", &[TransposeChars], "a日|", "d", (3, 0), (3, 0)),
 ];
 
 #[test]
@@ -99,23 +86,17 @@ fn of_two_columns(rt: HostRuntime) -> Result<(), Fail> {
 
 /// One column is left behind the prompt.
 const THREE: &[Case] = &[
-    ("|", &[X], "x|", (1, 0), (1, 0)),
-    ("|", &[SelfInsert(1, '日')], "日|", (1, 2), (1, 2)),
-    ("x|", &[BACK], "|", (0, 2), (0, 2)),
-    ("日|本", &[Move(BeginningOfLine)], "|日本", (0, 2), (2, 2)),
-    ("a\n|日", &[BACK], "a|日", (1, 0), (2, 0)),
-    ("ab\nc|", &[Move(LineUp(1))], "|ab\nc", (0, 2), (2, 1)),
-    ("a|", &[Indent(WholeLine)], "  a|", (1, 2), (1, 2)),
-    ("  a|", &[Dedent(WholeLine)], "a|", (1, 0), (1, 0)),
-    ("abc|", &[Undo(1)], "|", (0, 2), (0, 2)),
-    ("|日", &[Overwrite('x')], "x|", (1, 0), (1, 0)),
-    (
-        "e\u{301}|日",
-        &[Kill(EndOfLine)],
-        "e\u{301}|",
-        (1, 2),
-        (1, 2),
-    ),
+    ("|", &[X], "x|", "d", (1, 0), (1, 0)),
+    ("|", &[SelfInsert(1, '日')], "日|", "d", (1, 2), (1, 2)),
+    ("x|", &[BACK], "|", "d", (0, 2), (0, 2)),
+    ("日|本", &[HOME], "|日本", "m", (0, 2), (2, 2)),
+    ("a\n|日", &[BACK], "a|日", "d", (1, 0), (2, 0)),
+    ("ab\nc|", &[Move(LineUp(1))], "|ab\nc", "m", (0, 2), (2, 1)),
+    ("a|", &[Indent(WholeLine)], "  a|", "d", (1, 2), (1, 2)),
+    ("  a|", &[Dedent(WholeLine)], "a|", "d", (1, 0), (1, 0)),
+    ("abc|", &[Undo(1)], "|", "d", (0, 2), (0, 2)),
+    ("|日", &[Overwrite('x')], "x|", "d", (1, 0), (1, 0)),
+    ("e\u{301}|日", &[REST], "e\u{301}|", "d", (1, 2), (1, 2)),
 ];
 
 #[test]
@@ -127,37 +108,27 @@ fn of_three_columns(rt: HostRuntime) -> Result<(), Fail> {
 }
 
 const TEN: &[Case] = &[
-    ("abcdef|", &[X], "abcdefx|", (0, 9), (0, 9)),
-    ("abcdefg|", &[X], "abcdefgx|", (1, 0), (1, 0)),
-    ("abcdefgh|", &[BACK], "abcdefg|", (0, 9), (0, 9)),
-    ("日本|", &[SelfInsert(1, '語')], "日本語|", (1, 1), (1, 1)),
-    ("日本語|", &[Move(BackwardChar(1))], "日本|語", (0, 8), (1, 1)),
-    ("日本語|", &[Kill(WholeLine)], "|", (0, 2), (0, 2)),
+    ("abcdef|", &[X], "abcdefx|", "w", (0, 9), (0, 9)),
+    ("abcdefg|", &[X], "abcdefgx|", "d", (1, 0), (1, 0)),
+    ("abcdefgh|", &[BACK], "abcdefg|", "d", (0, 9), (0, 9)),
+    ("日本|", &[SelfInsert(1, '語')], "日本語|", "d", (1, 1), (1, 1)),
+    ("日本語|", &[LEFT], "日本|語", "m", (0, 8), (1, 1)),
+    ("日本語|", &[WHOLE], "|", "d", (0, 2), (0, 2)),
     (
         "abcdefg|e\u{301}",
-        &[Move(ForwardChar(1))],
+        &[RIGHT],
         "abcdefge\u{301}|",
+        "m",
         (1, 2),
         (1, 2),
     ),
-    (
-        "abcdefgh\n|x",
-        &[Move(BackwardChar(1))],
-        "abcdefgh|\nx",
-        (1, 0),
-        (2, 1),
-    ),
-    (
-        "abcdefgh|\nx",
-        &[Kill(ForwardChar(1))],
-        "abcdefgh|x",
-        (1, 0),
-        (1, 1),
-    ),
+    ("abcdefgh\n|x", &[LEFT], "abcdefgh|\nx", "m", (1, 0), (2, 1)),
+    ("abcdefgh|\nx", &[ON], "abcdefgh|x", "d", (1, 0), (1, 1)),
     (
         "abc\nabcdefghij|",
         &[Newline],
         "abc\nabcdefghij\n|",
+        "d",
         (3, 0),
         (3, 0),
     ),
@@ -179,15 +150,15 @@ const HINTED: Setup = Setup {
 
 /// The columns, and the case.
 const HINTS: &[(Unit, Case)] = &[
-    (1, ("a|", &[X], "ax|", (4, 0), (6, 0))),
-    (2, ("|", &[X], "x|", (1, 1), (2, 1))),
-    (2, ("a|", &[X], "ax|", (2, 0), (3, 0))),
-    (3, ("|", &[X], "x|", (1, 0), (1, 2))),
-    (3, ("a|b", &[BACK], "|b", (0, 2), (1, 2))),
-    (10, ("abcdefg|", &[X], "abcdefgx|", (1, 0), (1, 2))),
-    (10, ("abcdef|gh", &[BACK], "abcde|gh", (0, 7), (1, 1))),
-    (10, ("日本|", &[CompleteHint], "日本!!|", (1, 0), (1, 2))),
-    (10, ("日本|語", &[Newline], "日本\n|語", (1, 0), (1, 5))),
+    (1, ("a|", &[X], "ax|", "d", (4, 0), (6, 0))),
+    (2, ("|", &[X], "x|", "d", (1, 1), (2, 1))),
+    (2, ("a|", &[X], "ax|", "d", (2, 0), (3, 0))),
+    (3, ("|", &[X], "x|", "d", (1, 0), (1, 2))),
+    (3, ("a|b", &[BACK], "|b", "d", (0, 2), (1, 2))),
+    (10, ("abcdefg|", &[X], "abcdefgx|", "d", (1, 0), (1, 2))),
+    (10, ("abcdef|gh", &[BACK], "abcde|gh", "d", (0, 7), (1, 1))),
+    (10, ("日本|", &[CompleteHint], "日本!!|", "d", (1, 0), (1, 2))),
+    (10, ("日本|語", &[Newline], "日本\n|語", "dd", (1, 0), (1, 5))),
 ];
 
 #[test]

@@ -13,11 +13,11 @@ use std::test::Fail;
 /// The line with a bar at its cursor, a movement, and the line that is left.
 type Case = (&'static str, Movement, &'static str);
 
-/// An indent by two spaces draws once, whatever it changes.
+/// An indent by two spaces draws all once, whatever it changes.
 fn indents(rt: &impl Abort, alloc: Global, case: &Case) -> Result<(), Fail> {
     let (start, movement, after) = case;
     let steps = [Indent(movement.clone()?)];
-    does(rt, alloc, &PLAIN, start, &steps, &leaving(after, 1))
+    does(rt, alloc, &PLAIN, start, &steps, &leaving(after, "d"))
 }
 
 const X: CharSearch = CharSearch::Forward('x');
@@ -86,11 +86,11 @@ fn of_lines(rt: HostRuntime) -> Result<(), Fail> {
     Ok(())
 }
 
-/// A dedent by two characters draws once, whatever it changes.
+/// A dedent by two characters draws all once, whatever it changes.
 fn dedents(rt: &impl Abort, alloc: Global, case: &Case) -> Result<(), Fail> {
     let (start, movement, after) = case;
     let steps = [Dedent(movement.clone()?)];
-    does(rt, alloc, &PLAIN, start, &steps, &leaving(after, 1))
+    does(rt, alloc, &PLAIN, start, &steps, &leaving(after, "d"))
 }
 
 const DEDENTED: &[Case] = &[

@@ -1,6 +1,7 @@
 //! What is large fails for no reason of its own: texts past 1,000 bytes, 1,000 groups of changes, 1,000 lines of a history.
 
 use super::Step::{self, *};
+use super::steps::{COPY, FRONT, HOME, PUT, WHOLE, X, YANK};
 use super::{Editor, PLAIN, done};
 use line_buffer::At::*;
 use line_buffer::Movement::*;
@@ -28,9 +29,7 @@ type Case = (
     u64,
     &'static [Step],
     &'static [Step],
-    usize,
-    usize,
-    usize,
+    (usize, usize, usize),
 );
 
 /// A history of so many lines.
@@ -63,7 +62,7 @@ fn takes(
 }
 
 fn lasts(rt: &impl Abort, alloc: Global, case: &Case) -> std::result::Result<(), Fail> {
-    let (lines, before, times, steps, behind, len, pos, place) = case;
+    let (lines, before, times, steps, behind, left) = case;
     let history = shelved(alloc, *lines)?;
     let mut screen = Recorder::new(alloc, 80, false, 0);
     let mut helper = Advisor::hinting(Some(Tip("!!", Some("!!"))), PLAIN.verdict, None);
@@ -76,206 +75,109 @@ fn lasts(rt: &impl Abort, alloc: Global, case: &Case) -> std::result::Result<(),
     }
     takes(rt, alloc, &mut state, &mut kills, behind)?;
     let found = (state.line().len(), state.pos(), state.place());
-    assert_eq!(rt; found, (*len, *pos, *place));
+    assert_eq!(rt; found, *left);
     Ok(())
 }
 
+const BACK: Step = HistorySearchBackward;
+
+const ON: Step = HistorySearchForward;
+
+const UP: Step = PreviousHistory;
+
 const LONG: Step = SelfInsert(1200, 'x');
 
+/// Steps, and the length of the line and the cursor that they leave.
+type Long = (&'static [Step], usize, usize);
+
+fn lasts_once(rt: &impl Abort, alloc: Global, case: &Long) -> std::result::Result<(), Fail> {
+    let (steps, len, pos) = case;
+    lasts(rt, alloc, &(0, *steps, 0, &[], &[], (*len, *pos, 0)))
+}
+
 /// Lines of 1,200 bytes and more.
-const TEXTS: &[Case] = &[
-    (0, &[LONG], 1, &[Kill(WholeLine)], &[], 0, 0, 0),
-    (0, &[LONG], 1, &[Kill(BackwardChar(1100))], &[], 100, 100, 0),
+const TEXTS: &[Long] = &[
+    (&[LONG, WHOLE], 0, 0),
+    (&[LONG, Kill(BackwardChar(1100))], 100, 100),
+    (&[LONG, FRONT, Yank(2, Before), YankPop], 2400, 2400),
+    (&[LONG, FRONT, Yank(2, Before)], 2400, 2400),
+    (&[LONG, COPY, YANK, PUT], 3600, 3600),
+    (&[Insert(1200, "日\n")], 4800, 4800),
+    (&[Insert(1200, "x\n"), Indent(WholeBuffer)], 4800, 4800),
     (
-        0,
-        &[LONG],
-        1,
-        &[Kill(BeginningOfLine)],
-        &[Yank(2, Before), YankPop],
+        &[
+            Insert(1200, "x\n"),
+            Indent(WholeBuffer),
+            Dedent(WholeBuffer),
+        ],
         2400,
         2400,
-        0,
     ),
+    (&[LONG, Replace(WholeLine, Some("日"))], 3, 0),
+    (&[LONG, PopText(1199, "日")], 4, 4),
+    (&[LONG, Put(1200, "y", Before)], 2400, 2400),
+    (&[LONG, Newline, LONG, Undo(1)], 1201, 1201),
     (
-        0,
-        &[LONG],
-        1,
-        &[Kill(BeginningOfLine)],
-        &[Yank(2, Before)],
-        2400,
-        2400,
-        0,
-    ),
-    (
-        0,
-        &[LONG, ViYankTo(WholeLine)],
-        1,
-        &[Yank(1, Before)],
-        &[Yank(1, After)],
-        3600,
-        3600,
-        0,
-    ),
-    (0, &[Insert(1200, "日\n")], 1, &[], &[], 4800, 4800, 0),
-    (
-        0,
-        &[Insert(1200, "x\n")],
-        1,
-        &[Indent(WholeBuffer)],
-        &[],
-        4800,
-        4800,
-        0,
-    ),
-    (
-        0,
-        &[Insert(1200, "x\n")],
-        1,
-        &[Indent(WholeBuffer), Dedent(WholeBuffer)],
-        &[],
-        2400,
-        2400,
-        0,
-    ),
-    (
-        0,
-        &[LONG],
-        1,
-        &[Replace(WholeLine, Some("日"))],
-        &[],
-        3,
-        0,
-        0,
-    ),
-    (0, &[LONG], 1, &[PopText(1199, "日")], &[], 4, 4, 0),
-    (
-        0,
-        &[LONG, Put(1200, "y", Before)],
-        1,
-        &[],
-        &[],
-        2400,
-        2400,
-        0,
-    ),
-    (0, &[LONG, Newline], 1, &[LONG], &[Undo(1)], 1201, 1201, 0),
-    (
-        0,
-        &[LONG, Move(BeginningOfLine)],
-        1,
-        &[ReplaceChar(1100, 'y')],
-        &[Overwrite('z')],
+        &[LONG, HOME, ReplaceChar(1100, 'y'), Overwrite('z')],
         1200,
         1100,
-        0,
     ),
     (
-        0,
-        &[LONG, Move(BeginningOfLine)],
-        1,
-        &[UpcaseWord, TransposeChars],
-        &[TransposeWords(1)],
+        &[LONG, HOME, UpcaseWord, TransposeChars, TransposeWords(1)],
         1200,
         1200,
-        0,
     ),
     (
-        0,
-        &[LONG, Move(BackwardWord(1, Emacs)), CapitalizeWord],
-        1,
-        &[Move(BackwardChar(1150)), Move(ForwardChar(1100))],
-        &[DowncaseWord],
+        &[
+            LONG,
+            Move(BackwardWord(1, Emacs)),
+            CapitalizeWord,
+            Move(BackwardChar(1150)),
+            Move(ForwardChar(1100)),
+            DowncaseWord,
+        ],
         1200,
         1200,
-        0,
     ),
     (
-        0,
-        &[LONG],
-        1,
-        &[Move(ViCharSearch(1100, Search::Backward('x')))],
-        &[Move(ForwardWord(1, AfterEnd, Vi))],
+        &[
+            LONG,
+            Move(ViCharSearch(1100, Search::Backward('x'))),
+            Move(ForwardWord(1, AfterEnd, Vi)),
+        ],
         1200,
         1200,
-        0,
     ),
-    (
-        0,
-        &[LONG],
-        1,
-        &[Backup, Kill(WholeLine), Restore],
-        &[],
-        1200,
-        1200,
-        0,
-    ),
-    (
-        0,
-        &[LONG],
-        1,
-        &[CompleteHint],
-        &[Repaint, ClearScreen],
-        1202,
-        1202,
-        0,
-    ),
-    (
-        0,
-        &[LONG],
-        1,
-        &[EndOfFile, AskVerdict, AskLastInsert],
-        &[],
-        1200,
-        1200,
-        0,
-    ),
-    (
-        0,
-        &[LONG],
-        1,
-        &[PreviousHistory, HistorySearchBackward],
-        &[],
-        1200,
-        1200,
-        0,
-    ),
+    (&[LONG, Backup, WHOLE, Restore], 1200, 1200),
+    (&[LONG, CompleteHint, Repaint, ClearScreen], 1202, 1202),
+    (&[LONG, EndOfFile, AskVerdict, AskLastInsert], 1200, 1200),
+    (&[LONG, UP, BACK], 1200, 1200),
 ];
 
 #[test]
 fn of_texts(rt: HostRuntime) -> std::result::Result<(), Fail> {
     for case in TEXTS {
-        lasts(&rt, rt.alloc(), case)?;
+        lasts_once(&rt, rt.alloc(), case)?;
     }
     Ok(())
 }
 
-const GROUP: &[Step] = &[Begin, SelfInsert(1, 'x'), End];
+const GROUP: &[Step] = &[Begin, X, End];
 
 /// One step after the other, and one kill.
 const CHANGES: &[Case] = &[
-    (0, &[], 1010, GROUP, &[Undo(1000)], 10, 10, 0),
-    (0, &[], 1010, &[Begin], &[LONG, End, Undo(1)], 0, 0, 0),
+    (0, &[], 1010, GROUP, &[Undo(1000)], (10, 10, 0)),
+    (0, &[], 1010, &[Begin], &[LONG, End, Undo(1)], (0, 0, 0)),
+    (0, &[], 1010, &[X, FRONT], &[YANK], (1010, 1010, 0)),
     (
         0,
         &[],
         1010,
-        &[SelfInsert(1, 'x'), Kill(BeginningOfLine)],
-        &[Yank(1, Before)],
-        1010,
-        1010,
-        0,
+        &[X, FRONT, Reset],
+        &[YANK, YankPop],
+        (1, 1, 0),
     ),
-    (
-        0,
-        &[],
-        1010,
-        &[SelfInsert(1, 'x'), Kill(BeginningOfLine), Reset],
-        &[Yank(1, Before), YankPop],
-        1,
-        1,
-        0,
-    ),
-    (0, &[], 1010, &[Repaint], &[LONG], 1200, 1200, 0),
+    (0, &[], 1010, &[Repaint], &[LONG], (1200, 1200, 0)),
 ];
 
 #[test]
@@ -288,46 +190,24 @@ fn of_changes(rt: HostRuntime) -> std::result::Result<(), Fail> {
 
 /// A history of 1,100 lines of eight bytes.
 const WALKS: &[Case] = &[
-    (1100, &[], 1050, &[PreviousHistory], &[], 8, 8, 50),
+    (1100, &[], 1050, &[UP], &[], (8, 8, 50)),
+    (1100, &[X], 1100, &[UP], &[UP], (8, 8, 0)),
     (
         1100,
-        &[SelfInsert(1, 'x')],
-        1100,
-        &[PreviousHistory],
-        &[PreviousHistory],
-        8,
-        8,
-        0,
-    ),
-    (
-        1100,
-        &[SelfInsert(1, 'x'), BeginningOfHistory],
+        &[X, BeginningOfHistory],
         1100,
         &[NextHistory],
         &[],
-        1,
-        1,
-        1100,
+        (1, 1, 1100),
     ),
+    (1100, &[SelfInsert(1, 'l')], 1050, &[BACK], &[], (8, 1, 50)),
     (
         1100,
-        &[SelfInsert(1, 'l')],
+        &[BeginningOfHistory, HOME],
         1050,
-        &[HistorySearchBackward],
+        &[ON],
         &[],
-        8,
-        1,
-        50,
-    ),
-    (
-        1100,
-        &[BeginningOfHistory, Move(BeginningOfLine)],
-        1050,
-        &[HistorySearchForward],
-        &[],
-        8,
-        0,
-        1050,
+        (8, 0, 1050),
     ),
     (
         1100,
@@ -335,20 +215,9 @@ const WALKS: &[Case] = &[
         1050,
         &[LineUpOrPreviousHistory(1)],
         &[EndOfHistory],
-        0,
-        0,
-        1100,
+        (0, 0, 1100),
     ),
-    (
-        1100,
-        &[Insert(1, "line1000")],
-        1,
-        &[HistorySearchBackward],
-        &[],
-        8,
-        8,
-        0,
-    ),
+    (1100, &[Insert(1, "line1000")], 1, &[BACK], &[], (8, 8, 0)),
 ];
 
 #[test]

@@ -85,6 +85,41 @@ pub(super) enum Step {
     Shift(u8, bool),
 }
 
+// Steps that several modules make: a character typed; kills back, on, to the line's end and start, and of the line; a copy
+// of it; moves; yanks before and behind; a text for the rest of the line; a message, and another prompt.
+
+pub(super) const X: Step = Step::SelfInsert(1, 'x');
+
+pub(super) const BACK: Step = Step::Kill(Movement::BackwardChar(1));
+
+pub(super) const ON: Step = Step::Kill(Movement::ForwardChar(1));
+
+pub(super) const REST: Step = Step::Kill(Movement::EndOfLine);
+
+pub(super) const FRONT: Step = Step::Kill(Movement::BeginningOfLine);
+
+pub(super) const WHOLE: Step = Step::Kill(Movement::WholeLine);
+
+pub(super) const COPY: Step = Step::ViYankTo(Movement::WholeLine);
+
+pub(super) const LEFT: Step = Step::Move(Movement::BackwardChar(1));
+
+pub(super) const RIGHT: Step = Step::Move(Movement::ForwardChar(1));
+
+pub(super) const HOME: Step = Step::Move(Movement::BeginningOfLine);
+
+pub(super) const END: Step = Step::Move(Movement::EndOfLine);
+
+pub(super) const YANK: Step = Step::Yank(1, Anchor::Before);
+
+pub(super) const PUT: Step = Step::Yank(1, Anchor::After);
+
+pub(super) const FILL: Step = Step::Replace(Movement::EndOfLine, Some("x"));
+
+pub(super) const WHY: Step = Step::PaintMessage("why");
+
+pub(super) const ARG: Step = Step::PaintBehind("(arg: 2) ");
+
 /// The command, where it is one that moves or edits by a movement, or by a count.
 fn counted(alloc: Global, step: &Step) -> Result<Option<Cmd>> {
     let command = match step {

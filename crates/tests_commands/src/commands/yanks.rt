@@ -1,60 +1,53 @@
 //! Commands that take texts from the kill ring.
 
 use super::Step::*;
+use super::steps::{FRONT, LEFT, PUT, REST, WHOLE, YANK};
 use super::{Case, Step, leaves};
 use line_buffer::Movement::{self, *};
 use line_buffer::Word::*;
 use line_keys::cmd::Anchor::*;
 use std::test::Fail;
 
-const REST: Step = ViYankTo(EndOfLine);
+const TO_END: Step = ViYankTo(EndOfLine);
 
 const FIRST: Step = ViYankTo(ForwardChar(1));
 
+const POP: Step = YankPop;
+
 const BACK: Movement = BackwardWord(1, Emacs);
 
+const CUT: Step = Kill(BACK);
+
+const NONE: Step = Yank(0, Before);
+
 const YANKED: &[Case] = &[
-    ("|", &[Yank(1, Before)], "|", 0),
-    ("a|b", &[Yank(1, After)], "a|b", 0),
-    ("a|b", &[Yank(0, Before)], "a|b", 0),
-    ("ab|c", &[REST, Yank(1, Before)], "abc|c", 1),
-    ("ab|c", &[REST, Yank(1, After)], "abcc|", 1),
-    ("ab|c", &[REST, Yank(0, Before)], "ab|c", 1),
-    ("ab|c", &[REST, Yank(0, After)], "abc|", 1),
-    ("ab|c", &[REST, Yank(2, Before)], "abcc|c", 1),
-    ("ab|c", &[REST, Yank(2, After)], "abccc|", 1),
-    ("|abc", &[FIRST, Yank(1, Before)], "a|abc", 1),
-    ("|abc", &[FIRST, Yank(1, After)], "aa|bc", 1),
-    ("abc|", &[ViYankTo(BACK), Yank(1, After)], "abcabc|", 1),
-    ("|日本", &[FIRST, Yank(1, After)], "日日|本", 1),
+    ("|", &[YANK], "|", ""),
+    ("a|b", &[PUT], "a|b", ""),
+    ("a|b", &[NONE], "a|b", ""),
+    ("ab|c", &[TO_END, YANK], "abc|c", "d"),
+    ("ab|c", &[TO_END, PUT], "abcc|", "d"),
+    ("ab|c", &[TO_END, NONE], "ab|c", "d"),
+    ("ab|c", &[TO_END, Yank(0, After)], "abc|", "d"),
+    ("ab|c", &[TO_END, Yank(2, Before)], "abcc|c", "d"),
+    ("ab|c", &[TO_END, Yank(2, After)], "abccc|", "d"),
+    ("|abc", &[FIRST, YANK], "a|abc", "d"),
+    ("|abc", &[FIRST, PUT], "aa|bc", "d"),
+    ("abc|", &[ViYankTo(BACK), PUT], "abcabc|", "d"),
+    ("|日本", &[FIRST, PUT], "日日|本", "d"),
     (
         "|e\u{301}x",
         &[FIRST, Yank(2, Before)],
         "e\u{301}e\u{301}|e\u{301}x",
-        1,
+        "d",
     ),
-    (
-        "a|\nb",
-        &[ViYankTo(WholeBuffer), Yank(1, After)],
-        "a\na\nb|b",
-        1,
-    ),
-    ("ab|", &[Kill(WholeLine), Yank(1, Before)], "ab|", 2),
-    (
-        "ab|",
-        &[Kill(WholeLine), Yank(1, After), Yank(1, After)],
-        "abab|",
-        3,
-    ),
+    ("a|\nb", &[ViYankTo(WholeBuffer), PUT], "a\na\nb|b", "d"),
+    ("ab|", &[WHOLE, YANK], "ab|", "mcd"),
+    ("ab|", &[WHOLE, PUT, PUT], "abab|", "mcdd"),
     (
         "a|",
-        &[
-            Kill(WholeLine),
-            Yank(65535, Before),
-            Kill(BackwardChar(65534)),
-        ],
+        &[WHOLE, Yank(65535, Before), Kill(BackwardChar(65534))],
         "a|",
-        3,
+        "mcdd",
     ),
 ];
 
@@ -68,41 +61,26 @@ fn by_a_yank(rt: HostRuntime) -> Result<(), Fail> {
 
 /// Kills one after another share a slot of the ring; a reset begins another.
 const SLOTS: &[Case] = &[
-    ("|ab", &[FIRST, FIRST, Yank(1, Before)], "aa|ab", 1),
-    ("|ab", &[FIRST, Reset, FIRST, Yank(1, Before)], "a|ab", 1),
-    (
-        "a b|",
-        &[Kill(BACK), Kill(BACK), Yank(1, Before)],
-        "a b|",
-        3,
-    ),
-    (
-        "a b|",
-        &[Kill(BACK), Reset, Kill(BACK), Yank(1, Before)],
-        "a |",
-        3,
-    ),
-    (
-        "ab|cd",
-        &[Kill(EndOfLine), Kill(BeginningOfLine), Yank(1, Before)],
-        "abcd|",
-        3,
-    ),
+    ("|ab", &[FIRST, FIRST, YANK], "aa|ab", "d"),
+    ("|ab", &[FIRST, Reset, FIRST, YANK], "a|ab", "d"),
+    ("a b|", &[CUT, CUT, YANK], "a b|", "mcmcd"),
+    ("a b|", &[CUT, Reset, CUT, YANK], "a |", "mcmcd"),
+    ("ab|cd", &[REST, FRONT, YANK], "abcd|", "cmcd"),
     (
         "a|b",
         &[
             Replace(EndOfLine, None),
             Replace(BeginningOfLine, None),
-            Yank(1, Before),
+            YANK,
         ],
         "ab|",
-        3,
+        "cmcd",
     ),
     (
         "a|b",
-        &[Replace(ForwardChar(1), Some("x")), Yank(1, Before)],
+        &[Replace(ForwardChar(1), Some("x")), YANK],
         "a|x",
-        2,
+        "cd",
     ),
 ];
 
@@ -116,109 +94,41 @@ fn by_slots_of_the_ring(rt: HostRuntime) -> Result<(), Fail> {
 
 /// `two` is killed, and then `one `.
 const POPPED: &[Case] = &[
-    ("a|b", &[YankPop], "a|b", 0),
-    ("ab|c", &[REST, YankPop], "ab|c", 0),
-    ("ab|c", &[REST, Yank(1, Before), Reset, YankPop], "abc|c", 1),
-    ("ab|c", &[REST, Yank(1, Before), YankPop], "abc|c", 2),
-    ("ab|c", &[REST, Yank(2, Before), YankPop], "abcc|c", 2),
+    ("a|b", &[POP], "a|b", ""),
+    ("ab|c", &[TO_END, POP], "ab|c", ""),
+    ("ab|c", &[TO_END, YANK, Reset, POP], "abc|c", "d"),
+    ("ab|c", &[TO_END, YANK, POP], "abc|c", "dd"),
+    ("ab|c", &[TO_END, Yank(2, Before), POP], "abcc|c", "dd"),
+    ("one two|", &[CUT, Reset, CUT, YANK, POP], "two|", "mcmcdd"),
     (
         "one two|",
-        &[Kill(BACK), Reset, Kill(BACK), Yank(1, Before), YankPop],
-        "two|",
-        4,
-    ),
-    (
-        "one two|",
-        &[
-            Kill(BACK),
-            Reset,
-            Kill(BACK),
-            Yank(1, Before),
-            YankPop,
-            YankPop,
-        ],
+        &[CUT, Reset, CUT, YANK, POP, POP],
         "one |",
-        5,
+        "mcmcddd",
     ),
     (
         "one two|",
-        &[Kill(BACK), Reset, Kill(BACK), Yank(2, Before), YankPop],
+        &[CUT, Reset, CUT, Yank(2, Before), POP],
         "one two|",
-        4,
+        "mcmcdd",
     ),
+    ("one two|", &[CUT, Reset, CUT, NONE, POP], "|", "mcmcd"),
     (
         "one two|",
-        &[Kill(BACK), Reset, Kill(BACK), Yank(0, Before), YankPop],
-        "|",
-        3,
-    ),
-    (
-        "one two|",
-        &[
-            Kill(BACK),
-            Reset,
-            Kill(BACK),
-            Yank(0, Before),
-            YankPop,
-            Yank(1, Before),
-        ],
+        &[CUT, Reset, CUT, NONE, POP, YANK],
         "two|",
-        4,
+        "mcmcdd",
     ),
-    (
-        "|",
-        &[
-            SelfInsert(1, 'a'),
-            Kill(BeginningOfLine),
-            Yank(0, Before),
-            YankPop,
-        ],
-        "|",
-        3,
-    ),
+    ("|", &[SelfInsert(1, 'a'), FRONT, NONE, POP], "|", "wmcd"),
     (
         "one two|",
-        &[
-            Kill(BACK),
-            Reset,
-            Kill(BACK),
-            Yank(0, Before),
-            YankPop,
-            YankPop,
-            Yank(1, Before),
-        ],
+        &[CUT, Reset, CUT, NONE, POP, POP, YANK],
         "one |",
-        4,
+        "mcmcdd",
     ),
-    (
-        "é|x",
-        &[REST, Yank(1, Before), Move(BackwardChar(1)), YankPop],
-        "é|xx",
-        2,
-    ),
-    (
-        "|ab",
-        &[
-            Kill(EndOfLine),
-            Yank(1, Before),
-            Move(BackwardChar(1)),
-            YankPop,
-        ],
-        "a|b",
-        3,
-    ),
-    (
-        "é|b",
-        &[
-            Kill(EndOfLine),
-            Move(BackwardChar(1)),
-            Yank(1, After),
-            Move(BackwardChar(1)),
-            YankPop,
-        ],
-        "é|b",
-        4,
-    ),
+    ("é|x", &[TO_END, YANK, LEFT, POP], "é|xx", "dm"),
+    ("|ab", &[REST, YANK, LEFT, POP], "a|b", "cdm"),
+    ("é|b", &[REST, LEFT, PUT, LEFT, POP], "é|b", "dmdm"),
 ];
 
 #[test]
@@ -231,27 +141,27 @@ fn by_a_pop(rt: HostRuntime) -> Result<(), Fail> {
 
 /// By the calls themselves: a text behind the cluster, and one in place of so many bytes.
 const CALLS: &[Case] = &[
-    ("a|b", &[Put(1, "", Before)], "a|b", 0),
-    ("a|b", &[Put(1, "", After)], "ab|", 1),
-    ("ab|", &[Put(1, "", After)], "ab|", 0),
-    ("|日本", &[Put(0, "", After)], "日|本", 1),
-    ("|日本", &[Put(0, "x", After)], "日|本", 1),
-    ("|日本", &[Put(2, "x", After)], "日xx|本", 1),
-    ("ab|c", &[PopText(2, "xyz")], "xyz|c", 1),
-    ("ab|c", &[PopText(1, "b")], "ab|c", 1),
-    ("ab|c", &[PopText(0, "x")], "abx|c", 1),
-    ("ab|c", &[PopText(1, "")], "a|c", 1),
-    ("ab|c", &[PopText(0, "")], "ab|c", 0),
-    ("ab|c", &[PopText(3, "x")], "ab|c", 0),
-    ("|ab", &[PopText(1, "x")], "|ab", 0),
-    ("|", &[PopText(1, "x")], "|", 0),
-    ("日|", &[PopText(1, "x")], "日|", 0),
-    ("日|", &[PopText(2, "x")], "日|", 0),
-    ("日|", &[PopText(3, "x")], "x|", 1),
-    ("é|b", &[PopText(1, "b")], "é|b", 0),
-    ("a|b", &[PopText(2, "ab")], "a|b", 0),
-    ("e\u{301}|", &[PopText(2, "x")], "ex|", 1),
-    ("a\nb|", &[PopText(2, "日")], "a日|", 1),
+    ("a|b", &[Put(1, "", Before)], "a|b", ""),
+    ("a|b", &[Put(1, "", After)], "ab|", "m"),
+    ("ab|", &[Put(1, "", After)], "ab|", ""),
+    ("|日本", &[Put(0, "", After)], "日|本", "m"),
+    ("|日本", &[Put(0, "x", After)], "日|本", "d"),
+    ("|日本", &[Put(2, "x", After)], "日xx|本", "d"),
+    ("ab|c", &[PopText(2, "xyz")], "xyz|c", "d"),
+    ("ab|c", &[PopText(1, "b")], "ab|c", "d"),
+    ("ab|c", &[PopText(0, "x")], "abx|c", "d"),
+    ("ab|c", &[PopText(1, "")], "a|c", "d"),
+    ("ab|c", &[PopText(0, "")], "ab|c", ""),
+    ("ab|c", &[PopText(3, "x")], "ab|c", ""),
+    ("|ab", &[PopText(1, "x")], "|ab", ""),
+    ("|", &[PopText(1, "x")], "|", ""),
+    ("日|", &[PopText(1, "x")], "日|", ""),
+    ("日|", &[PopText(2, "x")], "日|", ""),
+    ("日|", &[PopText(3, "x")], "x|", "d"),
+    ("é|b", &[PopText(1, "b")], "é|b", ""),
+    ("a|b", &[PopText(2, "ab")], "a|b", ""),
+    ("e\u{301}|", &[PopText(2, "x")], "ex|", "d"),
+    ("a\nb|", &[PopText(2, "日")], "a日|", "d"),
 ];
 
 #[test]

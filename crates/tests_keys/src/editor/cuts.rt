@@ -136,7 +136,7 @@ fn of_the_reader(rt: HostRuntime) -> Result<(), Fail> {
     Ok(())
 }
 
-/// A drawing, a cleared screen, or a move of the cursor.
+/// A drawing, a written character, a cleared screen, or a move of the cursor.
 const OF_THE_SCREEN: &[Case] = &[
     (
         Setup {

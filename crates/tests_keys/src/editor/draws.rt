@@ -68,7 +68,8 @@ const NARROW: Setup = Setup {
     ..PLAIN
 };
 
-/// No old layout is handed over before the first draw; then it is the one that was drawn.
+/// No old layout is handed over before the first draw; then it is the one that was drawn. A move draws the cursor
+/// alone, and a character at the line's end is written alone where a column is left behind it.
 const RUNS: &[Case] = &[
     (
         PLAIN,
@@ -76,9 +77,9 @@ const RUNS: &[Case] = &[
         "submits",
         Wanted::Log(
             "draw \"> \" \"\" 0 None old none new 0:2 0:2 0:2 plain
-draw \"> \" \"a\" 1 None old 0:2 0:2 0:2 new 0:2 0:3 0:3 plain
-draw \"> \" \"ab\" 2 None old 0:2 0:3 0:3 new 0:2 0:4 0:4 plain
-draw \"> \" \"ab\" 1 None old 0:2 0:4 0:4 new 0:2 0:3 0:4 plain
+write \"a\"
+write \"b\"
+move (0, 4) to (0, 3)
 draw \"> \" \"acb\" 2 None old 0:2 0:3 0:4 new 0:2 0:4 0:5 plain
 ",
         ),
@@ -90,8 +91,8 @@ draw \"> \" \"acb\" 2 None old 0:2 0:3 0:4 new 0:2 0:4 0:5 plain
         Wanted::Log(
             "draw \"> \" \"\" 0 Some(\"!!\") old none new 0:2 0:2 0:4+ plain
 draw \"> \" \"a\" 1 Some(\"!!\") old 0:2 0:2 0:4+ new 0:2 0:3 0:5+ plain
-draw \"> \" \"a\" 0 None old 0:2 0:3 0:5+ new 0:2 0:2 0:3 plain
-draw \"> \" \"a\" 0 None old 0:2 0:2 0:3 new 0:2 0:2 0:3 plain
+move (0, 3) to (0, 2)
+draw \"> \" \"a\" 0 None old 0:2 0:2 0:5+ new 0:2 0:2 0:3 plain
 ",
         ),
     ),
@@ -101,7 +102,7 @@ draw \"> \" \"a\" 0 None old 0:2 0:2 0:3 new 0:2 0:2 0:3 plain
         "submits",
         Wanted::Log(
             "draw \"> \" \"\" 0 None old none new 0:2 0:2 0:2 plain
-draw \"> \" \"a\" 1 None old 0:2 0:2 0:2 new 0:2 0:3 0:3 plain
+write \"a\"
 draw \"> \" \"a\" 1 Some(\"ok\") old 0:2 0:3 0:3 new 0:2 0:3 0:5+ plain
 ",
         ),
@@ -112,21 +113,22 @@ draw \"> \" \"a\" 1 Some(\"ok\") old 0:2 0:3 0:3 new 0:2 0:3 0:5+ plain
         "interrupted",
         Wanted::Log(
             "draw \"> \" \"\" 0 None old none new 0:2 0:2 0:2 plain
-draw \"> \" \"a\" 1 None old 0:2 0:2 0:2 new 0:2 0:3 0:3 plain
+write \"a\"
 draw \"> \" \"ab\" 2 None old 0:2 0:3 0:3 new 0:2 1:0 1:0 plain
-draw \"> \" \"abc\" 3 None old 0:2 1:0 1:0 new 0:2 1:1 1:1 plain
-draw \"> \" \"abc\" 2 None old 0:2 1:1 1:1 new 0:2 1:0 1:1 plain
+write \"c\"
+move (1, 1) to (1, 0)
 move (1, 0) to (1, 1)
 ",
         ),
     ),
     (
         PLAIN,
-        &[Type('a', 1), Home, Interrupt, Refresh],
+        &[Refresh, Type('a', 1), Home, Interrupt, Refresh],
         "proceeds",
         Wanted::Log(
-            "draw \"> \" \"a\" 1 None old none new 0:2 0:3 0:3 plain
-draw \"> \" \"a\" 0 None old 0:2 0:3 0:3 new 0:2 0:2 0:3 plain
+            "draw \"> \" \"\" 0 None old none new 0:2 0:2 0:2 plain
+write \"a\"
+move (0, 3) to (0, 2)
 move (0, 2) to (0, 3)
 draw \"> \" \"a\" 0 None old 0:2 0:3 0:3 new 0:2 0:2 0:3 plain
 ",
@@ -134,11 +136,11 @@ draw \"> \" \"a\" 0 None old 0:2 0:3 0:3 new 0:2 0:2 0:3 plain
     ),
     (
         PLAIN,
-        &[Prompt("(arg: 2) "), Type('a', 1)],
+        &[Prompt("(arg: 2) "), Type('a', 2)],
         "proceeds",
         Wanted::Log(
             "draw \"(arg: 2) \" \"\" 0 None old none new 0:9 0:9 0:9 plain
-draw \"> \" \"a\" 1 None old 0:9 0:9 0:9 new 0:2 0:3 0:3 plain
+draw \"> \" \"aa\" 2 None old 0:9 0:9 0:9 new 0:2 0:4 0:4 plain
 ",
         ),
     ),
@@ -147,6 +149,80 @@ draw \"> \" \"a\" 1 None old 0:9 0:9 0:9 new 0:2 0:3 0:3 plain
 #[test]
 fn are_handed_what_was_drawn(rt: HostRuntime) -> Result<(), Fail> {
     for case in RUNS {
+        holds(&rt, rt.alloc(), case)?;
+    }
+    Ok(())
+}
+
+/// A kill to the line's end takes the cursor to where the killed text began, and clears the row from there. A kill of
+/// other text, or over the start of a row, draws in full, and so does the first change where a message stands.
+const PARTS: &[Case] = &[
+    (
+        PLAIN,
+        &[Refresh, Type('a', 1), Type('b', 1), KillLine],
+        "proceeds",
+        Wanted::Log(
+            "draw \"> \" \"\" 0 None old none new 0:2 0:2 0:2 plain
+write \"a\"
+write \"b\"
+move (0, 4) to (0, 2)
+clear to the end of the row
+",
+        ),
+    ),
+    (
+        PLAIN,
+        &[Refresh, Type('a', 1), Type('b', 1), Back(1), KillOn(1)],
+        "proceeds",
+        Wanted::Log(
+            "draw \"> \" \"\" 0 None old none new 0:2 0:2 0:2 plain
+write \"a\"
+write \"b\"
+move (0, 4) to (0, 3)
+clear to the end of the row
+",
+        ),
+    ),
+    (
+        PLAIN,
+        &[Refresh, Type('a', 1), Type('b', 1), Home, KillOn(1)],
+        "proceeds",
+        Wanted::Log(
+            "draw \"> \" \"\" 0 None old none new 0:2 0:2 0:2 plain
+write \"a\"
+write \"b\"
+move (0, 4) to (0, 2)
+draw \"> \" \"b\" 0 None old 0:2 0:2 0:4 new 0:2 0:2 0:3 plain
+",
+        ),
+    ),
+    (
+        NARROW,
+        &[Refresh, Type('a', 3), KillLine],
+        "proceeds",
+        Wanted::Log(
+            "draw \"> \" \"\" 0 None old none new 0:2 0:2 0:2 plain
+draw \"> \" \"aaa\" 3 None old 0:2 0:2 0:2 new 0:2 1:1 1:1 plain
+draw \"> \" \"\" 0 None old 0:2 1:1 1:1 new 0:2 0:2 0:2 plain
+",
+        ),
+    ),
+    (
+        PLAIN,
+        &[Message(Some("ok"), Other), Type('a', 1), Type('b', 1)],
+        "proceeds",
+        Wanted::Log(
+            "draw \"> \" \"\" 0 Some(\"ok\") old none new 0:2 0:2 0:4+ plain
+draw \"> \" \"a\" 1 None old 0:2 0:2 0:4+ new 0:2 0:3 0:3 plain
+write \"b\"
+",
+        ),
+    ),
+];
+
+#[test]
+fn are_asked_for_parts(rt: HostRuntime) -> Result<(), Fail> {
+    for case in PARTS {
         holds(&rt, rt.alloc(), case)?;
     }
     Ok(())
@@ -163,41 +239,55 @@ const FAILING_AND_HINTED: Setup = Setup {
 };
 
 const FAILING_MOVE: Setup = Setup {
-    failing: 3,
+    failing: 4,
     ..PLAIN
 };
 
-/// No old layout is handed over after a draw or a move that failed.
+/// No old layout is handed over after a draw, a written character or a move that failed, up to the next draw.
 const AFTER_A_FAULT: &[Case] = &[
     (
         FAILING,
-        &[Refresh, Type('a', 1)],
+        &[Refresh, Type('a', 2)],
         "fails",
         Wanted::Log(
             "draw \"> \" \"\" 0 None old none new 0:2 0:2 0:2 plain
-draw \"> \" \"a\" 1 None old 0:2 0:2 0:2 new 0:2 0:3 0:3 plain
+draw \"> \" \"aa\" 2 None old 0:2 0:2 0:2 new 0:2 0:4 0:4 plain
 ",
         ),
     ),
     (
         FAILING,
-        &[Refresh, Type('a', 1), Type('b', 1), Type('c', 1)],
+        &[Refresh, Type('a', 2), Type('b', 2), Type('c', 2)],
         "proceeds",
         Wanted::Log(
             "draw \"> \" \"\" 0 None old none new 0:2 0:2 0:2 plain
-draw \"> \" \"a\" 1 None old 0:2 0:2 0:2 new 0:2 0:3 0:3 plain
+draw \"> \" \"aa\" 2 None old 0:2 0:2 0:2 new 0:2 0:4 0:4 plain
+draw \"> \" \"aabb\" 4 None old none new 0:2 0:6 0:6 plain
+draw \"> \" \"aabbcc\" 6 None old 0:2 0:6 0:6 new 0:2 0:8 0:8 plain
+",
+        ),
+    ),
+    (
+        FAILING,
+        &[Refresh, Type('a', 1), Type('b', 1), Refresh, Refresh],
+        "proceeds",
+        Wanted::Log(
+            "draw \"> \" \"\" 0 None old none new 0:2 0:2 0:2 plain
+write \"a\"
+write \"b\"
 draw \"> \" \"ab\" 2 None old none new 0:2 0:4 0:4 plain
-draw \"> \" \"abc\" 3 None old 0:2 0:4 0:4 new 0:2 0:5 0:5 plain
+draw \"> \" \"ab\" 2 None old 0:2 0:4 0:4 new 0:2 0:4 0:4 plain
 ",
         ),
     ),
     (
         FAILING_MOVE,
-        &[Type('a', 1), Home, Interrupt, Refresh],
+        &[Refresh, Type('a', 1), Home, Interrupt, Refresh],
         "proceeds",
         Wanted::Log(
-            "draw \"> \" \"a\" 1 None old none new 0:2 0:3 0:3 plain
-draw \"> \" \"a\" 0 None old 0:2 0:3 0:3 new 0:2 0:2 0:3 plain
+            "draw \"> \" \"\" 0 None old none new 0:2 0:2 0:2 plain
+write \"a\"
+move (0, 3) to (0, 2)
 move (0, 2) to (0, 3)
 draw \"> \" \"a\" 0 None old none new 0:2 0:2 0:3 plain
 ",
@@ -236,8 +326,9 @@ fn start_anew_after_a_fault(rt: HostRuntime) -> Result<(), Fail> {
     Ok(())
 }
 
-/// A highlighter is handed over where colors are on and a helper is there, and is asked of the change before. Where its last answer was yes, a submit draws
-/// once more.
+/// A highlighter is handed over where colors are on and a helper is there, and is asked of the change before. Where it
+/// answers yes, or did so the time before, nothing is drawn in part. Where its last answer was yes, a submit draws once
+/// more.
 const COLOURS: &[Case] = &[
     (
         COLOURED,
@@ -245,7 +336,7 @@ const COLOURS: &[Case] = &[
         "submits",
         Wanted::Log(
             "draw \"> \" \"\" 0 None old none new 0:2 0:2 0:2 after an edit
-draw \"> \" \"a\" 1 None old 0:2 0:2 0:2 new 0:2 0:3 0:3 after an edit
+write \"a\"
 ",
         ),
     ),
@@ -255,7 +346,7 @@ draw \"> \" \"a\" 1 None old 0:2 0:2 0:2 new 0:2 0:3 0:3 after an edit
         "submits",
         Wanted::Log(
             "draw \"> \" \"\" 0 None old none new 0:2 0:2 0:2 plain
-draw \"> \" \"a\" 1 None old 0:2 0:2 0:2 new 0:2 0:3 0:3 plain
+write \"a\"
 ",
         ),
     ),
@@ -297,9 +388,33 @@ draw \"> \" \"a\" 0 None old 0:2 0:3 0:3 new 0:2 0:2 0:3 after a move
         "submits",
         Wanted::Log(
             "draw \"> \" \"\" 0 None old none new 0:2 0:2 0:2 after an edit
-draw \"> \" \"a\" 1 None old 0:2 0:2 0:2 new 0:2 0:3 0:3 after an edit
+write \"a\"
 draw \"> \" \"a\" 0 None old 0:2 0:3 0:3 new 0:2 0:2 0:3 after a move
 draw \"> \" \"a\" 0 None old 0:2 0:2 0:3 new 0:2 0:2 0:3 for the last time
+",
+        ),
+    ),
+    (
+        LIT_BY_MOVES,
+        &[Refresh, Type('a', 1), Home, End, KillLine],
+        "proceeds",
+        Wanted::Log(
+            "draw \"> \" \"\" 0 None old none new 0:2 0:2 0:2 after an edit
+write \"a\"
+draw \"> \" \"a\" 0 None old 0:2 0:3 0:3 new 0:2 0:2 0:3 after a move
+draw \"> \" \"a\" 1 None old 0:2 0:2 0:3 new 0:2 0:3 0:3 after a move
+draw \"> \" \"\" 0 None old 0:2 0:3 0:3 new 0:2 0:2 0:2 after an edit
+",
+        ),
+    ),
+    (
+        HINTED_AND_LIT,
+        &[Refresh, Type('a', 1), Home],
+        "proceeds",
+        Wanted::Log(
+            "draw \"> \" \"\" 0 Some(\"!!\") old none new 0:2 0:2 0:4+ after an edit
+draw \"> \" \"a\" 1 Some(\"!!\") old 0:2 0:2 0:4+ new 0:2 0:3 0:5+ after an edit
+draw \"> \" \"a\" 0 None old 0:2 0:3 0:5+ new 0:2 0:2 0:3 after a move
 ",
         ),
     ),
@@ -328,6 +443,11 @@ const HINTED_AND_COLOURED: Setup = Setup {
     colors: true,
     hint: Some("!!"),
     ..PLAIN
+};
+
+const HINTED_AND_LIT: Setup = Setup {
+    hint: Some("!!"),
+    ..LIT_BY_MOVES
 };
 
 const MESSAGE_AND_COLOURED: Setup = Setup {
@@ -381,15 +501,15 @@ const KINDS: &[Case] = &[
     ),
     (
         MESSAGE_AND_COLOURED,
-        &[Type('a', 1), Accept],
+        &[Refresh, Type('a', 1), Accept],
         "submits",
-        Wanted::Kinds((Some(Other), Some(Other), None, None)),
+        Wanted::Kinds((Some(Other), Some(Other), Some(Other), None)),
     ),
     (
         TAKEN_AND_COLOURED,
-        &[Type('a', 1), Accept],
+        &[Refresh, Type('a', 1), Accept],
         "submits",
-        Wanted::Kinds((Some(ForcedRefresh), Some(Other), None, None)),
+        Wanted::Kinds((Some(ForcedRefresh), Some(Other), Some(Other), None)),
     ),
     (
         COLOURED,

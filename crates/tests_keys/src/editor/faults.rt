@@ -28,6 +28,24 @@ const THIRD: Setup = Setup {
     ..FIRST
 };
 
+/// Call 2 of the renderer fails, and nothing is hinted, so that a change at the line's end is drawn in part.
+const BARE_SECOND: Setup = Setup {
+    failing: 2,
+    ..PLAIN
+};
+
+/// Call 3 of the renderer fails, and nothing is hinted.
+const BARE_THIRD: Setup = Setup {
+    failing: 3,
+    ..PLAIN
+};
+
+/// Call 4 of the renderer fails, and nothing is hinted.
+const BARE_FOURTH: Setup = Setup {
+    failing: 4,
+    ..PLAIN
+};
+
 /// Call 1 of the renderer fails by an error of its own.
 const CUT: Setup = Setup {
     cut: Cut::Screen(1),
@@ -65,6 +83,24 @@ const FAULTS: &[Case] = &[
         &[Type('a', 1), MoveToEnd, MoveCursor(CmdKind::Other)],
         "fails",
         Wanted::Len(1),
+    ),
+    (
+        BARE_SECOND,
+        &[Refresh, Type('a', 1)],
+        "fails",
+        Wanted::Len(1),
+    ),
+    (
+        BARE_THIRD,
+        &[Refresh, Type('a', 1), KillLine],
+        "fails",
+        Wanted::Len(0),
+    ),
+    (
+        BARE_FOURTH,
+        &[Refresh, Type('a', 1), KillLine],
+        "fails",
+        Wanted::Len(0),
     ),
     (FIRST, &[Run(&[A])], "fails", Wanted::Len(0)),
     (SECOND, &[Run(&[A])], "fails", Wanted::Len(1)),

@@ -136,7 +136,7 @@ const HINTS: &[Case] = &[
         HINTED,
         &[AA, Back(1)],
         "proceeds",
-        Wanted::Line("aa", 1, (0, 3), (0, 4)),
+        Wanted::Line("aa", 1, (0, 3), (0, 6)),
     ),
     (
         HINTED,
@@ -154,7 +154,7 @@ const HINTS: &[Case] = &[
         HINTED,
         &[AA, MoveToEnd, BACK_TO_CURSOR],
         "proceeds",
-        Wanted::Line("aa", 2, (0, 4), (0, 4)),
+        Wanted::Line("aa", 2, (0, 4), (0, 6)),
     ),
     (
         HINTED,
@@ -263,7 +263,7 @@ const MOVES: &[Case] = &[
     ),
     (
         PLAIN,
-        &[A, KillLine],
+        &[Refresh, A, KillLine],
         "proceeds",
         Wanted::Line("", 0, (0, 2), (0, 2)),
     ),
@@ -316,13 +316,13 @@ const ENDS: &[Case] = &[
     ),
     (
         VI,
-        &[A, Interrupt],
+        &[Refresh, A, Interrupt],
         "interrupted",
         Wanted::Line("a", 1, (0, 3), (0, 3)),
     ),
     (
         PLAIN,
-        &[A, Back(1), Interrupt],
+        &[Refresh, A, Back(1), Interrupt],
         "interrupted",
         Wanted::Line("a", 0, (0, 3), (0, 3)),
     ),

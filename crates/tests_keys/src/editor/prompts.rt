@@ -30,12 +30,12 @@ draw \"> \" as \"\\u{1b}[1m> \" \"\" 0 None old 0:2 0:2 0:2 new 0:2 0:2 0:2 plai
     ),
     (
         STYLED,
-        &[Type('a', 1), Home, Message(Some("ok"), Other)],
+        &[Type('a', 2), Home, Message(Some("ok"), Other)],
         "proceeds",
         Wanted::Log(
-            "draw \"> \" as \"\\u{1b}[1m> \" \"a\" 1 None old none new 0:2 0:3 0:3 plain
-draw \"> \" as \"\\u{1b}[1m> \" \"a\" 0 None old 0:2 0:3 0:3 new 0:2 0:2 0:3 plain
-draw \"> \" as \"\\u{1b}[1m> \" \"a\" 0 Some(\"ok\") old 0:2 0:2 0:3 new 0:2 0:2 0:5+ plain
+            "draw \"> \" as \"\\u{1b}[1m> \" \"aa\" 2 None old none new 0:2 0:4 0:4 plain
+move (0, 4) to (0, 2)
+draw \"> \" as \"\\u{1b}[1m> \" \"aa\" 0 Some(\"ok\") old 0:2 0:2 0:4 new 0:2 0:2 0:6+ plain
 ",
         ),
     ),

@@ -385,7 +385,7 @@ const NEEDS: &[Case] = &[
         "needs more",
         Wanted::Log(
             "draw \"> \" \"\" 0 None old none new 0:2 0:2 0:2 plain
-draw \"> \" \"a\" 1 None old 0:2 0:2 0:2 new 0:2 0:3 0:3 plain
+write \"a\"
 ",
         ),
     ),
@@ -431,7 +431,7 @@ const GROUPS: &[Case] = &[
     ),
     (
         ALONE,
-        &[Type('x', 1), Validate],
+        &[Refresh, Type('x', 1), Validate],
         "proceeds",
         Wanted::Line("x", 1, (0, 3), (0, 3)),
     ),
@@ -485,7 +485,7 @@ const BETWEEN: &[Case] = &[
         "submits",
         Wanted::Log(
             "draw \"> \" \"\" 0 None old none new 0:2 0:2 0:2 plain
-draw \"> \" \"a\" 1 None old 0:2 0:2 0:2 new 0:2 0:3 0:3 plain
+write \"a\"
 draw \"> \" \"aa\" 1 None old 0:2 0:3 0:3 new 0:2 0:3 0:4 plain
 draw \"> \" \"aa\" 1 None old 0:2 0:3 0:4 new 0:2 0:3 0:4 plain
 ",
