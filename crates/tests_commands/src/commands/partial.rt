@@ -557,6 +557,27 @@ clear to the end of the row
 draw \"> \" \"a\" 1 None old none new 0:2 0:3 0:3 plain",
     ),
     (
+        (PLAIN, "|ab", &[&[GoToEnd, RIGHT, Repaint]]),
+        ("proceeds", "a|b", 0),
+        "move (0, 2) to (0, 4)
+move (0, 4) to (0, 3)
+draw \"> \" \"ab\" 1 None old 0:2 0:3 0:4 new 0:2 0:3 0:4 plain",
+    ),
+    (
+        (PLAIN, "|ab", &[&[ClearAlone, RIGHT, Repaint]]),
+        ("proceeds", "a|b", 0),
+        "clear screen
+move (0, 0) to (0, 3)
+draw \"> \" \"ab\" 1 None old none new 0:2 0:3 0:4 plain",
+    ),
+    (
+        (PLAIN, "|ab", &[&[ARG, RIGHT, Repaint]]),
+        ("proceeds", "a|b", 0),
+        "draw \"(arg: 2) \" \"ab\" 0 None old 0:2 0:2 0:4 new 0:9 0:9 0:11 plain
+move (0, 9) to (0, 3)
+draw \"> \" \"ab\" 1 None old 0:9 0:3 0:11 new 0:2 0:3 0:4 plain",
+    ),
+    (
         (PLAIN, "ab|", &[&[ARG, X, Repaint]]),
         ("proceeds", "abx|", 0),
         "draw \"(arg: 2) \" \"ab\" 2 None old 0:2 0:4 0:4 new 0:9 0:11 0:11 plain
