@@ -88,22 +88,21 @@ impl EditedLine {
         self.line.killed_range(movement)
     }
 
-    /// Kills the text of a movement, and keeps it in `kill_ring` as `LineBuffer::kill` does. Returns whether there was a
-    /// text to kill.
+    /// Kills the text of a movement, and keeps it in `kill_ring` as `LineBuffer::kill` does.
     pub fn kill(
         &mut self,
         movement: &Movement,
         kill_ring: &mut KillRing,
-    ) -> Result<bool, OutOfMemory>
-        ensures finds { let range = killed_range self.old.line movement.now in
-            Finds result self.old self.new (without_range range self.old) (is_some range) }
+    ) -> Result<(), OutOfMemory>
+        ensures edit { let range = killed_range self.old.line movement.now in
+            EditsTo result self.old self.new (without_range range self.old) }
         ensures ring { let range = killed_range self.old.line movement.now in OnOk result
             (kill_ring.new ≡ ring_with_killed self.old.line movement.now range kill_ring.old) }
         ensures size { kill_ring.new.size ≡ kill_ring.old.size }
         ensures bound { OnErr result (length kill_ring.new.slots ≤ kill_ring.new.size) }
     {
-        let killed = self.line.kill(movement, &mut self.changes, kill_ring)?;
-        Ok(killed.is_some())
+        let _ = self.line.kill(movement, &mut self.changes, kill_ring)?;
+        Ok(())
     }
 
     /// Returns a copy of the text of a movement, if it has one.
