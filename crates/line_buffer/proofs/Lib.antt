@@ -9,7 +9,9 @@ pub mod IndentLemmas
 pub mod LineLemmas
 pub mod ListLemmas
 pub mod PartLemmas
+pub mod PlainClusterLemmas
 pub mod PlainLemmas
+pub mod PrintableLemmas
 pub mod RingLemmas
 pub mod RowLemmas
 pub mod SearchLemmas

@@ -1,5 +1,5 @@
 -- The clusters beside the cursor, and the places so many of them away.
-use Rattle.std.specs.Prelude.{ℕ, ◌+◌, ◌-◌, ◌==◌, ◌||◌, nat_le, true, List, length, take, drop, Option, Some, None, if◌then◌else◌}
+use Rattle.std.specs.Prelude.{◌≡◌, ◌++◌, ℕ, ◌+◌, ◌-◌, ◌==◌, ◌||◌, nat_le, true, List, length, take, drop, Option, Some, None, if◌then◌else◌}
 use Rattle.std.specs.List.{concat}
 use Rattle.unicode_segmentation.specs.Grapheme.{graphemes}
 use Rattle.line_buffer.specs.Line.{Line, before, after}
@@ -27,3 +27,7 @@ abbrev pub place_back : Line → ℕ → Option ℕ
 place_back l n =
     if (n == 0) || (l.cursor == 0) then None
     else Some (length (before_last n (before l)))
+
+-- the clusters of a text are those of its parts before and from a place
+abbrev pub PartsClusters : List ℕ → ℕ → Type 0
+PartsClusters text place = clusters text ≡ clusters (take place text) ++ clusters (drop place text)

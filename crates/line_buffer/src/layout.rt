@@ -2,6 +2,7 @@ ghost use Rattle.std.specs.Prelude.{◌≡◌, ◌≤◌, ◌*◌, false, chars,
 ghost use Rattle.std.specs.List.{slice_split, sum_by};
 ghost use Rattle.line_buffer.specs.Width.{columns_as_one, columns_of_char, is_joiner, text_width, unit_width};
 
+use crate::printable::is_printable_text;
 use crate::seams::{JOINER, seam};
 use unicode_width::{UnicodeWidthChar, UnicodeWidthStr};
 
@@ -86,6 +87,9 @@ impl GraphemeClusterMode {
     pub(crate) fn columns(&self, text: &str) -> usize
         ensures { result ≡ text_width self.now text.now }
     {
+        if is_printable_text(text) {
+            return text.len();
+        }
         match self {
             GraphemeClusterMode::Unicode => columns_of(text),
             GraphemeClusterMode::WcWidth => columns_of_chars(text),

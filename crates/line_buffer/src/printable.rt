@@ -10,16 +10,38 @@ pub fn is_printable(c: char) -> bool
     matches!(c, ' '..='~')
 }
 
-/// Returns whether the text is printable ASCII alone.
+/// Returns whether the text is printable ASCII alone. All bytes are looked at, many at once.
 pub fn is_printable_text(text: &str) -> bool
     ensures { result ≡ list_all printable.is_printable text.now }
 {
-    text.bytes().all(|byte| matches!(byte, b' '..=b'~'))
+    let mut printable = true;
+    for byte in text.as_bytes() {
+        printable &= is_printable_byte(*byte);
+    }
+    printable
 }
 
-/// Returns whether the text is printable ASCII and newlines alone.
+/// Returns whether the text is printable ASCII and newlines alone. All bytes are looked at, many at once.
 pub fn is_plain_text(text: &str) -> bool
     ensures { result ≡ list_all printable.is_plain text.now }
 {
-    text.bytes().all(|byte| matches!(byte, b'\n' | b' '..=b'~'))
+    let mut plain = true;
+    for byte in text.as_bytes() {
+        plain &= is_plain_byte(*byte);
+    }
+    plain
+}
+
+/// Returns whether the byte is printable ASCII.
+fn is_printable_byte(byte: u8) -> bool
+    ensures { result ≡ printable.is_printable byte }
+{
+    matches!(byte, b' '..=b'~')
+}
+
+/// Returns whether the byte is printable ASCII or a newline.
+pub(crate) fn is_plain_byte(byte: u8) -> bool
+    ensures { result ≡ printable.is_plain byte }
+{
+    byte == b'\n' || is_printable_byte(byte)
 }

@@ -151,9 +151,27 @@ impl LineBuffer {
         if text.is_empty() {
             return Ok(None);
         }
-        let copies = repeated(*self.buf.allocator(), text, n)?;
-        let at_end = self.insert_told(copies.as_str(), changes)?;
+        let at_end = if n == 1 {
+            self.insert_told(text, changes)?
+        } else {
+            self.insert_repeated(text, n, changes)?
+        };
         Ok(Some(at_end))
+    }
+
+    fn insert_repeated(
+        &mut self,
+        text: &str,
+        n: RepeatCount,
+        changes: &mut Changeset,
+    ) -> Result<bool, OutOfMemory>
+        ensures answer { IfOk result (λ at_end. at_end ≡ is_at_end self.old) }
+        ensures edit { EditsIfOk result self.old self.new changes.old changes.new
+            (inserted_at_cursor self.old (repeat n text.now))
+            (on_entries (with_insert self.old.cursor (repeat n text.now))) }
+    {
+        let copies = repeated(*self.buf.allocator(), text, n)?;
+        self.insert_told(copies.as_str(), changes)
     }
 
     /// Takes `size` bytes before the cursor away and inserts the text in their place, with the

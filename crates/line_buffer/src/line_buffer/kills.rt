@@ -2,7 +2,7 @@
 ghost use Rattle.line_buffer.specs.Edit.{Edits, EditsIfOk};
 ghost use Rattle.line_buffer.specs.Kill.{Kills};
 ghost use Rattle.line_buffer.specs.Offset.{IsRangeIfAny, IsSpan};
-ghost use Rattle.std.specs.Prelude.{◌≡◌, ◌≤◌, ◌<◌, List, length, string_bytes, option_map, slice_range, Option, Some, None, IfOk, IfSome, OnOk, OnErr, IsCharBoundary};
+ghost use Rattle.std.specs.Prelude.{◌≡◌, ◌≤◌, ◌<◌, List, length, string_bytes, option_map, is_some, slice_range, Option, Some, None, IfOk, IfSome, OnOk, OnErr, IsCharBoundary};
 ghost use Rattle.line_buffer.specs.Changes.{with_entries, with_delete};
 ghost use Rattle.line_buffer.specs.Cluster.{place_on};
 ghost use Rattle.line_buffer.specs.Kill.{direction_of, kill_answer, killed_range, in_bytes, mode_of, neighbour_of, ring_mode, ring_with_killed, with_killed};
@@ -64,6 +64,54 @@ impl LineBuffer {
         Ok(Some((from, text, direction_of(mvt))))
     }
 
+    /// Kills as `kill` does, and copies no text for the caller.
+    ///
+    /// # Errors
+    ///
+    /// `OutOfMemory` where an allocation fails; then the list of changes is empty with no open
+    /// group, and the line is text with its cursor on a boundary.
+    pub fn cut(
+        &mut self,
+        mvt: &Movement,
+        changes: &mut Changeset,
+        kill_ring: &mut KillRing,
+    ) -> Result<(), OutOfMemory>
+        ensures edit { Edits result self.old self.new changes.old changes.new
+            (without self.old (killed_range self.old mvt.now))
+            (with_killed self.old (killed_range self.old mvt.now)) }
+        ensures ring { let range = killed_range self.old mvt.now in OnOk result
+            (kill_ring.new ≡ ring_with_killed self.old mvt.now range kill_ring.old) }
+        ensures size { kill_ring.new.size ≡ kill_ring.old.size }
+        ensures bound { OnErr result (length kill_ring.new.slots ≤ kill_ring.new.size) }
+    {
+        let outcome = match self.killed_range(mvt) {
+            Some((from, to)) => self.cut_range(from, to, mvt, changes, kill_ring),
+            None => Ok(()),
+        };
+        changes.settled(outcome)
+    }
+
+    fn cut_range(
+        &mut self,
+        from: usize,
+        to: usize,
+        mvt: &Movement,
+        changes: &mut Changeset,
+        kill_ring: &mut KillRing,
+    ) -> Result<(), OutOfMemory>
+        requires { IsSpan self.old.text from to }
+        ensures edit { EditsIfOk result self.old self.new changes.old changes.new
+            (without self.old (Some (from, to))) (with_killed self.old (Some (from, to))) }
+        ensures ring { OnOk result
+            (kill_ring.new ≡ ring_with_killed self.old mvt.now (Some (from, to)) kill_ring.old) }
+        ensures size { kill_ring.new.size ≡ kill_ring.old.size }
+        ensures bound { OnErr result (length kill_ring.new.slots ≤ kill_ring.new.size) }
+    {
+        let killed = &self.buf.as_str()[from..to];
+        kill_ring.keep(killed, ring_mode(mvt))?;
+        self.delete_range(from, to, changes)
+    }
+
     /// Takes `n` clusters after the cursor away, or as many as there are, and returns their text;
     /// `None` for `n` = 0 and at the text's end.
     ///
@@ -88,6 +136,28 @@ impl LineBuffer {
             None => Ok(None),
         };
         changes.settled(outcome)
+    }
+
+    /// Takes clusters away as `delete` does, and copies no text for the caller. Returns whether there
+    /// were any.
+    ///
+    /// # Errors
+    ///
+    /// `OutOfMemory` where an allocation fails; then the list of changes is empty with no open
+    /// group, and the line is text with its cursor on a boundary.
+    pub fn discard(&mut self, n: RepeatCount, changes: &mut Changeset) -> Result<bool, OutOfMemory>
+        ensures answer { IfOk result (λ done. done ≡ is_some (place_on self.old n)) }
+        ensures edit { let range = from_cursor self.old (place_on self.old n) in
+            Edits result self.old self.new changes.old changes.new
+            (without self.old range) (with_killed self.old range) }
+    {
+        self.cursor_is_on_boundary();
+        let Some((from, to)) = self.from_cursor(self.next_pos(n)) else {
+            return Ok(false);
+        };
+        let outcome = self.delete_range(from, to, changes);
+        changes.settled(outcome)?;
+        Ok(true)
     }
 
     /// Returns a copy of the text that the movement spans, or `None` where its range is empty or

@@ -1,7 +1,9 @@
 //! Movements of the cursor from line to line.
 ghost use Rattle.line_buffer.specs.Line.{MovesCursor};
 ghost use Rattle.line_buffer.specs.Offset.{IsOffset, IsRangeIfAny};
-ghost use Rattle.std.specs.Prelude.{◌≡◌, ◌≤◌, ◌+◌, length, drop, take, slice_range, is_some, IfSome, IsCharBoundary};
+ghost use Rattle.std.specs.Prelude.{◌≡◌, ◌≤◌, ◌+◌, length, drop, take, slice_range, is_some, true, IfSome, IsCharBoundary};
+ghost use Rattle.std.specs.List.{list_all};
+ghost use Rattle.line_buffer.specs.Printable.{is_printable};
 ghost use Rattle.line_buffer.specs.Line.{moved_to, start_of_line};
 ghost use Rattle.line_buffer.specs.Lines.{column_in, columns_before, down_by, fitting, line_from, line_stop, lines_above, lines_below, lines_down, lines_up, place_in_line, up_by};
 
@@ -9,6 +11,7 @@ use super::LineBuffer;
 use crate::clusters::{first_line_len, line_above, next_line};
 use crate::layout::{Layout, Unit};
 use crate::movement::RepeatCount;
+use crate::printable::is_printable_text;
 use unicode_segmentation::UnicodeSegmentation;
 
 impl LineBuffer {
@@ -146,6 +149,9 @@ fn column_in(layout: &Layout, start: usize, text: &str) -> usize
 fn fitting(layout: &Layout, start: usize, line: &str, column: usize) -> usize
     ensures { IsOffset result line.now (fitting layout.now start line.now column) }
 {
+    if is_printable_text(line) {
+        return fitting_printable(layout, start, line, column);
+    }
     let mode = &layout.grapheme_cluster_mode;
     let before = columns_before(layout, start) as usize;
     let mut columns = mode.columns(line);
@@ -158,4 +164,17 @@ fn fitting(layout: &Layout, start: usize, line: &str, column: usize) -> usize
         columns = mode.columns_to(text, rest.as_str().len(), columns);
     }
     rest.as_str().len()
+}
+
+/// The same in a line of printable ASCII, of which each character takes one column.
+fn fitting_printable(layout: &Layout, start: usize, line: &str, column: usize) -> usize
+    requires { list_all is_printable line.now ≡ true }
+    ensures { IsOffset result line.now (fitting layout.now start line.now column) }
+{
+    let before = columns_before(layout, start) as usize;
+    if before + line.len().min(65535) <= column {
+        line.len()
+    } else {
+        column.saturating_sub(before)
+    }
 }
