@@ -88,12 +88,8 @@ impl EditedLine {
         self.line.killed_range(movement)
     }
 
-    /// Kills the text of a movement, and keeps it in `kill_ring` as `LineBuffer::kill` does.
-    pub fn kill(
-        &mut self,
-        movement: &Movement,
-        kill_ring: &mut KillRing,
-    ) -> Result<(), OutOfMemory>
+    /// Kills the text of a movement, and keeps it in `kill_ring` as `LineBuffer::cut` does.
+    pub fn kill(&mut self, movement: &Movement, kill_ring: &mut KillRing) -> Result<(), OutOfMemory>
         ensures edit { let range = killed_range self.old.line movement.now in
             EditsTo result self.old self.new (without_range range self.old) }
         ensures ring { let range = killed_range self.old.line movement.now in OnOk result
@@ -101,7 +97,7 @@ impl EditedLine {
         ensures size { kill_ring.new.size ≡ kill_ring.old.size }
         ensures bound { OnErr result (length kill_ring.new.slots ≤ kill_ring.new.size) }
     {
-        let _ = self.line.kill(movement, &mut self.changes, kill_ring)?;
+        self.line.cut(movement, &mut self.changes, kill_ring)?;
         Ok(())
     }
 

@@ -67,8 +67,7 @@ impl EditedLine {
         ensures { let stop = place_on self.old.line n in Finds result self.old self.new
             (without_range (from_cursor self.old.line stop) self.old) (is_some stop) }
     {
-        let gone = self.line.delete(n, &mut self.changes)?;
-        Ok(gone.is_some())
+        self.line.discard(n, &mut self.changes)
     }
 
     /// Exchanges the clusters before and at the cursor, at the end of the text the last two, in one group of changes, with
