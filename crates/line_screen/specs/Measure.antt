@@ -1,5 +1,5 @@
 -- Where a text ends on a screen, measured cluster by cluster.
-use Rattle.std.specs.Prelude.{◌≡◌, ◌<◌, ℕ, ◌+◌, min, eqb, ◌==◌, nat_le, Bool, true, false, List, [], ◌∷◌, chars, if◌then◌else◌}
+use Rattle.std.specs.Prelude.{◌≡◌, ◌<◌, ℕ, zero, suc, ◌+◌, min, eqb, ◌==◌, nat_le, Bool, true, false, List, [], ◌∷◌, chars, if◌then◌else◌}
 use Rattle.std.specs.List.{fold, ends_with, list_all}
 use Rattle.line_keys.specs.Display.{next_row}
 use Rattle.unicode_segmentation.specs.Grapheme.{graphemes}
@@ -27,6 +27,11 @@ advanced columns width p =
 -- the place after a cluster
 abbrev pub after_cluster : ℕ → Position → List ℕ → Position
 after_cluster columns p cluster = if ends_row cluster then start_below p else advanced columns (columns_of columns cluster) p
+
+-- the place after so many characters of one column each
+abbrev pub columns_after : ℕ → ℕ → Position → Position
+columns_after columns zero p = p
+columns_after columns (suc n) p = columns_after columns n (advanced columns (min 1 columns) p)
 
 -- where the row is exactly full, the start of the row below
 abbrev pub wrapped : ℕ → Position → Position

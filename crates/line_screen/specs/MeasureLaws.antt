@@ -1,31 +1,25 @@
 -- What the measure promises of a line editor's screen, on at least one column.
-use Rattle.std.proofs.Common.{◌≡◌, ℕ, ◌+◌, ◌<◌, ◌≤◌, min, Bool, true, false, cond, not, ◌&&◌, ◌||◌, ◌==◌, List, [], ◌∷◌, ◌++◌, length, map, take, unwrap_or, refl, sym, ap, ap₂, ◌∙◌, arith, ⊎_elim}
+use Rattle.std.proofs.Common.{◌≡◌, ℕ, zero, suc, drop, get_or, ◌+◌, ◌<◌, ◌≤◌, min, true, false, cond, ◌&&◌, ◌==◌, List, [], ◌∷◌, ◌++◌, length, take, refl, sym, ap, ap₂, ◌∙◌, arith, ⊎_elim}
 use Rattle.std.specs.List.{fold, list_all, slice_range}
-use Rattle.std.specs.Str.{chars, IsAscii}
-use Rattle.std.specs.Prelude.{encode_utf8_all}
+use Rattle.std.specs.Str.{chars}
 use Rattle.std.proofs.lemmas.Bool.{and_parts, or_cases, cond_both}
 use Rattle.std.proofs.lemmas.Bool.Decides.{nat_tests}
 use Rattle.std.proofs.lemmas.List.Sums.{fold-append}
 use Rattle.std.proofs.lemmas.Str.{chars-IsAscii}
-use Rattle.std.proofs.lemmas.Str.Ascii.{encodes-IsAscii, IsAscii-nil, IsAscii-cons}
-use Rattle.std.proofs.lemmas.List.{append-nil, append_assoc, map-append, take_all}
+use Rattle.std.proofs.lemmas.Str.Ascii.{IsAscii-nil, IsAscii-cons}
+use Rattle.std.proofs.lemmas.List.{append-nil, append_assoc, map-append, take-append-drop, take_all}
 use Rattle.std.proofs.lemmas.List.Folds.{fold-map, list_all-append}
-use Rattle.ucd_table.proofs.Facts.{Stepped-below}
-use Rattle.ucd_breaks.specs.GraphemeClusterBreak.{grapheme_cluster_break}
-use Rattle.ucd_breaks.specs.declared.GraphemeClusterBreak.{GraphemeClusterBreak}
-use Rattle.ucd_breaks.specs.declared.GraphemeClusterBreak.TheVariants.{Other, Lf}
-use Rattle.ucd_breaks.proofs.GraphemeClusterBreakLemmas.{grapheme_cluster_break_stepped}
-use Rattle.ucd_breaks.proofs.Computing.{ucd_breaks}
-use Rattle.unicode_segmentation.specs.Segments.{prepend, cut, segments}
-use Rattle.unicode_segmentation.specs.Grapheme.{graphemes, is_grapheme_break, break_by_pair, joins_conjunct, joins_emoji, joins_flag}
-use Rattle.unicode_segmentation.proofs.GraphemeLemmas.{is_grapheme_break-others}
+use Rattle.unicode_segmentation.specs.Segments.{cut, segments}
+use Rattle.unicode_segmentation.specs.Grapheme.{graphemes}
 use Rattle.unicode_width.specs.Width.{str_width}
 use Rattle.unicode_width.proofs.Rules.{str_width-printable}
 use Rattle.line_buffer.specs.declared.layout.Position.{Position}
+use Rattle.line_buffer.proofs.PlainClusterLemmas.{clusters-plain, singly}
+use Rattle.line_buffer.specs.Cluster.{PartsClusters}
 use Rattle.line_buffer.specs.Printable.{is_plain, is_printable}
 use Rattle.line_keys.specs.Display.{columns_back, next_column}
 use Rattle.line_state.proofs.PlainTextLemmas.{all_both, all_parts, measured_back, plain_char, plain_text, taken_between}
-use Rattle.line_screen.specs.Measure.{EndsPlain, ends_row, columns_of, start_below, advanced, after_cluster, wrapped, measured}
+use Rattle.line_screen.specs.Measure.{EndsPlain, ends_row, columns_of, start_below, advanced, after_cluster, wrapped, measured, columns_after}
 
 -- ---- no position stands past the columns
 
@@ -59,83 +53,6 @@ measured-nil columns origin h = grind (arith, nat_tests)
 
 -- ---- printable ASCII and newlines are clusters of their own
 
-abbrev is_other : GraphemeClusterBreak → Bool
-is_other Other = true
-is_other _ = false
-
-other-from_true : (v : GraphemeClusterBreak) → is_other v ≡ true → Other ≡ v
-other-from_true Other h = refl
-other-from_true _ h = cc
-
-break-printable : (c : ℕ) → is_printable c ≡ true → Other ≡ grapheme_cluster_break c
-unfolding ucd_breaks
-break-printable c h =
-    let early : c < 0x7F = grind (arith, nat_tests) in
-    let told : (not (is_printable c) || is_other (grapheme_cluster_break c)) ≡ true =
-    Stepped-below grapheme_cluster_break grapheme_cluster_break_stepped (λ x v. not (is_printable x) || is_other v) 0x7F refl c early in
-    other-from_true (grapheme_cluster_break c) (ap (λ b. not b || is_other (grapheme_cluster_break c)) (sym h) ∙ told)
-
-break-newline : (c : ℕ) → (c == 10) ≡ true → Lf ≡ grapheme_cluster_break c
-unfolding ucd_breaks
-break-newline c h = let e : 10 ≡ c = grind (arith, nat_tests) in ap grapheme_cluster_break e
-
--- two of them never share a cluster
-break-plain : (before : List ℕ) (c d : ℕ) (after : List ℕ) → is_plain c ≡ true → is_plain d ≡ true → is_grapheme_break true (c ∷ before) (d ∷ after) ≡ true
-unfolding is_grapheme_break
-break-plain before c d after left right =
-    ⊎_elim (λ feed. past_newline (break-newline c feed))
-    (λ print. ⊎_elim (λ feed. to_newline (break-printable c print) (break-newline d feed))
-    (λ shown. let early : d < 0x900 = grind (arith, nat_tests) in
-    sym (is_grapheme_break-others true (c ∷ before) d after (omega arith) early (break-printable c print) (break-printable d shown)))
-    (or_cases (d == 10) (is_printable d) right))
-    (or_cases (c == 10) (is_printable c) left)
-  where
-    joins : Bool
-    joins = not ((true && joins_conjunct (c ∷ before) d) || joins_emoji (c ∷ before) d || joins_flag (c ∷ before) d)
-
-    past_newline : Lf ≡ grapheme_cluster_break c → is_grapheme_break true (c ∷ before) (d ∷ after) ≡ true
-    past_newline e = ap (λ v. unwrap_or (break_by_pair true v (grapheme_cluster_break d)) joins) (sym e)
-
-    to_newline : Other ≡ grapheme_cluster_break c → Lf ≡ grapheme_cluster_break d → is_grapheme_break true (c ∷ before) (d ∷ after) ≡ true
-    to_newline e f = ap₂ (λ v w. unwrap_or (break_by_pair true v w) joins) (sym e) (sym f)
-
--- each character as a cluster of its own
-abbrev pub singly : List ℕ → List (List ℕ)
-singly cs = map (λ c. c ∷ []) cs
-
-cut-plain : (before cs : List ℕ) → list_all is_plain cs ≡ true → cut (is_grapheme_break true) before cs [] ≡ singly cs
-unfolding cut is_grapheme_break
-cut-plain before [] h = refl
-cut-plain before (c ∷ []) h = refl
-cut-plain before (c ∷ (d ∷ cs)) h =
-    let parts = and_parts (is_plain c) (list_all is_plain (d ∷ cs)) h in
-    let next = and_parts (is_plain d) (list_all is_plain cs) parts.1 in
-    let rest = cut (is_grapheme_break true) (c ∷ before) (d ∷ cs) [] in
-    ap (λ b. cond b ((c ∷ []) ∷ rest) (prepend (c ∷ []) rest)) (break-plain before c d (cs ++ []) parts.0 next.0)
-    ∙ ap (λ ps. (c ∷ []) ∷ ps) (cut-plain (c ∷ before) (d ∷ cs) parts.1)
-
-plain-below : (c : ℕ) → is_plain c ≡ true → c < 128
-plain-below c h = grind (arith, nat_tests)
-
-IsAscii-plain : (cs : List ℕ) → list_all is_plain cs ≡ true → IsAscii cs
-IsAscii-plain [] h = IsAscii-nil
-IsAscii-plain (c ∷ cs) h =
-    let parts = and_parts (is_plain c) (list_all is_plain cs) h in
-    IsAscii-cons c cs (plain-below c parts.0) (IsAscii-plain cs parts.1)
-
-encode-singly : (cs : List ℕ) → list_all is_plain cs ≡ true → map encode_utf8_all (singly cs) ≡ singly cs
-encode-singly [] h = refl
-encode-singly (c ∷ cs) h =
-    let parts = and_parts (is_plain c) (list_all is_plain cs) h in
-    ap₂ (λ p ps. p ∷ ps) (encodes-IsAscii (c ∷ []) (IsAscii-cons c [] (plain-below c parts.0) IsAscii-nil)) (encode-singly cs parts.1)
-
--- the clusters of printable ASCII and newlines are its characters
-pub graphemes-plain : (text : List ℕ) → list_all is_plain text ≡ true → graphemes true text ≡ singly text
-unfolding segments
-graphemes-plain text h =
-    ap (λ cs. map encode_utf8_all (cut (is_grapheme_break true) [] cs [])) (chars-IsAscii text (IsAscii-plain text h))
-    ∙ ap (map encode_utf8_all) (cut-plain [] text h) ∙ encode-singly text h
-
 -- one more printable character is one more cluster
 pub graphemes-push : (text : List ℕ) (c : ℕ) → list_all is_plain text ≡ true → is_printable c ≡ true
     → graphemes true (text ++ c ∷ []) ≡ graphemes true text ++ (c ∷ []) ∷ []
@@ -143,7 +60,7 @@ graphemes-push text c h print =
     let plain : is_plain c ≡ true = grind (arith, nat_tests) in
     let all : list_all is_plain (text ++ c ∷ []) ≡ true =
     list_all-append is_plain text (c ∷ []) ∙ ap₂ ◌&&◌ h (ap (λ b. b && true) plain) in
-    graphemes-plain (text ++ c ∷ []) all ∙ map-append (λ x. x ∷ []) text (c ∷ []) ∙ ap (λ ps. ps ++ (c ∷ []) ∷ []) (sym (graphemes-plain text h))
+    clusters-plain (text ++ c ∷ []) all ∙ map-append (λ x. x ∷ []) text (c ∷ []) ∙ ap (λ ps. ps ++ (c ∷ []) ∷ []) (sym (clusters-plain text h))
 
 -- ---- a plain text is put down character by character
 
@@ -151,13 +68,44 @@ graphemes-push text c h print =
 abbrev pub after_char : ℕ → Position → ℕ → Position
 after_char columns p c = after_cluster columns p (c ∷ [])
 
--- a plain text ends where its characters take the origin
-pub measured-plain : (columns : ℕ) (text : List ℕ) (origin : Position) → list_all is_plain text ≡ true
-    → measured columns text origin ≡ wrapped columns (fold (after_char columns) origin text)
+-- the clusters of a plain text take a place where its characters do
+pub after-plain : (columns : ℕ) (place : Position) (text : List ℕ) → list_all is_plain text ≡ true
+    → fold (after_cluster columns) place (graphemes true text) ≡ fold (after_char columns) place text
+after-plain columns place text all =
+    ap (fold (after_cluster columns) place) (clusters-plain text all) ∙ fold-map (after_cluster columns) (λ c. c ∷ []) place text
+
+-- an empty text has no clusters
+pub after-none : (columns : ℕ) (place : Position) → fold (after_cluster columns) place (graphemes true []) ≡ place
+unfolding segments cut chars
+after-none columns place = refl
+
+-- a plain text has its clusters in two parts at each place
+pub parts-plain : (text : List ℕ) (place : ℕ) → list_all is_plain text ≡ true → PartsClusters text place
+parts-plain text place all =
+    let parts = all_parts is_plain (take place text) (drop place text) (ap (list_all is_plain) (take-append-drop place text) ∙ all) in
+    clusters-plain text all ∙ ap singly (sym (take-append-drop place text))
+    ∙ map-append (λ c. c ∷ []) (take place text) (drop place text)
+    ∙ sym (ap₂ ◌++◌ (clusters-plain (take place text) parts.0) (clusters-plain (drop place text) parts.1))
+
+-- where its clusters part, a text takes a place where its parts do
+pub after-parts : (columns parting : ℕ) (place : Position) (text : List ℕ) → PartsClusters text parting
+    → fold (after_cluster columns) (fold (after_cluster columns) place (graphemes true (take parting text))) (graphemes true (drop parting text))
+    ≡ fold (after_cluster columns) place (graphemes true text)
+after-parts columns parting place text parts =
+    sym (ap (fold (after_cluster columns) place) parts
+    ∙ fold-append (after_cluster columns) place (graphemes true (take parting text)) (graphemes true (drop parting text)))
+
+-- so a text is measured in the parts before and from there
+pub measured-parts : (columns parting : ℕ) (origin place last end : Position) (text front back : List ℕ) → PartsClusters text parting
+    → front ≡ take parting text → back ≡ drop parting text → place ≡ fold (after_cluster columns) origin (graphemes true front)
+    → last ≡ fold (after_cluster columns) place (graphemes true back) → end ≡ wrapped columns last → end ≡ measured columns text origin
 unfolding measured
-measured-plain columns text origin all =
-    ap (λ ps. wrapped columns (fold (after_cluster columns) origin ps)) (graphemes-plain text all)
-    ∙ ap (wrapped columns) (fold-map (after_cluster columns) (λ c. c ∷ []) origin text)
+measured-parts columns parting origin place last end text front back parts first rest at goes ends =
+    ends ∙ ap (wrapped columns)
+    (goes
+    ∙ ap₂ (λ p t. fold (after_cluster columns) p (graphemes true t))
+    (at ∙ ap (λ t. fold (after_cluster columns) origin (graphemes true t)) first) rest
+    ∙ after-parts columns parting origin text parts)
 
 -- a printable character takes one column, where there is one
 pub after_char-printable : (columns : ℕ) (p : Position) (c : ℕ) → is_printable c ≡ true
@@ -169,6 +117,54 @@ after_char-printable columns p c print =
     let width : str_width false (c ∷ []) ≡ 1 = str_width-printable false (c ∷ []) (ap (λ b. b && true) print) in
     let one : columns_of columns (c ∷ []) ≡ min 1 columns = ap (λ n. min n columns) (ap (str_width false) alone ∙ width) in
     ap₂ (λ b n. cond b (start_below p) (advanced columns n p)) shown one
+
+-- a plain character that is no newline is printable
+printable-plain : (c : ℕ) → is_plain c ≡ true → ((c == 10) ≡ true → ⊥) → is_printable c ≡ true
+printable-plain c h other = ⊎_elim (λ feed. absurd (other feed)) (λ print. print) (or_cases (c == 10) (is_printable c) h)
+
+-- up to its first newline a plain text is printable, and the newline begins the row below
+pub after-row : (columns n : ℕ) (p : Position) (text : List ℕ) → list_all is_plain text ≡ true → n < length text → (get_or text n 0 == 10) ≡ true
+    → ((k : ℕ) → k < n → (get_or text k 0 == 10) ≡ true → ⊥)
+    → fold (after_char columns) p text ≡ fold (after_char columns) (start_below (columns_after columns n p)) (drop 1 (drop n text))
+after-row columns n p [] all within feed none = absurd (omega arith)
+after-row columns zero p (c ∷ cs) all within feed none =
+    let below : after_char columns p c ≡ start_below p = ap (λ b. cond b (start_below p) (advanced columns (columns_of columns (c ∷ [])) p)) (ends c feed) in
+    ap (λ q. fold (after_char columns) q cs) below
+  where
+    ends : (c : ℕ) → (c == 10) ≡ true → ends_row (c ∷ []) ≡ true
+    ends c h = grind (arith, nat_tests)
+after-row columns (suc n) p (c ∷ cs) all within feed none =
+    let parts = and_parts (is_plain c) (list_all is_plain cs) all in
+    let print = printable-plain c parts.0 (none 0 (omega arith)) in
+    ap (λ q. fold (after_char columns) q cs) (after_char-printable columns p c print)
+    ∙ after-row columns n (advanced columns (min 1 columns) p) cs parts.1 (omega arith) feed (λ k below. none (suc k) (omega arith))
+
+-- with no newline in it all of it is
+pub after-last : (columns : ℕ) (p : Position) (text : List ℕ) → list_all is_plain text ≡ true
+    → ((k : ℕ) → k < length text → (get_or text k 0 == 10) ≡ true → ⊥)
+    → fold (after_char columns) p text ≡ columns_after columns (length text) p
+after-last columns p [] all none = refl
+after-last columns p (c ∷ cs) all none =
+    let parts = and_parts (is_plain c) (list_all is_plain cs) all in
+    let print = printable-plain c parts.0 (none 0 (omega arith)) in
+    ap (λ q. fold (after_char columns) q cs) (after_char-printable columns p c print)
+    ∙ after-last columns (advanced columns (min 1 columns) p) cs parts.1 (λ k below. none (suc k) (omega arith))
+
+-- where they fit on the row, the place goes as many columns on
+pub columns_after-fitting : (columns fitting more : ℕ) (p : Position) → p.col + fitting ≤ columns
+    → columns_after columns (fitting + more) p ≡ columns_after columns more (record p { col = p.col + fitting })
+columns_after-fitting columns zero more p h =
+    let same : 0 + more ≡ more = omega arith in
+    let stays : p.col ≡ p.col + 0 = omega arith in
+    ap (λ n. columns_after columns n p) same ∙ ap (λ n. columns_after columns more (record p { col = n })) stays
+columns_after-fitting columns (suc n) more p h =
+    let split : suc n + more ≡ suc (n + more) = omega arith in
+    let on : advanced columns (min 1 columns) p ≡ record p { col = p.col + 1 } = grind (arith, nat_tests) in
+    let sums : p.col + 1 + n ≡ p.col + suc n = omega arith in
+    ap (λ m. columns_after columns m p) split
+    ∙ ap (columns_after columns (n + more)) on
+    ∙ columns_after-fitting columns n more (record p { col = p.col + 1 }) (omega arith)
+    ∙ ap (λ m. columns_after columns more (record p { col = m })) sums
 
 -- ---- one more printable character goes one column on
 

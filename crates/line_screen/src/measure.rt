@@ -1,46 +1,139 @@
 //! Where a text ends on a screen, measured cluster by cluster. In printable ASCII and newlines each character is one.
-ghost use Rattle.std.specs.Prelude.{◌≡◌, ◌≤◌, [], ◌∷◌, true};
-ghost use Rattle.std.specs.List.{list_all};
+ghost use Rattle.std.specs.Prelude.{◌≡◌, ◌≤◌, true, take, IsCharBoundary};
+ghost use Rattle.std.specs.List.{fold, list_all};
+ghost use Rattle.line_buffer.specs.Cluster.{PartsClusters};
 ghost use Rattle.line_buffer.specs.Printable.{is_plain};
-ghost use Rattle.line_screen.specs.Measure.{advanced, after_cluster, measured, start_below, wrapped};
+ghost use Rattle.line_keys.specs.Display.{cursor_position};
+ghost use Rattle.unicode_segmentation.specs.Grapheme.{graphemes};
+ghost use Rattle.line_screen.specs.Measure.{advanced, after_cluster, columns_after, measured, start_below, wrapped};
+ghost use Rattle.line_screen.specs.MeasureLaws.{after_char};
 
-use line_buffer::{Position, Unit, is_plain_text};
+use line_buffer::{LineBuffer, Position, Unit, first_parting, is_plain_text, last_parting};
+use memchr::memchr;
 use unicode_segmentation::UnicodeSegmentation;
 use unicode_width::UnicodeWidthStr;
 
-/// Where the text ends that begins at `origin`, on a screen of so many columns.
+/// Returns where the text ends that begins at `origin`, on a screen of so many columns.
+#[tactic(auto, unfolding(crate::specs::Measure::measured))]
 pub fn measured(columns: Unit, text: &str, origin: Position) -> Position
     ensures { result ≡ measured columns text.now origin }
 {
-    if is_plain_text(text) {
-        measured_plain(columns, text, origin)
+    wrapped(columns, after_text(columns, origin, text))
+}
+
+/// Returns where the line's cursor is, and where its text ends, behind a prompt that ends at `origin`. What stands before the
+/// cursor is measured once.
+pub(crate) fn measured_line(
+    columns: Unit,
+    line: &LineBuffer,
+    origin: Position,
+) -> (Position, Position)
+    ensures cursor { result.0 ≡ cursor_position (measured columns) origin line.now }
+    ensures end { result.1 ≡ measured columns line.now.text origin }
+{
+    let text = line.as_str();
+    let before = &text[..line.pos()];
+    let parting = parting_before(line);
+    let place = after_text(columns, origin, &text[..parting]);
+    let cursor = after_text(columns, place, &before[parting..]);
+    let end = after_text(columns, place, &text[parting..]);
+    (wrapped(columns, cursor), wrapped(columns, end))
+}
+
+/// Returns a place up to the cursor where the clusters of the line part, and so do those before the cursor.
+fn parting_before(line: &LineBuffer) -> usize
+    ensures place { IsCharBoundary line.now.text result }
+    ensures within { result ≤ line.now.cursor }
+    ensures parts { PartsClusters line.now.text result }
+    ensures before { PartsClusters (take line.now.cursor line.now.text) result }
+{
+    if line.is_plain() {
+        line.pos()
     } else {
-        measured_by_clusters(columns, text, origin)
+        last_parting(line.as_str(), line.pos())
     }
 }
 
-/// The same for printable ASCII and newlines, character by character.
-pub(crate) fn measured_plain(columns: Unit, text: &str, origin: Position) -> Position
-    requires { list_all is_plain text.now ≡ true }
-    ensures { result ≡ measured columns text.now origin }
+/// Returns the place after more text.
+fn after_text(columns: Unit, place: Position, text: &str) -> Position
+    ensures { result ≡ fold (after_cluster columns) place (graphemes true text.now) }
 {
-    let mut place = origin;
-    for byte in text.as_bytes() {
-        place = after_byte(columns, place, *byte);
+    if is_plain_text(text) {
+        after_plain(columns, place, text.as_bytes())
+    } else {
+        after_parts(columns, place, text)
     }
-    wrapped(columns, place)
 }
 
-/// The same for any text, cluster by cluster.
-#[tactic(auto, unfolding(crate::specs::Measure::measured))]
-fn measured_by_clusters(columns: Unit, text: &str, origin: Position) -> Position
-    ensures { result ≡ measured columns text.now origin }
+/// The same, part by part.
+fn after_parts(columns: Unit, place: Position, text: &str) -> Position
+    ensures { result ≡ fold (after_cluster columns) place (graphemes true text.now) }
 {
-    let mut place = origin;
+    let mut place = place;
+    let mut rest = text;
+    while !rest.is_empty() {
+        let (part, behind) = rest.split_at(first_parting(rest));
+        place = after_part(columns, place, part);
+        rest = behind;
+    }
+    place
+}
+
+/// The same of one part.
+fn after_part(columns: Unit, place: Position, part: &str) -> Position
+    ensures { result ≡ fold (after_cluster columns) place (graphemes true part.now) }
+{
+    if is_plain_text(part) {
+        after_plain(columns, place, part.as_bytes())
+    } else {
+        after_clusters(columns, place, part)
+    }
+}
+
+/// The same, cluster by cluster.
+fn after_clusters(columns: Unit, place: Position, text: &str) -> Position
+    ensures { result ≡ fold (after_cluster columns) place (graphemes true text.now) }
+{
+    let mut place = place;
     for cluster in text.graphemes(true) {
         place = after_cluster(columns, place, cluster);
     }
-    wrapped(columns, place)
+    place
+}
+
+/// The place after more printable ASCII and newlines.
+fn after_plain(columns: Unit, place: Position, text: &[u8]) -> Position
+    requires { list_all is_plain text.now ≡ true }
+    ensures { result ≡ fold (after_char columns) place text.now }
+{
+    let mut place = place;
+    let mut rest = text;
+    while let Some(newline) = memchr(b'\n', rest) {
+        let (row, behind) = rest.split_at(newline);
+        place = start_below(after_printable(columns, place, row.len()));
+        rest = &behind[1..];
+    }
+    after_printable(columns, place, rest.len())
+}
+
+/// The place after so many more printable ASCII characters.
+fn after_printable(columns: Unit, place: Position, count: usize) -> Position
+    ensures { result ≡ columns_after columns count place }
+{
+    let mut place = place;
+    let mut left = count;
+    while left > 0 {
+        let room = usize::from(columns.saturating_sub(place.col));
+        if room == 0 {
+            place = advanced(columns, place, 1.min(usize::from(columns)));
+            left -= 1;
+        } else {
+            let fitting = left.min(room);
+            place.col += fitting as Unit;
+            left -= fitting;
+        }
+    }
+    place
 }
 
 /// The place, or the start of the row below where the row is exactly full.
@@ -51,18 +144,6 @@ fn wrapped(columns: Unit, place: Position) -> Position
         start_below(place)
     } else {
         place
-    }
-}
-
-/// The place after one more printable ASCII character or newline.
-fn after_byte(columns: Unit, place: Position, byte: u8) -> Position
-    requires { is_plain byte ≡ true }
-    ensures { result ≡ after_cluster columns place (byte ∷ []) }
-{
-    if byte == b'\n' {
-        start_below(place)
-    } else {
-        advanced(columns, place, 1.min(usize::from(columns)))
     }
 }
 

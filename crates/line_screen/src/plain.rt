@@ -9,7 +9,7 @@ ghost use Rattle.line_state.specs.ScreenState.{Agrees, EndsBehind, HasRoom, Trie
 ghost use Rattle.line_screen.specs.Measure.{EndsPlain, measured};
 ghost use Rattle.line_screen.specs.Surroundings.{Clears, KeepsSurroundings, blank_screen};
 
-use crate::measure::{measured, measured_plain};
+use crate::measure::{measured, measured_line};
 use crate::surroundings::Surroundings;
 use line_buffer::{GraphemeClusterMode, Layout, LineBuffer, Position, Unit, is_printable_text};
 use line_config::{Prompt, Result};
@@ -184,7 +184,7 @@ fn plain_end(columns: Unit, line: &LineBuffer, origin: Position) -> Option<Posit
     if !line.is_plain() || columns <= origin.col {
         return None;
     }
-    Some(measured_plain(columns, line.as_str(), origin))
+    Some(measured(columns, line.as_str(), origin))
 }
 
 /// Returns the hint as text of its own.
@@ -279,6 +279,27 @@ impl<R: RawReader> Renderer for Plain<R> {
         self.end = plain_end(self.columns, line, self.origin);
         self.redraws = self.redraws.saturating_add(1);
         Ok(())
+    }
+
+    fn compute_layout(
+        &self,
+        prompt_size: Position,
+        default_prompt: bool,
+        line: &LineBuffer,
+        info: Option<&str>,
+    ) -> Layout {
+        let (cursor, end) = measured_line(self.columns, line, prompt_size);
+        Layout {
+            grapheme_cluster_mode: self.grapheme_cluster_mode(),
+            prompt_size,
+            default_prompt,
+            cursor,
+            end: match info {
+                Some(info) => measured(self.columns, info, end),
+                None => end,
+            },
+            has_info: info.is_some(),
+        }
     }
 
     fn calculate_position(&self, s: &str, orig: Position) -> Position {
