@@ -5,6 +5,7 @@ ghost use Rattle.replay.specs.Outcome.{outcome_of, status_of};
 use line_buffer::Position;
 use line_config::{ReadlineError, Result};
 use line_parts::escape_of;
+use memchr::memchr2;
 use std::fmt::{Display, Formatter};
 use std::io::Write;
 use std::{fmt, io};
@@ -101,15 +102,19 @@ impl Report<'_> {
     }
 }
 
-/// Writes the text with its backslashes and newlines escaped.
+/// Writes the text with its backslashes and newlines escaped, and what stands between them as it is.
 fn write_escaped<O: Write>(text: &str, out: &mut O) -> io::Result<()> {
-    for byte in text.bytes() {
-        match escape_of(byte) {
+    let mut rest = text.as_bytes();
+    while let Some(at) = memchr2(b'\\', b'\n', rest) {
+        let (run, behind) = rest.split_at(at);
+        out.write_all(run)?;
+        match escape_of(behind[0]) {
             Some(escape) => out.write_all(escape.as_bytes())?,
-            None => out.write_all(&[byte])?,
+            None => out.write_all(&behind[..1])?,
         }
+        rest = &behind[1..];
     }
-    Ok(())
+    out.write_all(rest)
 }
 
 #[cfg(test)]
