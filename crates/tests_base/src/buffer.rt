@@ -10,6 +10,7 @@ mod indents;
 mod kills;
 mod large;
 mod moves;
+mod partings;
 mod refusals;
 mod rings;
 mod texts;

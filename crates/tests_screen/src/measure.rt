@@ -1,8 +1,11 @@
 //! Where texts end on a screen.
 
-use line_buffer::{Position, Unit};
-use line_screen::measured;
+use line_buffer::{LineBuffer, Position, Unit};
+use line_screen::{KeyQueue, Plain, measured};
+use line_state::Renderer;
+use std::alloc::Global;
 use std::process::Abort;
+use std::test::Fail;
 
 /// A row and a column.
 type Place = (Unit, Unit);
@@ -33,6 +36,19 @@ const ENDS: &[(Unit, &str, Place, Place)] = &[
     (1, "世", (0, 0), (1, 0)),
     (1, "ab", (0, 0), (2, 0)),
     (10, "ab\n", (65535, 8), (65535, 0)),
+    // runs of printable ASCII, beside others and alone
+    (10, "abcdefgh世", (0, 2), (1, 2)),
+    (10, "世abcdefghij", (0, 0), (1, 2)),
+    (10, "abce\u{301}fgh\nij", (0, 2), (1, 2)),
+    (10, "ab\u{301}\ncd", (0, 0), (1, 2)),
+    (3, "ab\nabc\nabcd", (0, 0), (3, 1)),
+    (3, "ab\nabc\nabcd世\n", (0, 0), (4, 0)),
+    (5, "abcdefghijklmnopq", (0, 3), (4, 0)),
+    (10, "abcdefghijklmnopqrstuvwxy", (65534, 0), (65535, 5)),
+    // a place past the columns, and no columns at all
+    (3, "ab", (0, 7), (1, 2)),
+    (0, "ab", (0, 0), (1, 0)),
+    (0, "a\nb", (0, 0), (2, 0)),
 ];
 
 #[test]
@@ -40,4 +56,63 @@ fn puts_clusters_on_rows(rt: HostRuntime) {
     for case in ENDS {
         ends(&rt, *case);
     }
+}
+
+/// The columns, a text behind a prompt of two columns, the cursor in bytes and a text behind the line; where the cursor is,
+/// and where what is shown ends.
+type Layout = (
+    Unit,
+    &'static str,
+    usize,
+    Option<&'static str>,
+    Place,
+    Place,
+);
+
+fn lays_out(rt: &impl Abort, alloc: Global, case: &Layout) -> Result<(), Fail> {
+    let (columns, text, pos, info, cursor, end) = *case;
+    assert!(rt;
+        columns > 0 && text.is_char_boundary(pos),
+        "{pos} in {text:?}"
+    );
+    let screen: Plain<KeyQueue> = Plain::new(alloc, columns);
+    let line = LineBuffer::init(alloc, text, pos)?;
+    let layout = screen.compute_layout(Position { row: 0, col: 2 }, true, &line, info);
+    assert_eq!(rt;
+        (
+            (layout.cursor.row, layout.cursor.col),
+            (layout.end.row, layout.end.col)
+        ),
+        (cursor, end),
+        "{pos} in {text:?} on {columns} columns"
+    );
+    assert_eq!(rt;
+        (layout.default_prompt, layout.has_info),
+        (true, info.is_some())
+    );
+    Ok(())
+}
+
+const LAYOUTS: &[Layout] = &[
+    (10, "", 0, None, (0, 2), (0, 2)),
+    (10, "abcdefgh", 8, None, (1, 0), (1, 0)),
+    // the end is not measured from the cursor that went to the next row
+    (10, "abcdefgh\nx", 8, None, (1, 0), (1, 1)),
+    (10, "é\nabcdefghij\nx", 13, None, (2, 0), (2, 1)),
+    (10, "abcdefg世", 7, None, (0, 9), (1, 2)),
+    (10, "ab世cd", 5, None, (0, 6), (0, 8)),
+    // a cursor within a cluster
+    (10, "e\u{301}x", 1, None, (0, 3), (0, 4)),
+    (10, "abe\u{301}", 3, None, (0, 5), (0, 5)),
+    (10, "a👨\u{200d}👩\u{200d}👧b", 5, None, (0, 5), (0, 6)),
+    (10, "ab", 1, Some("cd世"), (0, 3), (0, 8)),
+    (10, "é", 0, Some("\n"), (0, 2), (1, 0)),
+];
+
+#[test]
+fn measures_a_line_once(rt: HostRuntime) -> Result<(), Fail> {
+    for case in LAYOUTS {
+        lays_out(&rt, rt.alloc(), case)?;
+    }
+    Ok(())
 }

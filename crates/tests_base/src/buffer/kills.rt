@@ -3,7 +3,7 @@
 use super::{FAMILY, line_at};
 use line_buffer::Direction::{self, *};
 use line_buffer::Movement::{self, *};
-use line_buffer::{Changeset, CharSearch as Search, KillRing};
+use line_buffer::{Changeset, CharSearch as Search, KillRing, RepeatCount};
 use std::alloc::Global;
 use std::process::Abort;
 use std::test::Fail;
@@ -44,6 +44,21 @@ fn kills(rt: &impl Abort, alloc: Global, case: &Case) -> Result<(), Fail> {
     went(rt, &killed, gone);
     assert_eq!(rt; line.as_str(), *after);
     assert_eq!(rt; (line.pos(), changes.len()), (place, entries));
+    Ok(())
+}
+
+/// A cut leaves the line and the ring as a kill does.
+fn cuts(rt: &impl Abort, alloc: Global, case: &Case) -> Result<(), Fail> {
+    let (text, pos, mvt, after, _) = case;
+    let mut killed = line_at(rt, alloc, text, *pos)?;
+    let mut cut = line_at(rt, alloc, text, *pos)?;
+    let mut changes = Changeset::new(alloc);
+    let mut killed_ring = KillRing::new(alloc, 2);
+    let mut cut_ring = KillRing::new(alloc, 2);
+    let _ = killed.kill(mvt, &mut changes, &mut killed_ring)?;
+    cut.cut(mvt, &mut changes, &mut cut_ring)?;
+    assert_eq!(rt; (cut.as_str(), cut.pos()), (*after, killed.pos()));
+    assert_eq!(rt; cut_ring.yank(), killed_ring.yank());
     Ok(())
 }
 
@@ -133,6 +148,49 @@ const KILLS: &[Case] = &[
 fn by_movements(rt: HostRuntime) -> Result<(), Fail> {
     for case in KILLS {
         kills(&rt, rt.alloc(), case)?;
+    }
+    Ok(())
+}
+
+#[test]
+fn without_the_text(rt: HostRuntime) -> Result<(), Fail> {
+    for case in KILLS {
+        cuts(&rt, rt.alloc(), case)?;
+    }
+    Ok(())
+}
+
+/// A text, the cursor, how many clusters go, whether there were some, and the text afterwards.
+type Discard = (&'static str, usize, RepeatCount, bool, &'static str);
+
+fn discards(rt: &impl Abort, alloc: Global, case: &Discard) -> Result<(), Fail> {
+    let (text, pos, n, some, after) = *case;
+    let mut line = line_at(rt, alloc, text, pos)?;
+    let mut changes = Changeset::new(alloc);
+    assert_eq!(rt;
+        line.discard(n, &mut changes)?,
+        some,
+        "{n} from {pos} in {text:?}"
+    );
+    assert_eq!(rt;
+        (line.as_str(), line.pos(), changes.len()),
+        (after, pos, some as usize)
+    );
+    Ok(())
+}
+
+const DISCARDS: &[Discard] = &[
+    ("éz", 2, 1, true, "é"),
+    ("éz", 0, 9, true, ""),
+    ("éz", 3, 1, false, "éz"),
+    ("éz", 0, 0, false, "éz"),
+    (FAMILY, 1, 1, true, "ab"),
+];
+
+#[test]
+fn of_clusters(rt: HostRuntime) -> Result<(), Fail> {
+    for case in DISCARDS {
+        discards(&rt, rt.alloc(), case)?;
     }
     Ok(())
 }
