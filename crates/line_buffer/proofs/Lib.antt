@@ -8,6 +8,7 @@ pub mod GroupLemmas
 pub mod IndentLemmas
 pub mod LineLemmas
 pub mod ListLemmas
+pub mod LoneLemmas
 pub mod PartLemmas
 pub mod PlainClusterLemmas
 pub mod PlainLemmas

@@ -22,36 +22,36 @@ use Rattle.ucd_derived.proofs.IndicConjunctBreakLemmas.{indic_conjunct_break_ste
 use Rattle.ucd_emoji.specs.Binary.{is_extended_pictographic}
 use Rattle.unicode_segmentation.specs.Segments.{prepend, cut, segments}
 use Rattle.unicode_segmentation.specs.Grapheme.{break_by_pair, ends_in_half_flag, ends_in_linker, ends_in_pictograph, is_consonant, is_extend, is_grapheme_break, is_regional, is_zwj, joins_conjunct, joins_emoji, joins_flag}
-use Rattle.line_buffer.specs.Cluster.{PartsClusters, clusters}
+use Rattle.line_buffer.specs.Cluster.{PartsClusters, clusters, is_apart, is_no_conjunct, stands_alone}
 use Rattle.line_buffer.specs.Printable.{is_plain, meets_plain}
 
 -- ---- what a plain character is to the rules
-
--- the value of a character that joins no other, or of a newline
-abbrev is_apart : GraphemeClusterBreak → Bool
-is_apart Other = true
-is_apart Lf = true
-is_apart _ = false
-
-abbrev is_no_conjunct : IndicConjunctBreak → Bool
-is_no_conjunct InCb.None = true
-is_no_conjunct _ = false
 
 implied : (a b : Bool) → (not a || b) ≡ true → a ≡ true → b ≡ true
 implied true b h e = h
 implied false b h e = cc
 
-apart : (c : ℕ) → is_plain c ≡ true → is_apart (grapheme_cluster_break c) ≡ true
+apart-plain : (c : ℕ) → is_plain c ≡ true → is_apart (grapheme_cluster_break c) ≡ true
 unfolding ucd_breaks
-apart c h =
+apart-plain c h =
     let early : c < 0x7F = grind (arith, nat_tests) in
     implied (is_plain c) _ (Stepped-below grapheme_cluster_break grapheme_cluster_break_stepped (λ x v. not (is_plain x) || is_apart v) 0x7F refl c early) h
 
-no_conjunct : (c : ℕ) → is_plain c ≡ true → is_no_conjunct (indic_conjunct_break c) ≡ true
+no_conjunct-plain : (c : ℕ) → is_plain c ≡ true → is_no_conjunct (indic_conjunct_break c) ≡ true
 unfolding ucd_derived
-no_conjunct c h =
+no_conjunct-plain c h =
     let early : c < 0x7F = grind (arith, nat_tests) in
     implied (is_plain c) _ (Stepped-below indic_conjunct_break indic_conjunct_break_stepped (λ x v. not (is_plain x) || is_no_conjunct v) 0x7F refl c early) h
+
+-- printable ASCII and newlines stand alone
+pub alone-plain : (c : ℕ) → is_plain c ≡ true → stands_alone c ≡ true
+alone-plain c h = ap₂ ◌&&◌ (apart-plain c h) (no_conjunct-plain c h)
+
+apart : (c : ℕ) → stands_alone c ≡ true → is_apart (grapheme_cluster_break c) ≡ true
+apart c h = (and_parts (is_apart (grapheme_cluster_break c)) (is_no_conjunct (indic_conjunct_break c)) h).0
+
+no_conjunct : (c : ℕ) → stands_alone c ≡ true → is_no_conjunct (indic_conjunct_break c) ≡ true
+no_conjunct c h = (and_parts (is_apart (grapheme_cluster_break c)) (is_no_conjunct (indic_conjunct_break c)) h).1
 
 no_extend : (v : GraphemeClusterBreak) → is_apart v ≡ true → (is_extend v ≡ false) × (is_zwj v ≡ false) × (is_regional v ≡ false)
 no_extend Other h = (refl, refl, refl)
@@ -72,7 +72,7 @@ linker-more InCb.None vs ws h = refl
 
 -- ---- what stands before a plain character is not read behind it
 
-module _ (d : ℕ) (plain : is_plain d ≡ true) where
+module _ (d : ℕ) (plain : stands_alone d ≡ true) where
   linker-behind : (ws past : List ℕ) → ends_in_linker (map indic_conjunct_break (ws ++ d ∷ past)) ≡ ends_in_linker (map indic_conjunct_break (ws ++ d ∷ []))
   linker-behind [] past = no_linker _ _ (no_conjunct d plain) ∙ sym (no_linker _ _ (no_conjunct d plain))
   linker-behind (w ∷ ws) past = linker-more (indic_conjunct_break w) _ _ (linker-behind ws past)
@@ -145,9 +145,9 @@ and-false : (a b : Bool) → b ≡ false → (a && b) ≡ false
 and-false true b h = h
 and-false false b h = refl
 
-break-plain : (before : List ℕ) (c d : ℕ) (after : List ℕ) → is_plain c ≡ true → is_plain d ≡ true → is_grapheme_break true (c ∷ before) (d ∷ after) ≡ true
+break-alone : (before : List ℕ) (c d : ℕ) (after : List ℕ) → stands_alone c ≡ true → stands_alone d ≡ true → is_grapheme_break true (c ∷ before) (d ∷ after) ≡ true
 unfolding is_grapheme_break
-break-plain before c d after left right =
+break-alone before c d after left right =
     let conjunct : joins_conjunct (c ∷ before) d ≡ false = and-false _ _ (consonant-none (indic_conjunct_break d) (no_conjunct d right)) in
     let emoji : joins_emoji (c ∷ before) d ≡ false =
     ap (λ b. b && ends_in_pictograph before && is_extended_pictographic d) (no_extend (grapheme_cluster_break c) (apart c left)).1 in
@@ -161,16 +161,31 @@ break-plain before c d after left right =
 abbrev pub singly : List ℕ → List (List ℕ)
 singly cs = map (λ c. c ∷ []) cs
 
-cut-plain : (before cs : List ℕ) → list_all is_plain cs ≡ true → cut (is_grapheme_break true) before cs [] ≡ singly cs
+cut-alone : (before cs : List ℕ) → list_all stands_alone cs ≡ true → cut (is_grapheme_break true) before cs [] ≡ singly cs
 unfolding cut is_grapheme_break
-cut-plain before [] h = refl
-cut-plain before (c ∷ []) h = refl
-cut-plain before (c ∷ (d ∷ cs)) h =
-    let parts = and_parts (is_plain c) (list_all is_plain (d ∷ cs)) h in
-    let next = and_parts (is_plain d) (list_all is_plain cs) parts.1 in
+cut-alone before [] h = refl
+cut-alone before (c ∷ []) h = refl
+cut-alone before (c ∷ (d ∷ cs)) h =
+    let parts = and_parts (stands_alone c) (list_all stands_alone (d ∷ cs)) h in
+    let next = and_parts (stands_alone d) (list_all stands_alone cs) parts.1 in
     let rest = cut (is_grapheme_break true) (c ∷ before) (d ∷ cs) [] in
-    ap (λ b. cond b ((c ∷ []) ∷ rest) (prepend (c ∷ []) rest)) (break-plain before c d (cs ++ []) parts.0 next.0)
-    ∙ ap (λ ps. (c ∷ []) ∷ ps) (cut-plain (c ∷ before) (d ∷ cs) parts.1)
+    ap (λ b. cond b ((c ∷ []) ∷ rest) (prepend (c ∷ []) rest)) (break-alone before c d (cs ++ []) parts.0 next.0)
+    ∙ ap (λ ps. (c ∷ []) ∷ ps) (cut-alone (c ∷ before) (d ∷ cs) parts.1)
+
+all-alone : (cs : List ℕ) → list_all is_plain cs ≡ true → list_all stands_alone cs ≡ true
+all-alone [] h = refl
+all-alone (c ∷ cs) h =
+    let parts = and_parts (is_plain c) (list_all is_plain cs) h in
+    ap₂ ◌&&◌ (alone-plain c parts.0) (all-alone cs parts.1)
+
+map-singly : (cs : List ℕ) → map encode_utf8_all (singly cs) ≡ map (λ c. encode_utf8_all (c ∷ [])) cs
+map-singly [] = refl
+map-singly (c ∷ cs) = ap (λ ps. encode_utf8_all (c ∷ []) ∷ ps) (map-singly cs)
+
+-- the clusters of characters that stand alone are these
+pub clusters-alone : (text : List ℕ) → list_all stands_alone (chars text) ≡ true → clusters text ≡ map (λ c. encode_utf8_all (c ∷ [])) (chars text)
+unfolding segments
+clusters-alone text h = ap (map encode_utf8_all) (cut-alone [] (chars text) h) ∙ map-singly (chars text)
 
 plain-below : (c : ℕ) → is_plain c ≡ true → c < 128
 plain-below c h = grind (arith, nat_tests)
@@ -192,7 +207,7 @@ pub clusters-plain : (text : List ℕ) → list_all is_plain text ≡ true → c
 unfolding segments
 clusters-plain text h =
     ap (λ cs. map encode_utf8_all (cut (is_grapheme_break true) [] cs [])) (chars-IsAscii text (IsAscii-plain text h))
-    ∙ ap (map encode_utf8_all) (cut-plain [] text h) ∙ encode-singly text h
+    ∙ ap (map encode_utf8_all) (cut-alone [] text (all-alone text h)) ∙ encode-singly text h
 
 -- ---- so a text is cut there as its two parts are
 
@@ -213,7 +228,7 @@ begins before c cs after = first (is_grapheme_break true (c ∷ before) (cs ++ a
     first false [] = (c ∷ [], [], refl)
     first false (p ∷ ps) = ((c ∷ []) ++ p, ps, refl)
 
-module _ (c d : ℕ) (ys : List ℕ) (left : is_plain c ≡ true) (right : is_plain d ≡ true) where
+module _ (c d : ℕ) (ys : List ℕ) (left : stands_alone c ≡ true) (right : stands_alone d ≡ true) where
   -- behind a character the rule reads one more
   same-head : (before xs : List ℕ) (x : ℕ)
       → is_grapheme_break true (x ∷ before) ((xs ++ c ∷ (d ∷ ys)) ++ []) ≡ is_grapheme_break true (x ∷ before) ((xs ++ c ∷ []) ++ [])
@@ -226,7 +241,7 @@ module _ (c d : ℕ) (ys : List ℕ) (left : is_plain c ≡ true) (right : is_pl
       ≡ cut (is_grapheme_break true) before (xs ++ c ∷ []) [] ++ cut (is_grapheme_break true) [] (d ∷ ys) []
   unfolding cut is_grapheme_break
   cut-parts before [] =
-      ap₂ (λ b rest. cond b ((c ∷ []) ∷ rest) (prepend (c ∷ []) rest)) (break-plain before c d (ys ++ []) left right) (cut-from d right (c ∷ before) ys)
+      ap₂ (λ b rest. cond b ((c ∷ []) ∷ rest) (prepend (c ∷ []) rest)) (break-alone before c d (ys ++ []) left right) (cut-from d right (c ∷ before) ys)
   cut-parts before (x ∷ xs) =
       let b = is_grapheme_break true (x ∷ before) ((xs ++ c ∷ []) ++ []) in
       let more = cut (is_grapheme_break true) [] (d ∷ ys) [] in
@@ -240,16 +255,27 @@ module _ (c d : ℕ) (ys : List ℕ) (left : is_plain c ≡ true) (right : is_pl
       some_piece before [] = begins before c [] []
       some_piece before (y ∷ ys) = begins before y (ys ++ c ∷ []) []
 
+-- where a text ends in a character that stands alone, and another begins with one, their clusters part
+pub clusters-meet : (front back xs ys : List ℕ) (c d : ℕ) → IsUtf8 front → chars front ≡ xs ++ c ∷ [] → chars back ≡ d ∷ ys
+    → stands_alone c ≡ true → stands_alone d ≡ true → clusters (front ++ back) ≡ clusters front ++ clusters back
+unfolding segments
+clusters-meet front back xs ys c d u first last left right =
+    let rule = is_grapheme_break true in
+    let whole : chars (front ++ back) ≡ xs ++ c ∷ (d ∷ ys) =
+    chars-append front back u ∙ ap₂ ◌++◌ first last ∙ append_assoc xs (c ∷ []) (d ∷ ys) in
+    ap (λ cs. map encode_utf8_all (cut rule [] cs [])) whole
+    ∙ ap (map encode_utf8_all) (cut-parts c d ys left right [] xs)
+    ∙ map-append encode_utf8_all (cut rule [] (xs ++ c ∷ []) []) (cut rule [] (d ∷ ys) [])
+    ∙ ap₂ (λ p q. map encode_utf8_all (cut rule [] p []) ++ map encode_utf8_all (cut rule [] q [])) (sym first) (sym last)
+
 -- between two plain characters the clusters of a text part
 parts-behind : (text : List ℕ) (k : ℕ) → IsUtf8 text → k + 1 < length text → is_plain (get_or text k 0) ≡ true → is_plain (get_or text (k + 1) 0) ≡ true
     → PartsClusters text (k + 1)
-unfolding segments
 parts-behind text k u within left right =
     let c = get_or text k 0 in
     let d = get_or text (k + 1) 0 in
     let early : c < 128 = grind (arith, nat_tests) in
     let next : d < 128 = grind (arith, nat_tests) in
-    let rule = is_grapheme_break true in
     let front : chars (take (k + 1) text) ≡ chars (take k text) ++ c ∷ [] =
     ap chars (take_more text k 0 (omega arith))
     ∙ chars-append (take k text) (c ∷ []) (IsUtf8-take text k u (IsCharBoundary-before_ascii text k (omega arith) early))
@@ -258,16 +284,9 @@ parts-behind text k u within left right =
     let back : chars (drop (k + 1) text) ≡ d ∷ chars (drop (k + 1 + 1) text) =
     ap chars (drop_more text (k + 1) 0 within) ∙ chars-append (d ∷ []) (drop (k + 1 + 1) text) (IsUtf8-from_ascii (d ∷ []) alone)
     ∙ ap (λ cs. cs ++ chars (drop (k + 1 + 1) text)) (chars-IsAscii (d ∷ []) alone) in
-    let xs = chars (take k text) in
-    let ys = chars (drop (k + 1 + 1) text) in
-    let whole : chars text ≡ xs ++ c ∷ (d ∷ ys) =
-    ap chars (sym (take-append-drop (k + 1) text))
-    ∙ chars-append (take (k + 1) text) (drop (k + 1) text) (IsUtf8-take text (k + 1) u (IsCharBoundary-after_ascii text k u (omega arith) early))
-    ∙ ap₂ ◌++◌ front back ∙ append_assoc xs (c ∷ []) (d ∷ ys) in
-    ap (λ cs. map encode_utf8_all (cut rule [] cs [])) whole
-    ∙ ap (map encode_utf8_all) (cut-parts c d ys left right [] xs)
-    ∙ map-append encode_utf8_all (cut rule [] (xs ++ c ∷ []) []) (cut rule [] (d ∷ ys) [])
-    ∙ ap₂ (λ p q. map encode_utf8_all (cut rule [] p []) ++ map encode_utf8_all (cut rule [] q [])) (sym front) (sym back)
+    ap clusters (sym (take-append-drop (k + 1) text))
+    ∙ clusters-meet (take (k + 1) text) (drop (k + 1) text) (chars (take k text)) (chars (drop (k + 1 + 1) text)) c d
+    (IsUtf8-take text (k + 1) u (IsCharBoundary-after_ascii text k u (omega arith) early)) front back (alone-plain c left) (alone-plain d right)
 
 -- the same of the place between them
 pub clusters-part : (text : List ℕ) (place : ℕ) → IsUtf8 text → 0 < place → place < length text → meets_plain text place ≡ true → PartsClusters text place

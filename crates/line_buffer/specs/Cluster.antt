@@ -1,6 +1,12 @@
 -- The clusters beside the cursor, and the places so many of them away.
-use Rattle.std.specs.Prelude.{◌≡◌, ◌++◌, ℕ, ◌+◌, ◌-◌, ◌==◌, ◌||◌, nat_le, true, List, length, take, drop, Option, Some, None, if◌then◌else◌}
+use Rattle.std.specs.Prelude.{◌≡◌, ◌++◌, ℕ, ◌+◌, ◌-◌, ◌==◌, ◌||◌, ◌&&◌, nat_le, Bool, true, false, List, length, take, drop, Option, Some, None, if◌then◌else◌}
 use Rattle.std.specs.List.{concat}
+use Rattle.ucd_breaks.specs.GraphemeClusterBreak.{grapheme_cluster_break}
+use Rattle.ucd_breaks.specs.declared.GraphemeClusterBreak.{GraphemeClusterBreak}
+use Rattle.ucd_breaks.specs.declared.GraphemeClusterBreak.TheVariants.{Other, Lf}
+use Rattle.ucd_derived.specs.IndicConjunctBreak.{indic_conjunct_break}
+use Rattle.ucd_derived.specs.declared.IndicConjunctBreak.{IndicConjunctBreak}
+use Rattle.ucd_derived.specs.declared.IndicConjunctBreak.TheVariants as InCb
 use Rattle.unicode_segmentation.specs.Grapheme.{graphemes}
 use Rattle.line_buffer.specs.Line.{Line, before, after}
 
@@ -31,3 +37,18 @@ place_back l n =
 -- the clusters of a text are those of its parts before and from a place
 abbrev pub PartsClusters : List ℕ → ℕ → Type 0
 PartsClusters text place = clusters text ≡ clusters (take place text) ++ clusters (drop place text)
+
+-- a class of the rules on clusters that joins nothing: none, or a newline
+abbrev pub is_apart : GraphemeClusterBreak → Bool
+is_apart Other = true
+is_apart Lf = true
+is_apart _ = false
+
+-- no part of a conjunct
+abbrev pub is_no_conjunct : IndicConjunctBreak → Bool
+is_no_conjunct InCb.None = true
+is_no_conjunct _ = false
+
+-- the character joins no other such one: between the two clusters part, whatever stands before and behind
+abbrev pub stands_alone : ℕ → Bool
+stands_alone c = is_apart (grapheme_cluster_break c) && is_no_conjunct (indic_conjunct_break c)

@@ -1,13 +1,18 @@
 -- How many columns a text takes.
-use Rattle.std.specs.Prelude.{◌≡◌, ℕ, ◌+◌, min, ◌==◌, Bool, false, List, [], ◌∷◌, ◌++◌, chars, take, drop, unwrap_or, IsCharBoundary}
+use Rattle.std.specs.Prelude.{◌≡◌, ◌≢◌, true, ℕ, ◌+◌, min, ◌==◌, Bool, false, List, [], ◌∷◌, ◌++◌, chars, take, drop, unwrap_or, IsCharBoundary}
 use Rattle.std.specs.List.{sum_by, slice_split}
 use Rattle.unicode_width.specs.Width.{str_width, char_width}
+use Rattle.line_buffer.specs.Cluster.{stands_alone}
 use Rattle.line_buffer.specs.declared.layout.GraphemeClusterMode.{GraphemeClusterMode}
 use Rattle.line_buffer.specs.declared.layout.GraphemeClusterMode.TheVariants.{Unicode, WcWidth, NoZwj}
 
 -- the columns of a list of characters
 abbrev pub columns_as_one : List ℕ → ℕ
 columns_as_one cs = str_width false cs
+
+-- the character joins no other, and takes so many columns; it is no newline
+abbrev pub IsLone : ℕ → ℕ → Type 0
+IsLone c width = (stands_alone c ≡ true) × (columns_as_one (c ∷ []) ≡ width) × (c ≢ 10)
 
 -- the columns of a character by itself; 0 for one without a width
 abbrev pub columns_of_char : ℕ → ℕ
