@@ -1,1 +1,2 @@
+pub mod LoneLemmas
 pub mod QueueLemmas

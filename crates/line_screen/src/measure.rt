@@ -1,5 +1,5 @@
 //! Where a text ends on a screen, measured cluster by cluster. In printable ASCII and newlines each character is one.
-ghost use Rattle.std.specs.Prelude.{◌≡◌, ◌≤◌, true, take, IsCharBoundary};
+ghost use Rattle.std.specs.Prelude.{◌≡◌, ◌≤◌, true, IfSome, take, IsCharBoundary};
 ghost use Rattle.std.specs.List.{fold, list_all};
 ghost use Rattle.line_buffer.specs.Cluster.{PartsClusters};
 ghost use Rattle.line_buffer.specs.Printable.{is_plain};
@@ -8,7 +8,9 @@ ghost use Rattle.unicode_segmentation.specs.Grapheme.{graphemes};
 ghost use Rattle.line_screen.specs.Measure.{advanced, after_cluster, columns_after, measured, start_below, wrapped};
 ghost use Rattle.line_screen.specs.MeasureLaws.{after_char};
 
-use line_buffer::{LineBuffer, Position, Unit, first_parting, is_plain_text, last_parting};
+use line_buffer::{
+    LineBuffer, Position, Unit, first_parting, is_plain_text, last_parting, lone_width,
+};
 use memchr::memchr;
 use unicode_segmentation::UnicodeSegmentation;
 use unicode_width::UnicodeWidthStr;
@@ -84,10 +86,26 @@ fn after_part(columns: Unit, place: Position, part: &str) -> Position
     ensures { result ≡ fold (after_cluster columns) place (graphemes true part.now) }
 {
     if is_plain_text(part) {
-        after_plain(columns, place, part.as_bytes())
-    } else {
-        after_clusters(columns, place, part)
+        return after_plain(columns, place, part.as_bytes());
     }
+    match after_lone(columns, place, part) {
+        Some(place) => place,
+        None => after_clusters(columns, place, part),
+    }
+}
+
+/// The same of characters of which none joins another. `None` where one may.
+fn after_lone(columns: Unit, place: Position, text: &str) -> Option<Position>
+    ensures { IfSome result (λ end. end
+        ≡ fold (after_cluster columns) place (graphemes true text.now)) }
+{
+    let room = usize::from(columns);
+    let mut place = place;
+    for c in text.chars() {
+        let width = lone_width(c)?;
+        place = advanced(columns, place, width.min(room));
+    }
+    Some(place)
 }
 
 /// The same, cluster by cluster.

@@ -45,6 +45,16 @@ const ENDS: &[(Unit, &str, Place, Place)] = &[
     (3, "ab\nabc\nabcd世\n", (0, 0), (4, 0)),
     (5, "abcdefghijklmnopq", (0, 3), (4, 0)),
     (10, "abcdefghijklmnopqrstuvwxy", (65534, 0), (65535, 5)),
+    // characters that join no other, beside some that do
+    (10, "世世世世世世", (0, 0), (1, 2)),
+    (10, "世か。ー字a", (0, 0), (1, 1)),
+    (3, "世世", (0, 0), (1, 2)),
+    (2, "é世é", (0, 0), (2, 1)),
+    (1, "世é", (0, 0), (2, 0)),
+    (10, "\u{301}世", (0, 2), (0, 4)),
+    (10, "世\u{301}世", (0, 0), (0, 4)),
+    (10, "👍👍🏽a", (0, 0), (0, 5)),
+    (10, "世\n世é", (0, 0), (1, 3)),
     // a place past the columns, and no columns at all
     (3, "ab", (0, 7), (1, 2)),
     (0, "ab", (0, 0), (1, 0)),

@@ -1,6 +1,8 @@
-//! Where the clusters of a text part, and which texts are printable ASCII.
+//! Where the clusters of a text part, which characters join no other, and which texts are printable ASCII.
 
-use line_buffer::{first_parting, is_plain_text, is_printable, is_printable_text, last_parting};
+use line_buffer::{
+    first_parting, is_plain_text, is_printable, is_printable_text, last_parting, lone_width,
+};
 use std::process::Abort;
 
 /// A text, and where its first part ends.
@@ -85,4 +87,34 @@ fn printable_ascii(rt: HostRuntime) {
     assert!(rt;
         is_printable(' ') && is_printable('~') && !is_printable('\n') && !is_printable('é')
     );
+}
+
+/// A character, and its columns if it is known to join no other.
+const LONE: &[(char, Option<usize>)] = &[
+    (' ', Some(1)),
+    ('~', Some(1)),
+    ('é', Some(1)),
+    ('ß', Some(1)),
+    ('Я', Some(1)),
+    ('世', Some(2)),
+    ('か', Some(2)),
+    ('。', Some(2)),
+    ('👍', Some(2)),
+    ('\n', None),
+    ('\t', None),
+    ('\u{7f}', None),
+    ('\u{ad}', None),
+    ('\u{301}', None),
+    ('\u{200d}', None),
+    ('क', None),
+    ('가', None),
+    ('\u{1f1e6}', None),
+    ('\u{1f3fb}', None),
+];
+
+#[test]
+fn characters_that_join_no_other(rt: HostRuntime) {
+    for (c, width) in LONE {
+        assert_eq!(rt; lone_width(*c), *width, "{c:?}");
+    }
 }
