@@ -125,7 +125,7 @@ WORKLOADS = [
     ('hinting', hinting, 'characters with a hint behind them'),
     ('vi', vi, 'commands of the Vi style'),
     ('pasting', pasting, 'bytes of a pasted text'),
-    ('wide', wide, 'editing, with wide and combining characters'),
+    ('wide', wide, 'editing, with wide characters and letters past ASCII'),
 ]
 
 
