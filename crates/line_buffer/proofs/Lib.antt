@@ -12,6 +12,7 @@ pub mod LoneLemmas
 pub mod PartLemmas
 pub mod PlainClusterLemmas
 pub mod PlainLemmas
+pub mod PlainStepLemmas
 pub mod PrintableLemmas
 pub mod RingLemmas
 pub mod RowLemmas

@@ -9,10 +9,33 @@ ghost use Rattle.line_buffer.specs.Transpose.{first_alphanumeric};
 ghost use Rattle.line_buffer.specs.Lines.{line_above, next_line};
 
 use crate::movement::RepeatCount;
+use crate::printable::are_plain;
 use unicode_segmentation::UnicodeSegmentation;
 
 /// Returns the text behind its first `n` clusters.
 fn behind_first(text: &str, n: RepeatCount) -> &str
+    ensures { result.now ≡ behind_first n text.now }
+{
+    match behind_plain(text, usize::from(n)) {
+        Some(rest) => rest,
+        None => behind_clusters(text, n),
+    }
+}
+
+/// The same where the first `n` bytes and the next one are printable ASCII or newlines, of which each is a cluster. Else
+/// `None`.
+fn behind_plain(text: &str, n: usize) -> Option<&str>
+    ensures { IfSome result (λ rest. rest.now ≡ behind_first n text.now) }
+{
+    let front = text.as_bytes().get(..=n)?;
+    if !are_plain(front) {
+        return None;
+    }
+    Some(&text[n..])
+}
+
+/// The same, cluster by cluster.
+fn behind_clusters(text: &str, n: RepeatCount) -> &str
     ensures { result.now ≡ behind_first n text.now }
 {
     let mut rest = text.graphemes(true);
@@ -26,6 +49,28 @@ fn behind_first(text: &str, n: RepeatCount) -> &str
 
 /// Returns the text before its last `n` clusters.
 fn before_last(text: &str, n: RepeatCount) -> &str
+    ensures { result.now ≡ before_last n text.now }
+{
+    match before_plain(text, usize::from(n)) {
+        Some(front) => front,
+        None => before_clusters(text, n),
+    }
+}
+
+/// The same where the last `n` bytes and the one before are printable ASCII or newlines, of which each is a cluster. Else
+/// `None`.
+fn before_plain(text: &str, n: usize) -> Option<&str>
+    ensures { IfSome result (λ front. front.now ≡ before_last n text.now) }
+{
+    let end = text.len().checked_sub(n)?;
+    if end == 0 || !are_plain(&text.as_bytes()[end - 1..]) {
+        return None;
+    }
+    Some(&text[..end])
+}
+
+/// The same, cluster by cluster.
+fn before_clusters(text: &str, n: RepeatCount) -> &str
     ensures { result.now ≡ before_last n text.now }
 {
     let mut rest = text.graphemes(true);

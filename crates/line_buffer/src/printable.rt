@@ -21,12 +21,19 @@ pub fn is_printable_text(text: &str) -> bool
     printable
 }
 
-/// Returns whether the text is printable ASCII and newlines alone. All bytes are looked at, many at once.
+/// Returns whether the text is printable ASCII and newlines alone.
 pub fn is_plain_text(text: &str) -> bool
     ensures { result ≡ list_all printable.is_plain text.now }
 {
+    are_plain(text.as_bytes())
+}
+
+/// Returns whether the bytes are printable ASCII and newlines alone. All are looked at, many at once.
+pub(crate) fn are_plain(bytes: &[u8]) -> bool
+    ensures { result ≡ list_all printable.is_plain bytes.now }
+{
     let mut plain = true;
-    for byte in text.as_bytes() {
+    for byte in bytes {
         plain &= is_plain_byte(*byte);
     }
     plain

@@ -156,6 +156,14 @@ impl Changeset {
         self.list.settled(outcome)
     }
 
+    /// Tells that `text` went from `place`, and keeps it.
+    pub(crate) fn delete_text(&mut self, place: usize, text: String) -> Result<(), OutOfMemory>
+        ensures { Adds result self.old self.new (with_delete place (string_bytes text)) }
+    {
+        let outcome = self.list.delete_text(place, text);
+        self.list.settled(outcome)
+    }
+
     /// Tells that `new` came for `old` at `place`.
     pub(crate) fn replace(&mut self, place: usize, old: &str, new: &str) -> Result<(), OutOfMemory>
         ensures { Adds result self.old self.new (with_replace place old.now new.now) }

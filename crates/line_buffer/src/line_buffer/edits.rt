@@ -248,11 +248,12 @@ impl LineBuffer {
             (record { text = text.now; cursor = pos })
             (on_entries (with_update self.old.text text.now)) }
     {
-        changes.delete(0, self.buf.as_str())?;
-        changes.insert_str(0, text)?;
-        self.buf = String::from_str(*self.buf.allocator(), text)?;
+        let new = String::from_str(*self.buf.allocator(), text)?;
+        let old = std::mem::replace(&mut self.buf, new);
         self.plain = is_plain_text(text);
         self.pos = pos;
+        changes.delete_text(0, old)?;
+        changes.insert_str(0, text)?;
         Ok(())
     }
 

@@ -452,6 +452,16 @@ impl ChangeList {
         self.add_delete(place, text)
     }
 
+    /// Tells that `text` went from `place`, and keeps it where it joins no other.
+    pub(crate) fn delete_text(&mut self, place: usize, text: String) -> Result<(), OutOfMemory>
+        ensures { Adds result self.old self.new (with_delete place (string_bytes text)) }
+    {
+        if text.is_empty() || is_one_alphanumeric(text.as_str()) {
+            return self.delete(place, text.as_str());
+        }
+        self.add(Change::Delete { place, text })
+    }
+
     fn add_delete(&mut self, place: usize, text: &str) -> Result<(), OutOfMemory>
         ensures { Adds result self.old self.new (λ entries. deleted place text.now ∷ entries) }
     {

@@ -1,7 +1,7 @@
 use Rattle.std.proofs.Common.{◌≡◌, ◌+◌, ◌-◌, ◌∙◌, length, sym, arith}
 use Rattle.line_buffer.specs.Cluster.{clusters}
 use Rattle.line_buffer.proofs.ListLemmas.{take_one_less}
-use Rattle.line_buffer.proofs.clusters.before_last.Goals as goal
+use Rattle.line_buffer.proofs.clusters.before_clusters.Goals as goal
 
 pub loop-preserved : goal.loop-preserved
 loop-preserved c =

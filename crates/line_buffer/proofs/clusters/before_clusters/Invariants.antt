@@ -1,7 +1,7 @@
 use Rattle.std.proofs.Common.{◌≡◌, ◌-◌, length, take}
 use Rattle.unicode_segmentation.specs.Iter.{graphemes_left}
 use Rattle.line_buffer.specs.Cluster.{clusters}
-use Rattle.line_buffer.proofs.clusters.before_last.Given as goal
+use Rattle.line_buffer.proofs.clusters.before_clusters.Given as goal
 
 abbrev pub invariant-loop : goal.invariant-loop
 invariant-loop l = graphemes_left l.rest ≡ take (length (clusters l.text) - l.counter) (clusters l.text)

@@ -2,7 +2,7 @@ use Rattle.std.proofs.Common.{◌≡◌, [], ◌∙◌, sym, ap, arith, drop}
 use Rattle.std.specs.List.{concat}
 use Rattle.line_buffer.specs.Cluster.{clusters}
 use Rattle.line_buffer.proofs.ListLemmas.{drop_one_more, drop_nothing_more}
-use Rattle.line_buffer.proofs.clusters.behind_first.Goals as goal
+use Rattle.line_buffer.proofs.clusters.behind_clusters.Goals as goal
 
 pub returns-in_default : goal.returns-in_default
 returns-in_default c =
