@@ -3,7 +3,7 @@ ghost use Rattle.std.specs.Prelude.{◌≡◌, ℕ, ◌+◌, ◌<◌, min, [], �
 ghost use Rattle.std.specs.List.{list_all};
 ghost use Rattle.std.specs.Option.{ForSome};
 ghost use Rattle.line_config.specs.Error.{MemoryOnly, max_count};
-ghost use Rattle.line_buffer.specs.Printable.{is_printable};
+ghost use Rattle.line_buffer.specs.Printable.{is_plain, is_printable};
 ghost use Rattle.line_buffer.specs.declared.layout.GraphemeClusterMode.TheVariants.{Unicode};
 ghost use Rattle.line_state.specs.ScreenState.{Agrees, EndsBehind, HasRoom, Tries, shown_by, with_shown};
 ghost use Rattle.line_screen.specs.Measure.{EndsPlain, measured};
@@ -11,7 +11,7 @@ ghost use Rattle.line_screen.specs.Surroundings.{Clears, KeepsSurroundings, blan
 
 use crate::measure::{measured, measured_line};
 use crate::surroundings::Surroundings;
-use line_buffer::{GraphemeClusterMode, Layout, LineBuffer, Position, Unit, is_printable_text};
+use line_buffer::{GraphemeClusterMode, Layout, LineBuffer, Position, Unit, is_plain_text, is_printable_text};
 use line_config::{Prompt, Result};
 use line_keys::raw_reader::RawReader;
 use line_parts::Highlighter;
@@ -33,7 +33,7 @@ pub struct Plain<R: RawReader> {
     place: Position,
     text: String,
     origin: Position,
-    // Where the text ends, if it is known to be printable ASCII and newlines.
+    // Where the text ends, if this is known, and the text to be printable ASCII and newlines.
     end: Option<Position>,
     prompt: String,
     hint: Option<String>,
@@ -158,15 +158,28 @@ impl<R: RawReader> Plain<R> {
         Some(measured(self.columns, more, end))
     }
 
-    /// Returns where the first `kept` bytes of the text end, if this is known. It looks at the rest alone.
-    fn end_of_first(&self, kept: usize) -> Option<Position>
+    /// Returns whether the text is printable ASCII and newlines, and begins at a column of a row. Where its end is known, this
+    /// is known too.
+    fn is_plain(&self) -> bool
+        ensures { result ≡ true → (list_all is_plain (string_bytes self.now.text) ≡ true)
+            × (self.now.origin.col < self.now.columns) }
+    {
+        if self.end.is_some() {
+            return true;
+        }
+        self.origin.col < self.columns && is_plain_text(self.text.as_str())
+    }
+
+    /// Returns where the first `kept` bytes of the text end, which ends at `end`. `None` where they end on another row, and
+    /// where the text has more than printable ASCII and newlines.
+    fn end_of_first(&self, kept: usize, end: Position) -> Option<Position>
+        requires { end ≡ measured self.now.columns (string_bytes self.now.text) self.now.origin }
         ensures { IfSome result (λ e.
             EndsPlain self.now.columns (take kept (string_bytes self.now.text)) self.now.origin e) }
     {
-        let end = self.end?;
         let gone = self.text.as_str().get(kept..)?;
         let columns = Unit::try_from(gone.len()).ok()?;
-        if !is_printable_text(gone) || end.col < columns {
+        if !self.is_plain() || !is_printable_text(gone) || end.col < columns {
             return None;
         }
         Some(Position {
@@ -174,17 +187,6 @@ impl<R: RawReader> Plain<R> {
             col: end.col - columns,
         })
     }
-}
-
-/// Returns where the line ends that begins at `origin`, if it is printable ASCII and newlines, and `origin` a column of
-/// a row.
-fn plain_end(columns: Unit, line: &LineBuffer, origin: Position) -> Option<Position>
-    ensures { IfSome result (λ e. EndsPlain columns line.now.text origin e) }
-{
-    if !line.is_plain() || columns <= origin.col {
-        return None;
-    }
-    Some(measured(columns, line.as_str(), origin))
 }
 
 /// Returns the hint as text of its own.
@@ -276,7 +278,7 @@ impl<R: RawReader> Renderer for Plain<R> {
         self.hint = hint;
         self.place = new_layout.cursor;
         self.origin = new_layout.prompt_size;
-        self.end = plain_end(self.columns, line, self.origin);
+        self.end = None;
         self.redraws = self.redraws.saturating_add(1);
         Ok(())
     }
@@ -375,7 +377,7 @@ impl<R: RawReader> Renderer for Plain<R> {
         let gone = usize::from(end.col.saturating_sub(self.place.col));
         let kept = self.text.len().saturating_sub(gone);
         if end.row == self.place.row && self.text.is_char_boundary(kept) {
-            self.end = self.end_of_first(kept);
+            self.end = self.end_of_first(kept, end);
             self.text.truncate(kept);
         }
         Ok(())

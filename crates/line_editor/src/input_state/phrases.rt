@@ -1,5 +1,5 @@
 //! Phrases: an optional count, a key and what belongs to it, and in Vi such a one of command mode behind Alt.
-ghost use Rattle.std.specs.Prelude.{◌≡◌, ◌∷◌, [], None, Option, Some, OnOk};
+ghost use Rattle.std.specs.Prelude.{◌≡◌, ◌∷◌, [], true, None, Option, Some, OnOk};
 ghost use Rattle.line_config.specs.Error.{MemoryOnly};
 ghost use Rattle.line_editor.specs.Input.{in_mode};
 ghost use Rattle.line_editor.specs.InputState.{input_of, keys_of, read_input};
@@ -7,6 +7,7 @@ ghost use Rattle.line_editor.specs.Keymap.{keymap_of};
 ghost use Rattle.line_editor.specs.Phrase.{Keyed, Phrase, Spelled, changed_by, entered, remembered_behind, with_group};
 ghost use Rattle.line_editor.specs.Reading.{ReadsPart};
 ghost use Rattle.line_keys.specs.Command.{command_of};
+ghost use Rattle.line_keys.specs.Count.{begins_count};
 ghost use Rattle.line_keys.specs.Draft.{KeepsLine, start_text};
 ghost use Rattle.line_keys.specs.Drawing.{Undrawn};
 ghost use Rattle.line_keys.specs.Item.{key};
@@ -62,6 +63,7 @@ impl InputState<'_> {
 
     // Reads the rest of a phrase of command mode behind a key with Alt, which stands for a plain key there. The groups of
     // changes end first, unless a binding or the reader has a command for the key.
+    #[inline(never)]
     fn read_alt<R: RawReader, W: Refresher>(
         &self,
         rdr: &mut R,
@@ -91,6 +93,7 @@ impl InputState<'_> {
 
     // Reads the rest of a phrase of a mode that began with a key: its count, if it begins one, and what belongs to the key
     // behind it.
+    #[inline(always)]
     fn read_spelled<R: RawReader, W: Refresher>(
         &self,
         rdr: &mut R,
@@ -108,9 +111,31 @@ impl InputState<'_> {
             (λ c. command_of c.command) (λ c. read_input c k.input) result
             wrt.old k rdr.old wrt.new rdr.new }
     {
-        if !begins_count(self.mode, mode, first) {
-            return self.read_behind(rdr, wrt, mode, first, None);
+        if begins_count(self.mode, mode, first) {
+            return self.read_counted(rdr, wrt, mode, first);
         }
+        self.read_behind(rdr, wrt, mode, first, None)
+    }
+
+    // The same where the key begins a count.
+    #[inline(never)]
+    fn read_counted<R: RawReader, W: Refresher>(
+        &self,
+        rdr: &mut R,
+        wrt: &mut W,
+        mode: InputMode,
+        first: KeyEvent,
+    ) -> Result<Read>
+        requires { begins_count (input_of self.now).style mode first ≡ true }
+        ensures { let k = keys_of ⟦<dyn ConditionalEventHandler as ConditionalEventHandler>⟧ in
+            let k = k self.now in let keymap = keymap_of k (R.own_binding rdr.old) in
+            let e = W.EditorState in let draft = e.draft wrt.old in
+            ReadsPart e R.RawReader
+            (Spelled keymap (e.environment wrt.old) draft (in_mode mode k.input))
+            (key first ∷ []) draft (λ command draft. draft)
+            (λ c. command_of c.command) (λ c. read_input c k.input) result
+            wrt.old k rdr.old wrt.new rdr.new }
+    {
         let (count, key) = self.read_count(rdr, wrt, self.mode, first)?;
         self.read_behind(rdr, wrt, mode, key, Some(count))
     }
@@ -120,6 +145,7 @@ impl InputState<'_> {
     // The way of a key: `State::next_cmd` hands the state in as `wrt`. The program's bindings are asked first, then the
     // reader's own, and then the tables of `line_keys`. A table gives a meaning, which says what else is to be read, and
     // `read_tail` reads it. The command goes back through `State::next_cmd` to `execute`, which finds the edit that it names.
+    #[inline(always)]
     fn read_behind<R: RawReader, W: Refresher>(
         &self,
         rdr: &mut R,
