@@ -94,6 +94,7 @@ impl<'b> InputState<'b> {
     }
 
     /// Reads the keys of one phrase as `next_cmd` does, and remembers nothing yet.
+    #[inline(always)]
     pub(crate) fn read_command<R: RawReader, W: Refresher>(
         &self,
         rdr: &mut R,
@@ -115,6 +116,7 @@ impl<'b> InputState<'b> {
     }
 
     /// Remembers what was read of a phrase, and returns its command.
+    #[inline(always)]
     pub(crate) fn remember(&mut self, told: Told) -> Cmd
         ensures command { command_of result ≡ command_of told.command }
         ensures keys { let k = keys_of ⟦<dyn ConditionalEventHandler as ConditionalEventHandler>⟧ in
@@ -147,6 +149,7 @@ pub(crate) struct Told {
 
 impl Told {
     // Returns what is to be remembered of what was read: a command that becomes the last change is copied.
+    #[inline(always)]
     fn new(alloc: Global, read: Read) -> Result<Told>
         ensures command { IfOk result (λ t. command_of t.command ≡ command_of read.command) }
         ensures input { (input : Input)

@@ -24,6 +24,7 @@ use std::alloc::Global;
 impl InputState<'_> {
     /// Returns the command that the program's bindings give a key of a mode under the count that was typed, done again where it
     /// can be.
+    #[inline(always)]
     pub(crate) fn custom_binding<W: Refresher>(
         &self,
         wrt: &W,
@@ -104,6 +105,7 @@ fn handle(
 }
 
 /// Returns the command that the reader itself gives the key; `EndOfFile` counts on an empty line alone.
+#[inline(always)]
 pub(crate) fn own_command<R: RawReader, W: Refresher>(
     rdr: &R,
     wrt: &W,

@@ -41,6 +41,7 @@ pub(crate) struct Read {
 
 impl InputState<'_> {
     /// Reads the rest of a phrase that began with a key.
+    #[inline(always)]
     pub(crate) fn read_phrase<R: RawReader, W: Refresher>(
         &self,
         rdr: &mut R,
@@ -182,6 +183,7 @@ impl InputState<'_> {
     }
 
     // Returns what a command of the bindings or of the reader is read as: it leaves the mode, the last change and the search.
+    #[inline(always)]
     fn at_once(&self, mode: InputMode, command: Cmd) -> Read
         ensures command { command_of result.command ≡ command_of command }
         ensures input { let i = input_of self.now in read_input result i ≡ in_mode mode i }
@@ -195,6 +197,7 @@ impl InputState<'_> {
     }
 
     // Returns what a command of the tables is read as, whose key may enter a mode. In Emacs nothing is remembered.
+    #[inline(always)]
     fn listed(&self, mode: InputMode, enters: Option<InputMode>, behind: Behind) -> Read
         ensures command { command_of result.command ≡ command_of behind.command }
         ensures input { let i = input_of self.now in let command = command_of behind.command in

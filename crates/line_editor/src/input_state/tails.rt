@@ -37,6 +37,7 @@ pub(crate) struct Behind {
 
 impl InputState<'_> {
     /// Reads what belongs to a key of a mode, which has this meaning, under the count that the tables took.
+    #[inline(always)]
     pub(crate) fn read_tail<R: RawReader, W: Refresher>(
         &self,
         rdr: &mut R,
@@ -62,6 +63,7 @@ impl InputState<'_> {
     }
 
     // Reads what belongs to a key where nothing is drawn meanwhile: it is no operator's.
+    #[inline(always)]
     fn read_quietly<R: RawReader, W: Refresher>(
         &self,
         rdr: &mut R,
@@ -167,6 +169,7 @@ impl InputState<'_> {
     }
 
     /// Returns a command behind which the last search is as it was.
+    #[inline(always)]
     pub(crate) fn behind(&self, command: Cmd) -> Behind
         ensures command { command_of result.command ≡ command_of command }
         ensures search { result.search ≡ (input_of self.now).last_search }
