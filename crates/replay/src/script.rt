@@ -6,7 +6,7 @@ mod names;
 use crate::helper::ScriptHelper;
 use line_buffer::Unit;
 use line_config::{EditMode, ReadlineError};
-use line_parts::{FileHistory, History, unescape_line};
+use line_parts::{Escapes, FileHistory, History, unescape_line};
 use line_screen::KeyQueue;
 use names::key_named;
 use std::alloc::Global;
@@ -237,7 +237,7 @@ fn push_key(name: &str, items: &mut Script) -> Result<bool, ReadlineError> {
 /// The text that an escaped one stands for. None where an escape is bad.
 fn unescape(alloc: Global, text: &str) -> Result<Option<String>, ReadlineError> {
     let mut plain = Vec::new(alloc);
-    if unescape_line(text.as_bytes(), &mut plain)? {
+    if unescape_line(text.as_bytes(), Escapes::V2, &mut plain)? {
         Ok(String::from_utf8(plain).ok())
     } else {
         Ok(None)
