@@ -120,6 +120,9 @@ fn push_line(alloc: Global, line: &str, parsed: &mut Parsed) -> Result<bool, Rea
         Some(("history", text)) if !parsed.has_item_lines => {
             push_history(alloc, text, &mut parsed.history)
         }
+        Some(("load", text)) if !parsed.has_item_lines => {
+            load_history(alloc, text, &mut parsed.history)
+        }
         Some(("prompt", text)) if !parsed.has_item_lines => {
             set_prompt(alloc, text, &mut parsed.prompt)
         }
@@ -163,6 +166,19 @@ fn push_history(
         return Ok(false);
     };
     let _ = history.add_owned(line)?;
+    Ok(true)
+}
+
+/// Loads the text into the history, which may leave lines out. False where an escape is bad.
+fn load_history(
+    alloc: Global,
+    text: &str,
+    history: &mut FileHistory,
+) -> Result<bool, ReadlineError> {
+    let Some(text) = unescape(alloc, text)? else {
+        return Ok(false);
+    };
+    let _ = history.load_from(text.as_bytes())?;
     Ok(true)
 }
 
