@@ -1,13 +1,13 @@
 -- A text that was saved, and read again.
-use Rattle.std.proofs.Common.{◌≡◌, ◌≢◌, ℕ, suc, ◌-◌, ◌<◌, Bool, true, false, if◌then◌else◌, List, [], ◌∷◌, ◌++◌, length, take, drop, get_or, All, Option, Some, None, ap, sym, ◌∙◌, refl, arith, append_assoc, eqb, ⊎_elim, length-append}
+use Rattle.std.proofs.Common.{◌≡◌, ◌≢◌, ℕ, suc, ◌-◌, ◌<◌, true, false, if◌then◌else◌, List, [], ◌∷◌, ◌++◌, length, take, drop, get_or, All, Some, ap, sym, ◌∙◌, refl, arith, append_assoc, eqb, ⊎_elim, length-append}
 use Rattle.std.specs.Prelude.{bytes_eq, filter}
 use Rattle.std.specs.List.{AllZip}
 use Rattle.std.proofs.lemmas.Bool.{cases_Bool}
 use Rattle.std.proofs.lemmas.List.Elements.{All-head, All-tail, All-nil, All-cons, All-append}
 use Rattle.line_parts.specs.History.{FiledHistory, HistoryRules, all_filed, filed, last_of, leaves_out, settled}
-use Rattle.line_parts.specs.EscapedLine.{escape_table, escaped_byte, escaped_line}
-use Rattle.line_parts.specs.HistoryText.{EndsPlain, Loads, header, is_some_text, lines_of, saved, without_return, written, IsHistoryText, Says, unescaped, as_it_stands, with_header, without_header}
-use Rattle.line_parts.proofs.EscapeLemmas.{Written, by_letter, byte_in, none_is_not_some, plainly, says_written_line, undo, undo-says, written-by}
+use Rattle.line_parts.specs.EscapedLine.{escaped_byte, escaped_line}
+use Rattle.line_parts.specs.HistoryText.{EndsPlain, header, is_some_text, lines_of, saved, without_return, written, Says, unescaped, as_it_stands, with_header, without_header}
+use Rattle.line_parts.proofs.EscapeLemmas.{Written, by_letter, plainly, says_written_line, undo-says, written-by}
 use Rattle.line_parts.specs.HistoryTextLaws.{LoadsBack, ReadsBack, SavedIsLoaded, SavedIsRead, SavedV3IsLoaded, SavedV3IsRead, TextSaysOne}
 use Rattle.line_parts.specs.declared.escaped_line.Escapes.{Escapes}
 use Rattle.line_parts.specs.declared.escaped_line.Escapes.TheVariants.{V2, V3}

@@ -7,6 +7,7 @@ ghost use Rattle.line_parts.specs.HistoryLaws.{AddingKeepsTheLast, FoundIsNeares
 ghost use Rattle.line_parts.specs.HistoryTextLaws.{SavedIsLoaded, SavedIsRead, SavedV3IsLoaded, SavedV3IsRead, TextSaysOne};
 
 use crate::completion::Quote;
+use crate::escaped_line::Escapes;
 use crate::highlight::CmdKind;
 use crate::history::{SearchDirection, SearchResult};
 
@@ -104,4 +105,5 @@ pub fn equal_is_same()
     ensures direction { IsSameness ⟦<SearchDirection as PartialEq>⟧.eq }
     ensures kind { IsSameness ⟦<CmdKind as PartialEq>⟧.eq }
     ensures quote { IsSameness ⟦<Quote as PartialEq>⟧.eq }
+    ensures escapes { IsSameness ⟦<Escapes as PartialEq>⟧.eq }
 {}

@@ -83,7 +83,7 @@ fn come_back(
     let mut copy = FileHistory::new(alloc);
     copy.set_max_len(1_000)?;
     assert!(rt; copy.load_from(text.as_slice())?);
-    assert_eq!(rt; copy.len(), saved.len() + appended.len());
+    assert_eq!(rt; copy.len(), saved.len().saturating_add(appended.len()));
     for (found, wanted) in copy.iter().zip(saved.iter().chain(appended)) {
         assert!(rt; found == wanted);
     }
