@@ -1,6 +1,6 @@
 -- The lines of a text, added one after another.
-use Rattle.std.proofs.Common.{◌≡◌, ◌≢◌, ℕ, suc, ◌-◌, ◌<◌, ◌≤◌, Bool, true, false, true≢false, not, ◌&&◌, if◌then◌else◌, List, [], ◌∷◌, ◌++◌, length, take, All, Option, None, Some, MatchOption, ap, sym, ◌∙◌, refl, arith, append_assoc, append-nil, eqb, ⊎_elim}
-use Rattle.std.specs.Prelude.{filter, bytes_eq, IfSome, Result, Ok, Err, OnErr}
+use Rattle.std.proofs.Common.{◌≡◌, ◌≢◌, ℕ, suc, ◌-◌, ◌<◌, ◌≤◌, Bool, true, false, true≢false, not, ◌&&◌, ◌⊎◌, inl, inr, if◌then◌else◌, List, [], ◌∷◌, ◌++◌, length, take, All, Option, None, Some, MatchOption, is_some, ap, sym, ◌∙◌, refl, arith, append_assoc, append-nil, eqb, ⊎_elim}
+use Rattle.std.specs.Prelude.{filter, bytes_eq, IfOk, IfSome, Result, Ok, Err, OnErr, OnOk}
 use Rattle.std.specs.Bool.{⊤}
 use Rattle.std.specs.Io.KnownBytes.{IsAtEnd, prepend_known}
 use Rattle.std.specs.Io.Buffered.{reader_remaining, reader_inner, reader_buffer, reader_capacity}
@@ -11,10 +11,12 @@ use Rattle.std.proofs.lemmas.Bool.{cases_Bool, both_ways}
 use Rattle.std.proofs.lemmas.List.Elements.{filter-append, All-cons, All-nil, All-append}
 use Rattle.std.proofs.lemmas.Slice.Eq.{bytes_eq-Decides}
 use Rattle.line_parts.specs.History.{FiledHistory, all_filed, all_taken, filed, leaves_out, settled}
-use Rattle.line_parts.specs.EscapedLine.{escaped_byte, escaped_line}
+use Rattle.line_parts.specs.EscapedLine.{Unescapes, escape_table, escaped_byte, escaped_line}
 use Rattle.line_parts.specs.HistoryText.{header, is_some_text, lines_of, takes_all, AddsLines, AddsBeginning, AddsSome, ReadsHeader, GoesOn, IsHistoryText, Loads, LoadsBeginning, Says, SaysLines, unescaped, as_it_stands, with_header, without_header}
 use Rattle.line_parts.proofs.LinesLemmas.{lines_of-first, trimmed}
-use Rattle.line_parts.proofs.EscapeLemmas.{undo, undone, undo-escaped}
+use Rattle.line_parts.proofs.EscapeLemmas.{Written, by_letter, byte_in, none_is_not_some, plainly, undo, undo-says, undone, written-by}
+use Rattle.line_parts.specs.declared.escaped_line.Escapes.{Escapes}
+use Rattle.line_parts.specs.declared.escaped_line.Escapes.TheVariants.{V2, V3}
 
 pub AllZip-append : {X Y : Type 0} (R : X → Y → Type 0) (xs vs : List X) (ys ws : List Y) → AllZip R xs ys → AllZip R vs ws → AllZip R (xs ++ vs) (ys ++ ws)
 AllZip-append R [] vs [] ws h k = k
@@ -22,9 +24,9 @@ AllZip-append R [] vs (y ∷ ys) ws h k = absurd h
 AllZip-append R (x ∷ xs) vs [] ws h k = absurd h
 AllZip-append R (x ∷ xs) vs (y ∷ ys) ws h k = (h.0, AllZip-append R xs vs ys ws h.1 k)
 
-pub SaysLines-append : (headed : Bool) (vs ws ls ms : List (List ℕ)) → SaysLines headed vs ls → SaysLines headed ws ms → SaysLines headed (vs ++ ws) (ls ++ ms)
-SaysLines-append true vs ws ls ms h k = rw (filter-append is_some_text vs ws) (AllZip-append Says (filter is_some_text vs) (filter is_some_text ws) ls ms h k)
-SaysLines-append false vs ws ls ms h k = rw (h, k, filter-append is_some_text vs ws) refl
+pub SaysLines-append : (headed : Option Escapes) (vs ws ls ms : List (List ℕ)) → SaysLines headed vs ls → SaysLines headed ws ms → SaysLines headed (vs ++ ws) (ls ++ ms)
+SaysLines-append (Some escapes) vs ws ls ms h k = rw (filter-append is_some_text vs ws) (AllZip-append (Says escapes) (filter is_some_text vs) (filter is_some_text ws) ls ms h k)
+SaysLines-append None vs ws ls ms h k = rw (h, k, filter-append is_some_text vs ws) refl
 
 pub all_filed-append : (h : FiledHistory) (xs ys : List (List ℕ)) → all_filed h (xs ++ ys) ≡ all_filed (all_filed h xs) ys
 all_filed-append h [] ys = refl
@@ -71,48 +73,46 @@ takes_all-append h (x ∷ xs) ys =
 not_10a : ◌≢◌ {A = ℕ} 92 10
 not_10a e = omega (arith, e)
 
-not_10b : ◌≢◌ {A = ℕ} 110 10
-not_10b e = omega (arith, e)
+-- no letter of an escape is a newline
+letter_is_no_newline : (escapes : Escapes) (letter b : ℕ) → byte_in (escape_table escapes) letter ≡ Some b → letter ≢ 10
+letter_is_no_newline V2 letter b is e = none_is_not_some (rw e at is)
+letter_is_no_newline V3 letter b is e = none_is_not_some (rw e at is)
 
-escaped_byte-lacks : (b : ℕ) → All (λ x. x ≢ 10) (escaped_byte b)
-escaped_byte-lacks b = ⊎_elim
-    (λ yes. rw yes (All-cons (λ x. x ≢ 10) 92 (92 ∷ []) not_10a (All-cons (λ x. x ≢ 10) 92 [] not_10a (All-nil (λ x. x ≢ 10)))))
-    (λ other. rw other (⊎_elim
-    (λ yes. rw yes (All-cons (λ x. x ≢ 10) 92 (110 ∷ []) not_10a (All-cons (λ x. x ≢ 10) 110 [] not_10b (All-nil (λ x. x ≢ 10)))))
-    (λ plain. rw plain (All-cons (λ x. x ≢ 10) b [] (λ e. both_ways _ plain (rw e refl)) (All-nil (λ x. x ≢ 10))))
-    (cases_Bool (eqb b 10))))
-    (cases_Bool (eqb b 92))
+escaped_byte-lacks : (escapes : Escapes) (b : ℕ) → All (λ x. x ≢ 10) (escaped_byte escapes b)
+escaped_byte-lacks escapes b = by (written-by escapes b)
+  where
+    by : Written escapes b → All (λ x. x ≢ 10) (escaped_byte escapes b)
+    by (plainly e p q) = rw e (All-cons (λ x. x ≢ 10) b [] (λ f. both_ways _ q (rw f refl)) (All-nil (λ x. x ≢ 10)))
+    by (by_letter letter e f) = rw e (All-cons (λ x. x ≢ 10) 92 (letter ∷ []) not_10a
+        (All-cons (λ x. x ≢ 10) letter [] (letter_is_no_newline escapes letter b f) (All-nil (λ x. x ≢ 10))))
 
 -- no line feed stands in a written line
-pub escaped_line-lacks : (t : List ℕ) → All (λ b. b ≢ 10) (escaped_line t)
-escaped_line-lacks [] = All-nil (λ b. b ≢ 10)
-escaped_line-lacks (b ∷ bs) = All-append (λ b. b ≢ 10) (escaped_byte b) (escaped_line bs) (escaped_byte-lacks b) (escaped_line-lacks bs)
+pub escaped_line-lacks : (escapes : Escapes) (t : List ℕ) → All (λ b. b ≢ 10) (escaped_line escapes t)
+escaped_line-lacks escapes [] = All-nil (λ b. b ≢ 10)
+escaped_line-lacks escapes (b ∷ bs) = All-append (λ b. b ≢ 10) (escaped_byte escapes b) (escaped_line escapes bs) (escaped_byte-lacks escapes b) (escaped_line-lacks escapes bs)
 
-none_is_not_some : {X : Type 0} (x : X) → ◌≡◌ {A = Option X} None (Some x) → ⊥
-none_is_not_some x e = cc
+says_by : (escapes : Escapes) (line : List ℕ) (o : Option (List ℕ)) → undo escapes false line ≡ o → MatchOption (undo escapes false line) ⊤ (λ t. Unescapes escapes line t) → (t : List ℕ) × Says escapes line t
+says_by escapes line None e h = (line, as_it_stands (λ other u. none_is_not_some (sym e ∙ undo-says escapes line other u)) refl)
+says_by escapes line (Some t) e h = (t, unescaped (rw e at h))
 
-says_by : (line : List ℕ) (o : Option (List ℕ)) → undo false line ≡ o → MatchOption (undo false line) ⊤ (λ t. escaped_line t ≡ line) → (t : List ℕ) × Says line t
-says_by line None e h = (line, as_it_stands (λ other same. none_is_not_some other (sym e ∙ ap (undo false) (sym same) ∙ undo-escaped other)) refl)
-says_by line (Some t) e h = (t, unescaped (rw e at h))
+pub says_some : (escapes : Escapes) (line : List ℕ) → (t : List ℕ) × Says escapes line t
+says_some escapes line = says_by escapes line (undo escapes false line) refl (undone escapes false line)
 
-pub says_some : (line : List ℕ) → (t : List ℕ) × Says line t
-says_some line = says_by line (undo false line) refl (undone false line)
+says_all : (escapes : Escapes) (ws : List (List ℕ)) → (ls : List (List ℕ)) × AllZip (Says escapes) ws ls
+says_all escapes [] = ([], tt)
+says_all escapes (w ∷ ws) = let one = says_some escapes w in let more = says_all escapes ws in (one.0 ∷ more.0, (one.1, more.1))
 
-says_all : (ws : List (List ℕ)) → (ls : List (List ℕ)) × AllZip Says ws ls
-says_all [] = ([], tt)
-says_all (w ∷ ws) = let one = says_some w in let more = says_all ws in (one.0 ∷ more.0, (one.1, more.1))
-
-pub says_lines : (headed : Bool) (ws : List (List ℕ)) → (ls : List (List ℕ)) × SaysLines headed ws ls
-says_lines true ws = says_all (filter is_some_text ws)
-says_lines false ws = (filter is_some_text ws, refl)
+pub says_lines : (headed : Option Escapes) (ws : List (List ℕ)) → (ls : List (List ℕ)) × SaysLines headed ws ls
+says_lines (Some escapes) ws = says_all escapes (filter is_some_text ws)
+says_lines None ws = (filter is_some_text ws, refl)
 
 -- ---- lines that are added
 
-pub adds_none : (headed : Bool) (h : FiledHistory) → AddsLines headed [] h h true
-adds_none true h = record { lines = []; says = tt; added = refl; takes = refl }
-adds_none false h = record { lines = []; says = refl; added = refl; takes = refl }
+pub adds_none : (headed : Option Escapes) (h : FiledHistory) → AddsLines headed [] h h true
+adds_none (Some escapes) h = record { lines = []; says = tt; added = refl; takes = refl }
+adds_none None h = record { lines = []; says = refl; added = refl; takes = refl }
 
-pub adds_more : (headed : Bool) (vs ws : List (List ℕ)) (old mid new : FiledHistory) (t u : Bool) → AddsLines headed vs old mid t → AddsLines headed ws mid new u → AddsLines headed (vs ++ ws) old new (t && u)
+pub adds_more : (headed : Option Escapes) (vs ws : List (List ℕ)) (old mid new : FiledHistory) (t u : Bool) → AddsLines headed vs old mid t → AddsLines headed ws mid new u → AddsLines headed (vs ++ ws) old new (t && u)
 adds_more headed vs ws old mid new t u a b = record {
   lines = a.lines ++ b.lines;
   says = SaysLines-append headed vs ws a.lines b.lines a.says b.says;
@@ -120,7 +120,7 @@ adds_more headed vs ws old mid new t u a b = record {
   takes = rw (a.takes, b.takes, a.added) (sym (takes_all-append old a.lines b.lines));
 }
 
-pub adds_beginning : (headed : Bool) (vs ws : List (List ℕ)) (old new : FiledHistory) (t : Bool) → AddsLines headed vs old new t → AddsBeginning headed (vs ++ ws) old new
+pub adds_beginning : (headed : Option Escapes) (vs ws : List (List ℕ)) (old new : FiledHistory) (t : Bool) → AddsLines headed vs old new t → AddsBeginning headed (vs ++ ws) old new
 adds_beginning headed vs ws old new t a = let more = says_lines headed ws in record {
   lines = a.lines;
   unread = more.0;
@@ -139,23 +139,29 @@ takes_one : (h : FiledHistory) (t : List ℕ) → takes_all h (t ∷ []) ≡ not
 takes_one h t = takes_all-cons h t [] ∙ and_true (not (leaves_out h.rules h.lines t))
 
 -- an empty line adds nothing
-pub adds_empty : (headed : Bool) (w : List ℕ) (h : FiledHistory) → length w ≡ 0 → AddsLines headed (w ∷ []) h h true
-adds_empty true [] h e = record { lines = []; says = tt; added = refl; takes = refl }
-adds_empty false [] h e = record { lines = []; says = refl; added = refl; takes = refl }
+pub adds_empty : (headed : Option Escapes) (w : List ℕ) (h : FiledHistory) → length w ≡ 0 → AddsLines headed (w ∷ []) h h true
+adds_empty (Some escapes) [] h e = record { lines = []; says = tt; added = refl; takes = refl }
+adds_empty None [] h e = record { lines = []; says = refl; added = refl; takes = refl }
 adds_empty headed (x ∷ xs) h e = absurd (omega (arith, e))
 
 -- one line as it stands, and one by its escapes
-pub adds_plain : (w : List ℕ) (old new : FiledHistory) (taken : Bool) → 0 < length w → new ≡ filed old w → taken ≡ not (leaves_out old.rules old.lines w) → AddsLines false (w ∷ []) old new taken
+pub adds_plain : (w : List ℕ) (old new : FiledHistory) (taken : Bool) → 0 < length w → new ≡ filed old w → taken ≡ not (leaves_out old.rules old.lines w) → AddsLines None (w ∷ []) old new taken
 adds_plain w old new taken lt e t = record { lines = w ∷ []; says = rw (some_text w lt) refl; added = e; takes = t ∙ sym (takes_one old w) }
 
-adds_says : (w text : List ℕ) (old new : FiledHistory) (taken : Bool) → 0 < length w → Says w text → new ≡ filed old text → taken ≡ not (leaves_out old.rules old.lines text) → AddsLines true (w ∷ []) old new taken
-adds_says w text old new taken lt says e t = record { lines = text ∷ []; says = rw (some_text w lt) (says, tt); added = e; takes = t ∙ sym (takes_one old text) }
+adds_says : (escapes : Escapes) (w text : List ℕ) (old new : FiledHistory) (taken : Bool) → 0 < length w → Says escapes w text → new ≡ filed old text → taken ≡ not (leaves_out old.rules old.lines text) → AddsLines (Some escapes) (w ∷ []) old new taken
+adds_says escapes w text old new taken lt says e t = record { lines = text ∷ []; says = rw (some_text w lt) (says, tt); added = e; takes = t ∙ sym (takes_one old text) }
 
-pub adds_unescaped : (w text : List ℕ) (old new : FiledHistory) (taken : Bool) → 0 < length w → escaped_line text ≡ w → new ≡ filed old text → taken ≡ not (leaves_out old.rules old.lines text) → AddsLines true (w ∷ []) old new taken
-adds_unescaped w text old new taken lt says e t = adds_says w text old new taken lt (unescaped says) e t
+pub adds_unescaped : (escapes : Escapes) (w text : List ℕ) (old new : FiledHistory) (taken : Bool) → 0 < length w → Unescapes escapes w text → new ≡ filed old text → taken ≡ not (leaves_out old.rules old.lines text) → AddsLines (Some escapes) (w ∷ []) old new taken
+adds_unescaped escapes w text old new taken lt says e t = adds_says escapes w text old new taken lt (unescaped says) e t
 
-pub adds_as_it_stands : (w : List ℕ) (old new : FiledHistory) (taken : Bool) → 0 < length w → ((other : List ℕ) → escaped_line other ≢ w) → new ≡ filed old w → taken ≡ not (leaves_out old.rules old.lines w) → AddsLines true (w ∷ []) old new taken
-adds_as_it_stands w old new taken lt bad e t = adds_says w w old new taken lt (as_it_stands bad refl) e t
+pub adds_as_it_stands : (escapes : Escapes) (w : List ℕ) (old new : FiledHistory) (taken : Bool) → 0 < length w → ((other : List ℕ) → ¬ (Unescapes escapes w other)) → new ≡ filed old w → taken ≡ not (leaves_out old.rules old.lines w) → AddsLines (Some escapes) (w ∷ []) old new taken
+adds_as_it_stands escapes w old new taken lt bad e t = adds_says escapes w w old new taken lt (as_it_stands bad refl) e t
+
+-- the same of an answer
+pub adds_kept : {E : Type 0} (r : Result Bool E) (escapes : Escapes) (w : List ℕ) (old new : FiledHistory) → 0 < length w → ((other : List ℕ) → ¬ (Unescapes escapes w other))
+    → IfOk r (λ taken. taken ≡ not (leaves_out old.rules old.lines w)) → OnOk r (new ≡ filed old w) → IfOk r (AddsLines (Some escapes) (w ∷ []) old new)
+adds_kept (Ok taken) escapes w old new lt bad t e = adds_as_it_stands escapes w old new taken lt bad e t
+adds_kept (Err e) escapes w old new lt bad t f = tt
 
 -- ---- a line that was read
 
@@ -182,7 +188,7 @@ trimmed_cut piece mid line e is cut = cut ∙ ap (strip_last 13) is ∙ ap (λ b
 -- ---- the lines of a text, read one after another
 
 -- these lines of a text were added, and it goes on with the rest
-pub record Loading (headed : Bool) (text rest : Option (List ℕ)) (old now : FiledHistory) (taken : Bool) : Type 0 where
+pub record Loading (headed : Option Escapes) (text rest : Option (List ℕ)) (old now : FiledHistory) (taken : Bool) : Type 0 where
   pub written : List (List ℕ)
   pub adds : AddsLines headed written old now taken
   pub goes_on : GoesOn text rest written
@@ -197,27 +203,27 @@ goes_on-more (Some t) None rest vs ws h k = absurd h
 goes_on-more (Some t) (Some m) None vs ws h k = absurd k
 goes_on-more (Some t) (Some m) (Some r) vs ws h k = rw (h, k) (sym (append_assoc vs ws (lines_of r)))
 
-pub loading_none : (headed : Bool) (text : Option (List ℕ)) (h : FiledHistory) → Loading headed text text h h true
+pub loading_none : (headed : Option Escapes) (text : Option (List ℕ)) (h : FiledHistory) → Loading headed text text h h true
 loading_none headed text h = record { written = []; adds = adds_none headed h; goes_on = goes_on-none text }
 
-pub loading_more : (headed : Bool) (text mid rest : Option (List ℕ)) (old now new : FiledHistory) (line : List ℕ) (t u : Bool) → Loading headed text mid old now t → GoesOn mid rest (line ∷ []) → AddsLines headed (line ∷ []) now new u → Loading headed text rest old new (t && u)
+pub loading_more : (headed : Option Escapes) (text mid rest : Option (List ℕ)) (old now new : FiledHistory) (line : List ℕ) (t u : Bool) → Loading headed text mid old now t → GoesOn mid rest (line ∷ []) → AddsLines headed (line ∷ []) now new u → Loading headed text rest old new (t && u)
 loading_more headed text mid rest old now new line t u l k a = record {
   written = l.written ++ line ∷ [];
   adds = adds_more headed l.written (line ∷ []) old now new t u l.adds a;
   goes_on = goes_on-more text mid rest l.written (line ∷ []) l.goes_on k;
 }
 
-pub loading_ended : (headed : Bool) (text rest : Option (List ℕ)) (old now : FiledHistory) (t : Bool) → Loading headed text rest old now t → IfSome rest (λ r. lines_of r ≡ []) → IfSome text (λ x. AddsLines headed (lines_of x) old now t)
+pub loading_ended : (headed : Option Escapes) (text rest : Option (List ℕ)) (old now : FiledHistory) (t : Bool) → Loading headed text rest old now t → IfSome rest (λ r. lines_of r ≡ []) → IfSome text (λ x. AddsLines headed (lines_of x) old now t)
 loading_ended headed None rest old now t l ends = tt
 loading_ended headed (Some x) None old now t l ends = absurd l.goes_on
 loading_ended headed (Some x) (Some r) old now t l ends = rw (l.goes_on, ends, append-nil l.written) l.adds
 
-pub loading_beginning : (headed : Bool) (text rest : Option (List ℕ)) (old now : FiledHistory) (t : Bool) → Loading headed text rest old now t → IfSome text (λ x. AddsBeginning headed (lines_of x) old now)
+pub loading_beginning : (headed : Option Escapes) (text rest : Option (List ℕ)) (old now : FiledHistory) (t : Bool) → Loading headed text rest old now t → IfSome text (λ x. AddsBeginning headed (lines_of x) old now)
 loading_beginning headed None rest old now t l = tt
 loading_beginning headed (Some x) None old now t l = absurd l.goes_on
 loading_beginning headed (Some x) (Some r) old now t l = rw l.goes_on (adds_beginning headed l.written (lines_of r) old now t l.adds)
 
-pub loading_some : (headed : Bool) (text rest : Option (List ℕ)) (old now : FiledHistory) (t : Bool) → Loading headed text rest old now t → AddsSome old now
+pub loading_some : (headed : Option Escapes) (text rest : Option (List ℕ)) (old now : FiledHistory) (t : Bool) → Loading headed text rest old now t → AddsSome old now
 loading_some headed text rest old now t l = record { lines = l.adds.lines; added = l.adds.added }
 
 -- ---- the header, or the first line
@@ -238,127 +244,159 @@ same_bytes x y e = (bytes_eq-Decides x y).0 e
 equal_bytes : (x y : List ℕ) → x ≡ y → bytes_eq x y ≡ true
 equal_bytes x y e = (bytes_eq-Decides x y).1 e
 
+-- a line is a header or is none
+is_header : (line : List ℕ) → ((escapes : Escapes) × (line ≡ header escapes)) ⊎ ((escapes : Escapes) → line ≢ header escapes)
+is_header line = ⊎_elim
+    (λ (yes : bytes_eq line (header V2) ≡ true). inl (V2, same_bytes line (header V2) yes))
+    (λ (other : bytes_eq line (header V2) ≡ false). ⊎_elim
+    (λ (yes : bytes_eq line (header V3) ≡ true). inl (V3, same_bytes line (header V3) yes))
+    (λ (none : bytes_eq line (header V3) ≡ false). inr (neither_header other none))
+    (cases_Bool (bytes_eq line (header V3))))
+    (cases_Bool (bytes_eq line (header V2)))
+  where
+    neither_header : bytes_eq line (header V2) ≡ false → bytes_eq line (header V3) ≡ false → (escapes : Escapes) → line ≢ header escapes
+    neither_header other none V2 e = both_ways _ other (equal_bytes line (header V2) e)
+    neither_header other none V3 e = both_ways _ none (equal_bytes line (header V3) e)
+
 not_true : {P : Type 0} → false ≡ true → P
 not_true e = absurd (true≢false (sym e))
 
 not_false : {P : Type 0} → true ≡ false → P
 not_false e = absurd (true≢false e)
 
-no_lines : (text : Option (List ℕ)) → IfSome text (λ t. lines_of t ≡ []) → IfSome text (λ t. (more : List (List ℕ)) → lines_of t ≢ header ∷ more)
-no_lines None ended = tt
-no_lines (Some t) ended = λ more e. nil_is_not_cons (sym ended ∙ e)
+not_none : {P : Type 0} {escapes : Escapes} → ◌≡◌ {A = Option Escapes} None (Some escapes) → P
+not_none e = absurd (none_is_not_some e)
 
-no_first : (text rest : Option (List ℕ)) (line : List ℕ) → GoesOn text rest (line ∷ []) → line ≢ header → IfSome text (λ t. (more : List (List ℕ)) → lines_of t ≢ header ∷ more)
+not_some : {P : Type 0} {escapes : Escapes} → ◌≡◌ {A = Option Escapes} (Some escapes) None → P
+not_some e = absurd (none_is_not_some (sym e))
+
+same_escapes : {one other : Escapes} → ◌≡◌ {A = Option Escapes} (Some one) (Some other) → one ≡ other
+same_escapes e = cc
+
+-- the first line of a text is no header
+abbrev pub HasNoHeader : Option (List ℕ) → Type 0
+HasNoHeader text = IfSome text (λ t. (escapes : Escapes) (more : List (List ℕ)) → lines_of t ≢ header escapes ∷ more)
+
+no_lines : (text : Option (List ℕ)) → IfSome text (λ t. lines_of t ≡ []) → HasNoHeader text
+no_lines None ended = tt
+no_lines (Some t) ended = λ escapes more e. nil_is_not_cons (sym ended ∙ e)
+
+no_first : (text rest : Option (List ℕ)) (line : List ℕ) → GoesOn text rest (line ∷ []) → ((escapes : Escapes) → line ≢ header escapes) → HasNoHeader text
 no_first None rest line k other = tt
 no_first (Some t) None line k other = absurd k
-no_first (Some t) (Some r) line k other = λ more e. other (same_first (sym k ∙ e))
+no_first (Some t) (Some r) line k other = λ escapes more e. other escapes (same_first (sym k ∙ e))
 
-pub begins_empty : (text rest : Option (List ℕ)) (h : FiledHistory) → GoesOn text rest [] → IfSome text (λ t. lines_of t ≡ []) → ReadsHeader text rest h h false
+pub begins_empty : (text rest : Option (List ℕ)) (h : FiledHistory) → GoesOn text rest [] → IfSome text (λ t. lines_of t ≡ []) → ReadsHeader text rest h h None
 begins_empty text rest h k ended = record {
   firsts = [];
   goes_on = k;
-  with_header = λ e. not_true e;
+  with_header = λ escapes e. not_none e;
   no_header = λ _. no_lines text ended;
   added = λ _. refl;
 }
 
-pub begins_header : (text rest : Option (List ℕ)) (line : List ℕ) (h : FiledHistory) → GoesOn text rest (line ∷ []) → line ≡ header → ReadsHeader text rest h h true
-begins_header text rest line h k e = record {
+pub begins_header : (text rest : Option (List ℕ)) (line : List ℕ) (escapes : Escapes) (h : FiledHistory) → GoesOn text rest (line ∷ []) → line ≡ header escapes → ReadsHeader text rest h h (Some escapes)
+begins_header text rest line escapes h k e = record {
   firsts = line ∷ [];
   goes_on = k;
-  with_header = λ _. (ap (λ l. l ∷ []) e, refl);
-  no_header = λ e. not_false e;
-  added = λ e. not_false e;
+  with_header = λ others same. (ap (λ l. l ∷ []) (e ∙ ap header (same_escapes same)), refl);
+  no_header = λ none. not_some none;
+  added = λ none. not_some none;
 }
 
-pub begins_line : (text rest : Option (List ℕ)) (line : List ℕ) (old new : FiledHistory) → GoesOn text rest (line ∷ []) → line ≢ header → 0 < length line → new ≡ filed old line → ReadsHeader text rest old new false
+pub begins_line : (text rest : Option (List ℕ)) (line : List ℕ) (old new : FiledHistory) → GoesOn text rest (line ∷ []) → ((escapes : Escapes) → line ≢ header escapes) → 0 < length line → new ≡ filed old line → ReadsHeader text rest old new None
 begins_line text rest line old new k other lt e = record {
   firsts = line ∷ [];
   goes_on = k;
-  with_header = λ e. not_true e;
+  with_header = λ escapes e. not_none e;
   no_header = λ _. no_first text rest line k other;
   added = λ _. rw (some_text line lt) e;
 }
 
-pub begins_blank : (text rest : Option (List ℕ)) (line : List ℕ) (h : FiledHistory) → GoesOn text rest (line ∷ []) → length line ≡ 0 → ReadsHeader text rest h h false
+-- an empty line is no header
+empty_is_none : (escapes : Escapes) → ◌≢◌ {A = List ℕ} [] (header escapes)
+empty_is_none V2 e = nil_is_not_cons e
+empty_is_none V3 e = nil_is_not_cons e
+
+pub begins_blank : (text rest : Option (List ℕ)) (line : List ℕ) (h : FiledHistory) → GoesOn text rest (line ∷ []) → length line ≡ 0 → ReadsHeader text rest h h None
 begins_blank text rest [] h k e = record {
   firsts = [] ∷ [];
   goes_on = k;
-  with_header = λ e. not_true e;
-  no_header = λ _. no_first text rest [] k (λ e. nil_is_not_cons e);
+  with_header = λ escapes e. not_none e;
+  no_header = λ _. no_first text rest [] k empty_is_none;
   added = λ _. refl;
 }
 begins_blank text rest (x ∷ xs) h k e = absurd (omega (arith, e))
 
 -- ---- a whole text
 
-loads_all : (text : List ℕ) (rest : Option (List ℕ)) (headed taken : Bool) (old mid new final : FiledHistory) → ReadsHeader (Some text) rest old mid headed → IfSome rest (λ r. AddsLines headed (lines_of r) mid new taken) → final ≡ settled new → Loads text old final (headed && taken)
+loads_all : (text : List ℕ) (rest : Option (List ℕ)) (headed : Option Escapes) (taken : Bool) (old mid new final : FiledHistory) → ReadsHeader (Some text) rest old mid headed → IfSome rest (λ r. AddsLines headed (lines_of r) mid new taken) → final ≡ settled new → Loads text old final (is_some headed && taken)
 loads_all text None headed taken old mid new final b a e = absurd b.goes_on
-loads_all text (Some r) true taken old mid new final b a e = let first = b.with_header refl in record {
-  headed = true;
+loads_all text (Some r) (Some escapes) taken old mid new final b a e = let first = b.with_header escapes refl in record {
+  headed = Some escapes;
   lines = a.lines;
-  says = with_header refl (lines_of r) (b.goes_on ∙ ap (λ f. f ++ lines_of r) first.0) a.says;
+  says = with_header escapes refl (lines_of r) (b.goes_on ∙ ap (λ f. f ++ lines_of r) first.0) a.says;
   added = e ∙ ap settled (a.added ∙ ap (λ h. all_filed h a.lines) first.1);
   answers = a.takes ∙ ap (λ h. takes_all h a.lines) first.1;
 }
-loads_all text (Some r) false taken old mid new final b a e = let firsts = filter is_some_text b.firsts in record {
-  headed = false;
+loads_all text (Some r) None taken old mid new final b a e = let firsts = filter is_some_text b.firsts in record {
+  headed = None;
   lines = firsts ++ a.lines;
   says = without_header refl (b.no_header refl) (ap (λ m. firsts ++ m) a.says ∙ sym (filter-append is_some_text b.firsts (lines_of r)) ∙ ap (filter is_some_text) (sym b.goes_on));
   added = e ∙ ap settled (a.added ∙ ap (λ h. all_filed h a.lines) (b.added refl) ∙ sym (all_filed-append old firsts a.lines));
   answers = refl;
 }
 
-pub loads_known : (text rest : Option (List ℕ)) (headed taken : Bool) (old mid new final : FiledHistory) → ReadsHeader text rest old mid headed → IfSome rest (λ r. AddsLines headed (lines_of r) mid new taken) → final ≡ settled new → IfSome text (λ t. Loads t old final (headed && taken))
+pub loads_known : (text rest : Option (List ℕ)) (headed : Option Escapes) (taken : Bool) (old mid new final : FiledHistory) → ReadsHeader text rest old mid headed → IfSome rest (λ r. AddsLines headed (lines_of r) mid new taken) → final ≡ settled new → IfSome text (λ t. Loads t old final (is_some headed && taken))
 loads_known None rest headed taken old mid new final b a e = tt
 loads_known (Some t) rest headed taken old mid new final b a e = loads_all t rest headed taken old mid new final b a e
 
-pub loads_headed : (text rest : Option (List ℕ)) (headed taken : Bool) (old mid new final : FiledHistory) → headed ≡ true → ReadsHeader text rest old mid headed → IfSome rest (λ r. AddsLines headed (lines_of r) mid new taken) → final ≡ settled new → IfSome text (λ t. Loads t old final taken)
-loads_headed text rest true taken old mid new final h b a e = loads_known text rest true taken old mid new final b a e
-loads_headed text rest false taken old mid new final h b a e = not_true h
+pub loads_headed : (text rest : Option (List ℕ)) (headed : Option Escapes) (taken : Bool) (old mid new final : FiledHistory) → is_some headed ≡ true → ReadsHeader text rest old mid headed → IfSome rest (λ r. AddsLines headed (lines_of r) mid new taken) → final ≡ settled new → IfSome text (λ t. Loads t old final taken)
+loads_headed text rest (Some escapes) taken old mid new final h b a e = loads_known text rest (Some escapes) taken old mid new final b a e
+loads_headed text rest None taken old mid new final h b a e = not_true h
 
-pub loads_bare : (text rest : Option (List ℕ)) (headed taken : Bool) (old mid new final : FiledHistory) → headed ≡ false → ReadsHeader text rest old mid headed → IfSome rest (λ r. AddsLines headed (lines_of r) mid new taken) → final ≡ settled new → IfSome text (λ t. Loads t old final false)
-loads_bare text rest true taken old mid new final h b a e = not_false h
-loads_bare text rest false taken old mid new final h b a e = loads_known text rest false taken old mid new final b a e
+pub loads_bare : (text rest : Option (List ℕ)) (headed : Option Escapes) (taken : Bool) (old mid new final : FiledHistory) → is_some headed ≡ false → ReadsHeader text rest old mid headed → IfSome rest (λ r. AddsLines headed (lines_of r) mid new taken) → final ≡ settled new → IfSome text (λ t. Loads t old final false)
+loads_bare text rest (Some escapes) taken old mid new final h b a e = not_false h
+loads_bare text rest None taken old mid new final h b a e = loads_known text rest None taken old mid new final b a e
 
 -- what holds anyway holds after an error
 pub at_err : {T E P : Type 0} (r : Result T E) → P → OnErr r P
 at_err (Ok x) p = tt
 at_err (Err e) p = p
 
-begins_all : (text : List ℕ) (rest : Option (List ℕ)) (headed : Bool) (old mid new : FiledHistory) → ReadsHeader (Some text) rest old mid headed → IfSome rest (λ r. AddsBeginning headed (lines_of r) mid new) → LoadsBeginning text old new
+begins_all : (text : List ℕ) (rest : Option (List ℕ)) (headed : Option Escapes) (old mid new : FiledHistory) → ReadsHeader (Some text) rest old mid headed → IfSome rest (λ r. AddsBeginning headed (lines_of r) mid new) → LoadsBeginning text old new
 begins_all text None headed old mid new b a = absurd b.goes_on
-begins_all text (Some r) true old mid new b a = let first = b.with_header refl in record {
-  headed = true;
+begins_all text (Some r) (Some escapes) old mid new b a = let first = b.with_header escapes refl in record {
+  headed = Some escapes;
   lines = a.lines;
   unread = a.unread;
-  says = with_header refl (lines_of r) (b.goes_on ∙ ap (λ f. f ++ lines_of r) first.0) a.says;
+  says = with_header escapes refl (lines_of r) (b.goes_on ∙ ap (λ f. f ++ lines_of r) first.0) a.says;
   added = a.added ∙ ap (λ h. all_filed h a.lines) first.1;
 }
-begins_all text (Some r) false old mid new b a = let firsts = filter is_some_text b.firsts in record {
-  headed = false;
+begins_all text (Some r) None old mid new b a = let firsts = filter is_some_text b.firsts in record {
+  headed = None;
   lines = firsts ++ a.lines;
   unread = a.unread;
   says = without_header refl (b.no_header refl) (append_assoc firsts a.lines a.unread ∙ ap (λ m. firsts ++ m) a.says ∙ sym (filter-append is_some_text b.firsts (lines_of r)) ∙ ap (filter is_some_text) (sym b.goes_on));
   added = a.added ∙ ap (λ h. all_filed h a.lines) (b.added refl) ∙ sym (all_filed-append old firsts a.lines);
 }
 
-pub begins_known : (text rest : Option (List ℕ)) (headed : Bool) (old mid new : FiledHistory) → ReadsHeader text rest old mid headed → IfSome rest (λ r. AddsBeginning headed (lines_of r) mid new) → IfSome text (λ t. LoadsBeginning t old new)
+pub begins_known : (text rest : Option (List ℕ)) (headed : Option Escapes) (old mid new : FiledHistory) → ReadsHeader text rest old mid headed → IfSome rest (λ r. AddsBeginning headed (lines_of r) mid new) → IfSome text (λ t. LoadsBeginning t old new)
 begins_known None rest headed old mid new b a = tt
 begins_known (Some t) rest headed old mid new b a = begins_all t rest headed old mid new b a
 
 -- each text says something
-pub reading : (text : List ℕ) → (headed : Bool) × (lines : List (List ℕ)) × IsHistoryText text headed lines
+pub reading : (text : List ℕ) → (headed : Option Escapes) × (lines : List (List ℕ)) × IsHistoryText text headed lines
 reading text = reading_by (lines_of text) refl
   where
-    reading_by : (ls : List (List ℕ)) → lines_of text ≡ ls → (headed : Bool) × (lines : List (List ℕ)) × IsHistoryText text headed lines
-    reading_by [] e = (false, filter is_some_text (lines_of text), without_header refl (λ rest same. nil_is_not_cons (sym e ∙ same)) refl)
+    reading_by : (ls : List (List ℕ)) → lines_of text ≡ ls → (headed : Option Escapes) × (lines : List (List ℕ)) × IsHistoryText text headed lines
+    reading_by [] e = (None, filter is_some_text (lines_of text), without_header refl (λ escapes rest same. nil_is_not_cons (sym e ∙ same)) refl)
     reading_by (x ∷ xs) e = ⊎_elim
-        (λ (yes : bytes_eq x header ≡ true). let more = says_all (filter is_some_text xs) in
-        (true, more.0, with_header refl xs (e ∙ ap (λ l. l ∷ xs) (same_bytes x header yes)) more.1))
-        (λ (other : bytes_eq x header ≡ false).
-        (false, filter is_some_text (lines_of text), without_header refl (λ rest same. both_ways _ other (equal_bytes x header (same_first (sym e ∙ same)))) refl))
-        (cases_Bool (bytes_eq x header))
+        (λ (yes : (escapes : Escapes) × (x ≡ header escapes)). let more = says_all yes.0 (filter is_some_text xs) in
+        (Some yes.0, more.0, with_header yes.0 refl xs (e ∙ ap (λ l. l ∷ xs) yes.1) more.1))
+        (λ (other : (escapes : Escapes) → x ≢ header escapes).
+        (None, filter is_some_text (lines_of text), without_header refl (λ escapes rest same. other escapes (same_first (sym e ∙ same))) refl))
+        (is_header x)
 
 pub nothing_read : (text : Option (List ℕ)) (old new : FiledHistory) → new ≡ old → IfSome text (λ t. LoadsBeginning t old new)
 nothing_read None old new e = tt
@@ -373,11 +411,11 @@ nothing_read (Some t) old new e = let all = reading t in record {
 pub adds_some_none : (old new : FiledHistory) → new ≡ old → AddsSome old new
 adds_some_none old new e = record { lines = []; added = e }
 
-begins_some : (text rest : Option (List ℕ)) (headed : Bool) (old new : FiledHistory) → ReadsHeader text rest old new headed → AddsSome old new
-begins_some text rest true old new b = record { lines = []; added = (b.with_header refl).1 }
-begins_some text rest false old new b = record { lines = filter is_some_text b.firsts; added = b.added refl }
+begins_some : (text rest : Option (List ℕ)) (headed : Option Escapes) (old new : FiledHistory) → ReadsHeader text rest old new headed → AddsSome old new
+begins_some text rest (Some escapes) old new b = record { lines = []; added = (b.with_header escapes refl).1 }
+begins_some text rest None old new b = record { lines = filter is_some_text b.firsts; added = b.added refl }
 
-pub adds_some_more : (text rest : Option (List ℕ)) (headed : Bool) (old mid new : FiledHistory) → ReadsHeader text rest old mid headed → AddsSome mid new → AddsSome old new
+pub adds_some_more : (text rest : Option (List ℕ)) (headed : Option Escapes) (old mid new : FiledHistory) → ReadsHeader text rest old mid headed → AddsSome mid new → AddsSome old new
 adds_some_more text rest headed old mid new b a = let first = begins_some text rest headed old mid b in record {
   lines = first.lines ++ a.lines;
   added = a.added ∙ ap (λ h. all_filed h a.lines) first.added ∙ sym (all_filed-append old first.lines a.lines);

@@ -1,14 +1,35 @@
--- A line of text with its backslashes and newlines escaped.
-use Rattle.std.specs.Prelude.{ℕ, ◌==◌, if◌then◌else◌, List, [], ◌∷◌}
-use Rattle.std.specs.List.{flat_map}
+-- Lines of text whose backslashes and line ends are escaped.
+use Rattle.std.specs.Prelude.{◌≡◌, ℕ, ◌==◌, if◌then◌else◌, List, [], ◌∷◌}
+use Rattle.std.specs.List.{AllZip, flat_map}
+use Rattle.line_parts.specs.declared.escaped_line.Escapes.{Escapes}
+use Rattle.line_parts.specs.declared.escaped_line.Escapes.TheVariants.{V2, V3}
 
--- a byte as it is written: `\` as `\\`, a newline as `\n`
-abbrev pub escaped_byte : ℕ → List ℕ
-escaped_byte b =
-    if b == 92 then 92 ∷ 92 ∷ []
-    else if b == 10 then 92 ∷ 110 ∷ []
-    else b ∷ []
+-- the bytes that are escaped, a backslash, a newline and in one form a carriage return, each with
+-- the letter that stands for it behind a backslash
+abbrev pub escape_table : Escapes → List (ℕ × ℕ)
+escape_table V2 = (92, 92) ∷ (10, 110) ∷ []
+escape_table V3 = (92, 92) ∷ (10, 110) ∷ (13, 114) ∷ []
+
+-- a byte as it is written by a table: by its first row there, or as it is
+abbrev pub written_by : List (ℕ × ℕ) → ℕ → List ℕ
+written_by [] b = b ∷ []
+written_by (row ∷ rows) b = if b == row.0 then 92 ∷ row.1 ∷ [] else written_by rows b
+
+-- a byte as it is written
+abbrev pub escaped_byte : Escapes → ℕ → List ℕ
+escaped_byte escapes b = written_by (escape_table escapes) b
 
 -- a line as it is written
-abbrev pub escaped_line : List ℕ → List ℕ
-escaped_line line = flat_map escaped_byte line
+abbrev pub escaped_line : Escapes → List ℕ → List ℕ
+escaped_line escapes line = flat_map (escaped_byte escapes) line
+
+-- a piece of a line stands for a byte: as that is written, or, if it is a carriage return, as it is
+pub data StandsFor (escapes : Escapes) (piece : List ℕ) (b : ℕ) : Type 0 where
+  as_written : piece ≡ escaped_byte escapes b → StandsFor escapes piece b
+  as_it_is : b ≡ 13 → piece ≡ b ∷ [] → StandsFor escapes piece b
+
+-- a line is made of pieces that stand for the bytes of a text, one after another
+pub record Unescapes (escapes : Escapes) (line text : List ℕ) : Type 0 where
+  pub pieces : List (List ℕ)
+  pub whole : line ≡ flat_map (λ piece. piece) pieces
+  pub each : AllZip (StandsFor escapes) pieces text

@@ -4,9 +4,10 @@ ghost use Rattle.line_parts.specs.BracketLaws.{StrikingOutGivesAVerdict, Verdict
 ghost use Rattle.line_parts.specs.CompletionLaws.{CommonStartIsOne, EscapedIsUnescaped, EscapedIsWord, OneQuoteIsOpen, OrderIsOne};
 ghost use Rattle.line_parts.specs.History.{found_of};
 ghost use Rattle.line_parts.specs.HistoryLaws.{AddingKeepsTheLast, FoundIsNearest, NoneIsNowhere};
-ghost use Rattle.line_parts.specs.HistoryTextLaws.{SavedIsLoaded, SavedIsRead, TextSaysOne};
+ghost use Rattle.line_parts.specs.HistoryTextLaws.{SavedIsLoaded, SavedIsRead, SavedV3IsLoaded, SavedV3IsRead, TextSaysOne};
 
 use crate::completion::Quote;
+use crate::escaped_line::Escapes;
 use crate::highlight::CmdKind;
 use crate::history::{SearchDirection, SearchResult};
 
@@ -30,19 +31,31 @@ pub fn none_is_nowhere()
     ensures { NoneIsNowhere }
 {}
 
-/// Reading a text that was saved, or one with an appended text behind it, gives the lines of both
-/// in order but the empty ones, where none of them ends in a carriage return.
+/// Reading a text that `save_to` wrote, or one with an appended text behind it, gives the lines of
+/// both in order but the empty ones, where none of them ends in a carriage return.
 pub fn saved_is_read()
     ensures { SavedIsRead }
 {}
 
-/// Loading a text that was saved, or one with an appended text behind it, leaves a history as
+/// Loading a text that `save_to` wrote, or one with an appended text behind it, leaves a history as
 /// adding the lines of both in order does, where none of them ends in a carriage return.
 pub fn saved_is_loaded()
     ensures { SavedIsLoaded }
 {}
 
-/// A text of a history says one list of lines.
+/// Reading a text that `save_v3_to` wrote, or one with an appended text behind it, gives the lines
+/// of both in order but the empty ones, whatever characters they have.
+pub fn saved_v3_is_read()
+    ensures { SavedV3IsRead }
+{}
+
+/// Loading a text that `save_v3_to` wrote, or one with an appended text behind it, leaves a history
+/// as adding the lines of both in order does, whatever characters they have.
+pub fn saved_v3_is_loaded()
+    ensures { SavedV3IsLoaded }
+{}
+
+/// A text of a history has one header or none, and says one list of lines.
 pub fn text_says_one()
     ensures { TextSaysOne }
 {}
@@ -92,4 +105,5 @@ pub fn equal_is_same()
     ensures direction { IsSameness ⟦<SearchDirection as PartialEq>⟧.eq }
     ensures kind { IsSameness ⟦<CmdKind as PartialEq>⟧.eq }
     ensures quote { IsSameness ⟦<Quote as PartialEq>⟧.eq }
+    ensures escapes { IsSameness ⟦<Escapes as PartialEq>⟧.eq }
 {}

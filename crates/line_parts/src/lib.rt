@@ -20,7 +20,7 @@ pub use completion::{
 };
 pub use consulted::Consulted;
 pub use context::Context;
-pub use escaped_line::{escape_of, push_escaped_line, unescape_line};
+pub use escaped_line::{Escapes, push_escaped_line, unescape_line};
 pub use helper::Helper;
 pub use highlight::{CmdKind, Highlighter, MatchingBracketHighlighter};
 pub use hint::{Hint, Hinter, HistoryHinter};

@@ -4,7 +4,7 @@ ghost use Rattle.replay.specs.Outcome.{outcome_of, status_of};
 
 use line_buffer::Position;
 use line_config::{ReadlineError, Result};
-use line_parts::escape_of;
+use line_parts::Escapes;
 use memchr::memchr2;
 use std::fmt::{Display, Formatter};
 use std::io::Write;
@@ -108,7 +108,7 @@ fn write_escaped<O: Write>(text: &str, out: &mut O) -> io::Result<()> {
     while let Some(at) = memchr2(b'\\', b'\n', rest) {
         let (run, behind) = rest.split_at(at);
         out.write_all(run)?;
-        match escape_of(behind[0]) {
+        match Escapes::V2.escape_of(behind[0]) {
             Some(escape) => out.write_all(escape.as_bytes())?,
             None => out.write_all(&behind[..1])?,
         }

@@ -6,7 +6,7 @@ mod names;
 use crate::helper::ScriptHelper;
 use line_buffer::Unit;
 use line_config::{EditMode, ReadlineError};
-use line_parts::{FileHistory, History, unescape_line};
+use line_parts::{Escapes, FileHistory, History, unescape_line};
 use line_screen::KeyQueue;
 use names::key_named;
 use std::alloc::Global;
@@ -120,6 +120,9 @@ fn push_line(alloc: Global, line: &str, parsed: &mut Parsed) -> Result<bool, Rea
         Some(("history", text)) if !parsed.has_item_lines => {
             push_history(alloc, text, &mut parsed.history)
         }
+        Some(("load", text)) if !parsed.has_item_lines => {
+            load_history(alloc, text, &mut parsed.history)
+        }
         Some(("prompt", text)) if !parsed.has_item_lines => {
             set_prompt(alloc, text, &mut parsed.prompt)
         }
@@ -163,6 +166,19 @@ fn push_history(
         return Ok(false);
     };
     let _ = history.add_owned(line)?;
+    Ok(true)
+}
+
+/// Loads the text into the history, which may leave lines out. False where an escape is bad.
+fn load_history(
+    alloc: Global,
+    text: &str,
+    history: &mut FileHistory,
+) -> Result<bool, ReadlineError> {
+    let Some(text) = unescape(alloc, text)? else {
+        return Ok(false);
+    };
+    let _ = history.load_from(text.as_bytes())?;
     Ok(true)
 }
 
@@ -237,7 +253,7 @@ fn push_key(name: &str, items: &mut Script) -> Result<bool, ReadlineError> {
 /// The text that an escaped one stands for. None where an escape is bad.
 fn unescape(alloc: Global, text: &str) -> Result<Option<String>, ReadlineError> {
     let mut plain = Vec::new(alloc);
-    if unescape_line(text.as_bytes(), &mut plain)? {
+    if unescape_line(text.as_bytes(), Escapes::V2, &mut plain)? {
         Ok(String::from_utf8(plain).ok())
     } else {
         Ok(None)

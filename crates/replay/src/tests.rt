@@ -60,6 +60,13 @@ const SCRIPTS: &[Case] = &[
         0,
     ),
     ("type a\nhistory a\n", "bad script line 2\n", 4),
+    // a text that is loaded, with its own escapes behind those of the script
+    (
+        "load #V3\\nab\\\\\\\\cd\nkey Up\nkey Enter\n",
+        "outcome submitted\nline ab\\\\cd\ncursor 5\nplace 0\nat 0 7\nredraws 2\n",
+        0,
+    ),
+    ("load x\\q\n", "bad script line 1\n", 4),
     // what stands behind a submit is not read by the editor, but has to be good
     (
         "type a\nkey Enter\ntype b\nkey PasteStart\nkey C-c",

@@ -4,14 +4,29 @@ mod faults;
 mod large;
 mod lists;
 mod refusals;
+mod round_trips;
 mod searches;
 mod streams;
 mod texts;
 
-use line_parts::{History, SearchDirection};
+use line_parts::{Escapes, FileHistory, History, SearchDirection};
 use std::borrow::CowStr;
+use std::io::Write;
 use std::process::Abort;
 use std::test::Fail;
+
+/// Saves with these escapes.
+fn save<T: Write>(
+    history: &mut FileHistory,
+    escapes: Escapes,
+    out: &mut T,
+    append: bool,
+) -> line_config::Result<()> {
+    match escapes {
+        Escapes::V2 => history.save_to(out, append),
+        Escapes::V3 => history.save_v3_to(out, append),
+    }
+}
 
 /// What a history gives by index: each of these lines, and none from their number on.
 fn gives<H: History>(rt: &impl Abort, history: &H, lines: &[&str]) -> Result<(), Fail> {

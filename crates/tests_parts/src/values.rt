@@ -1,7 +1,7 @@
 //! Types that are compared, copied and shown: no two values of a list are equal, and `Debug` names each.
 
 use line_config::ReadlineError;
-use line_parts::{CmdKind, Quote, SearchDirection, SearchResult};
+use line_parts::{CmdKind, Escapes, Quote, SearchDirection, SearchResult};
 use std::alloc::Global;
 use std::borrow::CowStr;
 use std::fmt::Debug;
@@ -41,11 +41,14 @@ const DIRECTIONS: &[SearchDirection] = &[SearchDirection::Forward, SearchDirecti
 
 const QUOTES: &[Quote] = &[Quote::Double, Quote::Single, Quote::None];
 
+const ESCAPES: &[Escapes] = &[Escapes::V2, Escapes::V3];
+
 #[test]
 fn no_two_are_equal(rt: HostRuntime) {
     are_distinct(&rt, KINDS);
     are_distinct(&rt, DIRECTIONS);
     are_distinct(&rt, QUOTES);
+    are_distinct(&rt, ESCAPES);
 }
 
 #[test]
@@ -53,7 +56,8 @@ fn debug_names_each(rt: HostRuntime) -> result::Result<(), Fail> {
     let alloc = rt.alloc();
     are_shown(&rt, alloc, KINDS, &["MoveCursor", "Other", "ForcedRefresh"])?;
     are_shown(&rt, alloc, DIRECTIONS, &["Forward", "Reverse"])?;
-    are_shown(&rt, alloc, QUOTES, &["Double", "Single", "None"])
+    are_shown(&rt, alloc, QUOTES, &["Double", "Single", "None"])?;
+    are_shown(&rt, alloc, ESCAPES, &["V2", "V3"])
 }
 
 /// A line, its index, and the place in it.

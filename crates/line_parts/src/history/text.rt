@@ -1,6 +1,6 @@
 //! The text in which a history is saved and loaded.
 ghost use Rattle.std.specs.Prelude.{◌≡◌, ◌≢◌, ◌≤◌, ◌∷◌, [], length, drop, true, false, not};
-ghost use Rattle.std.specs.Prelude.{if◌then◌else◌, OnOk, OnErr, IfOk, IfSome};
+ghost use Rattle.std.specs.Prelude.{if◌then◌else◌, List, ℕ, OnOk, OnErr, IfOk, IfSome, MatchOption};
 ghost use Rattle.std.specs.Io.BufRead.{ends_with_byte, strip_last};
 ghost use Rattle.std.specs.Str.{IsUtf8};
 ghost use Rattle.std.specs.IoError.{error_kind};
@@ -8,13 +8,14 @@ ghost use Rattle.std.specs.declared.io.ErrorKind.TheVariants.{InvalidData, OutOf
 ghost use Rattle.line_config.specs.Error.{FaultsOnly, IoOnlyIf, IoOnlyOfKind};
 ghost use Rattle.line_config.specs.Error.{is_fault, is_io};
 ghost use Rattle.line_config.specs.declared.error.ReadlineError.TheVariants.{Io, Memory};
+ghost use Rattle.line_parts.specs.declared.escaped_line.Escapes.TheVariants.{V2, V3};
 ghost use Rattle.std.specs.Io.KnownBytes.{append_known, Appends};
 ghost use Rattle.line_parts.specs.History.{filed, leaves_out, settled};
-ghost use Rattle.line_parts.specs.HistoryText.{lines_of, to_save, written};
+ghost use Rattle.line_parts.specs.HistoryText.{header, lines_of, to_save, written};
 ghost use Rattle.line_parts.specs.HistoryText.{AddsLines, AddsBeginning, AddsSome, ReadsHeader, FilesSome};
 ghost use Rattle.line_parts.specs.HistoryText.{GoesOn, Loads, LoadsBeginning, StopsReading};
 
-use crate::escaped_line::{push_escaped_line, unescape_line};
+use crate::escaped_line::{Escapes, push_escaped_line, unescape_line};
 use crate::history::{FileHistory, History};
 use line_config::{ReadlineError, Result};
 use std::io::{BufRead, BufReader, Read, Write};
@@ -56,8 +57,29 @@ fn read_line<B: BufRead>(reader: &mut B, line: &mut Vec<u8>) -> Result<bool>
     Ok(true)
 }
 
-// The first line of a text with escapes.
-const HEADER: &[u8] = b"#V2";
+// Returns the first line of a text with these escapes.
+fn header_of(escapes: Escapes) -> &'static [u8]
+    ensures { result.now ≡ header escapes }
+{
+    match escapes {
+        Escapes::V2 => b"#V2",
+        Escapes::V3 => b"#V3",
+    }
+}
+
+// Returns the escapes of a text that begins with this line: `None` where it is no header.
+fn escapes_of_header(line: &[u8]) -> Option<Escapes>
+    ensures { MatchOption result ((escapes : Escapes) → line.now ≢ header escapes)
+        (λ escapes. line.now ≡ header escapes) }
+{
+    if line == header_of(Escapes::V2) {
+        return Some(Escapes::V2);
+    }
+    if line == header_of(Escapes::V3) {
+        return Some(Escapes::V3);
+    }
+    None
+}
 
 // How long a text grows before it is handed to the writer.
 const BUFFERED: usize = 8192;
@@ -91,17 +113,23 @@ impl FileHistory {
     // Writes the lines from an index on behind a text that waits to be written, and leaves the last
     // of them waiting.
     #[tactic(auto, using(crate::proofs::SaveLemmas::written_none, crate::proofs::SaveLemmas::written_more, crate::proofs::SaveLemmas::written_out, crate::proofs::SaveLemmas::written_all))]
-    fn write_lines<T: Write>(&self, first: usize, text: &mut Vec<u8>, out: &mut T) -> Result<()>
+    fn write_lines<T: Write>(
+        &self,
+        first: usize,
+        escapes: Escapes,
+        text: &mut Vec<u8>,
+        out: &mut T,
+    ) -> Result<()>
         requires { first ≤ length self.now.lines }
         ensures text { OnOk result (Appends
             (append_known (T.contents out.old) text.old.items)
             (append_known (T.contents out.new) text.new.items)
-            (written (drop first self.now.lines))) }
+            (written escapes (drop first self.now.lines))) }
         ensures kind { IoOnlyOfKind result (λ kind. kind ≢ OutOfMemory) }
         ensures faults { FaultsOnly result }
     {
         for index in first..self.len() {
-            push_escaped_line(text, self.entry(index))?;
+            push_escaped_line(text, self.entry(index), escapes)?;
             text.push(b'\n')?;
             if text.len() >= BUFFERED {
                 write_out(text, out)?;
@@ -110,16 +138,10 @@ impl FileHistory {
         Ok(())
     }
 
-    /// Writes the header line `#V2` and all lines to `out`, with their escapes and a line feed behind each, and flushes
-    /// it. With `append` only the new lines are written, those that came since all were saved or loaded, and no header.
-    /// After that no line counts as new.
-    ///
-    /// # Errors
-    /// `Io`, where the writer fails, and `Memory`. The history and its new lines then stay as they were, and `out` may
-    /// have a part of the text.
-    pub fn save_to<T: Write>(&mut self, out: &mut T, append: bool) -> Result<()>
+    // Saves with these escapes, as `save_to` and `save_v3_to` say.
+    fn save_by<T: Write>(&mut self, escapes: Escapes, out: &mut T, append: bool) -> Result<()>
         ensures text { OnOk result
-            (Appends (T.contents out.old) (T.contents out.new) (to_save append self.old)) }
+            (Appends (T.contents out.old) (T.contents out.new) (to_save escapes append self.old)) }
         ensures history { OnOk result (self.new ≡ settled self.old) }
         ensures unchanged { OnErr result (self.new ≡ self.old) }
         ensures kind { IoOnlyOfKind result (λ kind. kind ≢ OutOfMemory) }
@@ -128,14 +150,54 @@ impl FileHistory {
         let mut text = Vec::new(self.alloc());
         let mut first = self.first_new();
         if !append {
-            text.extend_from_slice(b"#V2\n")?;
+            text.extend_from_slice(header_of(escapes))?;
+            text.push(b'\n')?;
             first = 0;
         }
-        self.write_lines(first, &mut text, out)?;
+        self.write_lines(first, escapes, &mut text, out)?;
         write_out(&mut text, out)?;
         out.flush().map_err(stream_fault)?;
         self.settle();
         Ok(())
+    }
+
+    /// Writes the header line `#V2` and all lines to `out`, with a line feed behind each, and flushes it. In a line a
+    /// backslash is written as `\\`, and a newline as `\n`. With `append` only the new lines are written, those that
+    /// came since all were saved or loaded, and no header. After that no line counts as new.
+    ///
+    /// A line that ends in a carriage return is loaded without it: `save_v3_to` keeps it.
+    ///
+    /// # Errors
+    /// `Io`, where the writer fails, and `Memory`. The history and its new lines then stay as they were, and `out` may
+    /// have a part of the text.
+    pub fn save_to<T: Write>(&mut self, out: &mut T, append: bool) -> Result<()>
+        ensures text { OnOk result
+            (Appends (T.contents out.old) (T.contents out.new) (to_save V2 append self.old)) }
+        ensures history { OnOk result (self.new ≡ settled self.old) }
+        ensures unchanged { OnErr result (self.new ≡ self.old) }
+        ensures kind { IoOnlyOfKind result (λ kind. kind ≢ OutOfMemory) }
+        ensures faults { FaultsOnly result }
+    {
+        self.save_by(Escapes::V2, out, append)
+    }
+
+    /// Writes what `save_to` does, with the header line `#V3` and a carriage return as `\r`, so that each line is loaded
+    /// as it was.
+    ///
+    /// A text keeps one form: what is appended behind `#V2` is read with the escapes of `#V2`, and the other way round.
+    ///
+    /// # Errors
+    /// `Io`, where the writer fails, and `Memory`. The history and its new lines then stay as they were, and `out` may
+    /// have a part of the text.
+    pub fn save_v3_to<T: Write>(&mut self, out: &mut T, append: bool) -> Result<()>
+        ensures text { OnOk result
+            (Appends (T.contents out.old) (T.contents out.new) (to_save V3 append self.old)) }
+        ensures history { OnOk result (self.new ≡ settled self.old) }
+        ensures unchanged { OnErr result (self.new ≡ self.old) }
+        ensures kind { IoOnlyOfKind result (λ kind. kind ≢ OutOfMemory) }
+        ensures faults { FaultsOnly result }
+    {
+        self.save_by(Escapes::V3, out, append)
     }
 }
 
@@ -158,7 +220,12 @@ impl FileHistory {
 
     // Adds what a line says, unless it is empty. Its text is built in `text`.
     #[tactic(auto, using(crate::proofs::LoadLemmas::adds_empty, crate::proofs::LoadLemmas::adds_plain, crate::proofs::LoadLemmas::adds_unescaped, crate::proofs::LoadLemmas::adds_as_it_stands))]
-    fn load_line(&mut self, line: &[u8], headed: bool, text: &mut Vec<u8>) -> Result<bool>
+    fn load_line(
+        &mut self,
+        line: &[u8],
+        headed: Option<Escapes>,
+        text: &mut Vec<u8>,
+    ) -> Result<bool>
         ensures adds { IfOk result (AddsLines headed (line.now ∷ []) self.old self.new) }
         ensures unchanged { OnErr result (self.new ≡ self.old) }
         ensures kind { IoOnlyOfKind result (λ kind. kind ≡ InvalidData) }
@@ -167,18 +234,18 @@ impl FileHistory {
         if line.is_empty() {
             return Ok(true);
         }
-        if !headed {
+        let Some(escapes) = headed else {
             return self.add_bytes(line);
-        }
-        if unescape_line(line, text)? {
+        };
+        if unescape_line(line, escapes, text)? {
             return self.add_bytes(text.as_slice());
         }
         self.add_bytes(line)
     }
 
-    // Reads the header, or else the first line, and adds that. Returns whether it was the header.
+    // Reads a header, or else the first line, and adds that. Returns the escapes of the header.
     #[tactic(auto, using(crate::proofs::LoadLemmas::begins_empty, crate::proofs::LoadLemmas::begins_header, crate::proofs::LoadLemmas::begins_line, crate::proofs::LoadLemmas::begins_blank))]
-    fn load_first<B: BufRead>(&mut self, reader: &mut B) -> Result<bool>
+    fn load_first<B: BufRead>(&mut self, reader: &mut B) -> Result<Option<Escapes>>
         ensures begins { IfOk result
             (ReadsHeader (B.remaining reader.old) (B.remaining reader.new) self.old self.new) }
         ensures unchanged { OnErr result (self.new ≡ self.old) }
@@ -187,20 +254,20 @@ impl FileHistory {
     {
         let mut line = Vec::new(self.alloc());
         if !read_line(reader, &mut line)? {
-            return Ok(false);
+            return Ok(None);
         }
-        if line.as_slice() == HEADER {
-            return Ok(true);
+        if let Some(escapes) = escapes_of_header(line.as_slice()) {
+            return Ok(Some(escapes));
         }
         if !line.is_empty() {
             self.add_bytes(line.as_slice())?;
         }
-        Ok(false)
+        Ok(None)
     }
 
     // Reads the lines behind the first one and adds them. Returns whether all were taken.
     #[tactic(auto, using(crate::proofs::LoadLemmas::loading_none, crate::proofs::LoadLemmas::loading_more, crate::proofs::LoadLemmas::loading_ended, crate::proofs::LoadLemmas::loading_beginning, crate::proofs::LoadLemmas::loading_some))]
-    fn load_rest<B: BufRead>(&mut self, reader: &mut B, headed: bool) -> Result<bool>
+    fn load_rest<B: BufRead>(&mut self, reader: &mut B, headed: Option<Escapes>) -> Result<bool>
         ensures all { IfOk result (λ taken. IfSome (B.remaining reader.old)
             (λ text. AddsLines headed (lines_of text) self.old self.new taken)) }
         ensures beginning { OnErr result (IfSome (B.remaining reader.old)
@@ -236,16 +303,17 @@ impl FileHistory {
         let headed = self.load_first(reader)?;
         let taken = self.load_rest(reader, headed)?;
         self.settle();
-        if !headed {
+        if headed.is_none() {
             return Ok(false);
         }
         Ok(taken)
     }
 
     /// Reads lines from `reader` to its end, and adds each. A text that begins with the line `#V2`
-    /// has escapes, as `save_to` writes them; in any other each line is added as it stands. Empty
-    /// lines are skipped. Returns whether the text began so, and every line was taken. After that no
-    /// line counts as new.
+    /// has escapes, as `save_to` writes them, and one that begins with `#V3` those of `save_v3_to`;
+    /// in any other each line is added as it stands. A line with a backslash that begins none of
+    /// the escapes is added as it stands too. Empty lines are skipped. Returns whether the text
+    /// began so, and every line was taken. After that no line counts as new.
     ///
     /// # Errors
     /// `Io`, where the reader fails, a line is not UTF-8 (of kind `InvalidData`), or there are more

@@ -95,6 +95,22 @@ const FILLED: &[Filled] = &[
     ("history \nhistory a\nhistory a\n", &["a"]),
     ("history  a \nhistory é\r\n", &[" a ", "é\r"]),
     (r"history a\nb\\n", &["a\nb\\n"]),
+    // a text that is loaded, whether or not it is taken as a whole
+    ("load ", &[]),
+    ("load a", &["a"]),
+    (r"load a\n\na\nb", &["a", "b"]),
+    ("load  a \r\n", &[" a \r"]),
+    (r"load #V2\nb\\nc\n", &["b\nc"]),
+    (r"load #V2\nb\\rc", &["b\\rc"]),
+    (r"load #V3\nb\\rc\\r", &["b\rc\r"]),
+    (r"load #V3\nb\\tc", &["b\\tc"]),
+    ("load #V3\r\n", &["#V3\r"]),
+    ("load #V3\nload b\\\\rc", &["b\\rc"]),
+    // in the order of the settings
+    (
+        "history a\nload #V3\\nb\\nc\n\nhistory c\nhistory d\nload d\\na\n",
+        &["a", "b", "c", "d", "a"],
+    ),
 ];
 
 #[test]
@@ -351,6 +367,18 @@ const BAD: &[(&[u8], usize)] = &[
     (b"type a\nhistory a", 2),
     (b"history a\ntype \n\nhistory b", 4),
     (b"key Enter\nhistory a\nkey Foo", 2),
+    (b"load", 1),
+    (b"load\ta", 1),
+    (b"load\r\n", 1),
+    (b"Load a", 1),
+    (b"loads a", 1),
+    (b" load a", 1),
+    (b"load x\\q", 1),
+    (b"load #V3\\na\\r", 1),
+    (b"load a\nload a\\", 2),
+    (b"load \xff", 1),
+    (b"type a\nload a", 2),
+    (b"load a\nkey Enter\nload b", 3),
     (b"hints ", 1),
     (b"hints x", 1),
     (b"Hints", 1),

@@ -1,10 +1,11 @@
 //! Streams that fail once: the error stays what it was, the call is not made again, and the history keeps what is said of
 //! a load or a save that failed.
 
-use super::gives;
+use super::{gives, save};
 use At::{Byte, Flush};
+use Escapes::{V2, V3};
 use line_config::{ReadlineError, Result};
-use line_parts::{FileHistory, History};
+use line_parts::{Escapes, FileHistory, History};
 use std::alloc::Global;
 use std::io::{self, ErrorKind, Read, Write};
 use std::process::Abort;
@@ -103,15 +104,17 @@ fn appends(
     rt: &impl Abort,
     alloc: Global,
     history: &mut FileHistory,
+    escapes: Escapes,
     text: &[u8],
 ) -> result::Result<(), Fail> {
     let mut out = Vec::new(alloc);
-    history.save_to(&mut out, true)?;
+    save(history, escapes, &mut out, true)?;
     assert_eq!(rt; out.as_slice(), text);
     Ok(())
 }
 
-/// A text, the first place and the last one at which the reader fails, the lines then, and the text of the new ones.
+/// A text, the first place and the last one at which the reader fails, the lines then, and the text of the new ones, with
+/// a carriage return escaped.
 type Load = (
     &'static [u8],
     usize,
@@ -142,7 +145,7 @@ fn reads(rt: &impl Abort, alloc: Global, case: &Load, fault: Fault) -> result::R
         let outcome = loaded(&mut history, text, place, fault);
         assert!(rt; fault.is_answer(alloc, &outcome)?, "{place} {fault:?}");
         gives(rt, &history, lines)?;
-        appends(rt, alloc, &mut history, appended)?;
+        appends(rt, alloc, &mut history, V3, appended)?;
     }
     Ok(())
 }
@@ -150,7 +153,10 @@ fn reads(rt: &impl Abort, alloc: Global, case: &Load, fault: Fault) -> result::R
 /// A text with a header: two lines, and a last one without a line feed.
 const HEADED: &[u8] = b"#V2\na\\nb\n\ncd\ne";
 
-/// A text without one.
+/// The same with a carriage return in place of the newline.
+const HEADED_V3: &[u8] = b"#V3\na\\rb\n\ncd\ne";
+
+/// A text without a header.
 const PLAIN: &[u8] = b"a\r\nb";
 
 const READS: &[Load] = &[
@@ -158,6 +164,9 @@ const READS: &[Load] = &[
     (HEADED, 0, 8, &["x"], b""),
     (HEADED, 9, 12, &["x", "a\nb"], b"a\\nb\n"),
     (HEADED, 13, 14, &["x", "a\nb", "cd"], b"a\\nb\ncd\n"),
+    (HEADED_V3, 0, 8, &["x"], b""),
+    (HEADED_V3, 9, 12, &["x", "a\rb"], b"a\\rb\n"),
+    (HEADED_V3, 13, 14, &["x", "a\rb", "cd"], b"a\\rb\ncd\n"),
     (PLAIN, 0, 2, &["x"], b""),
     (PLAIN, 3, 4, &["x", "a"], b"a\n"),
 ];
@@ -176,6 +185,7 @@ fn of_a_reader(rt: HostRuntime) -> result::Result<(), Fail> {
 fn saved(
     alloc: Global,
     history: &mut FileHistory,
+    escapes: Escapes,
     append: bool,
     at: At,
     fault: Fault,
@@ -185,70 +195,93 @@ fn saved(
         failing: Some(at),
         fault,
     };
-    let outcome = history.save_to(&mut out, append);
+    let outcome = save(history, escapes, &mut out, append);
     let Full { taken, .. } = out;
     (outcome, taken)
 }
+
+/// Escapes, and what is written with them: both of two lines, and the new one alone.
+type Written = (Escapes, &'static [u8], &'static [u8]);
+
+const WRITTEN: [Written; 2] = [
+    (V2, b"#V2\nx\na\\nb\rc\n", b"a\\nb\rc\n"),
+    (V3, b"#V3\nx\na\\nb\\rc\n", b"a\\nb\\rc\n"),
+];
 
 /// One of two lines is new: after a save that fails both are there, and that one is new.
 fn writes(
     rt: &impl Abort,
     alloc: Global,
+    written: Written,
     append: bool,
     at: At,
     fault: Fault,
 ) -> result::Result<(), Fail> {
-    let whole = if append { APPENDED } else { SAVED };
+    let (escapes, both, appended) = written;
+    let whole = if append { appended } else { both };
     let mut history = settled(alloc)?;
-    assert!(rt; history.add("a\nb")?);
-    let (outcome, taken) = saved(alloc, &mut history, append, at, fault);
+    assert!(rt; history.add("a\nb\rc")?);
+    let (outcome, taken) = saved(alloc, &mut history, escapes, append, at, fault);
     assert!(rt; fault.is_answer(alloc, &outcome)?, "{at:?} {fault:?}");
     let wanted = match at {
         Byte(place) => whole.get(..place),
         Flush => Some(whole),
     };
     assert_eq!(rt; Some(taken.as_slice()), wanted, "{at:?}");
-    gives(rt, &history, &["x", "a\nb"])?;
-    appends(rt, alloc, &mut history, APPENDED)
+    gives(rt, &history, &["x", "a\nb\rc"])?;
+    appends(rt, alloc, &mut history, escapes, appended)
 }
 
-/// What both lines are written as.
-const SAVED: &[u8] = b"#V2\nx\na\\nb\n";
-
-/// What the new one is appended as.
-const APPENDED: &[u8] = b"a\\nb\n";
-
-fn writes_none(rt: &impl Abort, alloc: Global, fault: Fault) -> result::Result<(), Fail> {
-    for place in 0..SAVED.len() {
-        writes(rt, alloc, false, Byte(place), fault)?;
+fn writes_none(
+    rt: &impl Abort,
+    alloc: Global,
+    written: Written,
+    fault: Fault,
+) -> result::Result<(), Fail> {
+    let (_, both, appended) = written;
+    for place in 0..both.len() {
+        writes(rt, alloc, written, false, Byte(place), fault)?;
     }
-    for place in 0..APPENDED.len() {
-        writes(rt, alloc, true, Byte(place), fault)?;
+    for place in 0..appended.len() {
+        writes(rt, alloc, written, true, Byte(place), fault)?;
     }
-    writes(rt, alloc, false, Flush, fault)?;
-    writes(rt, alloc, true, Flush, fault)
+    writes(rt, alloc, written, false, Flush, fault)?;
+    writes(rt, alloc, written, true, Flush, fault)
 }
 
 #[test]
 fn of_a_writer(rt: HostRuntime) -> result::Result<(), Fail> {
-    for fault in FAULTS {
-        writes_none(&rt, rt.alloc(), *fault)?;
+    for written in WRITTEN {
+        for fault in FAULTS {
+            writes_none(&rt, rt.alloc(), written, *fault)?;
+        }
     }
     Ok(())
 }
 
 /// Where no line is new, an appended save still flushes.
+fn writes_nothing(
+    rt: &impl Abort,
+    alloc: Global,
+    escapes: Escapes,
+    fault: Fault,
+) -> result::Result<(), Fail> {
+    let mut history = settled(alloc)?;
+    let (outcome, taken) = saved(alloc, &mut history, escapes, true, Flush, fault);
+    assert!(rt;
+        fault.is_answer(alloc, &outcome)? && taken.is_empty(),
+        "{fault:?}"
+    );
+    gives(rt, &history, &["x"])?;
+    appends(rt, alloc, &mut history, escapes, b"")
+}
+
 #[test]
 fn of_a_writer_of_nothing(rt: HostRuntime) -> result::Result<(), Fail> {
-    for fault in FAULTS {
-        let mut history = settled(rt.alloc())?;
-        let (outcome, taken) = saved(rt.alloc(), &mut history, true, Flush, *fault);
-        assert!(rt;
-            fault.is_answer(rt.alloc(), &outcome)? && taken.is_empty(),
-            "{fault:?}"
-        );
-        gives(&rt, &history, &["x"])?;
-        appends(&rt, rt.alloc(), &mut history, b"")?;
+    for escapes in [V2, V3] {
+        for fault in FAULTS {
+            writes_nothing(&rt, rt.alloc(), escapes, *fault)?;
+        }
     }
     Ok(())
 }
@@ -263,26 +296,33 @@ fn long_line(alloc: Global, c: char, count: usize) -> Result<String> {
 }
 
 /// Two lines of 9,000 bytes, written one after the other: at so many bytes the writer fails, and both stay new.
-fn writes_much(rt: &impl Abort, alloc: Global, place: usize) -> result::Result<(), Fail> {
+fn writes_much(
+    rt: &impl Abort,
+    alloc: Global,
+    escapes: Escapes,
+    place: usize,
+) -> result::Result<(), Fail> {
     let mut history = FileHistory::new(alloc);
     for c in ['a', 'b'] {
         assert!(rt; history.add_owned(long_line(alloc, c, 9_000)?)?);
     }
     for append in [false, true] {
-        let (outcome, taken) = saved(alloc, &mut history, append, Byte(place), GONE);
+        let (outcome, taken) = saved(alloc, &mut history, escapes, append, Byte(place), GONE);
         assert!(rt; GONE.is_answer(alloc, &outcome)?, "{place}");
         assert_eq!(rt; (taken.len(), history.len()), (place, 2));
     }
     let mut out = Vec::new(alloc);
-    history.save_to(&mut out, true)?;
+    save(&mut history, escapes, &mut out, true)?;
     assert_eq!(rt; out.len(), 2 * 9_001);
     Ok(())
 }
 
 #[test]
 fn of_a_writer_of_much(rt: HostRuntime) -> result::Result<(), Fail> {
-    for place in [0, 1, 8_191, 8_192, 8_193, 9_001, 9_500, 18_001] {
-        writes_much(&rt, rt.alloc(), place)?;
+    for escapes in [V2, V3] {
+        for place in [0, 1, 8_191, 8_192, 8_193, 9_001, 9_500, 18_001] {
+            writes_much(&rt, rt.alloc(), escapes, place)?;
+        }
     }
     Ok(())
 }
@@ -336,8 +376,10 @@ fn of_each_kind(rt: HostRuntime) -> result::Result<(), Fail> {
             text: "the stream broke",
         };
         reads(&rt, rt.alloc(), &READS[2], fault)?;
-        writes(&rt, rt.alloc(), false, Byte(5), fault)?;
-        writes(&rt, rt.alloc(), true, Flush, fault)?;
+        for written in WRITTEN {
+            writes(&rt, rt.alloc(), written, false, Byte(5), fault)?;
+            writes(&rt, rt.alloc(), written, true, Flush, fault)?;
+        }
     }
     Ok(())
 }
@@ -357,10 +399,12 @@ fn of_memory(rt: HostRuntime) -> result::Result<(), Fail> {
     let mut history = settled(rt.alloc())?;
     assert!(rt; is_memory(&loaded(&mut history, HEADED, 9, REFUSED)));
     gives(&rt, &history, &["x", "a\nb"])?;
-    for at in [Byte(0), Byte(5), Flush] {
-        let (outcome, _) = saved(rt.alloc(), &mut history, false, at, REFUSED);
-        assert!(rt; is_memory(&outcome));
-        gives(&rt, &history, &["x", "a\nb"])?;
+    for escapes in [V2, V3] {
+        for at in [Byte(0), Byte(5), Flush] {
+            let (outcome, _) = saved(rt.alloc(), &mut history, escapes, false, at, REFUSED);
+            assert!(rt; is_memory(&outcome));
+            gives(&rt, &history, &["x", "a\nb"])?;
+        }
     }
-    appends(&rt, rt.alloc(), &mut history, APPENDED)
+    appends(&rt, rt.alloc(), &mut history, V2, b"a\\nb\n")
 }

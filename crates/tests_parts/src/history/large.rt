@@ -1,8 +1,10 @@
 //! Histories of some thousand lines, and lines and results of some thousand bytes: none of them is an error.
 
+use super::save;
+use Escapes::{V2, V3};
 use SearchDirection::{Forward, Reverse};
 use line_config::Result;
-use line_parts::{FileHistory, History, MemHistory, SearchDirection, SearchResult};
+use line_parts::{Escapes, FileHistory, History, MemHistory, SearchDirection, SearchResult};
 use std::alloc::Global;
 use std::borrow::CowStr;
 use std::process::Abort;
@@ -134,17 +136,29 @@ fn loads(
 }
 
 /// Each line has three bytes beside its number, of 1 to 4 digits: 10 + 2 * 90 + 3 * 900 + 4 * 4,000 digits.
+fn saves(
+    rt: &impl Abort,
+    alloc: Global,
+    escapes: Escapes,
+    append: bool,
+) -> result::Result<(), Fail> {
+    let mut history = FileHistory::new(alloc);
+    fills(rt, alloc, &mut history)?;
+    let mut text = Vec::new(alloc);
+    save(&mut history, escapes, &mut text, append)?;
+    let header = if append { 0 } else { 4 };
+    assert_eq!(rt; text.len(), header + 3 * COUNT + 18_890);
+    for limit in [100, 4_000, 10_000] {
+        loads(rt, alloc, text.as_slice(), !append, limit)?;
+    }
+    Ok(())
+}
+
 #[test]
 fn of_many_lines_in_a_text(rt: HostRuntime) -> result::Result<(), Fail> {
-    for append in [false, true] {
-        let mut history = FileHistory::new(rt.alloc());
-        fills(&rt, rt.alloc(), &mut history)?;
-        let mut text = Vec::new(rt.alloc());
-        history.save_to(&mut text, append)?;
-        let header = if append { 0 } else { 4 };
-        assert_eq!(rt; text.len(), header + 3 * COUNT + 18_890);
-        for limit in [100, 4_000, 10_000] {
-            loads(&rt, rt.alloc(), text.as_slice(), !append, limit)?;
+    for escapes in [V2, V3] {
+        for append in [false, true] {
+            saves(&rt, rt.alloc(), escapes, append)?;
         }
     }
     Ok(())

@@ -1,9 +1,10 @@
 //! What each call leaves where an allocation is refused. Run with any one allocation refused, each test passes: it
 //! looks at what is left, or the call was not reached.
 
-use super::gives;
+use super::{gives, save};
+use Escapes::{V2, V3};
 use line_config::{ReadlineError, Result};
-use line_parts::{FileHistory, History, MemHistory, SearchResult};
+use line_parts::{Escapes, FileHistory, History, MemHistory, SearchResult};
 use std::alloc::Global;
 use std::borrow::CowStr;
 use std::process::Abort;
@@ -22,7 +23,7 @@ fn answer_of<T>(outcome: Result<T>) -> result::Result<Option<T>, Fail> {
 /// Lines that are all taken, and for which a list grows more than once.
 const LINES: &[&str] = &[
     "a",
-    "b\n\\",
+    "b\n\\\rb",
     "0123456789\n0123456789\n0123456789\n0123456789",
     "c",
     "d",
@@ -116,37 +117,66 @@ fn of_a_line_for_a_full_history(rt: HostRuntime) -> result::Result<(), Fail> {
     Ok(())
 }
 
-/// The text of four lines.
-const SAVED: &[u8] = b"#V2\na\nb\\n\\\\\n0123456789\\n0123456789\\n0123456789\\n0123456789\nc\n";
+/// How four lines are written.
+struct Written {
+    escapes: Escapes,
+    /// The text of all.
+    saved: &'static [u8],
+    /// What is appended of as many of them as were read.
+    appended: [&'static [u8]; 5],
+}
 
-/// What is appended of as many of them as were read.
-const APPENDED: [&[u8]; 5] = [
-    b"",
-    b"a\n",
-    b"a\nb\\n\\\\\n",
-    b"a\nb\\n\\\\\n0123456789\\n0123456789\\n0123456789\\n0123456789\n",
-    b"a\nb\\n\\\\\n0123456789\\n0123456789\\n0123456789\\n0123456789\nc\n",
+const WRITTEN: &[Written] = &[
+    Written {
+        escapes: V2,
+        saved: b"#V2\na\nb\\n\\\\\rb\n0123456789\\n0123456789\\n0123456789\\n0123456789\nc\n",
+        appended: [
+            b"",
+            b"a\n",
+            b"a\nb\\n\\\\\rb\n",
+            b"a\nb\\n\\\\\rb\n0123456789\\n0123456789\\n0123456789\\n0123456789\n",
+            b"a\nb\\n\\\\\rb\n0123456789\\n0123456789\\n0123456789\\n0123456789\nc\n",
+        ],
+    },
+    Written {
+        escapes: V3,
+        saved: b"#V3\na\nb\\n\\\\\\rb\n0123456789\\n0123456789\\n0123456789\\n0123456789\nc\n",
+        appended: [
+            b"",
+            b"a\n",
+            b"a\nb\\n\\\\\\rb\n",
+            b"a\nb\\n\\\\\\rb\n0123456789\\n0123456789\\n0123456789\\n0123456789\n",
+            b"a\nb\\n\\\\\\rb\n0123456789\\n0123456789\\n0123456789\\n0123456789\nc\n",
+        ],
+    },
 ];
 
 /// The lines before the refusal are there, and are new.
-#[test]
-fn of_a_text_that_is_read(rt: HostRuntime) -> result::Result<(), Fail> {
-    let mut history = FileHistory::new(rt.alloc());
-    let answer = answer_of(history.load_from(SAVED))?;
+fn reads(rt: &impl Abort, alloc: Global, written: &Written) -> result::Result<(), Fail> {
+    let mut history = FileHistory::new(alloc);
+    let answer = answer_of(history.load_from(written.saved))?;
     let count = history.len();
     assert_eq!(rt; answer, if count == 4 { Some(true) } else { None });
     let Some(lines) = LINES.get(..count) else {
         return Err(Fail::from("no more lines than there are"));
     };
-    gives(&rt, &history, lines)?;
-    let mut out = Vec::new(rt.alloc());
-    if answer_of(history.save_to(&mut out, true))?.is_some() {
+    gives(rt, &history, lines)?;
+    let mut out = Vec::new(alloc);
+    if answer_of(save(&mut history, written.escapes, &mut out, true))?.is_some() {
         let wanted = if answer.is_some() {
-            Some(&APPENDED[0])
+            Some(&written.appended[0])
         } else {
-            APPENDED.get(count)
+            written.appended.get(count)
         };
         assert_eq!(rt; Some(&out.as_slice()), wanted);
+    }
+    Ok(())
+}
+
+#[test]
+fn of_a_text_that_is_read(rt: HostRuntime) -> result::Result<(), Fail> {
+    for written in WRITTEN {
+        reads(&rt, rt.alloc(), written)?;
     }
     Ok(())
 }
@@ -163,28 +193,36 @@ fn four_lines(alloc: Global) -> result::Result<Option<FileHistory>, Fail> {
 }
 
 /// The lines are there, and are new.
-fn saves(rt: &impl Abort, alloc: Global, append: bool) -> result::Result<(), Fail> {
+fn saves(
+    rt: &impl Abort,
+    alloc: Global,
+    written: &Written,
+    append: bool,
+) -> result::Result<(), Fail> {
     let Some(mut history) = four_lines(alloc)? else {
         return Ok(());
     };
-    let whole = if append { APPENDED[4] } else { SAVED };
+    let all = written.appended[4];
+    let whole = if append { all } else { written.saved };
     let mut out = Vec::new(alloc);
-    let answer = answer_of(history.save_to(&mut out, append))?;
+    let answer = answer_of(save(&mut history, written.escapes, &mut out, append))?;
     gives(rt, &history, &LINES[..4])?;
     if answer.is_some() {
         assert_eq!(rt; out.as_slice(), whole);
         return Ok(());
     }
     let mut out = Vec::new(alloc);
-    history.save_to(&mut out, true)?;
-    assert_eq!(rt; out.as_slice(), APPENDED[4]);
+    save(&mut history, written.escapes, &mut out, true)?;
+    assert_eq!(rt; out.as_slice(), all);
     Ok(())
 }
 
 #[test]
 fn of_a_text_that_is_written(rt: HostRuntime) -> result::Result<(), Fail> {
-    for append in [false, true] {
-        saves(&rt, rt.alloc(), append)?;
+    for written in WRITTEN {
+        for append in [false, true] {
+            saves(&rt, rt.alloc(), written, append)?;
+        }
     }
     Ok(())
 }

@@ -1,7 +1,9 @@
 //! Readers and writers that give and take little at once, that are interrupted, and that fail.
 
+use super::save;
+use Escapes::{V2, V3};
 use line_config::{ReadlineError, Result};
-use line_parts::{FileHistory, History};
+use line_parts::{Escapes, FileHistory, History};
 use std::alloc::Global;
 use std::io::{ErrorKind, Read, Write};
 use std::process::Abort;
@@ -109,21 +111,22 @@ fn answer_of<T>(outcome: Result<T>) -> result::Result<Option<T>, Fail> {
     }
 }
 
-/// The lines are those that an appended save writes, one after another, with nothing to escape.
+/// The new lines are those that this text has.
 fn appends(
     rt: &impl Abort,
     alloc: Global,
     history: &mut FileHistory,
+    escapes: Escapes,
     text: &[u8],
 ) -> result::Result<(), Fail> {
     let mut out = Vec::new(alloc);
-    history.save_to(&mut out, true)?;
+    save(history, escapes, &mut out, true)?;
     assert_eq!(rt; out.as_slice(), text);
     Ok(())
 }
 
 /// A text, how many bytes of it come before its reader fails, the answer, None where it fails, and what is appended of
-/// the lines that are there.
+/// the lines that are there, with a carriage return escaped.
 type Case = (&'static [u8], usize, Option<bool>, &'static [u8]);
 
 /// Reads a text byte by byte, with interruptions or none.
@@ -133,7 +136,7 @@ fn reads(rt: &impl Abort, alloc: Global, case: &Case) -> result::Result<(), Fail
         let mut history = FileHistory::new(alloc);
         let reader = Trickle::new(*text, *failing, interrupts);
         assert_eq!(rt; answer_of(history.load_from(reader))?, *wanted, "{failing}");
-        appends(rt, alloc, &mut history, *appended)?;
+        appends(rt, alloc, &mut history, V3, *appended)?;
     }
     Ok(())
 }
@@ -143,7 +146,10 @@ const WHOLE: usize = usize::MAX;
 /// A text with a header: two lines, an empty one, and a last one without a line feed.
 const HEADED: &[u8] = b"#V2\nab\n\ncd\ne";
 
-/// A text without one.
+/// The same with a carriage return in its first line.
+const HEADED_V3: &[u8] = b"#V3\na\\r\n\ncd\ne";
+
+/// A text without a header.
 const PLAIN: &[u8] = b"a\r\nb";
 
 const READS: &[Case] = &[
@@ -164,6 +170,21 @@ const READS: &[Case] = &[
     (HEADED, 12, None, b"ab\ncd\n"),
     (HEADED, WHOLE, Some(true), b""),
     (b"#V2\na\nb", 7, None, b"a\n"),
+    (HEADED_V3, 0, None, b""),
+    (HEADED_V3, 1, None, b""),
+    (HEADED_V3, 2, None, b""),
+    (HEADED_V3, 3, None, b""),
+    (HEADED_V3, 4, None, b""),
+    (HEADED_V3, 5, None, b""),
+    (HEADED_V3, 6, None, b""),
+    (HEADED_V3, 7, None, b""),
+    (HEADED_V3, 8, None, b"a\\r\n"),
+    (HEADED_V3, 9, None, b"a\\r\n"),
+    (HEADED_V3, 10, None, b"a\\r\n"),
+    (HEADED_V3, 11, None, b"a\\r\n"),
+    (HEADED_V3, 12, None, b"a\\r\ncd\n"),
+    (HEADED_V3, 13, None, b"a\\r\ncd\n"),
+    (HEADED_V3, WHOLE, Some(true), b""),
     (PLAIN, 0, None, b""),
     (PLAIN, 1, None, b""),
     (PLAIN, 2, None, b""),
@@ -180,90 +201,124 @@ fn that_are_read_byte_by_byte(rt: HostRuntime) -> result::Result<(), Fail> {
     Ok(())
 }
 
-/// What two new lines are written as.
-const SAVED: &[u8] = b"#V2\na\\nb\nc\n";
+/// Escapes, and what two new lines are written as with them: saved, and appended.
+type Written = (Escapes, &'static [u8], &'static [u8]);
 
-/// The same, appended.
-const APPENDED: &[u8] = b"a\\nb\nc\n";
+const WRITTEN: [Written; 2] = [
+    (V2, b"#V2\na\\nb\rc\nd\n", b"a\\nb\rc\nd\n"),
+    (V3, b"#V3\na\\nb\\rc\nd\n", b"a\\nb\\rc\nd\n"),
+];
 
 fn two_lines(rt: &impl Abort, alloc: Global) -> result::Result<FileHistory, Fail> {
     let mut history = FileHistory::new(alloc);
-    assert!(rt; history.add("a\nb")? && history.add("c")?);
+    assert!(rt; history.add("a\nb\rc")? && history.add("d")?);
     Ok(history)
 }
 
 /// A save of two new lines to a writer that fails behind so many bytes writes those, and leaves both lines new.
-fn fails(rt: &impl Abort, alloc: Global, append: bool, failing: usize) -> result::Result<(), Fail> {
-    let whole = if append { APPENDED } else { SAVED };
+fn fails(
+    rt: &impl Abort,
+    alloc: Global,
+    written: Written,
+    append: bool,
+    failing: usize,
+) -> result::Result<(), Fail> {
+    let (escapes, saved, appended) = written;
+    let whole = if append { appended } else { saved };
     for interrupts in [false, true] {
         let mut history = two_lines(rt, alloc)?;
         let mut out = Narrow::new(alloc, failing, true, interrupts);
-        let answer = answer_of(history.save_to(&mut out, append))?;
+        let answer = answer_of(save(&mut history, escapes, &mut out, append))?;
         assert_eq!(rt; answer.is_some(), failing >= whole.len(), "{failing}");
         assert_eq!(rt;
             Some(out.taken.as_slice()),
             whole.get(..failing),
             "{failing}"
         );
-        let left = if answer.is_some() { b"" } else { APPENDED };
-        appends(rt, alloc, &mut history, left)?;
+        let left = if answer.is_some() { b"" } else { appended };
+        appends(rt, alloc, &mut history, escapes, left)?;
     }
     Ok(())
 }
 
 #[test]
 fn that_are_written_byte_by_byte(rt: HostRuntime) -> result::Result<(), Fail> {
-    for failing in 0..=SAVED.len() {
-        fails(&rt, rt.alloc(), false, failing)?;
-    }
-    for failing in 0..=APPENDED.len() {
-        fails(&rt, rt.alloc(), true, failing)?;
+    for written in WRITTEN {
+        for failing in 0..=written.1.len() {
+            fails(&rt, rt.alloc(), written, false, failing)?;
+        }
+        for failing in 0..=written.2.len() {
+            fails(&rt, rt.alloc(), written, true, failing)?;
+        }
     }
     Ok(())
 }
 
 /// Where the flush fails, or nothing is taken, the lines stay new.
-#[test]
-fn that_fail_at_the_end_or_take_nothing(rt: HostRuntime) -> result::Result<(), Fail> {
-    let mut history = two_lines(&rt, rt.alloc())?;
-    let mut out = Narrow::new(rt.alloc(), WHOLE, false, false);
-    assert_eq!(rt; answer_of(history.save_to(&mut out, false))?, None);
+fn stay_new(rt: &impl Abort, alloc: Global, written: Written) -> result::Result<(), Fail> {
+    let (escapes, _, appended) = written;
+    let mut history = two_lines(rt, alloc)?;
+    let mut out = Narrow::new(alloc, WHOLE, false, false);
+    assert_eq!(rt;
+        answer_of(save(&mut history, escapes, &mut out, false))?,
+        None
+    );
     let mut full: [u8; 2] = [0; 2];
-    let outcome = history.save_to(&mut full.as_mut_slice(), true);
+    let outcome = save(&mut history, escapes, &mut full.as_mut_slice(), true);
     assert!(rt;
         matches!(outcome, Err(ReadlineError::Io(cause)) if cause.kind() == ErrorKind::WriteZero)
     );
-    appends(&rt, rt.alloc(), &mut history, APPENDED)
+    appends(rt, alloc, &mut history, escapes, appended)
 }
 
-/// A line of so many bytes: a digit over and over, and behind each a newline.
-fn long_line(alloc: Global, digit: char, count: usize) -> Result<String> {
+#[test]
+fn that_fail_at_the_end_or_take_nothing(rt: HostRuntime) -> result::Result<(), Fail> {
+    for written in WRITTEN {
+        stay_new(&rt, rt.alloc(), written)?;
+    }
+    Ok(())
+}
+
+/// A line of so many bytes: a digit over and over, and behind each a line end.
+fn long_line(alloc: Global, digit: char, end: char, count: usize) -> Result<String> {
     let mut line = String::new(alloc);
     for _ in 0..count {
         line.push(digit)?;
-        line.push('\n')?;
+        line.push(end)?;
     }
     Ok(line)
 }
 
-/// Texts longer than what is read or written at once: ten lines of 1,000 bytes each, and one of 20,000.
-#[test]
-fn that_hold_several_buffers(rt: HostRuntime) -> result::Result<(), Fail> {
-    let mut history = FileHistory::new(rt.alloc());
+/// Ten lines of 1,000 bytes each, and one of 20,000, half of them escaped, are written and read.
+fn hold_much(rt: &impl Abort, alloc: Global, escapes: Escapes) -> result::Result<(), Fail> {
+    let end = match escapes {
+        V2 => '\n',
+        V3 => '\r',
+    };
+    let mut history = FileHistory::new(alloc);
     for digit in '0'..='9' {
-        let line = long_line(rt.alloc(), digit, 500)?;
+        let line = long_line(alloc, digit, end, 500)?;
         assert!(rt; history.add_owned(line)?);
     }
-    let line = long_line(rt.alloc(), 'x', 10_000)?;
+    let line = long_line(alloc, 'x', end, 10_000)?;
     assert!(rt; history.add(line.as_str())?);
-    let mut text = Vec::new(rt.alloc());
-    history.save_to(&mut text, false)?;
+    let mut text = Vec::new(alloc);
+    save(&mut history, escapes, &mut text, false)?;
     assert_eq!(rt; text.len(), 4 + 10 * 1501 + 30_001);
-    let mut copy = FileHistory::new(rt.alloc());
+    let mut copy = FileHistory::new(alloc);
     assert!(rt; copy.load_from(text.as_slice())?);
     assert_eq!(rt; copy.len(), history.len());
     for (found, wanted) in copy.iter().zip(history.iter()) {
         assert!(rt; found == wanted);
+    }
+    Ok(())
+}
+
+/// Texts longer than what is read or written at once.
+#[test]
+fn that_hold_several_buffers(rt: HostRuntime) -> result::Result<(), Fail> {
+    for escapes in [V2, V3] {
+        hold_much(&rt, rt.alloc(), escapes)?;
     }
     Ok(())
 }

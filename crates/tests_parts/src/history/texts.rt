@@ -1,7 +1,9 @@
 //! The text in which a history is kept: what is written, and what is read of it.
 
+use super::save;
+use Escapes::{V2, V3};
 use line_config::{ReadlineError, Result};
-use line_parts::{FileHistory, History};
+use line_parts::{Escapes, FileHistory, History};
 use std::alloc::Global;
 use std::io::ErrorKind;
 use std::process::Abort;
@@ -16,6 +18,8 @@ enum Step {
     Clear,
     Save(&'static [u8]),
     Append(&'static [u8]),
+    SaveV3(&'static [u8]),
+    AppendV3(&'static [u8]),
     Load(&'static [u8], Option<bool>),
 }
 
@@ -30,25 +34,35 @@ fn answer_of(outcome: Result<bool>) -> result::Result<Option<bool>, Fail> {
     }
 }
 
+/// A save writes this text.
+fn saves(
+    rt: &impl Abort,
+    alloc: Global,
+    history: &mut FileHistory,
+    escapes: Escapes,
+    append: bool,
+    text: &[u8],
+) -> result::Result<(), Fail> {
+    let mut out = Vec::new(alloc);
+    save(history, escapes, &mut out, append)?;
+    assert_eq!(rt; out.as_slice(), text);
+    Ok(())
+}
+
 fn stepped(
     rt: &impl Abort,
     alloc: Global,
     history: &mut FileHistory,
     step: &Step,
 ) -> result::Result<(), Fail> {
-    let mut out = Vec::new(alloc);
     match step {
         Add(line) => assert!(rt; history.add(line)?, "{step:?}"),
         Limit(len) => history.set_max_len(*len)?,
         Clear => history.clear()?,
-        Save(text) => {
-            history.save_to(&mut out, false)?;
-            assert_eq!(rt; out.as_slice(), *text, "{step:?}");
-        }
-        Append(text) => {
-            history.save_to(&mut out, true)?;
-            assert_eq!(rt; out.as_slice(), *text, "{step:?}");
-        }
+        Save(text) => saves(rt, alloc, history, V2, false, text)?,
+        Append(text) => saves(rt, alloc, history, V2, true, text)?,
+        SaveV3(text) => saves(rt, alloc, history, V3, false, text)?,
+        AppendV3(text) => saves(rt, alloc, history, V3, true, text)?,
         Load(text, wanted) => {
             let found = answer_of(history.load_from(*text))?;
             assert_eq!(rt; found, *wanted, "{step:?}");
@@ -173,11 +187,87 @@ const SAVED: &[Case] = &[
     (
         &[
             Add("a\r"),
-            Save(b"#V2\na\r\n"),
+            Save(b"\x23\x56\x32\x0a\x61\x0d\x0a"),
             Clear,
-            Load(b"#V2\na\r\n", Some(true)),
+            Load(b"\x23\x56\x32\x0a\x61\x0d\x0a", Some(true)),
         ],
         &["a"],
+    ),
+];
+
+const SAVED_V3: &[Case] = &[
+    (&[SaveV3(b"#V3\n"), AppendV3(b"")], &[]),
+    (
+        &[
+            Add("a\r"),
+            SaveV3(b"\x23\x56\x33\x0a\x61\x5c\x72\x0a"),
+            Clear,
+            Load(b"\x23\x56\x33\x0a\x61\x5c\x72\x0a", Some(true)),
+        ],
+        &["a\r"],
+    ),
+    (
+        &[
+            Add("\r"),
+            Add("\\r"),
+            Add("\r\n\r\\"),
+            Add("é\r日"),
+            Add(" #V3"),
+            SaveV3(b"#V3\n\\r\n\\\\r\n\\r\\n\\r\\\\\n\xc3\xa9\\r\xe6\x97\xa5\n #V3\n"),
+            Clear,
+            Load(
+                b"#V3\n\\r\n\\\\r\n\\r\\n\\r\\\\\n\xc3\xa9\\r\xe6\x97\xa5\n #V3\n",
+                Some(true),
+            ),
+        ],
+        &["\r", "\\r", "\r\n\r\\", "é\r日", " #V3"],
+    ),
+    // one count of the new lines for both forms
+    (
+        &[
+            Add("x\r"),
+            SaveV3(b"#V3\nx\\r\n"),
+            Append(b""),
+            Add("y\r\n"),
+            AppendV3(b"y\\r\\n\n"),
+            AppendV3(b""),
+            Clear,
+            Load(b"#V3\nx\\r\ny\\r\\n\n", Some(true)),
+        ],
+        &["x\r", "y\r\n"],
+    ),
+    (
+        &[
+            Add("a"),
+            Append(b"a\n"),
+            Limit(1),
+            Add("b\r"),
+            AppendV3(b"b\\r\n"),
+        ],
+        &["b\r"],
+    ),
+    // a text of one form to which the other is appended is read by its first line
+    (
+        &[
+            Add("x"),
+            Save(b"#V2\nx\n"),
+            Add("y\rz\r"),
+            AppendV3(b"y\\rz\\r\n"),
+            Clear,
+            Load(b"#V2\nx\ny\\rz\\r\n", Some(true)),
+        ],
+        &["x", "y\\rz\\r"],
+    ),
+    (
+        &[
+            Add("x"),
+            SaveV3(b"#V3\nx\n"),
+            Add("y\rz\r"),
+            Append(b"y\rz\r\n"),
+            Clear,
+            Load(b"#V3\nx\ny\rz\r\n", Some(true)),
+        ],
+        &["x", "y\rz"],
     ),
 ];
 
@@ -192,7 +282,18 @@ const HEADERS: &[Case] = &[
     (&[Load(b"#V\na\\\\b", Some(false))], &["#V", "a\\\\b"]),
     (&[Load(b"#V22\na", Some(false))], &["#V22", "a"]),
     (&[Load(b"#v2\n", Some(false))], &["#v2"]),
-    (&[Load(b"#V3\na\\nb\n", Some(false))], &["#V3", "a\\nb"]),
+    (&[Load(b"#V4\na\\rb\n", Some(false))], &["#V4", "a\\rb"]),
+    (&[Load(b"#V3\na\\nb\n", Some(true))], &["a\nb"]),
+    (&[Load(b"#V3", Some(true))], &[]),
+    (&[Load(b"#V3\n\n\r\n\n", Some(true))], &[]),
+    (&[Load(b"#V3\r\nx\\r", Some(true))], &["x\r"]),
+    (&[Load(b"#V3\r", Some(false))], &["#V3\r"]),
+    (&[Load(b"#V3 \na\\rb\n", Some(false))], &["#V3 ", "a\\rb"]),
+    (&[Load(b"#V33\na\\r", Some(false))], &["#V33", "a\\r"]),
+    (&[Load(b"#v3\n", Some(false))], &["#v3"]),
+    (&[Load(b"\n#V3\na\\rb\n", Some(false))], &["#V3", "a\\rb"]),
+    (&[Load(b"#V2\n#V3\na\\rb\n", Some(true))], &["#V3", "a\\rb"]),
+    (&[Load(b"#V3\n#V2\na\\rb\n", Some(true))], &["#V2", "a\rb"]),
     (&[Load(b"\n#V2\na\\nb\n", Some(false))], &["#V2", "a\\nb"]),
     (&[Load(b"\xef\xbb\xbf#V2\n", Some(false))], &["\u{feff}#V2"]),
     (&[Load(b"#V2\n#V2\n", Some(true))], &["#V2"]),
@@ -223,12 +324,46 @@ const ESCAPES: &[Case] = &[
     ),
 ];
 
+const ESCAPES_OF_V3: &[Case] = &[
+    (&[Load(b"#V3\na\\r\n", Some(true))], &["a\r"]),
+    (
+        &[Load(b"#V3\na\\nb\\\\c\\rd\n", Some(true))],
+        &["a\nb\\c\rd"],
+    ),
+    (&[Load(b"#V3\n\\\\r", Some(true))], &["\\r"]),
+    (&[Load(b"#V3\n\\\\\\r", Some(true))], &["\\\r"]),
+    // another escape, or a lone last backslash: the line is kept as it stands
+    (&[Load(b"#V3\na\\tb\n", Some(true))], &["a\\tb"]),
+    (&[Load(b"#V3\n\\", Some(true))], &["\\"]),
+    (&[Load(b"#V3\na\\\r\n", Some(true))], &["a\\"]),
+    (&[Load(b"#V3\n\\R\n\\N\n", Some(true))], &["\\R", "\\N"]),
+    (&[Load(b"#V3\n\\r\\t\\\\\n", Some(true))], &["\\r\\t\\\\"]),
+    // a carriage return may stand as it is, but not as an escape
+    (&[Load(b"#V3\na\rb\\nc\n", Some(true))], &["a\rb\nc"]),
+    (&[Load(b"#V3\na\r\\t\\n\n", Some(true))], &["a\r\\t\\n"]),
+    (&[Load(b"#V3\n\\\rr\\n\n", Some(true))], &["\\\rr\\n"]),
+    (
+        &[
+            Load(b"#V3\n\\r\n", Some(true)),
+            Append(b""),
+            SaveV3(b"#V3\n\\r\n"),
+        ],
+        &["\r"],
+    ),
+];
+
 const LINES: &[Case] = &[
     (
         &[Load(b"#V2\r\na\r\n\r\nb\r\r\nc", Some(true))],
         &["a", "b\r", "c"],
     ),
     (&[Load(b"#V2\na\rb\nc\r", Some(true))], &["a\rb", "c\r"]),
+    (
+        &[Load(b"#V3\r\na\\r\r\n\r\nb\r\r\nc\r", Some(true))],
+        &["a\r", "b\r", "c\r"],
+    ),
+    (&[Load(b"#V3\na\na\n", Some(false))], &["a"]),
+    (&[Limit(0), Load(b"#V3\na\n", Some(false))], &[]),
     (&[Load(b"#V2\n\r", Some(true))], &["\r"]),
     (&[Load(b"a\r\n\r\nb\r", Some(false))], &["a", "b\r"]),
     (&[Load(b"#V2\na\na\n", Some(false))], &["a"]),
@@ -268,6 +403,10 @@ const NOT_UTF_8: &[Case] = &[
     (&[Load(b"#V2\na\n\\n\xff\n", None)], &["a"]),
     (&[Load(b"#V2\na\n\\t\xff\n", None)], &["a"]),
     (
+        &[Load(b"#V3\na\\r\n\\r\xff\n", None), AppendV3(b"a\\r\n")],
+        &["a\r"],
+    ),
+    (
         &[
             Add("x"),
             Save(b"#V2\nx\n"),
@@ -280,7 +419,7 @@ const NOT_UTF_8: &[Case] = &[
 
 #[test]
 fn are_written_with_escapes(rt: HostRuntime) -> result::Result<(), Fail> {
-    for case in SAVED {
+    for case in SAVED.iter().chain(SAVED_V3) {
         leaves(&rt, rt.alloc(), case)?;
     }
     Ok(())
@@ -296,7 +435,7 @@ fn begin_with_a_header_or_not(rt: HostRuntime) -> result::Result<(), Fail> {
 
 #[test]
 fn have_escapes_behind_a_header(rt: HostRuntime) -> result::Result<(), Fail> {
-    for case in ESCAPES {
+    for case in ESCAPES.iter().chain(ESCAPES_OF_V3) {
         leaves(&rt, rt.alloc(), case)?;
     }
     Ok(())

@@ -1,3 +1,4 @@
+use Rattle.std.proofs.Common.{◌∙◌, ap, not}
 use Rattle.line_parts.proofs.LoadLemmas.{at_err, begins_known, loads_bare, loads_headed, nothing_read}
 use Rattle.line_parts.proofs.history.file.FileHistory.load_text.Goals as goal
 
@@ -12,14 +13,14 @@ returns-in_err-taken-clause-beginning g c =
     c.args.self.now c.load_first.new.self c.load_rest.new.self c.in_ok-headed.ensures.begins c.in_err-taken.ensures.beginning in
     at_err c.from_residual-in_err-taken.result known
 
-pub returns-then-not-headed-clause-loads : goal.returns-then-not-headed-clause-loads
-returns-then-not-headed-clause-loads g c =
+pub returns-then-is_none-clause-loads : goal.returns-then-is_none-clause-loads
+returns-then-is_none-clause-loads g c =
     loads_bare (g.B.Read.remaining c.args.reader.now) (g.B.Read.remaining c.load_first.new.reader) c.in_ok-headed.headed c.in_ok-taken.taken
-    c.args.self.now c.load_first.new.self c.load_rest.new.self c.settle.new.self c.if-not-headed.true c.in_ok-headed.ensures.begins
+    c.args.self.now c.load_first.new.self c.load_rest.new.self c.settle.new.self (c.is_none.ensures ∙ ap not c.if-is_none.true) c.in_ok-headed.ensures.begins
     c.in_ok-taken.ensures.all c.settle.ensures
 
 pub returns-clause-loads : goal.returns-clause-loads
 returns-clause-loads g c =
     loads_headed (g.B.Read.remaining c.args.reader.now) (g.B.Read.remaining c.load_first.new.reader) c.in_ok-headed.headed c.in_ok-taken.taken
-    c.args.self.now c.load_first.new.self c.load_rest.new.self c.settle.new.self c.if-not-headed.false c.in_ok-headed.ensures.begins
+    c.args.self.now c.load_first.new.self c.load_rest.new.self c.settle.new.self (c.is_none.ensures ∙ ap not c.if-is_none.false) c.in_ok-headed.ensures.begins
     c.in_ok-taken.ensures.all c.settle.ensures
