@@ -1,62 +1,15 @@
 -- Facts on bindings as a map.
-use Rattle.std.proofs.Common.{arith, ◌≡◌, ◌<◌, ◌≤◌, ◌+◌, ℕ, zero, suc, List, [], ◌∷◌, ◌++◌, Bool, true, false, not, if◌then◌else◌, Option, Some, None, refl, sym, ◌∙◌, ap, subst, map, length, option_map}
-use Rattle.std.proofs.Math.ListN.{get_or, set}
-use Rattle.std.specs.List.{find, list_any, position, position_or_len}
-use Rattle.std.proofs.Math.Bool.{cond}
-use Rattle.std.proofs.lemmas.Bool.Decides.{nat_tests}
-use Rattle.std.proofs.lemmas.List.Quantifiers.{position-Some}
-use Rattle.line_editor.specs.Event.{Chord, chord_of, each_key, keys, same_chord}
-use Rattle.std.specs.Prelude.{◌&&◌, ◌||◌}
+use Rattle.std.proofs.Common.{◌≡◌, List, [], ◌∷◌, ◌++◌, Bool, true, false, cond, ◌&&◌, ◌||◌, if◌then◌else◌, Option, Some, None, refl, sym, ◌∙◌, ap, Bor, map, option_map, find, Result, Ok, Err, IfOk, OnOk}
+use Rattle.std.specs.List.{list_all, list_any, starts_with}
+use Rattle.std.specs.Cmp.Lexicographic.{pointwise}
 use Rattle.std.specs.Option.{option_or}
-use Rattle.line_editor.specs.Binding.{Bound, Handler, all_sure, handled, handler_of}
-use Rattle.line_editor.specs.Keymap.{key_handler}
 use Rattle.line_keys.specs.declared.keys.KeyEvent.{KeyEvent}
+use Rattle.line_editor.specs.Event.{Chord, each_key, event_keys, keys, mouse, same_chord, same_key}
+use Rattle.line_editor.specs.Binding.{Bound, Handler, Rebinds, all_sure, bound_to, handled, handler_of, leads_on, node_count}
+use Rattle.line_editor.specs.KeyTree.{Puts, beginning_count, value_of}
+use Rattle.line_editor.specs.Keymap.{key_handler}
 use Rattle.line_editor.specs.declared.binding.ConditionalEventHandler.{Ghosts}
 use Rattle.line_editor.specs.declared.binding.EventHandler.{EventHandler}
-use Rattle.line_editor.specs.declared.binding.Event.{Event}
-use Rattle.line_editor.proofs.ChordLemmas.{same_chord-says}
-
-pick-same : {V : Type 0} (b : Bool) (p q : Chord × V) (f : Option (Chord × V)) → option_map (λ x. x.1) (cond b (Some p) f) ≡ (if b then Some p.1 else option_map (λ x. x.1) (cond b (Some q) f))
-pick-same true p q f = refl
-pick-same false p q f = refl
-
-pick-other : {V : Type 0} (b s : Bool) (p : Chord × V) (v : V) (f g : Option (Chord × V)) → (b ≡ true → s ≡ true → ⊥) → option_map (λ x. x.1) f ≡ (if s then Some v else option_map (λ x. x.1) g)
-    → option_map (λ x. x.1) (cond b (Some p) f) ≡ (if s then Some v else option_map (λ x. x.1) (cond b (Some p) g))
-pick-other true true p v f g never same = absurd (never refl refl)
-pick-other true false p v f g never same = refl
-pick-other false s p v f g never same = same
-
-not-both : (x e c : Chord) → same_chord x e ≡ false → same_chord x c ≡ true → same_chord e c ≡ true → ⊥
-not-both x e c other at to =
-    let one = (same_chord-says x c).0 at in let two = (same_chord-says e c).0 to in
-    let same = (same_chord-says x e).1 (one ∙ sym two) in absurd (cc)
-
-pick-last : {V : Type 0} (b : Bool) (p : Chord × V) → option_map (λ x. x.1) (cond b (Some p) None) ≡ (if b then Some p.1 else None)
-pick-last true p = refl
-pick-last false p = refl
-
-step-on : (b : Bool) (n m : ℕ) → suc m ≤ cond (not b) (1 + n) 0 → (b ≡ false) × (m ≤ n)
-step-on true n m less = absurd (omega arith)
-step-on false n m less = (refl, omega arith)
-
-stands-nowhere : {X : Type 0} (p : X → Bool) (xs : List X) → position p xs ≡ None → length xs ≤ position_or_len p xs
-stands-nowhere p xs none = grind (arith, nat_tests)
-
-pub any-map : {X Y : Type 0} (p : Y → Bool) (f : X → Y) (xs : List X) → list_any (λ x. p (f x)) xs ≡ list_any p (map f xs)
-any-map p f [] = refl
-any-map p f (x ∷ xs) = ap (λ b. p (f x) || b) (any-map p f xs)
-
-and_both : (a b : Bool) → a ≡ true → b ≡ true → (a && b) ≡ true
-and_both true b one two = two
-and_both false b one two = one
-
-first_too : (a b : Bool) → (a && b) ≡ true → a ≡ true
-first_too true b both = refl
-first_too false b both = absurd (cc)
-
-second_too : (a b : Bool) → (a && b) ≡ true → b ≡ true
-second_too true b both = both
-second_too false b both = absurd (cc)
 
 false_and : (a b : Bool) → a ≡ false → (a && b) ≡ false
 false_and true b off = absurd (cc)
@@ -88,75 +41,161 @@ key_by bound handler None key at is unsure = among_unsure bound each_key handler
 pub key_unsure : (bound : Bound) (key : KeyEvent) (handler : Handler) → key_handler bound key ≡ Some handler → handler.sure ≡ false → all_sure bound ≡ false
 key_unsure bound key handler is unsure = key_by bound handler (handler_of bound (keys (key ∷ []))) key refl is unsure
 
+and-is : (a b : Bool) → a ≡ true → b ≡ true → (a && b) ≡ true
+and-is true b one two = two
+and-is false b one two = absurd (cc)
+
+and-are : (a b : Bool) → (a && b) ≡ true → (a ≡ true) × (b ≡ true)
+and-are true b both = (refl, both)
+and-are false b both = absurd (cc)
+
+map-if : {A B : Type 0} (f : A → B) (b : Bool) (x : A) (o : Option A) → option_map f (if b then Some x else o) ≡ (if b then Some (f x) else option_map f o)
+map-if f true x o = refl
+map-if f false x o = refl
+
 module _ {X : Type 0} {P : X → Type 0} (g : (v : X) → Ghosts (P v)) where
-  abbrev pub pair-of : (Event × EventHandler X P) → (Chord × Handler)
-  pair-of entry = (chord_of entry.0, handled g entry.1)
+  -- what is bound to each key, to the mouse and to sequences
+  abbrev pub bound-by : Option (EventHandler X P) → Option (EventHandler X P) → List (List KeyEvent × EventHandler X P) → Bound
+  bound-by any click entries = bound_to g each_key any ++ bound_to g mouse click ++ map (λ entry. (keys entry.0, handled g entry.1)) entries
 
-  abbrev pub is-for : Chord → (Event × EventHandler X P) → Bool
-  is-for e entry = same_chord (chord_of entry.0) e
+  -- a handler that is lent
+  pub shown : (lent : Option (Bor (EventHandler X P))) (own : Option (EventHandler X P)) → option_map (λ handler. handler.now) lent ≡ own → option_map (λ handler. handled g handler.now) lent ≡ option_map (handled g) own
+  shown None own is = ap (option_map (handled g)) is
+  shown (Some handler) own is = ap (option_map (handled g)) is
 
-  -- the handler at the first place of an event, replaced
-  replaced-at : (e c : Chord) (v : EventHandler X P) (d : Event × EventHandler X P) (xs : List (Event × EventHandler X P)) (i : ℕ) → i < length xs → is-for e (get_or xs i d) ≡ true
-      → ((k : ℕ) → k < i → is-for e (get_or xs k d) ≡ false)
-      → handler_of (map pair-of (set xs i ((get_or xs i d).0, v))) c ≡ (if same_chord e c then Some (handled g v) else handler_of (map pair-of xs) c)
-  replaced-at e c v d [] i within is before = absurd (omega arith)
-  replaced-at e c v d (x ∷ xs) zero within is before =
-      let at = (same_chord-says (chord_of x.0) e).0 is in
-      rw (← at) (pick-same (same_chord (chord_of x.0) c) (chord_of x.0, handled g v) (pair-of x) (find (λ pair. same_chord pair.0 c) (map pair-of xs)))
-  replaced-at e c v d (x ∷ xs) (suc i) within is before =
-      pick-other (same_chord (chord_of x.0) c) (same_chord e c) (pair-of x) (handled g v) (find (λ pair. same_chord pair.0 c) (map pair-of (set xs i ((get_or xs i d).0, v)))) (find (λ pair. same_chord pair.0 c) (map pair-of xs))
-      (not-both (chord_of x.0) e c (before 0 (omega arith))) (replaced-at e c v d xs i (omega arith) is (λ k less. before (suc k) (omega arith)))
+  find-keys-by : (same : Bool) (entry : List KeyEvent × EventHandler X P) (bound : Option (Chord × Handler)) (held : Option (List KeyEvent × EventHandler X P))
+      → option_map (λ (b : Chord × Handler). b.1) bound ≡ option_map (handled g) (option_map (λ (e : List KeyEvent × EventHandler X P). e.1) held)
+      → option_map (λ (b : Chord × Handler). b.1) (cond same (Some (keys entry.0, handled g entry.1)) bound) ≡ option_map (handled g) (option_map (λ (e : List KeyEvent × EventHandler X P). e.1) (cond same (Some entry) held))
+  find-keys-by true entry bound held is = refl
+  find-keys-by false entry bound held is = is
 
-  pub replaced : (e : Chord) (v : EventHandler X P) (xs : List (Event × EventHandler X P)) (i : ℕ) (entry : Event × EventHandler X P) → get_or xs i entry ≡ entry → position (is-for e) xs ≡ Some i → (c : Chord)
-      → handler_of (map pair-of (set xs i (entry.0, v))) c ≡ (if same_chord e c then Some (handled g v) else handler_of (map pair-of xs) c)
-  replaced e v xs i entry is found c =
-      let at = position-Some (is-for e) xs i entry found in
-      let Q : Event → Type 0 = λ k. handler_of (map pair-of (set xs i (k, v))) c ≡ (if same_chord e c then Some (handled g v) else handler_of (map pair-of xs) c) in
-      subst Q (ap (λ x. x.0) is) (replaced-at e c v entry xs i at.0 at.1 at.2)
+  find-keys : (entries : List (List KeyEvent × EventHandler X P)) (sequence : List KeyEvent)
+      → handler_of (map (λ entry. (keys entry.0, handled g entry.1)) entries) (keys sequence) ≡ option_map (handled g) (value_of entries sequence)
+  find-keys [] sequence = refl
+  find-keys (entry ∷ entries) sequence =
+      find-keys-by (pointwise same_key entry.0 sequence) entry (find (λ b. same_chord b.0 (keys sequence)) (map (λ entry. (keys entry.0, handled g entry.1)) entries))
+      (find (λ e. pointwise same_key e.0 sequence) entries) (find-keys entries sequence)
 
-  -- the first handler of an event is the one at its place
-  found-at : (e : Chord) (d : Event × EventHandler X P) (xs : List (Event × EventHandler X P)) (i : ℕ) → i < length xs → is-for e (get_or xs i d) ≡ true
-      → ((k : ℕ) → k < i → is-for e (get_or xs k d) ≡ false) → handler_of (map pair-of xs) e ≡ Some (handled g (get_or xs i d).1)
-  found-at e d [] i within is before = absurd (omega arith)
-  found-at e d (x ∷ xs) zero within is before = rw is refl
-  found-at e d (x ∷ xs) (suc i) within is before = rw (before 0 (omega arith)) (found-at e d xs i (omega arith) is (λ k less. before (suc k) (omega arith)))
+  find-each : (entries : List (List KeyEvent × EventHandler X P)) → handler_of (map (λ entry. (keys entry.0, handled g entry.1)) entries) each_key ≡ None
+  find-each [] = refl
+  find-each (entry ∷ entries) = find-each entries
 
-  pub found : (e : Chord) (xs : List (Event × EventHandler X P)) (i : ℕ) (entry : Event × EventHandler X P) → get_or xs i entry ≡ entry → position (is-for e) xs ≡ Some i → handler_of (map pair-of xs) e ≡ Some (handled g entry.1)
-  found e xs i entry is at = let first = position-Some (is-for e) xs i entry at in found-at e entry xs i first.0 first.1 first.2 ∙ ap (λ x. Some (handled g x.1)) is
+  find-mouse : (entries : List (List KeyEvent × EventHandler X P)) → handler_of (map (λ entry. (keys entry.0, handled g entry.1)) entries) mouse ≡ None
+  find-mouse [] = refl
+  find-mouse (entry ∷ entries) = find-mouse entries
 
-  -- an event that stands nowhere has no handler
-  missing-at : (e : Chord) (xs : List (Event × EventHandler X P)) → length xs ≤ position_or_len (is-for e) xs → handler_of (map pair-of xs) e ≡ None
-  missing-at e [] none = refl
-  missing-at e (x ∷ xs) none = let step = step-on (is-for e x) (position_or_len (is-for e) xs) (length xs) none in rw step.0 (missing-at e xs step.1)
+  -- the handler of each event
+  pub each-handler : (any click : Option (EventHandler X P)) (entries : List (List KeyEvent × EventHandler X P)) → handler_of (bound-by any click entries) each_key ≡ option_map (handled g) any
+  each-handler (Some handler) click entries = refl
+  each-handler None (Some handler) entries = find-each entries
+  each-handler None None entries = find-each entries
 
-  pub missing : (e : Chord) (xs : List (Event × EventHandler X P)) → position (is-for e) xs ≡ None → handler_of (map pair-of xs) e ≡ None
-  missing e xs none = missing-at e xs (stands-nowhere (is-for e) xs none)
+  pub mouse-handler : (any click : Option (EventHandler X P)) (entries : List (List KeyEvent × EventHandler X P)) → handler_of (bound-by any click entries) mouse ≡ option_map (handled g) click
+  mouse-handler (Some other) (Some handler) entries = refl
+  mouse-handler (Some other) None entries = find-mouse entries
+  mouse-handler None (Some handler) entries = refl
+  mouse-handler None None entries = find-mouse entries
 
-  -- and is put behind all
-  pushed-at : (e c : Chord) (k : Event) (v : EventHandler X P) (xs : List (Event × EventHandler X P)) → chord_of k ≡ e → length xs ≤ position_or_len (is-for e) xs
-      → handler_of (map pair-of (xs ++ (k, v) ∷ [])) c ≡ (if same_chord e c then Some (handled g v) else handler_of (map pair-of xs) c)
-  pushed-at e c k v [] is none = rw (← is) (pick-last (same_chord (chord_of k) c) (chord_of k, handled g v))
-  pushed-at e c k v (x ∷ xs) is none =
-      let step = step-on (is-for e x) (position_or_len (is-for e) xs) (length xs) none in
-      pick-other (same_chord (chord_of x.0) c) (same_chord e c) (pair-of x) (handled g v) (find (λ pair. same_chord pair.0 c) (map pair-of (xs ++ (k, v) ∷ []))) (find (λ pair. same_chord pair.0 c) (map pair-of xs))
-      (not-both (chord_of x.0) e c step.0) (pushed-at e c k v xs is step.1)
+  pub keys-handler : (any click : Option (EventHandler X P)) (entries : List (List KeyEvent × EventHandler X P)) (sequence : List KeyEvent) → handler_of (bound-by any click entries) (keys sequence) ≡ option_map (handled g) (value_of entries sequence)
+  keys-handler (Some other) (Some handler) entries sequence = find-keys entries sequence
+  keys-handler (Some other) None entries sequence = find-keys entries sequence
+  keys-handler None (Some handler) entries sequence = find-keys entries sequence
+  keys-handler None None entries sequence = find-keys entries sequence
 
-  pub pushed : (k : Event) (v : EventHandler X P) (xs : List (Event × EventHandler X P)) → position (is-for (chord_of k)) xs ≡ None → (c : Chord)
-      → handler_of (map pair-of (xs ++ (k, v) ∷ [])) c ≡ (if same_chord (chord_of k) c then Some (handled g v) else handler_of (map pair-of xs) c)
-  pushed k v xs none c = pushed-at (chord_of k) c k v xs refl (stands-nowhere (is-for (chord_of k)) xs none)
+  keys-lead : (entries : List (List KeyEvent × EventHandler X P)) (front : List KeyEvent)
+      → leads_on (map (λ entry. (keys entry.0, handled g entry.1)) entries) front ≡ list_any (λ entry. starts_with same_key entry.0 front) entries
+  keys-lead [] front = refl
+  keys-lead (entry ∷ entries) front = ap (λ b. starts_with same_key entry.0 front || b) (keys-lead entries front)
 
-  -- handlers that never fail stay so with one more, in place of another or behind all
-  pub sure_set : (k : Event) (v : EventHandler X P) (xs : List (Event × EventHandler X P)) (i : ℕ) → all_sure (map pair-of xs) ≡ true → (handled g v).sure ≡ true
-      → all_sure (map pair-of (set xs i (k, v))) ≡ true
-  sure_set k v [] i all sure = all
-  sure_set k v (x ∷ xs) zero all sure = and_both (handled g v).sure (all_sure (map pair-of xs)) sure (second_too (handled g x.1).sure (all_sure (map pair-of xs)) all)
-  sure_set k v (x ∷ xs) (suc i) all sure =
-      and_both (handled g x.1).sure (all_sure (map pair-of (set xs i (k, v)))) (first_too (handled g x.1).sure (all_sure (map pair-of xs)) all)
-      (sure_set k v xs i (second_too (handled g x.1).sure (all_sure (map pair-of xs)) all) sure)
+  -- the keys that begin a bound sequence
+  pub fronts : (any click : Option (EventHandler X P)) (entries : List (List KeyEvent × EventHandler X P)) (front : List KeyEvent)
+      → leads_on (bound-by any click entries) front ≡ list_any (λ entry. starts_with same_key entry.0 front) entries
+  fronts (Some other) (Some handler) entries front = keys-lead entries front
+  fronts (Some other) None entries front = keys-lead entries front
+  fronts None (Some handler) entries front = keys-lead entries front
+  fronts None None entries front = keys-lead entries front
 
-  pub sure_pushed : (k : Event) (v : EventHandler X P) (xs : List (Event × EventHandler X P)) → all_sure (map pair-of xs) ≡ true → (handled g v).sure ≡ true
-      → all_sure (map pair-of (xs ++ (k, v) ∷ [])) ≡ true
-  sure_pushed k v [] all sure = and_both (handled g v).sure true sure refl
-  sure_pushed k v (x ∷ xs) all sure =
-      and_both (handled g x.1).sure (all_sure (map pair-of (xs ++ (k, v) ∷ []))) (first_too (handled g x.1).sure (all_sure (map pair-of xs)) all)
-      (sure_pushed k v xs (second_too (handled g x.1).sure (all_sure (map pair-of xs)) all) sure)
+  keys-listed : (entries : List (List KeyEvent × EventHandler X P))
+      → map (λ (binding : Chord × Handler). event_keys binding.0) (map (λ (entry : List KeyEvent × EventHandler X P). (keys entry.0, handled g entry.1)) entries) ≡ map (λ (entry : List KeyEvent × EventHandler X P). entry.0) entries
+  keys-listed [] = refl
+  keys-listed (entry ∷ entries) = ap (λ l. entry.0 ∷ l) (keys-listed entries)
+
+  -- the beginnings of the bound sequences
+  pub fronts-counted : (any click : Option (EventHandler X P)) (entries : List (List KeyEvent × EventHandler X P)) → node_count (bound-by any click entries) ≡ beginning_count (map (λ (entry : List KeyEvent × EventHandler X P). entry.0) entries)
+  fronts-counted (Some other) (Some handler) entries = ap beginning_count (keys-listed entries)
+  fronts-counted (Some other) None entries = ap beginning_count (keys-listed entries)
+  fronts-counted None (Some handler) entries = ap beginning_count (keys-listed entries)
+  fronts-counted None None entries = ap beginning_count (keys-listed entries)
+
+  keys-sure : (entries : List (List KeyEvent × EventHandler X P)) → all_sure (map (λ entry. (keys entry.0, handled g entry.1)) entries) ≡ list_all (λ entry. (handled g entry.1).sure) entries
+  keys-sure [] = refl
+  keys-sure (entry ∷ entries) = ap (λ b. (handled g entry.1).sure && b) (keys-sure entries)
+
+  -- whether a handler is sure, where there is one
+  abbrev own_sure : Option (EventHandler X P) → Bool
+  own_sure None = true
+  own_sure (Some handler) = (handled g handler).sure
+
+  sure-parts : (any click : Option (EventHandler X P)) (entries : List (List KeyEvent × EventHandler X P))
+      → all_sure (bound-by any click entries) ≡ (own_sure any && (own_sure click && list_all (λ entry. (handled g entry.1).sure) entries))
+  sure-parts (Some other) (Some handler) entries = ap (λ b. (handled g other).sure && ((handled g handler).sure && b)) (keys-sure entries)
+  sure-parts (Some other) None entries = ap (λ b. (handled g other).sure && b) (keys-sure entries)
+  sure-parts None (Some handler) entries = ap (λ b. (handled g handler).sure && b) (keys-sure entries)
+  sure-parts None None entries = keys-sure entries
+
+  module _ (any click : Option (EventHandler X P)) (entries : List (List KeyEvent × EventHandler X P)) (handler : EventHandler X P) where
+    each-anew : (other : Chord) → handler_of (bound-by (Some handler) click entries) other ≡ (if same_chord each_key other then Some (handled g handler) else handler_of (bound-by any click entries) other)
+    each-anew each_key = each-handler (Some handler) click entries
+    each-anew (keys sequence) = keys-handler (Some handler) click entries sequence ∙ sym (keys-handler any click entries sequence)
+    each-anew mouse = mouse-handler (Some handler) click entries ∙ sym (mouse-handler any click entries)
+
+    mouse-anew : (other : Chord) → handler_of (bound-by any (Some handler) entries) other ≡ (if same_chord mouse other then Some (handled g handler) else handler_of (bound-by any click entries) other)
+    mouse-anew each_key = each-handler any (Some handler) entries ∙ sym (each-handler any click entries)
+    mouse-anew (keys sequence) = keys-handler any (Some handler) entries sequence ∙ sym (keys-handler any click entries sequence)
+    mouse-anew mouse = mouse-handler any (Some handler) entries
+
+    all-of : all_sure (bound-by any click entries) ≡ true → (own_sure any ≡ true) × (own_sure click ≡ true) × (list_all (λ entry. (handled g entry.1).sure) entries ≡ true)
+    all-of all =
+        let first = and-are (own_sure any) (own_sure click && list_all (λ entry. (handled g entry.1).sure) entries) (sym (sure-parts any click entries) ∙ all) in
+        let second = and-are (own_sure click) (list_all (λ entry. (handled g entry.1).sure) entries) first.1 in
+        (first.0, second.0, second.1)
+
+    -- an event bound anew
+    pub rebinds-each : Rebinds (bound-by any click entries) (bound-by (Some handler) click entries) each_key (handled g handler)
+    rebinds-each = record {
+      handlers = each-anew;
+      sure = λ all sure. sure-parts (Some handler) click entries ∙ and-is (handled g handler).sure (own_sure click && list_all (λ entry. (handled g entry.1).sure) entries) sure
+          (and-is (own_sure click) (list_all (λ entry. (handled g entry.1).sure) entries) (all-of all).1 (all-of all).2);
+    }
+
+    pub rebinds-mouse : Rebinds (bound-by any click entries) (bound-by any (Some handler) entries) mouse (handled g handler)
+    rebinds-mouse = record {
+      handlers = mouse-anew;
+      sure = λ all sure. sure-parts any (Some handler) entries ∙ and-is (own_sure any) ((handled g handler).sure && list_all (λ entry. (handled g entry.1).sure) entries) (all-of all).0
+          (and-is (handled g handler).sure (list_all (λ entry. (handled g entry.1).sure) entries) sure (all-of all).2);
+    }
+
+    module _ (after : List (List KeyEvent × EventHandler X P)) (sequence : List KeyEvent) (puts : Puts entries after sequence handler) where
+      keys-anew : (other : Chord) → handler_of (bound-by any click after) other ≡ (if same_chord (keys sequence) other then Some (handled g handler) else handler_of (bound-by any click entries) other)
+      keys-anew each_key = each-handler any click after ∙ sym (each-handler any click entries)
+      keys-anew (keys other) =
+          keys-handler any click after other ∙ ap (option_map (handled g)) (puts.values other)
+          ∙ map-if (handled g) (pointwise same_key sequence other) handler (value_of entries other)
+          ∙ ap (λ o. if pointwise same_key sequence other then Some (handled g handler) else o) (sym (keys-handler any click entries other))
+      keys-anew mouse = mouse-handler any click after ∙ sym (mouse-handler any click entries)
+
+      pub rebinds-keys : Rebinds (bound-by any click entries) (bound-by any click after) (keys sequence) (handled g handler)
+      rebinds-keys = record {
+        handlers = keys-anew;
+        sure = λ all sure. sure-parts any click after ∙ and-is (own_sure any) (own_sure click && list_all (λ entry. (handled g entry.1).sure) after) (all-of all).0
+            (and-is (own_sure click) (list_all (λ entry. (handled g entry.1).sure) after) (all-of all).1 (puts.all (λ h. (handled g h).sure) (all-of all).2 sure));
+      }
+
+-- what holds where a call succeeds
+pub on-ok : {T E : Type 0} {P Q : Type 0} (result : Result T E) → (P → Q) → OnOk result P → OnOk result Q
+on-ok (Ok value) so holds = so holds
+on-ok (Err error) so holds = tt
+
+pub if-ok : {T E : Type 0} {P Q : T → Type 0} (result : Result T E) → ((value : T) → P value → Q value) → IfOk result P → IfOk result Q
+if-ok (Ok value) so holds = so value holds
+if-ok (Err error) so holds = tt

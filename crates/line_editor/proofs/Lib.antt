@@ -2,6 +2,12 @@ pub mod AgainLaws
 pub mod AskedLemmas
 pub mod BoundLemmas
 pub mod ChordLemmas
+pub mod TreeLemmas
+pub mod TreeWayLemmas
+pub mod TreeHeldLemmas
+pub mod TreeGrowthLemmas
+pub mod TreeLookLemmas
+pub mod TreeNodeLemmas
 pub mod SequenceLemmas
 pub mod ShownLemmas
 pub mod SequenceReadLemmas

@@ -1,10 +1,11 @@
 -- Bindings of events.
-use Rattle.std.specs.Prelude.{◌≡◌, if◌then◌else◌, Bool, true, List, map, find, Option, Some, is_some, option_map}
+use Rattle.std.specs.Prelude.{◌≡◌, if◌then◌else◌, ℕ, Bool, true, List, [], ◌∷◌, ◌++◌, map, find, Option, None, Some, is_some, option_map}
 use Rattle.std.specs.List.{list_all, list_any}
 use Rattle.line_keys.specs.Command.{Command, command_of}
 use Rattle.line_keys.specs.declared.keys.KeyEvent.{KeyEvent}
 use Rattle.line_editor.specs.Asked.{Asked}
-use Rattle.line_editor.specs.Event.{Chord, begins_chord, chord_of, keys, same_chord}
+use Rattle.line_editor.specs.Event.{Chord, begins_chord, each_key, event_keys, keys, mouse, same_chord}
+use Rattle.line_editor.specs.KeyTree.{beginning_count}
 use Rattle.line_editor.specs.declared.binding.ConditionalEventHandler as handlers
 use Rattle.line_editor.specs.declared.binding.EventHandler.{EventHandler}
 use Rattle.line_editor.specs.declared.binding.EventHandler.TheVariants.{Conditional, Simple}
@@ -36,6 +37,10 @@ abbrev pub begins : Bound → Chord → Bool
 begins bound (keys front) = leads_on bound front
 begins bound chord = is_some (handler_of bound chord)
 
+-- the number of different beginnings of the bound sequences of keys, the empty one not counted
+abbrev pub node_count : Bound → ℕ
+node_count bound = beginning_count (map (λ binding. event_keys binding.0) bound)
+
 -- no error of input or output comes from a handler
 abbrev pub all_sure : Bound → Bool
 all_sure bound = list_all (λ binding. binding.1.sure) bound
@@ -55,6 +60,12 @@ module _ {X : Type 0} {P : X → Type 0} (g : (x : X) → handlers.Ghosts (P x))
     sure = (g handler.vtable).sure handler.value;
   }
 
+  -- one event with its handler, where it has one
+  abbrev pub bound_to : Chord → Option (EventHandler X P) → Bound
+  bound_to chord None = []
+  bound_to chord (Some handler) = (chord, handled handler) ∷ []
+
   -- the bindings that a map holds
   abbrev pub bound_of : Bindings X P → Bound
-  bound_of bindings = map (λ binding. (chord_of binding.0, handled binding.1)) bindings.entries.items
+  bound_of bindings = bound_to each_key bindings.any ++ bound_to mouse bindings.mouse
+      ++ map (λ entry. (keys entry.0, handled entry.1)) bindings.sequences

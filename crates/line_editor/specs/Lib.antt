@@ -6,6 +6,7 @@ pub mod HistoryMoves
 pub mod Event
 pub mod Moment
 pub mod Info
+pub mod KeyTree
 pub mod Binding
 pub mod Reading
 pub mod Input

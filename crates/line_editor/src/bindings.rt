@@ -1,24 +1,30 @@
 //! The map of a program's bindings.
-ghost use Rattle.std.specs.Prelude.{◌≡◌, [], IfOk, OnErr, OnOk, Option, Some, option_map};
-ghost use Rattle.std.specs.List.{position};
+ghost use Rattle.std.specs.Prelude.{◌≡◌, ◌∷◌, [], IfOk, OnErr, OnOk, Option, Some, option_map};
 ghost use Rattle.line_config.specs.Error.{MemoryOnly};
-ghost use Rattle.line_editor.specs.Binding.{Rebinds, begins, bound_of, handled, handler_of, leads_on};
-ghost use Rattle.line_editor.specs.Event.{begins_chord, chord_of, keys, same_chord};
+ghost use Rattle.line_editor.specs.Binding.{Rebinds, begins, bound_of, handled, handler_of, leads_on, node_count};
+ghost use Rattle.line_editor.specs.Event.{chord_of, keys};
 ghost use Rattle.line_editor.specs.Keymap.{key_handler};
 
 use crate::binding::{ConditionalEventHandler, Event, EventHandler};
 use line_config::Result;
 use line_keys::keys::KeyEvent;
 use std::alloc::Global;
+use tree::KeyTree;
+
+mod tree;
 
 /// The commands that a program binds to events: a map from event to handler.
 ///
 /// A key is looked up as it is read, and the map keeps an event as it was given. Where a reader gives its keys in normal
 /// form, bind events in normal form too (`Event::normalize`).
+///
+/// Sequences of keys are kept as a tree, in which those that begin with the same keys share the nodes of these keys. A
+/// look-up goes from node to node by its keys, and looks at no more than the children of each.
 #[derive(Drop)]
 pub struct Bindings {
-    alloc: Global,
-    entries: Vec<(Event, EventHandler)>,
+    any: Option<EventHandler>,
+    mouse: Option<EventHandler>,
+    sequences: KeyTree<EventHandler>,
 }
 
 impl Bindings {
@@ -27,8 +33,9 @@ impl Bindings {
         ensures { bound_of ⟦<dyn ConditionalEventHandler as ConditionalEventHandler>⟧ result ≡ [] }
     {
         Bindings {
-            alloc,
-            entries: Vec::new(alloc),
+            any: None,
+            mouse: None,
+            sequences: KeyTree::new(alloc),
         }
     }
 
@@ -47,12 +54,10 @@ impl Bindings {
             in OnErr result (b self.new ≡ b self.old) }
         ensures memory { MemoryOnly result }
     {
-        match self.place(&event) {
-            Some(i) => Ok(Some(std::mem::replace(&mut self.entries[i].1, handler))),
-            None => {
-                self.entries.push((event, handler))?;
-                Ok(None)
-            }
+        match event {
+            Event::Any => Ok(self.any.replace(handler)),
+            Event::KeySeq(keys) => self.sequences.insert(&keys, handler),
+            Event::Mouse => Ok(self.mouse.replace(handler)),
         }
     }
 
@@ -62,9 +67,10 @@ impl Bindings {
             option_map (λ handler. handled g handler.now) result
             ≡ handler_of (bound_of g self.now) (chord_of event.now) }
     {
-        match self.place(event) {
-            Some(i) => Some(&self.entries[i].1),
-            None => None,
+        match event {
+            Event::Any => self.any.as_ref(),
+            Event::KeySeq(keys) => self.of_keys(keys),
+            Event::Mouse => self.mouse.as_ref(),
         }
     }
 
@@ -79,16 +85,21 @@ impl Bindings {
         }
     }
 
+    /// Returns the number of different beginnings of the sequences of keys that are bound. A sequence is one of its own
+    /// beginnings, and the empty one is not counted.
+    pub fn nodes(&self) -> usize
+        ensures { let g = ⟦<dyn ConditionalEventHandler as ConditionalEventHandler>⟧ in
+            result ≡ node_count (bound_of g self.now) }
+    {
+        self.sequences.beginnings()
+    }
+
     // Returns whether a bound sequence is these keys, or begins with them.
     pub(crate) fn leads_on(&self, front: &[KeyEvent]) -> bool
         ensures { let g = ⟦<dyn ConditionalEventHandler as ConditionalEventHandler>⟧ in
             result ≡ leads_on (bound_of g self.now) front.now }
     {
-        self.entries.iter().any(
-            |entry|
-                ensures { result ≡ begins_chord front.entry.now (chord_of entry.now.0) }
-            { entry.0.begins_with(front) },
-        )
+        self.sequences.leads_on(front)
     }
 
     // Returns the handler of a sequence of keys.
@@ -97,14 +108,7 @@ impl Bindings {
             option_map (λ handler. handled g handler.now) result
             ≡ handler_of (bound_of g self.now) (keys sequence.now) }
     {
-        match self.entries.iter().position(
-            |entry|
-                ensures { result ≡ same_chord (chord_of entry.now.0) (keys sequence.entry.now) }
-            { entry.0.is_keys(sequence) },
-        ) {
-            Some(i) => Some(&self.entries[i].1),
-            None => None,
-        }
+        self.sequences.get(sequence)
     }
 
     // Returns the handler of a key: that of its own, or else that of each key.
@@ -121,18 +125,6 @@ impl Bindings {
 
     // Where the map grows from.
     pub(crate) fn alloc(&self) -> Global {
-        self.alloc
-    }
-
-    // Returns where an event stands.
-    fn place(&self, event: &Event) -> Option<usize>
-        ensures { result ≡ position
-            (λ entry. same_chord (chord_of entry.0) (chord_of event.now)) self.now.entries.items }
-    {
-        self.entries.iter().position(
-            |entry|
-                ensures { result ≡ same_chord (chord_of entry.now.0) (chord_of event.entry.now) }
-            { entry.0.is_same(event) },
-        )
+        self.sequences.alloc()
     }
 }

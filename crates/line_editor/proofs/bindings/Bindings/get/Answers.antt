@@ -1,10 +1,9 @@
-use Rattle.std.proofs.Common.{rules, sym}
-use Rattle.line_editor.specs.Event.{chord_of}
-use Rattle.line_editor.proofs.BoundLemmas.{found, missing}
+use Rattle.std.proofs.Common.{◌∙◌, sym}
+use Rattle.line_editor.proofs.BoundLemmas.{each-handler, mouse-handler, shown}
 use Rattle.line_editor.proofs.bindings.Bindings.get.Goals as goal
 
-pub returns-in-Some : goal.returns-in-Some
-returns-in-Some g c = sym (found _ (chord_of c.args.event.now) c.args.self.now.entries.items c.in-Some.i c.index.result.now (search rules) (sym c.in-Some.ensures))
+pub returns-in-Any : goal.returns-in-Any
+returns-in-Any g c = rw c.in-Any.is (shown _ c.as_ref.result _ c.as_ref.ensures.value ∙ sym (each-handler _ c.args.self.now.any c.args.self.now.mouse c.args.self.now.sequences))
 
-pub returns-in-None : goal.returns-in-None
-returns-in-None g c = sym (missing _ (chord_of c.args.event.now) c.args.self.now.entries.items (sym c.in-None.ensures))
+pub returns-in-Mouse : goal.returns-in-Mouse
+returns-in-Mouse g c = rw c.in-Mouse.is (shown _ c.as_ref-in-Mouse.result _ c.as_ref-in-Mouse.ensures.value ∙ sym (mouse-handler _ c.args.self.now.any c.args.self.now.mouse c.args.self.now.sequences))

@@ -1,23 +1,24 @@
-use Rattle.std.proofs.Common.{rules, sym}
-use Rattle.line_editor.specs.Event.{chord_of}
-use Rattle.line_editor.proofs.BoundLemmas.{found, missing, pushed, replaced, sure_pushed, sure_set}
+use Rattle.std.proofs.Common.{◌∙◌, ap, option_map, sym}
+use Rattle.line_editor.specs.Binding.{handled}
+use Rattle.line_editor.proofs.BoundLemmas.{each-handler, if-ok, keys-handler, mouse-handler, on-ok, rebinds-keys}
 use Rattle.line_editor.proofs.bindings.Bindings.insert.Goals as goal
 
-pub returns-in-Some-clause-bound : goal.returns-in-Some-clause-bound
-returns-in-Some-clause-bound g c = record {
-  handlers = λ chord. rw c.replace.ensures.after (replaced _ (chord_of c.args.event) c.args.handler c.args.self.now.entries.items c.in-Some.i c.index_mut.result.now (search rules) (sym c.in-Some.ensures) chord);
-  sure = λ all sure. rw c.replace.ensures.after (sure_set _ _ c.args.handler c.args.self.now.entries.items c.in-Some.i all sure);
-}
+pub returns-in-Any-clause-old : goal.returns-in-Any-clause-old
+returns-in-Any-clause-old g c =
+    rw c.in-Any.is (ap (option_map (handled _)) c.replace.ensures.value ∙ sym (each-handler _ c.args.self.now.any c.args.self.now.mouse c.args.self.now.sequences))
 
-pub returns-in-Some-clause-old : goal.returns-in-Some-clause-old
-returns-in-Some-clause-old g c =
-    rw c.replace.ensures.value (sym (found _ (chord_of c.args.event) c.args.self.now.entries.items c.in-Some.i c.index_mut.result.now (search rules) (sym c.in-Some.ensures)))
+pub returns-in-KeySeq-clause-bound : goal.returns-in-KeySeq-clause-bound
+returns-in-KeySeq-clause-bound g c =
+    rw c.in-KeySeq.is (on-ok c.insert.result
+    (λ puts. rebinds-keys _ c.args.self.now.any c.args.self.now.mouse c.args.self.now.sequences c.args.handler c.insert.new.self c.in-KeySeq.keys.items puts)
+    (rw c.deref.ensures.value at c.insert.ensures.puts))
 
-pub returns-in_ok-push-in-None-clause-bound : goal.returns-in_ok-push-in-None-clause-bound
-returns-in_ok-push-in-None-clause-bound g c = record {
-  handlers = λ chord. rw c.in_ok-push-in-None.ensures.items (pushed _ c.args.event c.args.handler c.args.self.now.entries.items (sym c.in-None.ensures) chord);
-  sure = λ all sure. rw c.in_ok-push-in-None.ensures.items (sure_pushed _ c.args.event c.args.handler c.args.self.now.entries.items all sure);
-}
+pub returns-in-KeySeq-clause-old : goal.returns-in-KeySeq-clause-old
+returns-in-KeySeq-clause-old g c =
+    rw c.in-KeySeq.is (if-ok c.insert.result
+    (λ old is. ap (option_map (handled _)) is ∙ sym (keys-handler _ c.args.self.now.any c.args.self.now.mouse c.args.self.now.sequences c.in-KeySeq.keys.items))
+    (rw c.deref.ensures.value at c.insert.ensures.old))
 
-pub returns-in_ok-push-in-None-clause-old : goal.returns-in_ok-push-in-None-clause-old
-returns-in_ok-push-in-None-clause-old g c = sym (missing _ (chord_of c.args.event) c.args.self.now.entries.items (sym c.in-None.ensures))
+pub returns-in-Mouse-clause-old : goal.returns-in-Mouse-clause-old
+returns-in-Mouse-clause-old g c =
+    rw c.in-Mouse.is (ap (option_map (handled _)) c.replace-in-Mouse.ensures.value ∙ sym (mouse-handler _ c.args.self.now.any c.args.self.now.mouse c.args.self.now.sequences))
