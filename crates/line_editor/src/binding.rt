@@ -3,7 +3,7 @@ ghost use Rattle.std.specs.Prelude.{◌≡◌, Bool, false, ◌∷◌, [], IfOk,
 ghost use Rattle.line_config.specs.Error.{FaultsOnly, IoOnlyIf, MemoryOnly};
 ghost use Rattle.line_editor.specs.Asked.{Asked};
 ghost use Rattle.line_editor.specs.declared.binding.EventHandler.TheVariants.{Simple};
-ghost use Rattle.line_editor.specs.Event.{begins_chord, chord_of, event_keys, keys, normal_chord, same_chord};
+ghost use Rattle.line_editor.specs.Event.{chord_of, event_keys, keys, normal_chord};
 ghost use Rattle.line_editor.specs.Moment.{moment_of};
 ghost use Rattle.line_keys.specs.Command.{Command, command_of};
 ghost use Rattle.line_keys.specs.Key.{normalized};
@@ -74,33 +74,6 @@ impl Event {
             }
             event => event,
         }
-    }
-
-    // Returns whether the event is these keys.
-    pub(crate) fn is_keys(&self, sequence: &[KeyEvent]) -> bool
-        ensures { result ≡ same_chord (chord_of self.now) (keys sequence.now) }
-    {
-        match self {
-            Event::KeySeq(keys) => keys.as_slice() == sequence,
-            _ => false,
-        }
-    }
-
-    // Returns whether the event is keys that begin with these.
-    pub(crate) fn begins_with(&self, front: &[KeyEvent]) -> bool
-        ensures { result ≡ begins_chord front.now (chord_of self.now) }
-    {
-        match self {
-            Event::KeySeq(keys) => keys.starts_with(front),
-            _ => false,
-        }
-    }
-
-    // Returns whether two events are the same.
-    pub(crate) fn is_same(&self, other: &Event) -> bool
-        ensures { result ≡ same_chord (chord_of self.now) (chord_of other.now) }
-    {
-        self == other
     }
 
     /// Returns the `i`-th key of a sequence, counted from 0, or None where there is none.

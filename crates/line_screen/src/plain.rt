@@ -11,7 +11,9 @@ ghost use Rattle.line_screen.specs.Surroundings.{Clears, KeepsSurroundings, blan
 
 use crate::measure::{measured, measured_line};
 use crate::surroundings::Surroundings;
-use line_buffer::{GraphemeClusterMode, Layout, LineBuffer, Position, Unit, is_plain_text, is_printable_text};
+use line_buffer::{
+    GraphemeClusterMode, Layout, LineBuffer, Position, Unit, is_plain_text, is_printable_text,
+};
 use line_config::{Prompt, Result};
 use line_keys::raw_reader::RawReader;
 use line_parts::Highlighter;

@@ -19,7 +19,9 @@ use tests_stand_ins::recorder::Recorder;
 use tests_stand_ins::typist::Typist;
 
 mod maps;
+mod pairs;
 mod rows;
+mod trees;
 
 /// What is bound: each key, keys one after another, or the mouse.
 #[derive(Drop)]

@@ -48,7 +48,9 @@ impl<V> Model for KeyTree<V> {
 
     ghost use Rattle.line_editor.specs.KeyTree.{EachLeads, IsTree, held, shape_of, values_of, ways};
 
-    ghost view = { λ tree. held (ways (shape_of tree.nodes.items) (length (shape_of tree.nodes.items))) (values_of tree.nodes.items) };
+    ghost view = { λ tree.
+        held (ways (shape_of tree.nodes.items) (length (shape_of tree.nodes.items)))
+        (values_of tree.nodes.items) };
 
     ghost invariant = { λ tree. IsTree (shape_of tree.nodes.items)
         × EachLeads (shape_of tree.nodes.items) (values_of tree.nodes.items) };
@@ -121,7 +123,8 @@ fn reach<V>(nodes: &[Node<V>], keys: &[KeyEvent]) -> (usize, usize)
     requires tree { IsTree (shape_of nodes.now) }
     ensures far { result.1 ≤ length keys.now }
     ensures node { LeadsTo (shape_of nodes.now) (take result.1 keys.now) result.0 }
-    ensures no_farther { (key : _) → result.1 < length keys.now → key ≡ get_or keys.now result.1 key
+    ensures no_farther { (key : _) → result.1 < length keys.now
+        → key ≡ get_or keys.now result.1 key
         → child_by (get_or (shape_of nodes.now) result.0 []) key ≡ None }
 {
     let mut node = 0;
@@ -140,7 +143,8 @@ fn reach<V>(nodes: &[Node<V>], keys: &[KeyEvent]) -> (usize, usize)
 fn find<V>(nodes: &[Node<V>], keys: &[KeyEvent]) -> Option<usize>
     requires { IsTree (shape_of nodes.now) }
     ensures found { IfSome result (LeadsTo (shape_of nodes.now) keys.now) }
-    ensures missing { IfNone result ((node : _) → LeadsTo (shape_of nodes.now) keys.now node → ⊥) }
+    ensures missing { IfNone result
+        ((node : _) → LeadsTo (shape_of nodes.now) keys.now node → ⊥) }
 {
     if nodes.is_empty() {
         return None;
@@ -156,7 +160,8 @@ fn find<V>(nodes: &[Node<V>], keys: &[KeyEvent]) -> Option<usize>
 // Returns nodes one after another by these keys, numbered from `first`, of which the last one has the value.
 fn branch<V: Drop>(alloc: Global, keys: &[KeyEvent], first: usize, value: V) -> Result<Vec<Node<V>>>
     ensures shape { IfOk result (λ nodes. shape_of nodes.items ≡ tree.branch first keys.now) }
-    ensures values { IfOk result (λ nodes. values_of nodes.items ≡ map (λ key. None) keys.now ++ Some value ∷ []) }
+    ensures values { IfOk result (λ nodes.
+        values_of nodes.items ≡ map (λ key. None) keys.now ++ Some value ∷ []) }
     ensures memory { MemoryOnly result }
 {
     // No memory holds more nodes than there are numbers.
@@ -190,9 +195,11 @@ fn graft<V: Drop>(
 ) -> Result<()>
     requires { node < length nodes.old.items }
     ensures shape { OnOk result (shape_of nodes.new.items
-        ≡ set (shape_of nodes.old.items) node (get_or (shape_of nodes.old.items) node [] ++ (key, length nodes.old.items) ∷ [])
+        ≡ set (shape_of nodes.old.items) node
+        (get_or (shape_of nodes.old.items) node [] ++ (key, length nodes.old.items) ∷ [])
         ++ shape_of branch.items) }
-    ensures values { OnOk result (values_of nodes.new.items ≡ values_of nodes.old.items ++ values_of branch.items) }
+    ensures values { OnOk result
+        (values_of nodes.new.items ≡ values_of nodes.old.items ++ values_of branch.items) }
     ensures shape_kept { OnErr result (shape_of nodes.new.items ≡ shape_of nodes.old.items) }
     ensures values_kept { OnErr result (values_of nodes.new.items ≡ values_of nodes.old.items) }
     ensures memory { MemoryOnly result }
