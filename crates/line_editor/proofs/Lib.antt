@@ -2,8 +2,9 @@ pub mod AgainLaws
 pub mod AskedLemmas
 pub mod BoundLemmas
 pub mod ChordLemmas
+pub mod TreePlaceLemmas
 pub mod TreeLemmas
-pub mod TreeWayLemmas
+pub mod TreePathLemmas
 pub mod TreeHeldLemmas
 pub mod TreeGrowthLemmas
 pub mod TreeLookLemmas

@@ -52,108 +52,108 @@ set-read : {A : Type 0} (xs : List (Option A)) (n : ℕ) (x : Option A) → n < 
 set-read xs n x within = get_or-set_same xs n x None within
 
 module _ {V : Type 0} where
-  pub held-append : (ways others : List (List KeyEvent)) (values rest : List (Option V)) → length ways ≡ length values → held (ways ++ others) (values ++ rest) ≡ held ways values ++ held others rest
+  pub held-append : (paths others : List (List KeyEvent)) (values rest : List (Option V)) → length paths ≡ length values → held (paths ++ others) (values ++ rest) ≡ held paths values ++ held others rest
   held-append [] others [] rest same = refl
   held-append [] others (value ∷ values) rest same = absurd (omega arith)
-  held-append (way ∷ ways) others [] rest same = absurd (omega arith)
-  held-append (way ∷ ways) others (Some value ∷ values) rest same = ap (λ l. (way, value) ∷ l) (held-append ways others values rest (omega arith))
-  held-append (way ∷ ways) others (None ∷ values) rest same = held-append ways others values rest (omega arith)
+  held-append (path ∷ paths) others [] rest same = absurd (omega arith)
+  held-append (path ∷ paths) others (Some value ∷ values) rest same = ap (λ l. (path, value) ∷ l) (held-append paths others values rest (omega arith))
+  held-append (path ∷ paths) others (None ∷ values) rest same = held-append paths others values rest (omega arith)
 
   module _ (test : List KeyEvent → Bool) where
     -- no value whose keys pass is found where no keys pass
-    pub held-none : (ways : List (List KeyEvent)) (values : List (Option V)) → ((n : ℕ) → n < length ways → test (get_or ways n []) ≡ true → ⊥)
-        → find (λ (entry : List KeyEvent × V). test entry.0) (held ways values) ≡ None
+    pub held-none : (paths : List (List KeyEvent)) (values : List (Option V)) → ((n : ℕ) → n < length paths → test (get_or paths n []) ≡ true → ⊥)
+        → find (λ (entry : List KeyEvent × V). test entry.0) (held paths values) ≡ None
     held-none [] values never = refl
-    held-none (way ∷ ways) [] never = refl
-    held-none (way ∷ ways) (Some value ∷ values) never =
-        cond-none (test way) (way, value) (find (λ (entry : List KeyEvent × V). test entry.0) (held ways values)) (never 0 (omega arith)) (held-none ways values (λ n less. never (suc n) (omega arith)))
-    held-none (way ∷ ways) (None ∷ values) never = held-none ways values (λ n less. never (suc n) (omega arith))
+    held-none (path ∷ paths) [] never = refl
+    held-none (path ∷ paths) (Some value ∷ values) never =
+        cond-none (test path) (path, value) (find (λ (entry : List KeyEvent × V). test entry.0) (held paths values)) (never 0 (omega arith)) (held-none paths values (λ n less. never (suc n) (omega arith)))
+    held-none (path ∷ paths) (None ∷ values) never = held-none paths values (λ n less. never (suc n) (omega arith))
 
     -- the value of the node whose keys alone pass is found
-    pub held-at : (ways : List (List KeyEvent)) (values : List (Option V)) (n : ℕ) → n < length ways → test (get_or ways n []) ≡ true
-        → ((m : ℕ) → m < length ways → test (get_or ways m []) ≡ true → m ≡ n)
-        → option_map (λ (entry : List KeyEvent × V). entry.1) (find (λ (entry : List KeyEvent × V). test entry.0) (held ways values)) ≡ get_or values n None
+    pub held-at : (paths : List (List KeyEvent)) (values : List (Option V)) (n : ℕ) → n < length paths → test (get_or paths n []) ≡ true
+        → ((m : ℕ) → m < length paths → test (get_or paths m []) ≡ true → m ≡ n)
+        → option_map (λ (entry : List KeyEvent × V). entry.1) (find (λ (entry : List KeyEvent × V). test entry.0) (held paths values)) ≡ get_or values n None
     held-at [] values n within is one = absurd (omega arith)
-    held-at (way ∷ ways) [] n within is one = refl
-    held-at (way ∷ ways) (Some value ∷ values) zero within is one = rw is refl
-    held-at (way ∷ ways) (None ∷ values) zero within is one =
-        ap (option_map (λ (entry : List KeyEvent × V). entry.1)) (held-none ways values (λ m less at. let no = one (suc m) (omega arith) at in absurd (omega arith)))
-    held-at (way ∷ ways) (Some value ∷ values) (suc n) within is one =
-        cond-past (λ (entry : List KeyEvent × V). entry.1) (test way) (way, value) (find (λ (entry : List KeyEvent × V). test entry.0) (held ways values)) (get_or values n None)
+    held-at (path ∷ paths) [] n within is one = refl
+    held-at (path ∷ paths) (Some value ∷ values) zero within is one = rw is refl
+    held-at (path ∷ paths) (None ∷ values) zero within is one =
+        ap (option_map (λ (entry : List KeyEvent × V). entry.1)) (held-none paths values (λ m less at. let no = one (suc m) (omega arith) at in absurd (omega arith)))
+    held-at (path ∷ paths) (Some value ∷ values) (suc n) within is one =
+        cond-past (λ (entry : List KeyEvent × V). entry.1) (test path) (path, value) (find (λ (entry : List KeyEvent × V). test entry.0) (held paths values)) (get_or values n None)
         (λ at. let no = one 0 (omega arith) at in absurd (omega arith))
-        (held-at ways values n (omega arith) is (λ m less there. let same = one (suc m) (omega arith) there in omega arith))
-    held-at (way ∷ ways) (None ∷ values) (suc n) within is one = held-at ways values n (omega arith) is (λ m less there. let same = one (suc m) (omega arith) there in omega arith)
+        (held-at paths values n (omega arith) is (λ m less there. let same = one (suc m) (omega arith) there in omega arith))
+    held-at (path ∷ paths) (None ∷ values) (suc n) within is one = held-at paths values n (omega arith) is (λ m less there. let same = one (suc m) (omega arith) there in omega arith)
 
     -- a value whose keys pass
-    pub held-any : (ways : List (List KeyEvent)) (values : List (Option V)) (n : ℕ) (value : V) → n < length ways → get_or values n None ≡ Some value → test (get_or ways n []) ≡ true
-        → list_any (λ (entry : List KeyEvent × V). test entry.0) (held ways values) ≡ true
+    pub held-any : (paths : List (List KeyEvent)) (values : List (Option V)) (n : ℕ) (value : V) → n < length paths → get_or values n None ≡ Some value → test (get_or paths n []) ≡ true
+        → list_any (λ (entry : List KeyEvent × V). test entry.0) (held paths values) ≡ true
     held-any [] values n value within at is = absurd (omega arith)
-    held-any (way ∷ ways) [] n value within at is = absurd (cc)
-    held-any (way ∷ ways) (Some own ∷ values) zero value within at is = rw is refl
-    held-any (way ∷ ways) (None ∷ values) zero value within at is = absurd (cc)
-    held-any (way ∷ ways) (Some own ∷ values) (suc n) value within at is = or-second (test way) (list_any (λ (entry : List KeyEvent × V). test entry.0) (held ways values)) (held-any ways values n value (omega arith) at is)
-    held-any (way ∷ ways) (None ∷ values) (suc n) value within at is = held-any ways values n value (omega arith) at is
+    held-any (path ∷ paths) [] n value within at is = absurd (cc)
+    held-any (path ∷ paths) (Some own ∷ values) zero value within at is = rw is refl
+    held-any (path ∷ paths) (None ∷ values) zero value within at is = absurd (cc)
+    held-any (path ∷ paths) (Some own ∷ values) (suc n) value within at is = or-second (test path) (list_any (λ (entry : List KeyEvent × V). test entry.0) (held paths values)) (held-any paths values n value (omega arith) at is)
+    held-any (path ∷ paths) (None ∷ values) (suc n) value within at is = held-any paths values n value (omega arith) at is
 
-    pub held-no : (ways : List (List KeyEvent)) (values : List (Option V)) → ((n : ℕ) → n < length ways → test (get_or ways n []) ≡ true → ⊥)
-        → list_any (λ (entry : List KeyEvent × V). test entry.0) (held ways values) ≡ false
+    pub held-no : (paths : List (List KeyEvent)) (values : List (Option V)) → ((n : ℕ) → n < length paths → test (get_or paths n []) ≡ true → ⊥)
+        → list_any (λ (entry : List KeyEvent × V). test entry.0) (held paths values) ≡ false
     held-no [] values never = refl
-    held-no (way ∷ ways) [] never = refl
-    held-no (way ∷ ways) (Some value ∷ values) never =
-        or-no (test way) (list_any (λ (entry : List KeyEvent × V). test entry.0) (held ways values)) (never 0 (omega arith)) (held-no ways values (λ n less. never (suc n) (omega arith)))
-    held-no (way ∷ ways) (None ∷ values) never = held-no ways values (λ n less. never (suc n) (omega arith))
+    held-no (path ∷ paths) [] never = refl
+    held-no (path ∷ paths) (Some value ∷ values) never =
+        or-no (test path) (list_any (λ (entry : List KeyEvent × V). test entry.0) (held paths values)) (never 0 (omega arith)) (held-no paths values (λ n less. never (suc n) (omega arith)))
+    held-no (path ∷ paths) (None ∷ values) never = held-no paths values (λ n less. never (suc n) (omega arith))
 
-    from-head : (way : List KeyEvent) (value : V) (found : Bool) (rest : Bool) (N : Type 0) → test way ≡ found → (test way || rest) ≡ true → (test way ≡ true → N) → (rest ≡ true → N) → N
-    from-head way value true rest N is any here there = here is
-    from-head way value false rest N is any here there = there (rw is at any)
+    from-head : (path : List KeyEvent) (value : V) (found : Bool) (rest : Bool) (N : Type 0) → test path ≡ found → (test path || rest) ≡ true → (test path ≡ true → N) → (rest ≡ true → N) → N
+    from-head path value true rest N is any here there = here is
+    from-head path value false rest N is any here there = there (rw is at any)
 
     -- where a value's keys pass, there is a node that has it
-    pub held-from : (ways : List (List KeyEvent)) (values : List (Option V)) → list_any (λ (entry : List KeyEvent × V). test entry.0) (held ways values) ≡ true
-        → (n : ℕ) × (n < length ways) × (test (get_or ways n []) ≡ true)
+    pub held-from : (paths : List (List KeyEvent)) (values : List (Option V)) → list_any (λ (entry : List KeyEvent × V). test entry.0) (held paths values) ≡ true
+        → (n : ℕ) × (n < length paths) × (test (get_or paths n []) ≡ true)
     held-from [] values any = absurd (cc)
-    held-from (way ∷ ways) [] any = absurd (cc)
-    held-from (way ∷ ways) (Some value ∷ values) any =
-        from-head way value (test way) (list_any (λ (entry : List KeyEvent × V). test entry.0) (held ways values)) ((n : ℕ) × (n < suc (length ways)) × (test (get_or (way ∷ ways) n []) ≡ true)) refl any
-        (λ here. (0, omega arith, here)) (λ there. let at = held-from ways values there in (suc at.0, omega arith, at.2))
-    held-from (way ∷ ways) (None ∷ values) any = let at = held-from ways values any in (suc at.0, omega arith, at.2)
+    held-from (path ∷ paths) [] any = absurd (cc)
+    held-from (path ∷ paths) (Some value ∷ values) any =
+        from-head path value (test path) (list_any (λ (entry : List KeyEvent × V). test entry.0) (held paths values)) ((n : ℕ) × (n < suc (length paths)) × (test (get_or (path ∷ paths) n []) ≡ true)) refl any
+        (λ here. (0, omega arith, here)) (λ there. let at = held-from paths values there in (suc at.0, omega arith, at.2))
+    held-from (path ∷ paths) (None ∷ values) any = let at = held-from paths values any in (suc at.0, omega arith, at.2)
 
     -- a value put at a node whose keys pass is found before others, and at one whose keys fail it changes nothing
-    held-set_other : (ways : List (List KeyEvent)) (values : List (Option V)) (n : ℕ) (value : V) → test (get_or ways n []) ≡ false
-        → find (λ (entry : List KeyEvent × V). test entry.0) (held ways (set values n (Some value))) ≡ find (λ (entry : List KeyEvent × V). test entry.0) (held ways values)
+    held-set_other : (paths : List (List KeyEvent)) (values : List (Option V)) (n : ℕ) (value : V) → test (get_or paths n []) ≡ false
+        → find (λ (entry : List KeyEvent × V). test entry.0) (held paths (set values n (Some value))) ≡ find (λ (entry : List KeyEvent × V). test entry.0) (held paths values)
     held-set_other [] values n value not = refl
-    held-set_other (way ∷ ways) [] n value not = refl
-    held-set_other (way ∷ ways) (Some own ∷ values) zero value not = rw not refl
-    held-set_other (way ∷ ways) (None ∷ values) zero value not = rw not refl
-    held-set_other (way ∷ ways) (Some own ∷ values) (suc n) value not = ap (λ (r : Option (List KeyEvent × V)). cond (test way) (Some (way, own)) r) (held-set_other ways values n value not)
-    held-set_other (way ∷ ways) (None ∷ values) (suc n) value not = held-set_other ways values n value not
+    held-set_other (path ∷ paths) [] n value not = refl
+    held-set_other (path ∷ paths) (Some own ∷ values) zero value not = rw not refl
+    held-set_other (path ∷ paths) (None ∷ values) zero value not = rw not refl
+    held-set_other (path ∷ paths) (Some own ∷ values) (suc n) value not = ap (λ (r : Option (List KeyEvent × V)). cond (test path) (Some (path, own)) r) (held-set_other paths values n value not)
+    held-set_other (path ∷ paths) (None ∷ values) (suc n) value not = held-set_other paths values n value not
 
-  held-set_all : (test : V → Bool) (ways : List (List KeyEvent)) (values : List (Option V)) (n : ℕ) (value : V) → list_all (λ (entry : List KeyEvent × V). test entry.1) (held ways values) ≡ true → test value ≡ true
-      → list_all (λ (entry : List KeyEvent × V). test entry.1) (held ways (set values n (Some value))) ≡ true
+  held-set_all : (test : V → Bool) (paths : List (List KeyEvent)) (values : List (Option V)) (n : ℕ) (value : V) → list_all (λ (entry : List KeyEvent × V). test entry.1) (held paths values) ≡ true → test value ≡ true
+      → list_all (λ (entry : List KeyEvent × V). test entry.1) (held paths (set values n (Some value))) ≡ true
   held-set_all test [] values n value all is = refl
-  held-set_all test (way ∷ ways) [] n value all is = refl
-  held-set_all test (way ∷ ways) (Some own ∷ values) zero value all is =
-      and-both (test value) (list_all (λ (entry : List KeyEvent × V). test entry.1) (held ways values)) is (and-parts (test own) (list_all (λ (entry : List KeyEvent × V). test entry.1) (held ways values)) all).1
-  held-set_all test (way ∷ ways) (None ∷ values) zero value all is = and-both (test value) (list_all (λ (entry : List KeyEvent × V). test entry.1) (held ways values)) is all
-  held-set_all test (way ∷ ways) (Some own ∷ values) (suc n) value all is =
-      let parts = and-parts (test own) (list_all (λ (entry : List KeyEvent × V). test entry.1) (held ways values)) all in
-      and-both (test own) (list_all (λ (entry : List KeyEvent × V). test entry.1) (held ways (set values n (Some value)))) parts.0 (held-set_all test ways values n value parts.1 is)
-  held-set_all test (way ∷ ways) (None ∷ values) (suc n) value all is = held-set_all test ways values n value all is
+  held-set_all test (path ∷ paths) [] n value all is = refl
+  held-set_all test (path ∷ paths) (Some own ∷ values) zero value all is =
+      and-both (test value) (list_all (λ (entry : List KeyEvent × V). test entry.1) (held paths values)) is (and-parts (test own) (list_all (λ (entry : List KeyEvent × V). test entry.1) (held paths values)) all).1
+  held-set_all test (path ∷ paths) (None ∷ values) zero value all is = and-both (test value) (list_all (λ (entry : List KeyEvent × V). test entry.1) (held paths values)) is all
+  held-set_all test (path ∷ paths) (Some own ∷ values) (suc n) value all is =
+      let parts = and-parts (test own) (list_all (λ (entry : List KeyEvent × V). test entry.1) (held paths values)) all in
+      and-both (test own) (list_all (λ (entry : List KeyEvent × V). test entry.1) (held paths (set values n (Some value)))) parts.0 (held-set_all test paths values n value parts.1 is)
+  held-set_all test (path ∷ paths) (None ∷ values) (suc n) value all is = held-set_all test paths values n value all is
 
   -- a value put at a node
-  pub puts-set : (ways : List (List KeyEvent)) (values : List (Option V)) (n : ℕ) (value : V) (sequence : List KeyEvent) → n < length ways → length ways ≡ length values → get_or ways n [] ≡ sequence
-      → ((m : ℕ) → m < length ways → get_or ways m [] ≡ sequence → m ≡ n)
-      → Puts (held ways values) (held ways (set values n (Some value))) sequence value
-  puts-set ways values n value sequence within same is one = record {
+  pub puts-set : (paths : List (List KeyEvent)) (values : List (Option V)) (n : ℕ) (value : V) (sequence : List KeyEvent) → n < length paths → length paths ≡ length values → get_or paths n [] ≡ sequence
+      → ((m : ℕ) → m < length paths → get_or paths m [] ≡ sequence → m ≡ n)
+      → Puts (held paths values) (held paths (set values n (Some value))) sequence value
+  puts-set paths values n value sequence within same is one = record {
     values = λ other. by other (pointwise same_key sequence other) refl;
-    all = λ test all at. held-set_all test ways values n value all at;
+    all = λ test all at. held-set_all test paths values n value all at;
   }
     where
-      by : (other : List KeyEvent) (b : Bool) → pointwise same_key sequence other ≡ b → value_of (held ways (set values n (Some value))) other ≡ (if pointwise same_key sequence other then Some value else value_of (held ways values) other)
+      by : (other : List KeyEvent) (b : Bool) → pointwise same_key sequence other ≡ b → value_of (held paths (set values n (Some value))) other ≡ (if pointwise same_key sequence other then Some value else value_of (held paths values) other)
       by other true at =
           let equal : sequence ≡ other = (same_sequence-says sequence other).0 at in
-          rw at (held-at (λ w. pointwise same_key w other) ways (set values n (Some value)) n within ((same_sequence-says (get_or ways n []) other).1 (is ∙ equal))
-          (λ m less there. one m less ((same_sequence-says (get_or ways m []) other).0 there ∙ sym equal)) ∙ set-read values n (Some value) (omega arith))
+          rw at (held-at (λ w. pointwise same_key w other) paths (set values n (Some value)) n within ((same_sequence-says (get_or paths n []) other).1 (is ∙ equal))
+          (λ m less there. one m less ((same_sequence-says (get_or paths m []) other).0 there ∙ sym equal)) ∙ set-read values n (Some value) (omega arith))
       by other false at =
-          rw at (ap (option_map (λ (entry : List KeyEvent × V). entry.1)) (held-set_other (λ w. pointwise same_key w other) ways values n value (rw is at)))
+          rw at (ap (option_map (λ (entry : List KeyEvent × V). entry.1)) (held-set_other (λ w. pointwise same_key w other) paths values n value (rw is at)))
 
   -- a value put behind all
   pub puts-push : (entries : List (List KeyEvent × V)) (sequence : List KeyEvent) (value : V) → find (λ (entry : List KeyEvent × V). pointwise same_key entry.0 sequence) entries ≡ None

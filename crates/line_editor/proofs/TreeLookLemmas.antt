@@ -10,11 +10,11 @@ use Rattle.std.proofs.lemmas.Map.Made.{length-from_keys}
 use Rattle.std.proofs.lemmas.Slice.Eq.{starts_is}
 use Rattle.line_keys.specs.declared.keys.KeyEvent.{KeyEvent}
 use Rattle.line_editor.specs.Event.{same_key}
-use Rattle.line_editor.specs.KeyTree.{EachLeads, IsTree, LeadsTo, Shape, beginning_count, beginnings, held, value_of, ways}
+use Rattle.line_editor.specs.KeyTree.{EachLeads, IsTree, LeadsTo, Shape, beginning_count, beginnings, held, value_of, paths}
 use Rattle.line_editor.proofs.ChordLemmas.{same_key-says}
-use Rattle.line_editor.proofs.TreeLemmas.{length-ways}
+use Rattle.line_editor.proofs.TreeLemmas.{length-paths}
 use Rattle.line_editor.proofs.TreeHeldLemmas.{held-any, held-at, held-from, held-no, held-none, same_sequence-laws, same_sequence-says}
-use Rattle.line_editor.proofs.TreeWayLemmas.{Placed, at_root, below, front-node, leads, one-node, placed, way}
+use Rattle.line_editor.proofs.TreePathLemmas.{Placed, at_root, below, front-node, leads, one-node, placed, path}
 
 -- a sequence begins with its front
 pub starts-more : (front rest : List KeyEvent) → starts_with same_key (front ++ rest) front ≡ true
@@ -89,96 +89,96 @@ not-nil [] some is = absurd (omega arith)
 not-nil (key ∷ front) some is = absurd (cc)
 
 module _ (shape : Shape) (tree : IsTree shape) where
-  first-way : 0 < length shape → Placed shape 0 → way shape 0 ≡ []
-  first-way some (at_root z w) = w
-  first-way some (below parent key is less w) = absurd (omega arith)
+  first-path : 0 < length shape → Placed shape 0 → path shape 0 ≡ []
+  first-path some (at_root z w) = w
+  first-path some (below parent key is less w) = absurd (omega arith)
 
-  pub root-way : 0 < length shape → way shape 0 ≡ []
-  root-way some = first-way some (placed shape tree 0 some)
+  pub root-path : 0 < length shape → path shape 0 ≡ []
+  root-path some = first-path some (placed shape tree 0 some)
 
   module _ {V : Type 0} (values : List (Option V)) (same : length values ≡ length shape) where
     -- a sequence's value is that of its node
-    pub value-found : (sequence : List KeyEvent) (node : ℕ) → LeadsTo shape sequence node → value_of (held (ways shape (length shape)) values) sequence ≡ get_or values node None
+    pub value-found : (sequence : List KeyEvent) (node : ℕ) → LeadsTo shape sequence node → value_of (held (paths shape (length shape)) values) sequence ≡ get_or values node None
     value-found sequence node to =
-        let long = length-ways shape (length shape) in
-        held-at (λ w. pointwise same_key w sequence) (ways shape (length shape)) values node (rw long to.within) ((same_sequence-says (way shape node) sequence).1 to.keys)
-        (λ other less is. one-node shape tree other node (rw long at less) to.within ((same_sequence-says (way shape other) sequence).0 is ∙ sym to.keys))
+        let long = length-paths shape (length shape) in
+        held-at (λ w. pointwise same_key w sequence) (paths shape (length shape)) values node (rw long to.within) ((same_sequence-says (path shape node) sequence).1 to.keys)
+        (λ other less is. one-node shape tree other node (rw long at less) to.within ((same_sequence-says (path shape other) sequence).0 is ∙ sym to.keys))
 
     -- where a sequence leads to no node, it has no value
-    pub entry-missing : (sequence : List KeyEvent) → ((node : ℕ) → LeadsTo shape sequence node → ⊥) → find (λ (entry : List KeyEvent × V). pointwise same_key entry.0 sequence) (held (ways shape (length shape)) values) ≡ None
+    pub entry-missing : (sequence : List KeyEvent) → ((node : ℕ) → LeadsTo shape sequence node → ⊥) → find (λ (entry : List KeyEvent × V). pointwise same_key entry.0 sequence) (held (paths shape (length shape)) values) ≡ None
     entry-missing sequence never =
-        let long = length-ways shape (length shape) in
-        held-none (λ w. pointwise same_key w sequence) (ways shape (length shape)) values
-        (λ node less is. never node (record { within = rw long at less; keys = (same_sequence-says (way shape node) sequence).0 is }))
+        let long = length-paths shape (length shape) in
+        held-none (λ w. pointwise same_key w sequence) (paths shape (length shape)) values
+        (λ node less is. never node (record { within = rw long at less; keys = (same_sequence-says (path shape node) sequence).0 is }))
 
-    pub value-missing : (sequence : List KeyEvent) → ((node : ℕ) → LeadsTo shape sequence node → ⊥) → value_of (held (ways shape (length shape)) values) sequence ≡ None
+    pub value-missing : (sequence : List KeyEvent) → ((node : ℕ) → LeadsTo shape sequence node → ⊥) → value_of (held (paths shape (length shape)) values) sequence ≡ None
     value-missing sequence never = ap (option_map (λ (entry : List KeyEvent × V). entry.1)) (entry-missing sequence never)
 
     -- keys that lead to a node begin a sequence that has a value
-    pub leads-found : EachLeads shape values → (front : List KeyEvent) (node : ℕ) → LeadsTo shape front node → list_any (λ (entry : List KeyEvent × V). starts_with same_key entry.0 front) (held (ways shape (length shape)) values) ≡ true
+    pub leads-found : EachLeads shape values → (front : List KeyEvent) (node : ℕ) → LeadsTo shape front node → list_any (λ (entry : List KeyEvent × V). starts_with same_key entry.0 front) (held (paths shape (length shape)) values) ≡ true
     leads-found each front node to =
         let end = leads shape tree values each node to.within in
-        let long = length-ways shape (length shape) in
-        let starts : starts_with same_key (way shape end.0) front ≡ true = rw (end.5, to.keys) (starts-more front end.2) in
-        held-any (λ w. starts_with same_key w front) (ways shape (length shape)) values end.0 end.1 (rw long end.3) end.4 starts
+        let long = length-paths shape (length shape) in
+        let starts : starts_with same_key (path shape end.0) front ≡ true = rw (end.5, to.keys) (starts-more front end.2) in
+        held-any (λ w. starts_with same_key w front) (paths shape (length shape)) values end.0 end.1 (rw long end.3) end.4 starts
 
     -- and other keys begin none
-    pub leads-missing : (front : List KeyEvent) → ((node : ℕ) → LeadsTo shape front node → ⊥) → list_any (λ (entry : List KeyEvent × V). starts_with same_key entry.0 front) (held (ways shape (length shape)) values) ≡ false
+    pub leads-missing : (front : List KeyEvent) → ((node : ℕ) → LeadsTo shape front node → ⊥) → list_any (λ (entry : List KeyEvent × V). starts_with same_key entry.0 front) (held (paths shape (length shape)) values) ≡ false
     leads-missing front never =
-        let long = length-ways shape (length shape) in
-        held-no (λ w. starts_with same_key w front) (ways shape (length shape)) values
-        (λ node less is. let at = front-node shape tree node (rw long at less) front (drop (length front) (way shape node)) (starts-rest (way shape node) front is) in never at.0 (record { within = at.1; keys = at.2 }))
+        let long = length-paths shape (length shape) in
+        held-no (λ w. starts_with same_key w front) (paths shape (length shape)) values
+        (λ node less is. let at = front-node shape tree node (rw long at less) front (drop (length front) (path shape node)) (starts-rest (path shape node) front is) in never at.0 (record { within = at.1; keys = at.2 }))
 
     -- the nodes but the root, by their keys
-    other-way : (i : ℕ) → get_or (drop 1 (ways shape (length shape))) i [] ≡ way shape (suc i)
-    other-way i = get_or-drop 1 (ways shape (length shape)) i [] ∙ ap (way shape) (omega arith)
+    other-path : (i : ℕ) → get_or (drop 1 (paths shape (length shape))) i [] ≡ path shape (suc i)
+    other-path i = get_or-drop 1 (paths shape (length shape)) i [] ∙ ap (path shape) (omega arith)
 
-    length-others : length (drop 1 (ways shape (length shape))) ≡ length shape - 1
-    length-others = length-drop 1 (ways shape (length shape)) ∙ ap (λ n. n - 1) (length-ways shape (length shape))
+    length-others : length (drop 1 (paths shape (length shape))) ≡ length shape - 1
+    length-others = length-drop 1 (paths shape (length shape)) ∙ ap (λ n. n - 1) (length-paths shape (length shape))
 
-    others-apart : (i j : ℕ) (d : List KeyEvent) → i < j → j < length (drop 1 (ways shape (length shape)))
-        → pointwise same_key (get_or (drop 1 (ways shape (length shape))) i d) (get_or (drop 1 (ways shape (length shape))) j d) ≡ false
+    others-apart : (i j : ℕ) (d : List KeyEvent) → i < j → j < length (drop 1 (paths shape (length shape)))
+        → pointwise same_key (get_or (drop 1 (paths shape (length shape))) i d) (get_or (drop 1 (paths shape (length shape))) j d) ≡ false
     others-apart i j d before under =
         let long = length-others in
-        let reads : pointwise same_key (get_or (drop 1 (ways shape (length shape))) i d) (get_or (drop 1 (ways shape (length shape))) j d) ≡ pointwise same_key (way shape (suc i)) (way shape (suc j)) =
-        rw (get_or_default (drop 1 (ways shape (length shape))) i d [] (omega arith), get_or_default (drop 1 (ways shape (length shape))) j d [] under, other-way i, other-way j) refl in
-        reads ∙ same-answers (pointwise same_key (way shape (suc i)) (way shape (suc j))) false
-        (λ is. let one = one-node shape tree (suc i) (suc j) (omega arith) (omega arith) ((same_sequence-says (way shape (suc i)) (way shape (suc j))).0 is) in absurd (omega arith))
+        let reads : pointwise same_key (get_or (drop 1 (paths shape (length shape))) i d) (get_or (drop 1 (paths shape (length shape))) j d) ≡ pointwise same_key (path shape (suc i)) (path shape (suc j)) =
+        rw (get_or_default (drop 1 (paths shape (length shape))) i d [] (omega arith), get_or_default (drop 1 (paths shape (length shape))) j d [] under, other-path i, other-path j) refl in
+        reads ∙ same-answers (pointwise same_key (path shape (suc i)) (path shape (suc j))) false
+        (λ is. let one = one-node shape tree (suc i) (suc j) (omega arith) (omega arith) ((same_sequence-says (path shape (suc i)) (path shape (suc j))).0 is) in absurd (omega arith))
         (λ is. absurd (cc))
 
-    found-among : EachLeads shape values → (front : List KeyEvent) → is_member (pointwise same_key) (drop 1 (ways shape (length shape))) front ≡ true
-        → list_any (λ (entry : List KeyEvent × V). list_any (pointwise same_key front) (beginnings entry.0)) (held (ways shape (length shape)) values) ≡ true
+    found-among : EachLeads shape values → (front : List KeyEvent) → is_member (pointwise same_key) (drop 1 (paths shape (length shape))) front ≡ true
+        → list_any (λ (entry : List KeyEvent × V). list_any (pointwise same_key front) (beginnings entry.0)) (held (paths shape (length shape)) values) ≡ true
     found-among each front is =
-        let at = any-place (pointwise same_key front) (drop 1 (ways shape (length shape))) [] is in
+        let at = any-place (pointwise same_key front) (drop 1 (paths shape (length shape))) [] is in
         let long = length-others in
-        let keys : front ≡ way shape (suc at.0) = (same_sequence-says front (get_or (drop 1 (ways shape (length shape))) at.0 [])).0 at.2 ∙ other-way at.0 in
+        let keys : front ≡ path shape (suc at.0) = (same_sequence-says front (get_or (drop 1 (paths shape (length shape))) at.0 [])).0 at.2 ∙ other-path at.0 in
         let end = leads shape tree values each (suc at.0) (omega arith) in
-        let long_ways = length-ways shape (length shape) in
-        held-any (λ w. list_any (pointwise same_key front) (beginnings w)) (ways shape (length shape)) values end.0 end.1 (rw long_ways end.3) end.4
-        (rw (end.5, ← keys) (front-among front end.2 (λ none. let one = one-node shape tree (suc at.0) 0 (omega arith) (omega arith) (sym keys ∙ none ∙ sym (root-way (omega arith))) in absurd (omega arith))))
+        let long_paths = length-paths shape (length shape) in
+        held-any (λ w. list_any (pointwise same_key front) (beginnings w)) (paths shape (length shape)) values end.0 end.1 (rw long_paths end.3) end.4
+        (rw (end.5, ← keys) (front-among front end.2 (λ none. let one = one-node shape tree (suc at.0) 0 (omega arith) (omega arith) (sym keys ∙ none ∙ sym (root-path (omega arith))) in absurd (omega arith))))
 
-    among-by : (front : List KeyEvent) (node : ℕ) → node < length shape → way shape node ≡ front → 0 < length front → is_member (pointwise same_key) (drop 1 (ways shape (length shape))) front ≡ true
-    among-by front zero within is some = absurd (not-nil front some (sym is ∙ root-way within))
+    among-by : (front : List KeyEvent) (node : ℕ) → node < length shape → path shape node ≡ front → 0 < length front → is_member (pointwise same_key) (drop 1 (paths shape (length shape))) front ≡ true
+    among-by front zero within is some = absurd (not-nil front some (sym is ∙ root-path within))
     among-by front (suc node) within is some =
         let long = length-others in
-        list_any_at (pointwise same_key front) (drop 1 (ways shape (length shape))) node [] (omega arith)
-        ((same_sequence-says front (get_or (drop 1 (ways shape (length shape))) node [])).1 (sym (other-way node ∙ is)))
+        list_any_at (pointwise same_key front) (drop 1 (paths shape (length shape))) node [] (omega arith)
+        ((same_sequence-says front (get_or (drop 1 (paths shape (length shape))) node [])).1 (sym (other-path node ∙ is)))
 
-    among-found : (front : List KeyEvent) → list_any (λ (entry : List KeyEvent × V). list_any (pointwise same_key front) (beginnings entry.0)) (held (ways shape (length shape)) values) ≡ true
-        → is_member (pointwise same_key) (drop 1 (ways shape (length shape))) front ≡ true
+    among-found : (front : List KeyEvent) → list_any (λ (entry : List KeyEvent × V). list_any (pointwise same_key front) (beginnings entry.0)) (held (paths shape (length shape)) values) ≡ true
+        → is_member (pointwise same_key) (drop 1 (paths shape (length shape))) front ≡ true
     among-found front is =
-        let from = held-from (λ w. list_any (pointwise same_key front) (beginnings w)) (ways shape (length shape)) values is in
-        let long = length-ways shape (length shape) in
-        let begins = from-beginnings (way shape from.0) front from.2 in
+        let from = held-from (λ w. list_any (pointwise same_key front) (beginnings w)) (paths shape (length shape)) values is in
+        let long = length-paths shape (length shape) in
+        let begins = from-beginnings (path shape from.0) front from.2 in
         let at = front-node shape tree from.0 (rw long at from.1) front begins.rest begins.is in
         among-by front at.0 at.1 at.2 begins.some
 
     -- the nodes but the root are as many as the different beginnings
-    pub others-counted : EachLeads shape values → length shape - 1 ≡ beginning_count (map (λ (entry : List KeyEvent × V). entry.0) (held (ways shape (length shape)) values))
+    pub others-counted : EachLeads shape values → length shape - 1 ≡ beginning_count (map (λ (entry : List KeyEvent × V). entry.0) (held (paths shape (length shape)) values))
     others-counted each =
         sym length-others
-        ∙ length-from_keys same_sequence-laws (drop 1 (ways shape (length shape))) (flat_map beginnings (map (λ (entry : List KeyEvent × V). entry.0) (held (ways shape (length shape)) values)))
-        (IsDistinct-from_apart (pointwise same_key) (drop 1 (ways shape (length shape))) others-apart)
-        (λ front. same-answers (is_member (pointwise same_key) (drop 1 (ways shape (length shape))) front) (is_member (pointwise same_key) (flat_map beginnings (map (λ (entry : List KeyEvent × V). entry.0) (held (ways shape (length shape)) values))) front)
-        (λ is. any-flat (pointwise same_key front) beginnings (λ (entry : List KeyEvent × V). entry.0) (held (ways shape (length shape)) values) ∙ found-among each front is)
-        (λ is. among-found front (sym (any-flat (pointwise same_key front) beginnings (λ (entry : List KeyEvent × V). entry.0) (held (ways shape (length shape)) values)) ∙ is)))
+        ∙ length-from_keys same_sequence-laws (drop 1 (paths shape (length shape))) (flat_map beginnings (map (λ (entry : List KeyEvent × V). entry.0) (held (paths shape (length shape)) values)))
+        (IsDistinct-from_apart (pointwise same_key) (drop 1 (paths shape (length shape))) others-apart)
+        (λ front. same-answers (is_member (pointwise same_key) (drop 1 (paths shape (length shape))) front) (is_member (pointwise same_key) (flat_map beginnings (map (λ (entry : List KeyEvent × V). entry.0) (held (paths shape (length shape)) values))) front)
+        (λ is. any-flat (pointwise same_key front) beginnings (λ (entry : List KeyEvent × V). entry.0) (held (paths shape (length shape)) values) ∙ found-among each front is)
+        (λ is. among-found front (sym (any-flat (pointwise same_key front) beginnings (λ (entry : List KeyEvent × V). entry.0) (held (paths shape (length shape)) values)) ∙ is)))

@@ -5,13 +5,14 @@ use Rattle.std.proofs.lemmas.List.{drop_more, get_or-map, get_or_append_left, ge
 use Rattle.std.proofs.Common.{get_or-drop, get_or-set_other, get_or-set_same, length-append, length-drop, take_all, take-append-drop}
 use Rattle.line_keys.specs.declared.keys.KeyEvent.{KeyEvent}
 use Rattle.line_editor.specs.Event.{same_key}
-use Rattle.line_editor.specs.KeyTree.{Children, EachLeads, IsTree, LeadsTo, Puts, Shape, branch, child_by, held, shape_of, value_of, values_of, ways}
+use Rattle.line_editor.specs.KeyTree.{Children, EachLeads, IsKeyTree, IsTree, LeadsTo, Puts, Shape, branch, child_by, held, shape_of, value_of, values_of, paths}
 use Rattle.line_editor.specs.declared.bindings.tree.Node.{Node}
 use Rattle.line_editor.proofs.TreeGrowthLemmas.{Holds, branch_values, graft-holds}
 use Rattle.line_editor.proofs.TreeHeldLemmas.{puts-push, puts-set}
-use Rattle.line_editor.proofs.TreeLemmas.{apart-from, length-ways, same-or-not}
-use Rattle.line_editor.proofs.TreeLookLemmas.{entry-missing, leads-found, leads-missing, root-way, value-found, value-missing}
-use Rattle.line_editor.proofs.TreeWayLemmas.{absent, one-node, way, way-child}
+use Rattle.line_editor.proofs.TreeLemmas.{apart-from, length-paths, same-or-not}
+use Rattle.line_editor.proofs.TreePlaceLemmas.{parent-later, parent-single}
+use Rattle.line_editor.proofs.TreeLookLemmas.{entry-missing, leads-found, leads-missing, root-path, value-found, value-missing}
+use Rattle.line_editor.proofs.TreePathLemmas.{absent, one-node, path, path-child}
 
 -- one child more looked at
 pub child-hit : (children : Children) (i : ℕ) (d : KeyEvent × ℕ) (key : KeyEvent) → i < length children → same_key (get_or children i d).0 key ≡ true → child_by (drop i children) key ≡ Some (get_or children i d).1
@@ -28,11 +29,11 @@ any-err (Err error) P holds = holds
 pub leads-on : (shape : Shape) → IsTree shape → (sequence : List KeyEvent) (i node child : ℕ) (key : KeyEvent) → i < length sequence → get_or sequence i key ≡ key → LeadsTo shape (take i sequence) node
     → child_by (get_or shape node []) key ≡ Some child → LeadsTo shape (take (i + 1) sequence) child
 leads-on shape tree sequence i node child key within is to by =
-    let parent = tree.single node child key by in
-    let late = tree.later node child key parent in
+    let parent = parent-single shape tree node child key by in
+    let late = parent-later shape tree node child key parent in
     record {
       within = late.1;
-      keys = way-child shape tree node child key parent ∙ ap (λ w. w ++ key ∷ []) to.keys ∙ sym (take_more sequence i key within ∙ ap (λ k. take i sequence ++ k ∷ []) is);
+      keys = path-child shape tree node child key parent ∙ ap (λ w. w ++ key ∷ []) to.keys ∙ sym (take_more sequence i key within ∙ ap (λ k. take i sequence ++ k ∷ []) is);
     }
 
 pub whole-leads : (shape : Shape) (sequence : List KeyEvent) (depth node : ℕ) → depth ≡ length sequence → LeadsTo shape (take depth sequence) node → LeadsTo shape sequence node
@@ -101,29 +102,29 @@ module _ {V : Type 0} where
   -- what a node that was looked for says of its keys
   pub looked-leads : (nodes : List (Node V)) → IsTree (shape_of nodes) → EachLeads (shape_of nodes) (values_of nodes) → (front : List KeyEvent) (found : Option ℕ)
       → IfSome found (LeadsTo (shape_of nodes) front) → IfNone found ((node : ℕ) → LeadsTo (shape_of nodes) front node → ⊥)
-      → is_some found ≡ list_any (λ (entry : List KeyEvent × V). starts_with same_key entry.0 front) (held (ways (shape_of nodes) (length (shape_of nodes))) (values_of nodes))
+      → is_some found ≡ list_any (λ (entry : List KeyEvent × V). starts_with same_key entry.0 front) (held (paths (shape_of nodes) (length (shape_of nodes))) (values_of nodes))
   looked-leads nodes tree each front (Some node) to never = sym (leads-found (shape_of nodes) tree (values_of nodes) (sizes nodes) each front node to)
   looked-leads nodes tree each front None to never = sym (leads-missing (shape_of nodes) tree (values_of nodes) (sizes nodes) front never)
 
   pub looked-value : (nodes : List (Node V)) → IsTree (shape_of nodes) → (sequence : List KeyEvent) (node : ℕ) (at : Node V) → LeadsTo (shape_of nodes) sequence node → get_or nodes node at ≡ at
-      → at.value ≡ value_of (held (ways (shape_of nodes) (length (shape_of nodes))) (values_of nodes)) sequence
+      → at.value ≡ value_of (held (paths (shape_of nodes) (length (shape_of nodes))) (values_of nodes)) sequence
   looked-value nodes tree sequence node at to is =
       let within : node < length nodes = rw (length-map nodes (λ (node : Node V). node.children.items)) at to.within in
       ap (λ (node : Node V). node.value) (sym is) ∙ sym (get_or-map (λ (node : Node V). node.value) nodes node at None within)
       ∙ sym (value-found (shape_of nodes) tree (values_of nodes) (sizes nodes) sequence node to)
 
   pub looked-none : (nodes : List (Node V)) → IsTree (shape_of nodes) → (sequence : List KeyEvent) → ((node : ℕ) → LeadsTo (shape_of nodes) sequence node → ⊥)
-      → value_of (held (ways (shape_of nodes) (length (shape_of nodes))) (values_of nodes)) sequence ≡ None
+      → value_of (held (paths (shape_of nodes) (length (shape_of nodes))) (values_of nodes)) sequence ≡ None
   looked-none nodes tree sequence never = value-missing (shape_of nodes) tree (values_of nodes) (sizes nodes) sequence never
 
   -- the values of nodes by their keys
   abbrev pub entries_of : List (Node V) → List (List KeyEvent × V)
-  entries_of nodes = held (ways (shape_of nodes) (length (shape_of nodes))) (values_of nodes)
+  entries_of nodes = held (paths (shape_of nodes) (length (shape_of nodes))) (values_of nodes)
 
   pub root-leads : (nodes : List (Node V)) → IsTree (shape_of nodes) → 0 < length nodes → LeadsTo (shape_of nodes) [] 0
   root-leads nodes tree some =
       let within : 0 < length (shape_of nodes) = rw (length-map nodes (λ (node : Node V). node.children.items)) some in
-      record { within = within; keys = root-way (shape_of nodes) tree within }
+      record { within = within; keys = root-path (shape_of nodes) tree within }
 
   pub leads-to_child : (nodes : List (Node V)) → IsTree (shape_of nodes) → (sequence : List KeyEvent) (i node child : ℕ) (d : KeyEvent) (own : Node V) (found : Option ℕ) → i < length sequence → get_or nodes node own ≡ own
       → LeadsTo (shape_of nodes) (take i sequence) node → found ≡ child_by own.children.items (get_or sequence i d) → found ≡ Some child → LeadsTo (shape_of nodes) (take (i + 1) sequence) child
@@ -158,43 +159,40 @@ module _ {V : Type 0} where
   set-leads shape values n value within each node less none (inr apart) =
       each node less (sym (get_or-set_other values n node (Some value) None (λ same. apart-from n node apart (sym same))) ∙ none)
 
-  -- a node that has another value
-  pub record Revalued (old new : List (Node V)) (sequence : List KeyEvent) (value : V) : Type 0 where
-    pub tree : IsTree (shape_of new)
-    pub each : EachLeads (shape_of new) (values_of new)
+  -- nodes that hold one more value, or another one
+  pub record Becomes (old new : List (Node V)) (sequence : List KeyEvent) (value : V) : Type 0 where
+    pub keyed : IsKeyTree (shape_of new) (values_of new)
     pub puts : Puts (entries_of old) (entries_of new) sequence value
 
+  -- a node that has another value
   pub revalued : (nodes : List (Node V)) → IsTree (shape_of nodes) → EachLeads (shape_of nodes) (values_of nodes) → (sequence : List KeyEvent) (n : ℕ) (new old : Node V) (value : V) → get_or nodes n old ≡ old
-      → new.children.items ≡ old.children.items → new.value ≡ Some value → LeadsTo (shape_of nodes) sequence n → Revalued nodes (set nodes n new) sequence value
+      → new.children.items ≡ old.children.items → new.value ≡ Some value → LeadsTo (shape_of nodes) sequence n → Becomes nodes (set nodes n new) sequence value
   revalued nodes tree each sequence n new old value is same some to =
       let inside : n < length nodes = rw (length-map nodes (λ (node : Node V). node.children.items)) at to.within in
       let shape = kept-shape nodes n new old inside is same in
       let values : values_of (set nodes n new) ≡ set (values_of nodes) n (Some value) = map-set (λ (node : Node V). node.value) nodes n new ∙ ap (set (values_of nodes) n) some in
       let many : n < length (values_of nodes) = rw (sizes nodes) to.within in
-      let long = length-ways (shape_of nodes) (length (shape_of nodes)) in
-      let after : entries_of (set nodes n new) ≡ held (ways (shape_of nodes) (length (shape_of nodes))) (set (values_of nodes) n (Some value)) =
-      ap (λ s. held (ways s (length s)) (values_of (set nodes n new))) shape ∙ ap (held (ways (shape_of nodes) (length (shape_of nodes)))) values in
+      let long = length-paths (shape_of nodes) (length (shape_of nodes)) in
+      let after : entries_of (set nodes n new) ≡ held (paths (shape_of nodes) (length (shape_of nodes))) (set (values_of nodes) n (Some value)) =
+      ap (λ s. held (paths s (length s)) (values_of (set nodes n new))) shape ∙ ap (held (paths (shape_of nodes) (length (shape_of nodes)))) values in
       record {
-        tree = subst (λ s. IsTree s) (sym shape) tree;
-        each = subst (λ s. EachLeads s (values_of (set nodes n new))) (sym shape) (subst (λ v. EachLeads (shape_of nodes) v) (sym values)
-            (λ node less none. set-leads (shape_of nodes) (values_of nodes) n value many each node less none (same-or-not n node (n == node) refl)));
+        keyed = record {
+          tree = subst (λ s. IsTree s) (sym shape) tree;
+          leads = subst (λ s. EachLeads s (values_of (set nodes n new))) (sym shape) (subst (λ v. EachLeads (shape_of nodes) v) (sym values)
+              (λ node less none. set-leads (shape_of nodes) (values_of nodes) n value many each node less none (same-or-not n node (n == node) refl)));
+        };
         puts = subst (λ e. Puts (entries_of nodes) e sequence value) (sym after)
-            (puts-set (ways (shape_of nodes) (length (shape_of nodes))) (values_of nodes) n value sequence (rw long to.within) (long ∙ sym (sizes nodes)) to.keys
+            (puts-set (paths (shape_of nodes) (length (shape_of nodes))) (values_of nodes) n value sequence (rw long to.within) (long ∙ sym (sizes nodes)) to.keys
             (λ m less at. one-node (shape_of nodes) tree m n (rw long at less) to.within (at ∙ sym to.keys)));
       }
 
   -- a branch hung from the last node that keys lead to
-  pub record Grafted (old new : List (Node V)) (sequence : List KeyEvent) (value : V) : Type 0 where
-    pub tree : IsTree (shape_of new)
-    pub each : EachLeads (shape_of new) (values_of new)
-    pub puts : Puts (entries_of old) (entries_of new) sequence value
-
   pub grafted : (nodes new more : List (Node V)) → IsTree (shape_of nodes) → EachLeads (shape_of nodes) (values_of nodes) → (sequence : List KeyEvent) (depth node : ℕ) (d : KeyEvent) (value : V)
       → depth < length sequence → LeadsTo (shape_of nodes) (take depth sequence) node
       → ((key : KeyEvent) → depth < length sequence → key ≡ get_or sequence depth key → child_by (get_or (shape_of nodes) node []) key ≡ None)
       → shape_of more ≡ branch (length nodes) (drop (depth + 1) sequence) → values_of more ≡ branch_values (drop (depth + 1) sequence) value
       → shape_of new ≡ set (shape_of nodes) node (get_or (shape_of nodes) node [] ++ (get_or sequence depth d, length nodes) ∷ []) ++ shape_of more
-      → values_of new ≡ values_of nodes ++ values_of more → Grafted nodes new sequence value
+      → values_of new ≡ values_of nodes ++ values_of more → Becomes nodes new sequence value
   grafted nodes new more tree each sequence depth node d value less to none more_shape more_values shape values =
       let key = get_or sequence depth d in
       let rest = drop (depth + 1) sequence in
@@ -207,11 +205,10 @@ module _ {V : Type 0} where
       ∙ ap (λ n. set (shape_of nodes) node (get_or (shape_of nodes) node [] ++ (key, n) ∷ []) ++ branch n rest) (sym many) in
       let values_are : values_of new ≡ values_of nodes ++ branch_values rest value = values ∙ ap (λ v. values_of nodes ++ v) more_values in
       let now = nodes-hold new _ _ _ shape_is values_are holds in
-      let keys_are : way (shape_of nodes) node ++ key ∷ rest ≡ sequence = ap (λ l. l ++ key ∷ rest) to.keys ∙ whole in
+      let keys_are : path (shape_of nodes) node ++ key ∷ rest ≡ sequence = ap (λ l. l ++ key ∷ rest) to.keys ∙ whole in
       let entries : entries_of new ≡ entries_of nodes ++ (sequence, value) ∷ [] = now.entries_are ∙ ap (λ s. entries_of nodes ++ (s, value) ∷ []) keys_are in
       record {
-        tree = now.tree;
-        each = now.each;
+        keyed = now.keyed;
         puts = subst (λ e. Puts (entries_of nodes) e sequence value) (sym entries)
             (puts-push (entries_of nodes) sequence value (entry-missing (shape_of nodes) tree (values_of nodes) (sizes nodes) sequence (never-past (shape_of nodes) tree sequence depth node less to none)));
       }

@@ -1,5 +1,5 @@
 -- Trees on keys: sequences that begin with the same keys share the nodes of those keys.
-use Rattle.std.specs.Prelude.{◌≡◌, ◌<◌, ◌==◌, ℕ, zero, suc, if◌then◌else◌, Bool, true, List, [], ◌∷◌, ◌++◌, find, get_or, length, map, Option, None, Some, is_some, option_map}
+use Rattle.std.specs.Prelude.{◌≡◌, ◌<◌, ◌==◌, ℕ, zero, suc, if◌then◌else◌, Bool, true, List, [], ◌∷◌, ◌++◌, find, get_or, length, map, Option, None, Some, option_map}
 use Rattle.std.specs.List.{flat_map, list_all}
 use Rattle.std.specs.Cmp.Lexicographic.{pointwise}
 use Rattle.std.specs.Option.{option_or}
@@ -30,34 +30,41 @@ parent_from n (children ∷ shape) node =
 abbrev pub parent_of : Shape → ℕ → Option (ℕ × KeyEvent)
 parent_of = parent_from 0
 
+-- a child of a node stands at this place among the node's children, with the key that leads to it
+abbrev pub IsChild : Shape → ℕ → ℕ → KeyEvent → ℕ → Type 0
+IsChild shape node place key child = (place < length (get_or shape node []))
+    × (get_or (get_or shape node []) place (key, child) ≡ (key, child))
+
 -- the nodes are a tree
 pub record IsTree (shape : Shape) : Type 0 where
-  -- the keys of a node's children are distinct: a key leads to the one child that has it
-  pub distinct : (node child : ℕ) (key : KeyEvent) → parent_of shape child ≡ Some (node, key)
-      → child_by (get_or shape node []) key ≡ Some child
-  -- a node is the child of no more than one
-  pub single : (node child : ℕ) (key : KeyEvent) → child_by (get_or shape node []) key ≡ Some child
-      → parent_of shape child ≡ Some (node, key)
+  -- the keys of a node's children are distinct
+  pub distinct : (node place other : ℕ) (key : KeyEvent) (one two : ℕ)
+      → IsChild shape node place key one → IsChild shape node other key two → place ≡ other
+  -- a node is a child at no more than one place
+  pub single : (node parent place other child : ℕ) (key by : KeyEvent)
+      → IsChild shape node place key child → IsChild shape parent other by child
+      → (node ≡ parent) × (place ≡ other)
   -- a child is one of the nodes, and comes later than its parent
-  pub later : (node child : ℕ) (key : KeyEvent) → parent_of shape child ≡ Some (node, key)
+  pub later : (node place child : ℕ) (key : KeyEvent) → IsChild shape node place key child
       → (node < child) × (child < length shape)
   -- each node but the root is a child
-  pub linked : (child : ℕ) → 0 < child → child < length shape → is_some (parent_of shape child) ≡ true
+  pub linked : (child : ℕ) → 0 < child → child < length shape
+      → (node : ℕ) × (place : ℕ) × (key : KeyEvent) × IsChild shape node place key child
 
 -- the keys that lead to one more node, behind those of its parent
-abbrev pub way_behind : List (List KeyEvent) → Option (ℕ × KeyEvent) → List KeyEvent
-way_behind ways None = []
-way_behind ways (Some (node, key)) = get_or ways node [] ++ key ∷ []
+abbrev pub path_behind : List (List KeyEvent) → Option (ℕ × KeyEvent) → List KeyEvent
+path_behind paths None = []
+path_behind paths (Some (node, key)) = get_or paths node [] ++ key ∷ []
 
 -- the keys that lead from the root to each of the first nodes
-abbrev pub ways : Shape → ℕ → List (List KeyEvent)
-ways shape zero = []
-ways shape (suc node) = ways shape node ++ way_behind (ways shape node) (parent_of shape node) ∷ []
+abbrev pub paths : Shape → ℕ → List (List KeyEvent)
+paths shape zero = []
+paths shape (suc node) = paths shape node ++ path_behind (paths shape node) (parent_of shape node) ∷ []
 
 -- keys lead from the root to a node
 pub record LeadsTo (shape : Shape) (sequence : List KeyEvent) (node : ℕ) : Type 0 where
   pub within : node < length shape
-  pub keys : get_or (ways shape (length shape)) node [] ≡ sequence
+  pub keys : get_or (paths shape (length shape)) node [] ≡ sequence
 
 module _ {V : Type 0} where
   -- the children of each node
@@ -70,8 +77,8 @@ module _ {V : Type 0} where
 
   -- the values that nodes have, each with the keys that lead to it
   abbrev pub held : List (List KeyEvent) → List (Option V) → List (List KeyEvent × V)
-  held (way ∷ others) (Some value ∷ values) = (way, value) ∷ held others values
-  held (way ∷ others) (None ∷ values) = held others values
+  held (path ∷ others) (Some value ∷ values) = (path, value) ∷ held others values
+  held (path ∷ others) (None ∷ values) = held others values
   held _ _ = []
 
   -- the value of a sequence
@@ -82,6 +89,11 @@ module _ {V : Type 0} where
   abbrev pub EachLeads : Shape → List (Option V) → Type 0
   EachLeads shape values = (node : ℕ) → node < length shape → get_or values node None ≡ None
       → 0 < length (get_or shape node [])
+
+  -- the nodes are those of a map: a tree, in which each node leads to a value
+  pub record IsKeyTree (shape : Shape) (values : List (Option V)) : Type 0 where
+    pub tree : IsTree shape
+    pub leads : EachLeads shape values
 
   -- one sequence has this value, and the others what they had; what all values had, and this one has, all have
   pub record Puts (old new : List (List KeyEvent × V)) (sequence : List KeyEvent) (value : V) : Type 0 where

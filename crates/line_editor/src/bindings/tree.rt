@@ -1,12 +1,12 @@
 //! A map from sequences of keys, kept as a tree.
-ghost use Rattle.std.specs.Prelude.{◌≡◌, ◌<◌, ◌≤◌, ◌∷◌, ◌++◌, [], IfNone, IfOk, IfSome, OnErr, OnOk, Option, None, Some, get_or, length, map, option_map, set, take};
+ghost use Rattle.std.specs.Prelude.{◌≡◌, ◌<◌, ◌≤◌, ◌+◌, ◌^◌, ◌∷◌, ◌++◌, [], IfNone, IfOk, IfSome, OnErr, OnOk, Option, None, Some, get_or, length, map, option_map, set, take};
 ghost use Rattle.std.specs.List.{list_any, starts_with};
 ghost use Rattle.line_config.specs.Error.{MemoryOnly};
 ghost use Rattle.line_editor.specs.Event.{same_key};
 ghost use Rattle.line_editor.specs.KeyTree as tree;
-ghost use Rattle.line_editor.specs.KeyTree.{IsTree, LeadsTo, Puts, beginning_count, child_by, shape_of, value_of, values_of, ways};
+ghost use Rattle.line_editor.specs.KeyTree.{IsKeyTree, LeadsTo, Puts, beginning_count, child_by, shape_of, value_of, values_of, paths};
 
-use line_config::{ReadlineError, Result};
+use line_config::Result;
 use line_keys::keys::KeyEvent;
 use std::alloc::Global;
 use std::marker::Model;
@@ -46,14 +46,13 @@ impl<V> Model for KeyTree<V> {
 
     ghost Value = { List (List KeyEvent × V) };
 
-    ghost use Rattle.line_editor.specs.KeyTree.{EachLeads, IsTree, held, shape_of, values_of, ways};
+    ghost use Rattle.line_editor.specs.KeyTree.{IsKeyTree, held, shape_of, values_of, paths};
 
     ghost view = { λ tree.
-        held (ways (shape_of tree.nodes.items) (length (shape_of tree.nodes.items)))
+        held (paths (shape_of tree.nodes.items) (length (shape_of tree.nodes.items)))
         (values_of tree.nodes.items) };
 
-    ghost invariant = { λ tree. IsTree (shape_of tree.nodes.items)
-        × EachLeads (shape_of tree.nodes.items) (values_of tree.nodes.items) };
+    ghost invariant = { λ tree. IsKeyTree (shape_of tree.nodes.items) (values_of tree.nodes.items) };
 }
 
 impl<V: Drop> KeyTree<V> {
@@ -120,7 +119,7 @@ impl<V: Drop> KeyTree<V> {
 // Returns the node that keys lead to from the root as far as they do, and how many of them that is.
 fn reach<V>(nodes: &[Node<V>], keys: &[KeyEvent]) -> (usize, usize)
     requires root { 0 < length nodes.now }
-    requires tree { IsTree (shape_of nodes.now) }
+    requires tree { IsKeyTree (shape_of nodes.now) (values_of nodes.now) }
     ensures far { result.1 ≤ length keys.now }
     ensures node { LeadsTo (shape_of nodes.now) (take result.1 keys.now) result.0 }
     ensures no_farther { (key : _) → result.1 < length keys.now
@@ -141,7 +140,7 @@ fn reach<V>(nodes: &[Node<V>], keys: &[KeyEvent]) -> (usize, usize)
 
 // Returns the node that keys lead to from the root.
 fn find<V>(nodes: &[Node<V>], keys: &[KeyEvent]) -> Option<usize>
-    requires { IsTree (shape_of nodes.now) }
+    requires { IsKeyTree (shape_of nodes.now) (values_of nodes.now) }
     ensures found { IfSome result (LeadsTo (shape_of nodes.now) keys.now) }
     ensures missing { IfNone result
         ((node : _) → LeadsTo (shape_of nodes.now) keys.now node → ⊥) }
@@ -159,15 +158,12 @@ fn find<V>(nodes: &[Node<V>], keys: &[KeyEvent]) -> Option<usize>
 
 // Returns nodes one after another by these keys, numbered from `first`, of which the last one has the value.
 fn branch<V: Drop>(alloc: Global, keys: &[KeyEvent], first: usize, value: V) -> Result<Vec<Node<V>>>
+    requires numbered { first + length keys.now < 2 ^ 64 }
     ensures shape { IfOk result (λ nodes. shape_of nodes.items ≡ tree.branch first keys.now) }
     ensures values { IfOk result (λ nodes.
         values_of nodes.items ≡ map (λ key. None) keys.now ++ Some value ∷ []) }
     ensures memory { MemoryOnly result }
 {
-    // No memory holds more nodes than there are numbers.
-    if keys.len() > usize::MAX - first {
-        return Err(ReadlineError::Memory);
-    }
     let mut nodes = Vec::new(alloc);
     let mut child = first;
     for key in keys {

@@ -1,9 +1,10 @@
-//! Sequences of keys that share their beginnings. Run with any one allocation refused, each test passes: it looks at what is
-//! left, or the call was not reached.
+//! Sequences of keys that share their beginnings. Run with any one allocation refused, `forty_keys_are_bound_or_none` passes:
+//! it looks at what is left, or the call was not reached.
 
 use super::{Bindings, On, To, command, event};
 use line_config::{ReadlineError, Result};
 use line_editor::binding::{Event, EventHandler};
+use line_keys::cmd::Cmd;
 use line_keys::keys::{KeyCode, KeyEvent, Modifiers};
 use std::alloc::Global;
 use std::process::Abort;
@@ -28,15 +29,6 @@ const GROWN: &[(On, usize)] = &[
     (On::Keys(&[CTRL_X]), 4),
     (On::Keys(&[A]), 5),
 ];
-
-/// A refusal in what comes before or behind the call is no failure of the test.
-fn unless_refused(rt: &impl Abort, outcome: Result<()>) -> std::result::Result<(), Fail> {
-    match outcome {
-        Ok(()) | Err(ReadlineError::Memory) => {}
-        Err(error) => panic!(rt; "{error}"),
-    }
-    Ok(())
-}
 
 /// Binds an event. Where memory runs out, the number of nodes is as it was.
 fn grows(
@@ -69,14 +61,25 @@ fn all_grow(rt: &impl Abort, alloc: Global) -> Result<()> {
 
 #[test]
 fn nodes_are_shared(rt: HostRuntime) -> std::result::Result<(), Fail> {
-    unless_refused(&rt, all_grow(&rt, rt.alloc()))
+    all_grow(&rt, rt.alloc())?;
+    Ok(())
 }
 
-/// So many keys, of which the first 250 differ.
+/// One of 500 different keys; the next 500 are these again.
+fn key(i: usize) -> KeyEvent {
+    let modifiers = if i % 500 < 250 {
+        Modifiers::NONE
+    } else {
+        Modifiers::CTRL
+    };
+    KeyEvent(KeyCode::F((i % 250) as u8), modifiers)
+}
+
+/// So many keys, one after another.
 fn sequence(alloc: Global, len: usize) -> Result<Vec<KeyEvent>> {
     let mut keys = Vec::new(alloc);
     for i in 0..len {
-        keys.push(KeyEvent(KeyCode::F((i % 250) as u8), Modifiers::NONE))?;
+        keys.push(key(i))?;
     }
     Ok(keys)
 }
@@ -86,8 +89,20 @@ fn keyed(alloc: Global, keys: &[KeyEvent]) -> Result<Event> {
     Ok(Event::KeySeq(keys.to_vec(alloc)?))
 }
 
-/// Whether each beginning of the keys is bound, and begins a bound sequence: three of them are bound, and all of them where
-/// `whole` says so.
+/// A handler that types a character, and how often it does.
+fn types(n: u16, c: char) -> EventHandler {
+    EventHandler::from(Cmd::SelfInsert(n, c))
+}
+
+/// What a handler types.
+fn typed(handler: Option<&EventHandler>) -> Option<(u16, char)> {
+    match handler {
+        Some(EventHandler::Simple(Cmd::SelfInsert(n, c))) => Some((*n, *c)),
+        _ => None,
+    }
+}
+
+/// The first three keys are bound, and all of them where `whole` says so; no other beginning is.
 fn looked_at(
     rt: &impl Abort,
     alloc: Global,
@@ -97,11 +112,13 @@ fn looked_at(
 ) -> Result<()> {
     for (n, _) in keys.iter().enumerate() {
         let front = keyed(alloc, &keys[..n])?;
-        assert_eq!(rt; bindings.get(&front).is_some(), n == 3, "{n}");
+        let wanted = if n == 3 { Some((1, 'x')) } else { None };
+        assert_eq!(rt; typed(bindings.get(&front)), wanted, "{n}");
         assert_eq!(rt; bindings.begins(&front), whole || n <= 3, "{n}");
     }
     let all = keyed(alloc, keys)?;
-    assert_eq!(rt; bindings.get(&all).is_some(), whole);
+    let wanted = if whole { Some((2, 'y')) } else { None };
+    assert_eq!(rt; typed(bindings.get(&all)), wanted);
     assert_eq!(rt; bindings.begins(&all), whole);
     Ok(())
 }
@@ -110,12 +127,11 @@ fn looked_at(
 fn lengthens(rt: &impl Abort, alloc: Global, len: usize) -> Result<()> {
     let keys = sequence(alloc, len)?;
     let mut bindings = Bindings::new(alloc);
-    for front in [3, len] {
+    for (front, n, c) in [(3, 1, 'x'), (len, 2, 'y')] {
         assert!(rt; front <= keys.len());
-        let handler = EventHandler::from(command(alloc, &To::Types(1, 'x'))?);
         let event = keyed(alloc, &keys[..front])?;
         let before = bindings.nodes();
-        let outcome = bindings.insert(event, handler);
+        let outcome = bindings.insert(event, types(n, c));
         let nodes = if outcome.is_ok() { front } else { before };
         assert_eq!(rt; bindings.nodes(), nodes);
         if nodes > 0 {
@@ -127,24 +143,63 @@ fn lengthens(rt: &impl Abort, alloc: Global, len: usize) -> Result<()> {
 }
 
 #[test]
+fn forty_keys_are_bound(rt: HostRuntime) -> std::result::Result<(), Fail> {
+    lengthens(&rt, rt.alloc(), 40)?;
+    Ok(())
+}
+
+#[test]
 fn forty_keys_are_bound_or_none(rt: HostRuntime) -> std::result::Result<(), Fail> {
-    unless_refused(&rt, lengthens(&rt, rt.alloc(), 40))
+    match lengthens(&rt, rt.alloc(), 40) {
+        Ok(()) | Err(ReadlineError::Memory) => Ok(()),
+        Err(_) => Err(Fail::from("no other error")),
+    }
 }
 
 /// Binds so many keys at once, finds them, and drops them.
 fn found(rt: &impl Abort, alloc: Global, len: usize) -> Result<()> {
     let keys = sequence(alloc, len)?;
     let mut bindings = Bindings::new(alloc);
-    let handler = EventHandler::from(command(alloc, &To::Types(1, 'x'))?);
-    let old = bindings.insert(keyed(alloc, keys.as_slice())?, handler)?;
+    let old = bindings.insert(keyed(alloc, keys.as_slice())?, types(1, 'x'))?;
     assert!(rt; old.is_none());
     assert_eq!(rt; bindings.nodes(), len);
     let event = keyed(alloc, keys.as_slice())?;
-    assert!(rt; bindings.get(&event).is_some() && bindings.begins(&event));
+    assert_eq!(rt; typed(bindings.get(&event)), Some((1, 'x')));
+    assert!(rt; bindings.begins(&event));
     Ok(())
 }
 
 #[test]
 fn a_thousand_keys_are_bound(rt: HostRuntime) -> std::result::Result<(), Fail> {
-    unless_refused(&rt, found(&rt, rt.alloc(), 1000))
+    found(&rt, rt.alloc(), 1000)?;
+    Ok(())
+}
+
+/// One of the 500 keys, behind others.
+fn behind(alloc: Global, front: &[KeyEvent], i: u16) -> Result<Event> {
+    let mut keys = front.to_vec(alloc)?;
+    keys.push(key(usize::from(i)))?;
+    Ok(Event::KeySeq(keys))
+}
+
+/// Binds each of the 500 keys behind others to a command of its own, and finds each.
+fn spreads(rt: &impl Abort, alloc: Global, front: &[KeyEvent]) -> Result<()> {
+    let mut bindings = Bindings::new(alloc);
+    for i in 0..500 {
+        let old = bindings.insert(behind(alloc, front, i)?, types(i, 'x'))?;
+        assert!(rt; old.is_none(), "{i}");
+    }
+    assert_eq!(rt; bindings.nodes(), front.len().saturating_add(500));
+    for i in 0..500 {
+        let event = behind(alloc, front, i)?;
+        assert_eq!(rt; typed(bindings.get(&event)), Some((i, 'x')), "{i}");
+    }
+    Ok(())
+}
+
+#[test]
+fn five_hundred_keys_share_a_node(rt: HostRuntime) -> std::result::Result<(), Fail> {
+    spreads(&rt, rt.alloc(), &[])?;
+    spreads(&rt, rt.alloc(), &[CTRL_X])?;
+    Ok(())
 }

@@ -9,5 +9,5 @@ pub returns : goal.returns
 returns g c =
     let nodes = c.self.inside.nodes.items in
     let many : c.len.result ≡ length (shape_of nodes) = c.len.ensures ∙ (search rules) ∙ sym (length-map nodes _) in
-    c.saturating_sub.ensures ∙ ap (λ n. n - 1) many ∙ others-counted (shape_of nodes) c.self.invariant.0 (values_of nodes) (sizes nodes) c.self.invariant.1
+    c.saturating_sub.ensures ∙ ap (λ n. n - 1) many ∙ others-counted (shape_of nodes) c.self.invariant.tree (values_of nodes) (sizes nodes) c.self.invariant.leads
     ∙ ap (λ entries. beginning_count (map (λ entry. entry.0) entries)) c.self.view_is
