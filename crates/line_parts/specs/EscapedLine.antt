@@ -1,14 +1,18 @@
 -- Lines of text whose backslashes and line ends are escaped.
-use Rattle.std.specs.Prelude.{◌≡◌, ℕ, ◌==◌, if◌then◌else◌, List, [], ◌∷◌}
+use Rattle.std.specs.Prelude.{◌≡◌, ℕ, ◌==◌, if◌then◌else◌, List, [], ◌∷◌, ◌++◌}
 use Rattle.std.specs.List.{AllZip, flat_map}
 use Rattle.line_parts.specs.declared.escaped_line.Escapes.{Escapes}
 use Rattle.line_parts.specs.declared.escaped_line.Escapes.TheVariants.{V2, V3}
 
--- the bytes that are escaped, a backslash, a newline and in one form a carriage return, each with
--- the letter that stands for it behind a backslash
+-- the bytes that both forms escape, a backslash and a newline, each with the letter that stands for
+-- it behind a backslash
+abbrev pub common_escapes : List (ℕ × ℕ)
+common_escapes = (92, 92) ∷ (10, 110) ∷ []
+
+-- the bytes that are escaped: in one form a carriage return too
 abbrev pub escape_table : Escapes → List (ℕ × ℕ)
-escape_table V2 = (92, 92) ∷ (10, 110) ∷ []
-escape_table V3 = (92, 92) ∷ (10, 110) ∷ (13, 114) ∷ []
+escape_table V2 = common_escapes
+escape_table V3 = common_escapes ++ (13, 114) ∷ []
 
 -- a byte as it is written by a table: by its first row there, or as it is
 abbrev pub written_by : List (ℕ × ℕ) → ℕ → List ℕ

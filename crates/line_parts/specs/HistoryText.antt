@@ -1,10 +1,13 @@
 -- The text in which the lines of a history are kept.
 use Rattle.std.specs.Prelude.{◌≡◌, ◌≢◌, ℕ, ◌-◌, ◌==◌, ◌&&◌, nat_lt, Bool, false, bytes_eq, if◌then◌else◌}
-use Rattle.std.specs.Prelude.{List, [], ◌∷◌, ◌++◌, filter, length, map, take, Option, Some, None, is_some, IfSome, MatchOption, Result, Ok, Err}
+use Rattle.std.specs.Prelude.{List, [], ◌∷◌, ◌++◌, filter, length, map, take, Option, Some, None, is_some, IfSome, MatchOption, OnErr, OnOk, Result, Ok, Err}
 use Rattle.std.specs.Char.{is_newline}
+use Rattle.std.specs.Io.KnownBytes.{Appends}
 use Rattle.std.specs.List.{AllZip, flat_map, slice_split}
 use Rattle.std.specs.declared.io.ErrorKind.{ErrorKind}
 use Rattle.std.specs.declared.io.ErrorKind.TheVariants.{Interrupted, OutOfMemory}
+use Rattle.line_config.specs.Error.{FaultsOnly, IoOnlyOfKind}
+use Rattle.line_config.specs.declared.error.ReadlineError.{ReadlineError}
 use Rattle.line_parts.specs.EscapedLine.{Unescapes, escaped_line}
 use Rattle.line_parts.specs.History.{FiledHistory, all_filed, all_taken, last_of, settled}
 use Rattle.line_parts.specs.declared.escaped_line.Escapes.{Escapes}
@@ -43,24 +46,24 @@ pub data Says (escapes : Escapes) (line text : List ℕ) : Type 0 where
   as_it_stands : ((other : List ℕ) → ¬ (Unescapes escapes line other)) → text ≡ line
       → Says escapes line text
 
--- a text has the header of some escapes or it has none, and says these lines: behind a header by
--- its escapes, without one each as it stands; empty lines say nothing
-pub data IsHistoryText (text : List ℕ) (headed : Option Escapes) (lines : List (List ℕ)) : Type 0 where
-  with_header : (escapes : Escapes) → headed ≡ Some escapes → (rest : List (List ℕ))
-      → lines_of text ≡ header escapes ∷ rest
-      → AllZip (Says escapes) (filter is_some_text rest) lines → IsHistoryText text headed lines
-  without_header : headed ≡ None
-      → ((escapes : Escapes) (rest : List (List ℕ)) → lines_of text ≢ header escapes ∷ rest)
-      → lines ≡ filter is_some_text (lines_of text) → IsHistoryText text headed lines
-
--- no carriage return stands at the end of a line
-abbrev pub EndsPlain : List ℕ → Type 0
-EndsPlain line = bytes_eq (last_of 1 line) (13 ∷ []) ≡ false
-
 -- what the written lines say: by escapes, or without any each as it stands; empty ones nothing
 abbrev pub SaysLines : Option Escapes → List (List ℕ) → List (List ℕ) → Type 0
 SaysLines (Some escapes) written lines = AllZip (Says escapes) (filter is_some_text written) lines
 SaysLines None written lines = lines ≡ filter is_some_text written
+
+-- a text has the header of some escapes or it has none, and says these lines: behind a header by
+-- its escapes, without one each as it stands
+pub data IsHistoryText (text : List ℕ) (headed : Option Escapes) (lines : List (List ℕ)) : Type 0 where
+  with_header : (escapes : Escapes) → headed ≡ Some escapes → (rest : List (List ℕ))
+      → lines_of text ≡ header escapes ∷ rest
+      → SaysLines (Some escapes) rest lines → IsHistoryText text headed lines
+  without_header : headed ≡ None
+      → ((escapes : Escapes) (rest : List (List ℕ)) → lines_of text ≢ header escapes ∷ rest)
+      → SaysLines None (lines_of text) lines → IsHistoryText text headed lines
+
+-- no carriage return stands at the end of a line
+abbrev pub EndsPlain : List ℕ → Type 0
+EndsPlain line = bytes_eq (last_of 1 line) (13 ∷ []) ≡ false
 
 -- whether each of these is taken, where each is added in turn
 abbrev pub takes_all : FiledHistory → List (List ℕ) → Bool
@@ -130,3 +133,13 @@ StopsReading kind = (kind ≢ OutOfMemory) × (kind ≢ Interrupted)
 abbrev pub to_save : Escapes → Bool → FiledHistory → List ℕ
 to_save escapes append h =
     if append then written escapes (last_of h.new_lines h.lines) else saved escapes h.lines
+
+-- a save with these escapes: what was to be saved stands behind what the writer had, and no line
+-- counts as new; after an error, which for want of memory is no error of the stream, the history is
+-- as it was
+pub record Saves {T : Type 0} (escapes : Escapes) (append : Bool) (result : Result T ReadlineError) (had has : Option (List ℕ)) (old new : FiledHistory) : Type 0 where
+  pub text : OnOk result (Appends had has (to_save escapes append old))
+  pub history : OnOk result (new ≡ settled old)
+  pub unchanged : OnErr result (new ≡ old)
+  pub kind : IoOnlyOfKind result (λ kind. kind ≢ OutOfMemory)
+  pub faults : FaultsOnly result

@@ -20,8 +20,9 @@ pub enum Escapes {
 impl Escapes {
     /// Returns how a byte is escaped. `None` where it stands as it is.
     pub fn escape_of(self, byte: u8) -> Option<&'static str>
-        ensures { MatchOption result (escaped_byte self byte ≡ byte ∷ [])
+        ensures escape { MatchOption result (escaped_byte self byte ≡ byte ∷ [])
             (λ escape. escape.now ≡ escaped_byte self byte) }
+        ensures known { IfSome result (λ _. escaped_byte self byte ≢ byte ∷ []) }
     {
         match (byte, self) {
             (b'\\', _) => Some(r"\\"),

@@ -10,10 +10,10 @@ ghost use Rattle.line_config.specs.Error.{is_fault, is_io};
 ghost use Rattle.line_config.specs.declared.error.ReadlineError.TheVariants.{Io, Memory};
 ghost use Rattle.line_parts.specs.declared.escaped_line.Escapes.TheVariants.{V2, V3};
 ghost use Rattle.std.specs.Io.KnownBytes.{append_known, Appends};
-ghost use Rattle.line_parts.specs.History.{filed, leaves_out, settled};
-ghost use Rattle.line_parts.specs.HistoryText.{header, lines_of, to_save, written};
+ghost use Rattle.line_parts.specs.History.{filed, leaves_out};
+ghost use Rattle.line_parts.specs.HistoryText.{header, lines_of, written};
 ghost use Rattle.line_parts.specs.HistoryText.{AddsLines, AddsBeginning, AddsSome, ReadsHeader, FilesSome};
-ghost use Rattle.line_parts.specs.HistoryText.{GoesOn, Loads, LoadsBeginning, StopsReading};
+ghost use Rattle.line_parts.specs.HistoryText.{GoesOn, Loads, LoadsBeginning, Saves, StopsReading};
 
 use crate::escaped_line::{Escapes, push_escaped_line, unescape_line};
 use crate::history::{FileHistory, History};
@@ -140,12 +140,8 @@ impl FileHistory {
 
     // Saves with these escapes, as `save_to` and `save_v3_to` say.
     fn save_by<T: Write>(&mut self, escapes: Escapes, out: &mut T, append: bool) -> Result<()>
-        ensures text { OnOk result
-            (Appends (T.contents out.old) (T.contents out.new) (to_save escapes append self.old)) }
-        ensures history { OnOk result (self.new ≡ settled self.old) }
-        ensures unchanged { OnErr result (self.new ≡ self.old) }
-        ensures kind { IoOnlyOfKind result (λ kind. kind ≢ OutOfMemory) }
-        ensures faults { FaultsOnly result }
+        ensures { Saves escapes append result
+            (T.contents out.old) (T.contents out.new) self.old self.new }
     {
         let mut text = Vec::new(self.alloc());
         let mut first = self.first_new();
@@ -171,12 +167,8 @@ impl FileHistory {
     /// `Io`, where the writer fails, and `Memory`. The history and its new lines then stay as they were, and `out` may
     /// have a part of the text.
     pub fn save_to<T: Write>(&mut self, out: &mut T, append: bool) -> Result<()>
-        ensures text { OnOk result
-            (Appends (T.contents out.old) (T.contents out.new) (to_save V2 append self.old)) }
-        ensures history { OnOk result (self.new ≡ settled self.old) }
-        ensures unchanged { OnErr result (self.new ≡ self.old) }
-        ensures kind { IoOnlyOfKind result (λ kind. kind ≢ OutOfMemory) }
-        ensures faults { FaultsOnly result }
+        ensures { Saves V2 append result
+            (T.contents out.old) (T.contents out.new) self.old self.new }
     {
         self.save_by(Escapes::V2, out, append)
     }
@@ -190,12 +182,8 @@ impl FileHistory {
     /// `Io`, where the writer fails, and `Memory`. The history and its new lines then stay as they were, and `out` may
     /// have a part of the text.
     pub fn save_v3_to<T: Write>(&mut self, out: &mut T, append: bool) -> Result<()>
-        ensures text { OnOk result
-            (Appends (T.contents out.old) (T.contents out.new) (to_save V3 append self.old)) }
-        ensures history { OnOk result (self.new ≡ settled self.old) }
-        ensures unchanged { OnErr result (self.new ≡ self.old) }
-        ensures kind { IoOnlyOfKind result (λ kind. kind ≢ OutOfMemory) }
-        ensures faults { FaultsOnly result }
+        ensures { Saves V3 append result
+            (T.contents out.old) (T.contents out.new) self.old self.new }
     {
         self.save_by(Escapes::V3, out, append)
     }
