@@ -138,14 +138,25 @@ fn loaded(
     })
 }
 
+/// A load from a reader that fails at a place leaves the lines that came before.
+fn reads_to(
+    rt: &impl Abort,
+    alloc: Global,
+    case: &Load,
+    place: usize,
+    fault: Fault,
+) -> result::Result<(), Fail> {
+    let (text, _, _, lines, appended) = *case;
+    let mut history = settled(alloc)?;
+    let outcome = loaded(&mut history, text, place, fault);
+    assert!(rt; fault.is_answer(alloc, &outcome)?, "{place} {fault:?}");
+    gives(rt, &history, lines)?;
+    appends(rt, alloc, &mut history, V3, appended)
+}
+
 fn reads(rt: &impl Abort, alloc: Global, case: &Load, fault: Fault) -> result::Result<(), Fail> {
-    let (text, first, last, lines, appended) = *case;
-    for place in first..=last {
-        let mut history = settled(alloc)?;
-        let outcome = loaded(&mut history, text, place, fault);
-        assert!(rt; fault.is_answer(alloc, &outcome)?, "{place} {fault:?}");
-        gives(rt, &history, lines)?;
-        appends(rt, alloc, &mut history, V3, appended)?;
+    for place in case.1..=case.2 {
+        reads_to(rt, alloc, case, place, fault)?;
     }
     Ok(())
 }
@@ -181,79 +192,126 @@ fn of_a_reader(rt: HostRuntime) -> result::Result<(), Fail> {
     Ok(())
 }
 
-/// The outcome of a save to a writer that fails there, and the bytes that it took.
-fn saved(
-    alloc: Global,
-    history: &mut FileHistory,
+/// A save: its escapes, whether it appends, and where its writer fails.
+#[derive(Clone, Copy)]
+struct Save {
     escapes: Escapes,
     append: bool,
     at: At,
+}
+
+/// A save to a writer that fails answers that fault. The writer took all before the failing byte of this text.
+fn fails(
+    rt: &impl Abort,
+    alloc: Global,
+    history: &mut FileHistory,
+    call: Save,
     fault: Fault,
-) -> (Result<()>, Vec<u8>) {
+    whole: &[u8],
+) -> result::Result<(), Fail> {
+    let Save {
+        escapes,
+        append,
+        at,
+    } = call;
     let mut out = Full {
         taken: Vec::new(alloc),
         failing: Some(at),
         fault,
     };
     let outcome = save(history, escapes, &mut out, append);
-    let Full { taken, .. } = out;
-    (outcome, taken)
-}
-
-/// Escapes, and what is written with them: both of two lines, and the new one alone.
-type Written = (Escapes, &'static [u8], &'static [u8]);
-
-const WRITTEN: [Written; 2] = [
-    (V2, b"#V2\nx\na\\nb\rc\n", b"a\\nb\rc\n"),
-    (V3, b"#V3\nx\na\\nb\\rc\n", b"a\\nb\\rc\n"),
-];
-
-/// One of two lines is new: after a save that fails both are there, and that one is new.
-fn writes(
-    rt: &impl Abort,
-    alloc: Global,
-    written: Written,
-    append: bool,
-    at: At,
-    fault: Fault,
-) -> result::Result<(), Fail> {
-    let (escapes, both, appended) = written;
-    let whole = if append { appended } else { both };
-    let mut history = settled(alloc)?;
-    assert!(rt; history.add("a\nb\rc")?);
-    let (outcome, taken) = saved(alloc, &mut history, escapes, append, at, fault);
     assert!(rt; fault.is_answer(alloc, &outcome)?, "{at:?} {fault:?}");
     let wanted = match at {
         Byte(place) => whole.get(..place),
         Flush => Some(whole),
     };
-    assert_eq!(rt; Some(taken.as_slice()), wanted, "{at:?}");
+    assert_eq!(rt; Some(out.taken.as_slice()), wanted, "{at:?}");
+    Ok(())
+}
+
+/// How two lines are written: both, and the new one alone.
+struct Written {
+    escapes: Escapes,
+    both: &'static [u8],
+    appended: &'static [u8],
+}
+
+impl Written {
+    fn whole(&self, append: bool) -> &'static [u8] {
+        if append { self.appended } else { self.both }
+    }
+}
+
+const WRITTEN: &[Written] = &[
+    Written {
+        escapes: V2,
+        both: b"#V2\nx\na\\nb\rc\n",
+        appended: b"a\\nb\rc\n",
+    },
+    Written {
+        escapes: V3,
+        both: b"#V3\nx\na\\nb\\rc\n",
+        appended: b"a\\nb\\rc\n",
+    },
+];
+
+/// A history of two lines, of which one is new.
+fn one_new(rt: &impl Abort, alloc: Global) -> result::Result<FileHistory, Fail> {
+    let mut history = settled(alloc)?;
+    assert!(rt; history.add("a\nb\rc")?);
+    Ok(history)
+}
+
+/// One of two lines is new: after a save that fails both are there, and that one is new.
+fn writes(
+    rt: &impl Abort,
+    alloc: Global,
+    written: &Written,
+    append: bool,
+    at: At,
+    fault: Fault,
+) -> result::Result<(), Fail> {
+    let mut history = one_new(rt, alloc)?;
+    let call = Save {
+        escapes: written.escapes,
+        append,
+        at,
+    };
+    fails(rt, alloc, &mut history, call, fault, written.whole(append))?;
     gives(rt, &history, &["x", "a\nb\rc"])?;
-    appends(rt, alloc, &mut history, escapes, appended)
+    appends(rt, alloc, &mut history, written.escapes, written.appended)
 }
 
 fn writes_none(
     rt: &impl Abort,
     alloc: Global,
-    written: Written,
+    written: &Written,
+    append: bool,
     fault: Fault,
 ) -> result::Result<(), Fail> {
-    let (_, both, appended) = written;
-    for place in 0..both.len() {
-        writes(rt, alloc, written, false, Byte(place), fault)?;
+    for place in 0..written.whole(append).len() {
+        writes(rt, alloc, written, append, Byte(place), fault)?;
     }
-    for place in 0..appended.len() {
-        writes(rt, alloc, written, true, Byte(place), fault)?;
+    writes(rt, alloc, written, append, Flush, fault)
+}
+
+fn of_a_writer_of(
+    rt: &impl Abort,
+    alloc: Global,
+    written: &Written,
+    append: bool,
+) -> result::Result<(), Fail> {
+    for fault in FAULTS {
+        writes_none(rt, alloc, written, append, *fault)?;
     }
-    writes(rt, alloc, written, false, Flush, fault)?;
-    writes(rt, alloc, written, true, Flush, fault)
+    Ok(())
 }
 
 #[test]
 fn of_a_writer(rt: HostRuntime) -> result::Result<(), Fail> {
     for written in WRITTEN {
-        for fault in FAULTS {
-            writes_none(&rt, rt.alloc(), written, *fault)?;
+        for append in [false, true] {
+            of_a_writer_of(&rt, rt.alloc(), written, append)?;
         }
     }
     Ok(())
@@ -267,11 +325,12 @@ fn writes_nothing(
     fault: Fault,
 ) -> result::Result<(), Fail> {
     let mut history = settled(alloc)?;
-    let (outcome, taken) = saved(alloc, &mut history, escapes, true, Flush, fault);
-    assert!(rt;
-        fault.is_answer(alloc, &outcome)? && taken.is_empty(),
-        "{fault:?}"
-    );
+    let call = Save {
+        escapes,
+        append: true,
+        at: Flush,
+    };
+    fails(rt, alloc, &mut history, call, fault, b"")?;
     gives(rt, &history, &["x"])?;
     appends(rt, alloc, &mut history, escapes, b"")
 }
@@ -295,21 +354,45 @@ fn long_line(alloc: Global, c: char, count: usize) -> Result<String> {
     Ok(line)
 }
 
-/// Two lines of 9,000 bytes, written one after the other: at so many bytes the writer fails, and both stay new.
+/// Two lines of 9,000 bytes, which are new.
+fn two_long(rt: &impl Abort, alloc: Global) -> result::Result<FileHistory, Fail> {
+    let mut history = FileHistory::new(alloc);
+    for c in ['a', 'b'] {
+        assert!(rt; history.add_owned(long_line(alloc, c, 9_000)?)?);
+    }
+    Ok(history)
+}
+
+/// So many bytes are written before the writer fails.
+fn stops(
+    rt: &impl Abort,
+    alloc: Global,
+    history: &mut FileHistory,
+    escapes: Escapes,
+    append: bool,
+    place: usize,
+) -> result::Result<(), Fail> {
+    let mut out = Full {
+        taken: Vec::new(alloc),
+        failing: Some(Byte(place)),
+        fault: GONE,
+    };
+    let outcome = save(history, escapes, &mut out, append);
+    assert!(rt; GONE.is_answer(alloc, &outcome)?, "{place}");
+    assert_eq!(rt; (out.taken.len(), history.len()), (place, 2));
+    Ok(())
+}
+
+/// Two long lines are written one after the other: at so many bytes the writer fails, and both stay new.
 fn writes_much(
     rt: &impl Abort,
     alloc: Global,
     escapes: Escapes,
     place: usize,
 ) -> result::Result<(), Fail> {
-    let mut history = FileHistory::new(alloc);
-    for c in ['a', 'b'] {
-        assert!(rt; history.add_owned(long_line(alloc, c, 9_000)?)?);
-    }
+    let mut history = two_long(rt, alloc)?;
     for append in [false, true] {
-        let (outcome, taken) = saved(alloc, &mut history, escapes, append, Byte(place), GONE);
-        assert!(rt; GONE.is_answer(alloc, &outcome)?, "{place}");
-        assert_eq!(rt; (taken.len(), history.len()), (place, 2));
+        stops(rt, alloc, &mut history, escapes, append, place)?;
     }
     let mut out = Vec::new(alloc);
     save(&mut history, escapes, &mut out, true)?;
@@ -368,18 +451,24 @@ const KINDS: &[ErrorKind] = &[
     ErrorKind::Other,
 ];
 
+/// A stream that fails by this kind.
+fn breaks(rt: &impl Abort, alloc: Global, kind: ErrorKind) -> result::Result<(), Fail> {
+    let fault = Fault {
+        kind,
+        text: "the stream broke",
+    };
+    reads(rt, alloc, &READS[2], fault)?;
+    for written in WRITTEN {
+        writes(rt, alloc, written, false, Byte(5), fault)?;
+        writes(rt, alloc, written, true, Flush, fault)?;
+    }
+    Ok(())
+}
+
 #[test]
 fn of_each_kind(rt: HostRuntime) -> result::Result<(), Fail> {
     for kind in KINDS {
-        let fault = Fault {
-            kind: *kind,
-            text: "the stream broke",
-        };
-        reads(&rt, rt.alloc(), &READS[2], fault)?;
-        for written in WRITTEN {
-            writes(&rt, rt.alloc(), written, false, Byte(5), fault)?;
-            writes(&rt, rt.alloc(), written, true, Flush, fault)?;
-        }
+        breaks(&rt, rt.alloc(), *kind)?;
     }
     Ok(())
 }
@@ -394,16 +483,31 @@ fn is_memory<T>(outcome: &Result<T>) -> bool {
     matches!(outcome, Err(ReadlineError::Memory))
 }
 
+/// Such a save leaves the history as it was.
+fn wants_memory(
+    rt: &impl Abort,
+    alloc: Global,
+    history: &mut FileHistory,
+    escapes: Escapes,
+    at: At,
+) -> result::Result<(), Fail> {
+    let mut out = Full {
+        taken: Vec::new(alloc),
+        failing: Some(at),
+        fault: REFUSED,
+    };
+    let outcome = save(history, escapes, &mut out, false);
+    assert!(rt; is_memory(&outcome));
+    gives(rt, history, &["x", "a\nb"])
+}
+
 #[test]
 fn of_memory(rt: HostRuntime) -> result::Result<(), Fail> {
     let mut history = settled(rt.alloc())?;
     assert!(rt; is_memory(&loaded(&mut history, HEADED, 9, REFUSED)));
-    gives(&rt, &history, &["x", "a\nb"])?;
     for escapes in [V2, V3] {
         for at in [Byte(0), Byte(5), Flush] {
-            let (outcome, _) = saved(rt.alloc(), &mut history, escapes, false, at, REFUSED);
-            assert!(rt; is_memory(&outcome));
-            gives(&rt, &history, &["x", "a\nb"])?;
+            wants_memory(&rt, rt.alloc(), &mut history, escapes, at)?;
         }
     }
     appends(&rt, rt.alloc(), &mut history, V2, b"a\\nb\n")

@@ -136,18 +136,28 @@ fn loads(
 }
 
 /// Each line has three bytes beside its number, of 1 to 4 digits: 10 + 2 * 90 + 3 * 900 + 4 * 4,000 digits.
-fn saves(
+fn text_of_many(
     rt: &impl Abort,
     alloc: Global,
     escapes: Escapes,
     append: bool,
-) -> result::Result<(), Fail> {
+) -> result::Result<Vec<u8>, Fail> {
     let mut history = FileHistory::new(alloc);
     fills(rt, alloc, &mut history)?;
     let mut text = Vec::new(alloc);
     save(&mut history, escapes, &mut text, append)?;
     let header = if append { 0 } else { 4 };
     assert_eq!(rt; text.len(), header + 3 * COUNT + 18_890);
+    Ok(text)
+}
+
+fn saves(
+    rt: &impl Abort,
+    alloc: Global,
+    escapes: Escapes,
+    append: bool,
+) -> result::Result<(), Fail> {
+    let text = text_of_many(rt, alloc, escapes, append)?;
     for limit in [100, 4_000, 10_000] {
         loads(rt, alloc, text.as_slice(), !append, limit)?;
     }

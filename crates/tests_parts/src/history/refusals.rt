@@ -151,6 +151,21 @@ const WRITTEN: &[Written] = &[
     },
 ];
 
+/// Where the new lines are appended, this is written.
+fn appends(
+    rt: &impl Abort,
+    alloc: Global,
+    history: &mut FileHistory,
+    escapes: Escapes,
+    wanted: &[u8],
+) -> result::Result<(), Fail> {
+    let mut out = Vec::new(alloc);
+    if answer_of(save(history, escapes, &mut out, true))?.is_some() {
+        assert_eq!(rt; out.as_slice(), wanted);
+    }
+    Ok(())
+}
+
 /// The lines before the refusal are there, and are new.
 fn reads(rt: &impl Abort, alloc: Global, written: &Written) -> result::Result<(), Fail> {
     let mut history = FileHistory::new(alloc);
@@ -161,16 +176,11 @@ fn reads(rt: &impl Abort, alloc: Global, written: &Written) -> result::Result<()
         return Err(Fail::from("no more lines than there are"));
     };
     gives(rt, &history, lines)?;
-    let mut out = Vec::new(alloc);
-    if answer_of(save(&mut history, written.escapes, &mut out, true))?.is_some() {
-        let wanted = if answer.is_some() {
-            Some(&written.appended[0])
-        } else {
-            written.appended.get(count)
-        };
-        assert_eq!(rt; Some(&out.as_slice()), wanted);
-    }
-    Ok(())
+    let new = if answer.is_some() { 0 } else { count };
+    let Some(wanted) = written.appended.get(new) else {
+        return Err(Fail::from("no more lines than there are"));
+    };
+    appends(rt, alloc, &mut history, written.escapes, *wanted)
 }
 
 #[test]
@@ -192,7 +202,24 @@ fn four_lines(alloc: Global) -> result::Result<Option<FileHistory>, Fail> {
     Ok(Some(history))
 }
 
-/// The lines are there, and are new.
+/// Whether a save succeeds, which then writes this.
+fn is_saved(
+    rt: &impl Abort,
+    alloc: Global,
+    history: &mut FileHistory,
+    escapes: Escapes,
+    append: bool,
+    whole: &[u8],
+) -> result::Result<bool, Fail> {
+    let mut out = Vec::new(alloc);
+    let answer = answer_of(save(history, escapes, &mut out, append))?;
+    if answer.is_some() {
+        assert_eq!(rt; out.as_slice(), whole);
+    }
+    Ok(answer.is_some())
+}
+
+/// The lines are there, and are new where the save was refused.
 fn saves(
     rt: &impl Abort,
     alloc: Global,
@@ -204,17 +231,10 @@ fn saves(
     };
     let all = written.appended[4];
     let whole = if append { all } else { written.saved };
-    let mut out = Vec::new(alloc);
-    let answer = answer_of(save(&mut history, written.escapes, &mut out, append))?;
+    let saved = is_saved(rt, alloc, &mut history, written.escapes, append, whole)?;
     gives(rt, &history, &LINES[..4])?;
-    if answer.is_some() {
-        assert_eq!(rt; out.as_slice(), whole);
-        return Ok(());
-    }
-    let mut out = Vec::new(alloc);
-    save(&mut history, written.escapes, &mut out, true)?;
-    assert_eq!(rt; out.as_slice(), all);
-    Ok(())
+    let left = if saved { b"" } else { all };
+    appends(rt, alloc, &mut history, written.escapes, left)
 }
 
 #[test]

@@ -130,15 +130,17 @@ fn appends(
 type Case = (&'static [u8], usize, Option<bool>, &'static [u8]);
 
 /// Reads a text byte by byte, with interruptions or none.
-fn reads(rt: &impl Abort, alloc: Global, case: &Case) -> result::Result<(), Fail> {
+fn reads(
+    rt: &impl Abort,
+    alloc: Global,
+    case: &Case,
+    interrupts: bool,
+) -> result::Result<(), Fail> {
     let (text, failing, wanted, appended) = case;
-    for interrupts in [false, true] {
-        let mut history = FileHistory::new(alloc);
-        let reader = Trickle::new(*text, *failing, interrupts);
-        assert_eq!(rt; answer_of(history.load_from(reader))?, *wanted, "{failing}");
-        appends(rt, alloc, &mut history, V3, *appended)?;
-    }
-    Ok(())
+    let mut history = FileHistory::new(alloc);
+    let reader = Trickle::new(*text, *failing, interrupts);
+    assert_eq!(rt; answer_of(history.load_from(reader))?, *wanted, "{failing}");
+    appends(rt, alloc, &mut history, V3, *appended)
 }
 
 const WHOLE: usize = usize::MAX;
@@ -196,17 +198,39 @@ const READS: &[Case] = &[
 #[test]
 fn that_are_read_byte_by_byte(rt: HostRuntime) -> result::Result<(), Fail> {
     for case in READS {
-        reads(&rt, rt.alloc(), case)?;
+        for interrupts in [false, true] {
+            reads(&rt, rt.alloc(), case, interrupts)?;
+        }
     }
     Ok(())
 }
 
-/// Escapes, and what two new lines are written as with them: saved, and appended.
-type Written = (Escapes, &'static [u8], &'static [u8]);
+/// How two new lines are written.
+struct Written {
+    escapes: Escapes,
+    /// Saved.
+    saved: &'static [u8],
+    /// Appended.
+    appended: &'static [u8],
+}
 
-const WRITTEN: [Written; 2] = [
-    (V2, b"#V2\na\\nb\rc\nd\n", b"a\\nb\rc\nd\n"),
-    (V3, b"#V3\na\\nb\\rc\nd\n", b"a\\nb\\rc\nd\n"),
+impl Written {
+    fn whole(&self, append: bool) -> &'static [u8] {
+        if append { self.appended } else { self.saved }
+    }
+}
+
+const WRITTEN: &[Written] = &[
+    Written {
+        escapes: V2,
+        saved: b"#V2\na\\nb\rc\nd\n",
+        appended: b"a\\nb\rc\nd\n",
+    },
+    Written {
+        escapes: V3,
+        saved: b"#V3\na\\nb\\rc\nd\n",
+        appended: b"a\\nb\\rc\nd\n",
+    },
 ];
 
 fn two_lines(rt: &impl Abort, alloc: Global) -> result::Result<FileHistory, Fail> {
@@ -215,28 +239,56 @@ fn two_lines(rt: &impl Abort, alloc: Global) -> result::Result<FileHistory, Fail
     Ok(history)
 }
 
-/// A save of two new lines to a writer that fails behind so many bytes writes those, and leaves both lines new.
+/// A save to a writer that fails behind so many bytes writes those. Returns whether it wrote all.
+fn is_saved(
+    rt: &impl Abort,
+    history: &mut FileHistory,
+    written: &Written,
+    append: bool,
+    mut out: Narrow,
+) -> result::Result<bool, Fail> {
+    let whole = written.whole(append);
+    let failing = out.failing;
+    let answer = answer_of(save(history, written.escapes, &mut out, append))?;
+    assert_eq!(rt; answer.is_some(), failing >= whole.len(), "{failing}");
+    assert_eq!(rt;
+        Some(out.taken.as_slice()),
+        whole.get(..failing),
+        "{failing}"
+    );
+    Ok(answer.is_some())
+}
+
+/// A save of two new lines that fails leaves both of them new.
 fn fails(
     rt: &impl Abort,
     alloc: Global,
-    written: Written,
+    written: &Written,
     append: bool,
     failing: usize,
+    interrupts: bool,
 ) -> result::Result<(), Fail> {
-    let (escapes, saved, appended) = written;
-    let whole = if append { appended } else { saved };
-    for interrupts in [false, true] {
-        let mut history = two_lines(rt, alloc)?;
-        let mut out = Narrow::new(alloc, failing, true, interrupts);
-        let answer = answer_of(save(&mut history, escapes, &mut out, append))?;
-        assert_eq!(rt; answer.is_some(), failing >= whole.len(), "{failing}");
-        assert_eq!(rt;
-            Some(out.taken.as_slice()),
-            whole.get(..failing),
-            "{failing}"
-        );
-        let left = if answer.is_some() { b"" } else { appended };
-        appends(rt, alloc, &mut history, escapes, left)?;
+    let mut history = two_lines(rt, alloc)?;
+    let out = Narrow::new(alloc, failing, true, interrupts);
+    let left = if is_saved(rt, &mut history, written, append, out)? {
+        b""
+    } else {
+        written.appended
+    };
+    appends(rt, alloc, &mut history, written.escapes, left)
+}
+
+/// The writer fails behind each number of bytes.
+fn fail_everywhere(
+    rt: &impl Abort,
+    alloc: Global,
+    written: &Written,
+    append: bool,
+) -> result::Result<(), Fail> {
+    for failing in 0..=written.whole(append).len() {
+        for interrupts in [false, true] {
+            fails(rt, alloc, written, append, failing, interrupts)?;
+        }
     }
     Ok(())
 }
@@ -244,37 +296,47 @@ fn fails(
 #[test]
 fn that_are_written_byte_by_byte(rt: HostRuntime) -> result::Result<(), Fail> {
     for written in WRITTEN {
-        for failing in 0..=written.1.len() {
-            fails(&rt, rt.alloc(), written, false, failing)?;
-        }
-        for failing in 0..=written.2.len() {
-            fails(&rt, rt.alloc(), written, true, failing)?;
+        for append in [false, true] {
+            fail_everywhere(&rt, rt.alloc(), written, append)?;
         }
     }
     Ok(())
 }
 
-/// Where the flush fails, or nothing is taken, the lines stay new.
-fn stay_new(rt: &impl Abort, alloc: Global, written: Written) -> result::Result<(), Fail> {
-    let (escapes, _, appended) = written;
+/// Where the flush fails the lines stay new.
+fn stay_new(rt: &impl Abort, alloc: Global, written: &Written) -> result::Result<(), Fail> {
     let mut history = two_lines(rt, alloc)?;
     let mut out = Narrow::new(alloc, WHOLE, false, false);
-    assert_eq!(rt;
-        answer_of(save(&mut history, escapes, &mut out, false))?,
-        None
-    );
+    let answer = answer_of(save(&mut history, written.escapes, &mut out, false))?;
+    assert_eq!(rt; answer, None);
+    appends(rt, alloc, &mut history, written.escapes, written.appended)
+}
+
+/// Where nothing more is taken the lines stay new.
+fn stay_new_in_front_of(
+    rt: &impl Abort,
+    alloc: Global,
+    written: &Written,
+) -> result::Result<(), Fail> {
+    let mut history = two_lines(rt, alloc)?;
     let mut full: [u8; 2] = [0; 2];
-    let outcome = save(&mut history, escapes, &mut full.as_mut_slice(), true);
+    let outcome = save(
+        &mut history,
+        written.escapes,
+        &mut full.as_mut_slice(),
+        true,
+    );
     assert!(rt;
         matches!(outcome, Err(ReadlineError::Io(cause)) if cause.kind() == ErrorKind::WriteZero)
     );
-    appends(rt, alloc, &mut history, escapes, appended)
+    appends(rt, alloc, &mut history, written.escapes, written.appended)
 }
 
 #[test]
 fn that_fail_at_the_end_or_take_nothing(rt: HostRuntime) -> result::Result<(), Fail> {
     for written in WRITTEN {
         stay_new(&rt, rt.alloc(), written)?;
+        stay_new_in_front_of(&rt, rt.alloc(), written)?;
     }
     Ok(())
 }
@@ -289,24 +351,38 @@ fn long_line(alloc: Global, digit: char, end: char, count: usize) -> Result<Stri
     Ok(line)
 }
 
-/// Ten lines of 1,000 bytes each, and one of 20,000, half of them escaped, are written and read.
-fn hold_much(rt: &impl Abort, alloc: Global, escapes: Escapes) -> result::Result<(), Fail> {
-    let end = match escapes {
-        V2 => '\n',
-        V3 => '\r',
-    };
+/// Ten lines of 1,000 bytes each, and one of 20,000, half of them escaped.
+fn long_lines(rt: &impl Abort, alloc: Global, end: char) -> result::Result<FileHistory, Fail> {
     let mut history = FileHistory::new(alloc);
     for digit in '0'..='9' {
-        let line = long_line(alloc, digit, end, 500)?;
-        assert!(rt; history.add_owned(line)?);
+        assert!(rt; history.add_owned(long_line(alloc, digit, end, 500)?)?);
     }
-    let line = long_line(alloc, 'x', end, 10_000)?;
-    assert!(rt; history.add(line.as_str())?);
+    assert!(rt; history.add_owned(long_line(alloc, 'x', end, 10_000)?)?);
+    Ok(history)
+}
+
+/// They are written.
+fn long_text(
+    rt: &impl Abort,
+    alloc: Global,
+    escapes: Escapes,
+    history: &mut FileHistory,
+) -> result::Result<Vec<u8>, Fail> {
     let mut text = Vec::new(alloc);
-    save(&mut history, escapes, &mut text, false)?;
+    save(history, escapes, &mut text, false)?;
     assert_eq!(rt; text.len(), 4 + 10 * 1501 + 30_001);
+    Ok(text)
+}
+
+/// A text is read as the lines of this history.
+fn loads(
+    rt: &impl Abort,
+    alloc: Global,
+    text: &[u8],
+    history: &FileHistory,
+) -> result::Result<(), Fail> {
     let mut copy = FileHistory::new(alloc);
-    assert!(rt; copy.load_from(text.as_slice())?);
+    assert!(rt; copy.load_from(text)?);
     assert_eq!(rt; copy.len(), history.len());
     for (found, wanted) in copy.iter().zip(history.iter()) {
         assert!(rt; found == wanted);
@@ -314,11 +390,20 @@ fn hold_much(rt: &impl Abort, alloc: Global, escapes: Escapes) -> result::Result
     Ok(())
 }
 
+fn hold_much(
+    rt: &impl Abort,
+    alloc: Global,
+    escapes: Escapes,
+    end: char,
+) -> result::Result<(), Fail> {
+    let mut history = long_lines(rt, alloc, end)?;
+    let text = long_text(rt, alloc, escapes, &mut history)?;
+    loads(rt, alloc, text.as_slice(), &history)
+}
+
 /// Texts longer than what is read or written at once.
 #[test]
 fn that_hold_several_buffers(rt: HostRuntime) -> result::Result<(), Fail> {
-    for escapes in [V2, V3] {
-        hold_much(&rt, rt.alloc(), escapes)?;
-    }
-    Ok(())
+    hold_much(&rt, rt.alloc(), V2, '\n')?;
+    hold_much(&rt, rt.alloc(), V3, '\r')
 }

@@ -311,6 +311,7 @@ const ESCAPES: &[Case] = &[
     (&[Load(b"#V2\na\\\nb\n", Some(true))], &["a\\", "b"]),
     (&[Load(b"#V2\na\\\r\n", Some(true))], &["a\\"]),
     (&[Load(b"#V2\na\\tb\n", Some(true))], &["a\\tb"]),
+    (&[Load(b"#V2\na\\r\n", Some(true))], &["a\\r"]),
     (&[Load(b"#V2\na\\r\n\\N\n", Some(true))], &["a\\r", "\\N"]),
     (&[Load(b"#V2\n\\n\\t\\\\\n", Some(true))], &["\\n\\t\\\\"]),
     (&[Load(b"#V2\n\\\\\\\n", Some(true))], &["\\\\\\"]),
