@@ -1,5 +1,5 @@
 //! Sequences of keys that share their beginnings. Run with any one allocation refused, `forty_keys_are_bound_or_none` passes:
-//! it looks at what is left, or the call was not reached.
+//! it looks at what is left, or the refusal came before the call.
 
 use super::{Bindings, On, To, command, event};
 use line_config::{ReadlineError, Result};
@@ -102,58 +102,95 @@ fn typed(handler: Option<&EventHandler>) -> Option<(u16, char)> {
     }
 }
 
-/// The first three keys are bound, and all of them where `whole` says so; no other beginning is.
+/// How many of the keys are bound, and what they type.
+type Bound = (usize, u16, char);
+
+/// What so many of the keys type.
+fn bound_to(bound: &[Bound], len: usize) -> Option<(u16, char)> {
+    for (own, n, c) in bound {
+        if *own == len {
+            return Some((*n, *c));
+        }
+    }
+    None
+}
+
+/// These beginnings of the keys are bound, the longest of them last, and no other one.
 fn looked_at(
     rt: &impl Abort,
     alloc: Global,
     bindings: &Bindings,
     keys: &[KeyEvent],
-    whole: bool,
+    bound: &[Bound],
 ) -> Result<()> {
-    for (n, _) in keys.iter().enumerate() {
-        let front = keyed(alloc, &keys[..n])?;
-        let wanted = if n == 3 { Some((1, 'x')) } else { None };
-        assert_eq!(rt; typed(bindings.get(&front)), wanted, "{n}");
-        assert_eq!(rt; bindings.begins(&front), whole || n <= 3, "{n}");
+    let longest = match bound.last() {
+        Some((len, _, _)) => *len,
+        None => 0,
+    };
+    assert_eq!(rt; bindings.nodes(), longest);
+    for len in 0..=keys.len() {
+        let front = keyed(alloc, &keys[..len])?;
+        let leads = !bound.is_empty() && len <= longest;
+        assert_eq!(rt; typed(bindings.get(&front)), bound_to(bound, len), "{len}");
+        assert_eq!(rt; bindings.begins(&front), leads, "{len}");
     }
-    let all = keyed(alloc, keys)?;
-    let wanted = if whole { Some((2, 'y')) } else { None };
-    assert_eq!(rt; typed(bindings.get(&all)), wanted);
-    assert_eq!(rt; bindings.begins(&all), whole);
     Ok(())
 }
 
-/// Binds three keys, and then so many that begin with these. Where memory runs out for them, the map is as it was.
-fn lengthens(rt: &impl Abort, alloc: Global, len: usize) -> Result<()> {
-    let keys = sequence(alloc, len)?;
+/// Binds the first of these, which have not been bound so far. Where memory runs out, the map is as it was.
+fn lengthens(
+    rt: &impl Abort,
+    alloc: Global,
+    bindings: &mut Bindings,
+    keys: &[KeyEvent],
+    bound: &[Bound],
+    done: usize,
+) -> Result<()> {
+    assert!(rt; done < bound.len());
+    let (len, n, c) = bound[done];
+    assert!(rt; len <= keys.len());
+    let outcome = bindings.insert(keyed(alloc, &keys[..len])?, types(n, c));
+    let done = if outcome.is_ok() { done + 1 } else { done };
+    looked_at(rt, alloc, bindings, keys, &bound[..done])?;
+    let _ = outcome?;
+    Ok(())
+}
+
+/// Binds beginnings of forty keys to an empty map, one after another.
+fn forty(rt: &impl Abort, alloc: Global, bound: &[Bound]) -> Result<()> {
+    let keys = sequence(alloc, 40)?;
     let mut bindings = Bindings::new(alloc);
-    for (front, n, c) in [(3, 1, 'x'), (len, 2, 'y')] {
-        assert!(rt; front <= keys.len());
-        let event = keyed(alloc, &keys[..front])?;
-        let before = bindings.nodes();
-        let outcome = bindings.insert(event, types(n, c));
-        let nodes = if outcome.is_ok() { front } else { before };
-        assert_eq!(rt; bindings.nodes(), nodes);
-        if nodes > 0 {
-            looked_at(rt, alloc, &bindings, keys.as_slice(), nodes == len)?;
-        }
-        let _ = outcome?;
+    for done in 0..bound.len() {
+        lengthens(rt, alloc, &mut bindings, keys.as_slice(), bound, done)?;
     }
     Ok(())
 }
+
+/// Three keys and then forty that begin with them; and forty at once.
+const FORTY: [&[Bound]; 2] = [&[(3, 1, 'x'), (40, 2, 'y')], &[(40, 2, 'y')]];
 
 #[test]
 fn forty_keys_are_bound(rt: HostRuntime) -> std::result::Result<(), Fail> {
-    lengthens(&rt, rt.alloc(), 40)?;
+    for bound in FORTY {
+        forty(&rt, rt.alloc(), bound)?;
+    }
     Ok(())
+}
+
+/// A refusal is no failure of the test.
+fn or_none(outcome: Result<()>) -> std::result::Result<(), Fail> {
+    match outcome {
+        Ok(()) | Err(ReadlineError::Memory) => Ok(()),
+        Err(_) => Err(Fail::from("no other error")),
+    }
 }
 
 #[test]
 fn forty_keys_are_bound_or_none(rt: HostRuntime) -> std::result::Result<(), Fail> {
-    match lengthens(&rt, rt.alloc(), 40) {
-        Ok(()) | Err(ReadlineError::Memory) => Ok(()),
-        Err(_) => Err(Fail::from("no other error")),
+    for bound in FORTY {
+        or_none(forty(&rt, rt.alloc(), bound))?;
     }
+    Ok(())
 }
 
 /// Binds so many keys at once, finds them, and drops them.
