@@ -1,0 +1,7 @@
+//! The tests of hostile use, as tables of cases.
+#![tactic(auto)]
+
+#[cfg(test)]
+mod desk;
+#[cfg(test)]
+mod odd;
