@@ -1,13 +1,15 @@
 //! What the tests share: keys that are written as text, what they are bound to, and how an editor is looked at.
 
-use line_buffer::{GraphemeClusterMode, Movement, RepeatCount};
+use line_buffer::{GraphemeClusterMode, LineBuffer, Movement, Position, RepeatCount};
 use line_config::{Config, EditMode, ReadlineError, Result};
 use line_editor::Bindings;
 use line_editor::binding::{Event, EventHandler};
 use line_editor::edit::State;
 use line_keys::cmd::{Anchor, Cmd};
 use line_keys::keys::{KeyCode as K, KeyEvent, Modifiers as M};
+use line_keys::refresher::Refresher;
 use line_parts::MemHistory;
+use line_state::Renderer;
 use std::alloc::Global;
 use std::process::Abort;
 use tests_parties::advisor::Advisor;
@@ -117,4 +119,17 @@ pub(crate) fn halves<'l>(rt: &impl Abort, marked: &'l str) -> (&'l str, &'l str)
         Some(found) => found,
         None => panic!(rt; "no cursor in {marked:?}"),
     }
+}
+
+/// The kept cursor is a full redraw's, and so is the kept end where nothing stands behind the line.
+pub(crate) fn is_right(rt: &impl Abort, alloc: Global, state: &Editor<'_, '_>) -> Result<()> {
+    let (text, pos) = (state.line(), state.pos());
+    assert!(rt; text.is_char_boundary(pos), "{pos} in {text:?}");
+    let line = LineBuffer::init(alloc, text, pos)?;
+    let prompt_end = Position { row: 0, col: 2 };
+    let wanted = state.out().compute_layout(prompt_end, true, &line, None);
+    let kept = state.layout();
+    assert_eq!(rt; kept.cursor, wanted.cursor, "{pos} in {text:?}");
+    assert!(rt; kept.has_info || kept.end == wanted.end, "{text:?}");
+    Ok(())
 }

@@ -120,28 +120,43 @@ fn is_left(
 
 /// Runs, looks at what is left, and takes all back, which leaves the empty line.
 fn leaves(rt: &impl Abort, alloc: Global, case: &Case) -> Result<(), Fail> {
-    let (style, verdict, bound, pasted, typed, end, _) = case;
-    let config = config(*style);
-    let bindings = map_of(alloc, bound)?;
-    let mut typist = Typist::new(alloc);
-    if *pasted > 0 {
-        typist.press(keys(alloc, "⎘")?.as_slice())?;
-        typist.paste(copies(alloc, *pasted)?.as_str())?;
-    }
-    typist.press(keys(alloc, typed)?.as_slice())?;
     let history = MemHistory::new(alloc);
     let mut screen = Recorder::new(alloc, 80, false, 0);
-    let mut helper = Advisor::new(None, *verdict, None);
-    let mut input = InputState::new(&config, &bindings);
-    let mut kills = KillRing::new(alloc, 60);
+    let mut helper = Advisor::new(None, case.1, None);
     let context = Context::new(&history);
     let mut state = State::new(alloc, &mut screen, &"> ", Some(&mut helper), context)?;
-    let outcome = run(&mut state, &mut input, &mut typist, &mut kills, &config);
+    runs(rt, alloc, case, &mut state)
+}
+
+fn runs(
+    rt: &impl Abort,
+    alloc: Global,
+    case: &Case,
+    state: &mut Editor<'_, '_>,
+) -> Result<(), Fail> {
+    let (style, _, bound, pasted, typed, end, _) = case;
+    let config = config(*style);
+    let bindings = map_of(alloc, bound)?;
+    let mut input = InputState::new(&config, &bindings);
+    let mut kills = KillRing::new(alloc, 60);
+    let mut typist = types(alloc, *pasted, typed)?;
+    let outcome = run(state, &mut input, &mut typist, &mut kills, &config);
     assert_eq!(rt; ended(&outcome), *end, "{typed}");
-    is_left(rt, alloc, &state, case)?;
-    let _ = execute(Cmd::Undo(65535), &mut state, &input, &mut kills, &config)?;
+    is_left(rt, alloc, state, case)?;
+    let _ = execute(Cmd::Undo(65535), state, &input, &mut kills, &config)?;
     assert_eq!(rt; state.line(), "", "{typed}");
     Ok(())
+}
+
+/// A reader of so many x that are pasted, and of keys behind them.
+fn types(alloc: Global, pasted: usize, typed: &str) -> line_config::Result<Typist> {
+    let mut typist = Typist::new(alloc);
+    if pasted > 0 {
+        typist.press(keys(alloc, "⎘")?.as_slice())?;
+        typist.paste(copies(alloc, pasted)?.as_str())?;
+    }
+    typist.press(keys(alloc, typed)?.as_slice())?;
+    Ok(typist)
 }
 
 #[test]
