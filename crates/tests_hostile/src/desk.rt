@@ -1,19 +1,25 @@
 //! What the tests share: keys that are written as text, what they are bound to, and how an editor is looked at.
 
-use line_buffer::{GraphemeClusterMode, LineBuffer, Movement, Position, RepeatCount};
+use line_buffer::{
+    GraphemeClusterMode, KillRing, LineBuffer, Mode as Side, Movement, Position, RepeatCount,
+};
 use line_config::{Config, EditMode, ReadlineError, Result};
 use line_editor::Bindings;
 use line_editor::binding::{Event, EventHandler};
+use line_editor::command::{Status, execute};
 use line_editor::edit::State;
+use line_editor::input_state::InputState;
 use line_keys::cmd::{Anchor, Cmd};
 use line_keys::keys::{KeyCode as K, KeyEvent, Modifiers as M};
 use line_keys::refresher::Refresher;
-use line_parts::MemHistory;
+use line_parts::{Context, MemHistory};
 use line_state::Renderer;
 use std::alloc::Global;
 use std::process::Abort;
+use std::test::Fail;
 use tests_parties::advisor::Advisor;
 use tests_stand_ins::recorder::Recorder;
+use tests_stand_ins::typist::Typist;
 
 pub(crate) type Editor<'out, 'prompt> = State<
     'out,
@@ -132,4 +138,104 @@ pub(crate) fn is_right(rt: &impl Abort, alloc: Global, state: &Editor<'_, '_>) -
     assert_eq!(rt; kept.cursor, wanted.cursor, "{pos} in {text:?}");
     assert!(rt; kept.has_info || kept.end == wanted.end, "{text:?}");
     Ok(())
+}
+
+/// The style of Emacs, and two modes of Vi.
+#[derive(Clone, Copy, Debug, PartialEq, Eq)]
+pub(crate) enum Mode {
+    Emacs,
+    Insert,
+    Command,
+}
+
+pub(crate) const MODES: &[Mode] = &[Mode::Emacs, Mode::Insert, Mode::Command];
+
+/// A text with a cursor in it, a mode, and what was killed before.
+#[derive(Clone, Copy, Debug)]
+pub(crate) struct Task {
+    pub(crate) text: &'static str,
+    pub(crate) cursor: usize,
+    pub(crate) mode: Mode,
+    pub(crate) killed: &'static str,
+}
+
+/// Executes commands, all of which proceed and leave what is drawn right: they leave this line and this cursor, and where all is
+/// taken back, the text.
+pub(crate) fn leaves(
+    rt: &impl Abort,
+    alloc: Global,
+    task: Task,
+    commands: [Cmd; 3],
+    wanted: (&str, usize),
+) -> std::result::Result<(), Fail> {
+    let history = MemHistory::new(alloc);
+    let mut screen = Recorder::new(alloc, 80, false, 0);
+    let mut helper = Advisor::new(None, (true, true, None), None);
+    let advisor = Some(&mut helper);
+    let context = Context::new(&history);
+    let Task { text, cursor, .. } = task;
+    assert!(rt; text.is_char_boundary(cursor));
+    let mut state = State::with_line(alloc, &mut screen, &"> ", advisor, context, text, cursor)?;
+    state.refresh_line()?;
+    executes(rt, alloc, task, &mut state, commands, wanted)
+}
+
+fn executes(
+    rt: &impl Abort,
+    alloc: Global,
+    task: Task,
+    state: &mut Editor<'_, '_>,
+    commands: [Cmd; 3],
+    wanted: (&str, usize),
+) -> std::result::Result<(), Fail> {
+    let config = config(style_of(task.mode));
+    let bindings = Bindings::new(alloc);
+    let mut input = InputState::new(&config, &bindings);
+    let mut kills = KillRing::new(alloc, 60);
+    kills.kill(task.killed, Side::Append)?;
+    enters(alloc, task.mode, state, &mut input)?;
+    for command in commands {
+        let status = execute(command, state, &input, &mut kills, &config)?;
+        assert_eq!(rt; status, Status::Proceed);
+        is_right(rt, alloc, state)?;
+    }
+    assert_eq!(rt; (state.line(), state.pos()), wanted, "{task:?}");
+    let _ = execute(Cmd::Undo(65535), state, &input, &mut kills, &config)?;
+    assert_eq!(rt; state.line(), task.text);
+    Ok(())
+}
+
+fn style_of(mode: Mode) -> EditMode {
+    match mode {
+        Mode::Emacs => EditMode::Emacs,
+        _ => EditMode::Vi,
+    }
+}
+
+/// Reads the Esc that leads to Vi's command mode, where that is wanted. The move that it stands for is not executed.
+fn enters(
+    alloc: Global,
+    mode: Mode,
+    state: &mut Editor<'_, '_>,
+    input: &mut InputState<'_>,
+) -> Result<()> {
+    if mode == Mode::Command {
+        let mut typist = Typist::new(alloc);
+        typist.press(&[KeyEvent(K::Esc, M::NONE)])?;
+        let _ = state.next_cmd(input, &mut typist, false)?;
+    }
+    Ok(())
+}
+
+/// The text with another one in place of a range.
+pub(crate) fn spliced(
+    alloc: Global,
+    text: &str,
+    range: (usize, usize),
+    by: &str,
+) -> Result<String> {
+    let (from, to) = range;
+    let before = text.get(..from).unwrap_or("");
+    let behind = text.get(to..).unwrap_or("");
+    Ok(format!(in alloc; "{before}{by}{behind}")?)
 }

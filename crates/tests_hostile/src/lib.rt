@@ -7,3 +7,5 @@ mod cuts;
 mod desk;
 #[cfg(test)]
 mod odd;
+#[cfg(test)]
+mod ranges;
