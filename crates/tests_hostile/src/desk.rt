@@ -192,12 +192,17 @@ fn executes(
     let bindings = Bindings::new(alloc);
     let mut input = InputState::new(&config, &bindings);
     let mut kills = KillRing::new(alloc, 60);
-    kills.kill(task.killed, Side::Append)?;
+    if !task.killed.is_empty() {
+        kills.kill(task.killed, Side::Append)?;
+    }
     enters(alloc, task.mode, state, &mut input)?;
     for command in commands {
+        let is_looked_at = command != Cmd::Noop;
         let status = execute(command, state, &input, &mut kills, &config)?;
         assert_eq!(rt; status, Status::Proceed);
-        is_right(rt, alloc, state)?;
+        if is_looked_at {
+            is_right(rt, alloc, state)?;
+        }
     }
     assert_eq!(rt; (state.line(), state.pos()), wanted, "{task:?}");
     let _ = execute(Cmd::Undo(65535), state, &input, &mut kills, &config)?;
@@ -239,3 +244,15 @@ pub(crate) fn spliced(
     let behind = text.get(to..).unwrap_or("");
     Ok(format!(in alloc; "{before}{by}{behind}")?)
 }
+
+/// Where the cursor is behind a text that was yanked there: in Vi's command mode one character back.
+pub(crate) fn behind(mode: Mode, text: &str, end: usize) -> usize {
+    match (mode, text.chars().next_back()) {
+        (Mode::Command, Some(last)) => end.saturating_sub(last.len_utf8()),
+        _ => end,
+    }
+}
+
+/// `ab, ` 75 times.
+pub(crate) const LONG: &str =
+    "ab, ab, ab, ab, ab, ab, ab, ab, ab, ab, ab, ab, ab, ab, ab, ab, ab, ab, ab, ab, ab, ab, ab, ab, ab, ab, ab, ab, ab, ab, ab, ab, ab, ab, ab, ab, ab, ab, ab, ab, ab, ab, ab, ab, ab, ab, ab, ab, ab, ab, ab, ab, ab, ab, ab, ab, ab, ab, ab, ab, ab, ab, ab, ab, ab, ab, ab, ab, ab, ab, ab, ab, ab, ab, ab, ";

@@ -1,7 +1,7 @@
 //! Each movement, with the counts 0, 1 and 65535, in each command that takes one, at the start, in the middle and at the end of
 //! a text and on an empty line, in both styles and in Vi's command mode.
 
-use crate::desk::{MODES, Mode, Task, leaves, spliced};
+use crate::desk::{LONG, MODES, Mode, Task, behind, leaves, spliced};
 use line_buffer::At::*;
 use line_buffer::CharSearch as By;
 use line_buffer::Movement::{self, *};
@@ -89,14 +89,6 @@ fn copied(case: Case<'_>) -> &'static str {
         return "";
     }
     case.text.get(from..to).unwrap_or("")
-}
-
-/// Where the cursor is behind a text that was yanked there: in Vi's command mode one character back.
-fn behind(mode: Mode, text: &str, end: usize) -> usize {
-    match (mode, text.chars().next_back()) {
-        (Mode::Command, Some(last)) => end.saturating_sub(last.len_utf8()),
-        _ => end,
-    }
 }
 
 /// Where the line of a place starts.
@@ -373,10 +365,7 @@ fn of_two_characters(rt: HostRuntime) -> Result<(), Fail> {
     Ok(())
 }
 
-const LONG: Text = Text(
-    "ab, ab, ab, ab, ab, ab, ab, ab, ab, ab, ab, ab, ab, ab, ab, ab, ab, ab, ab, ab, ab, ab, ab, ab, ab, ab, ab, ab, ab, ab, ab, ab, ab, ab, ab, ab, ab, ab, ab, ab, ab, ab, ab, ab, ab, ab, ab, ab, ab, ab, ab, ab, ab, ab, ab, ab, ab, ab, ab, ab, ab, ab, ab, ab, ab, ab, ab, ab, ab, ab, ab, ab, ab, ab, ab, ",
-    [0, 150, 300],
-);
+const THREE_HUNDRED: Text = Text(LONG, [0, 150, 300]);
 
 const OF_LONG: &[Row] = &[
     (WholeLine, [(0, 0, 300), (150, 0, 300), (300, 0, 300)]),
@@ -544,7 +533,7 @@ const OF_LONG: &[Row] = &[
 #[test]
 fn of_three_hundred(rt: HostRuntime) -> Result<(), Fail> {
     for row in OF_LONG {
-        follows(&rt, rt.alloc(), LONG, row)?;
+        follows(&rt, rt.alloc(), THREE_HUNDRED, row)?;
     }
     Ok(())
 }
