@@ -11,4 +11,8 @@ mod measure;
 mod plain;
 #[cfg(test)]
 mod programs;
+#[cfg(test)]
+mod prompter;
+#[cfg(test)]
+mod random;
 pub mod read_line;

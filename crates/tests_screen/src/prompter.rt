@@ -1,0 +1,94 @@
+//! A helper that hints from the history and checks brackets, each where it is switched on.
+ghost use Rattle.std.specs.Prelude.{true, false, None, option_map, if◌then◌else◌};
+ghost use Rattle.line_parts.specs.BracketVerdict.{bracket_verdict};
+ghost use Rattle.line_parts.specs.Hint.{suggested};
+ghost use Rattle.line_parts.specs.HistoryHint.{history_hint};
+ghost use Rattle.line_parts.specs.Verdict.{valid};
+
+use line_config::Result;
+use line_parts::{
+    CmdKind, Completer, Context, Helper, Highlighter, Hinter, History, HistoryHinter,
+    MatchingBracketValidator, ValidationContext, ValidationResult, Validator,
+};
+use std::alloc::Global;
+
+/// Hints from the history and checks the brackets of a line, each where it is switched on.
+#[derive(Clone, Copy)]
+pub(crate) struct Prompter {
+    /// Whether there are hints.
+    pub(crate) hints: bool,
+    /// Whether brackets are checked.
+    pub(crate) brackets: bool,
+}
+
+impl Completer for Prompter {
+    type Candidate = String;
+
+    ghost sure = { λ _. true };
+}
+
+impl Hinter for Prompter {
+    type Hint = String;
+
+    ghost sure = { λ _. true };
+
+    ghost hint_at = { λ helper shown.
+        if helper.hints then option_map suggested (history_hint shown) else None };
+
+    fn hint<S: History>(
+        &self,
+        alloc: Global,
+        line: &str,
+        pos: usize,
+        ctx: &Context<'_, S>,
+    ) -> Result<Option<String>> {
+        if self.hints {
+            HistoryHinter::new().hint(alloc, line, pos, ctx)
+        } else {
+            Ok(None)
+        }
+    }
+}
+
+impl Highlighter for Prompter {
+    ghost sure = { λ _. true };
+
+    ghost lights = { λ _ _ _ _. false };
+
+    fn highlight_char(&mut self, _line: &str, _pos: usize, _kind: CmdKind) -> bool {
+        false
+    }
+}
+
+impl Validator for Prompter {
+    ghost sure = { λ _. true };
+
+    ghost verdict_at = { λ helper text.
+        if helper.brackets then bracket_verdict text else valid None };
+
+    fn validate(&self, alloc: Global, ctx: &ValidationContext<'_>) -> Result<ValidationResult> {
+        if self.brackets {
+            MatchingBracketValidator::new().validate(alloc, ctx)
+        } else {
+            Ok(ValidationResult::Valid(None))
+        }
+    }
+}
+
+impl Helper for Prompter {
+    ghost use Rattle.std.proofs.Common.{ap, refl};
+
+    ghost hints_kept = { λ _ _ same. ap Self.hint_at same };
+
+    ghost verdicts_kept = { λ _ _ same. ap Self.verdict_at same };
+
+    ghost lights_kept = { λ _ _ _. refl };
+
+    ghost completions_kept = { λ _ _ _. refl };
+
+    ghost hinter_kept = { λ _ _ _. refl };
+
+    ghost validator_kept = { λ _ _ _. refl };
+
+    ghost completer_kept = { λ _ _ _. refl };
+}
