@@ -31,7 +31,9 @@ const CODES: &[K] = &[
     K::End,
     K::Enter,
     K::Esc,
+    K::F(0),
     K::F(4),
+    K::F(255),
     K::Home,
     K::Insert,
     K::Left,
@@ -75,6 +77,14 @@ const BEFORE: &[(&str, bool)] = &[
     ("ab\u{1b}yf", false),
     ("ab⌥d", false),
     ("ab⌥3", true),
+    ("ab⌥5", true),
+    ("ab\u{1b}⌥5", true),
+    ("ab\u{1b}R⌥5", true),
+    ("ab⌃X", true),
+    ("ab\u{1b}⌃X", true),
+    ("ab\u{1b}R⌃X", true),
+    ("abd", true),
+    ("ab\u{1b}Rd", true),
 ];
 
 /// The keys that end a run before its items end, and how. The reader gives Ctrl with C an interrupt.

@@ -36,7 +36,9 @@ const CODES: &[K] = &[
     K::End,
     K::Enter,
     K::Esc,
+    K::F(0),
     K::F(4),
+    K::F(255),
     K::Home,
     K::Insert,
     K::Left,
@@ -63,6 +65,7 @@ const SETS: &[M] = &[
 const BEFORE: &[(&[KeyEvent], bool)] = &[
     (&[], true),
     (&[KeyEvent(K::Char('3'), M::ALT)], true),
+    (&[KeyEvent(K::Char('5'), M::ALT)], true),
     (&[KeyEvent(K::Char('-'), M::ALT)], true),
     (&[KeyEvent(K::Char('0'), M::ALT)], true),
     (&[KeyEvent(K::Char('X'), M::CTRL)], false),
