@@ -155,7 +155,7 @@ fn holds(
     };
     let (line, pos) = wanted(alloc, place, op, n, mode)?;
     let commands = commands(alloc, op, n)?;
-    leaves(rt, alloc, task, commands, (line.as_str(), pos))
+    leaves(rt, alloc, task, commands, (line.as_str(), pos), &(op, n))
 }
 
 fn in_each_mode(
@@ -233,18 +233,29 @@ fn transposes(
     place: Place,
     n: RepeatCount,
     cell: (Swap, usize),
+    mode: Mode,
 ) -> Result<(), Fail> {
     let (text, cursor) = place;
+    let task = Task {
+        text,
+        cursor,
+        mode,
+        killed: "",
+    };
     let line = swapped(alloc, text, cell.0)?;
+    let commands = [Cmd::TransposeWords(n), Cmd::Noop, Cmd::Noop];
+    leaves(rt, alloc, task, commands, (line.as_str(), cell.1), &n)
+}
+
+fn transposes_in_each_mode(
+    rt: &impl Abort,
+    alloc: Global,
+    place: Place,
+    n: RepeatCount,
+    cell: (Swap, usize),
+) -> Result<(), Fail> {
     for mode in MODES {
-        let task = Task {
-            text,
-            cursor,
-            mode: *mode,
-            killed: "",
-        };
-        let commands = [Cmd::TransposeWords(n), Cmd::Noop, Cmd::Noop];
-        leaves(rt, alloc, task, commands, (line.as_str(), cell.1))?;
+        transposes(rt, alloc, place, n, cell, *mode)?;
     }
     Ok(())
 }
@@ -252,7 +263,7 @@ fn transposes(
 fn by_counts(rt: &impl Abort, alloc: Global, row: &Words) -> Result<(), Fail> {
     let (place, cells) = row;
     for (n, cell) in COUNTS.iter().zip(cells.iter()) {
-        transposes(rt, alloc, *place, *n, *cell)?;
+        transposes_in_each_mode(rt, alloc, *place, *n, *cell)?;
     }
     Ok(())
 }

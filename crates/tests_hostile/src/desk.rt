@@ -15,6 +15,7 @@ use line_keys::refresher::Refresher;
 use line_parts::{Context, MemHistory};
 use line_state::Renderer;
 use std::alloc::Global;
+use std::fmt::Debug;
 use std::process::Abort;
 use std::test::Fail;
 use tests_parties::advisor::Advisor;
@@ -160,13 +161,14 @@ pub(crate) struct Task {
 }
 
 /// Executes commands, all of which proceed and leave what is drawn right: they leave this line and this cursor, and where all is
-/// taken back, the text.
+/// taken back, the text. What is done is named where it fails.
 pub(crate) fn leaves(
     rt: &impl Abort,
     alloc: Global,
     task: Task,
     commands: [Cmd; 3],
     wanted: (&str, usize),
+    what: &impl Debug,
 ) -> std::result::Result<(), Fail> {
     let history = MemHistory::new(alloc);
     let mut screen = Recorder::new(alloc, 80, false, 0);
@@ -177,7 +179,7 @@ pub(crate) fn leaves(
     assert!(rt; text.is_char_boundary(cursor));
     let mut state = State::with_line(alloc, &mut screen, &"> ", advisor, context, text, cursor)?;
     state.refresh_line()?;
-    executes(rt, alloc, task, &mut state, commands, wanted)
+    executes(rt, alloc, task, &mut state, commands, wanted, what)
 }
 
 fn executes(
@@ -187,6 +189,7 @@ fn executes(
     state: &mut Editor<'_, '_>,
     commands: [Cmd; 3],
     wanted: (&str, usize),
+    what: &impl Debug,
 ) -> std::result::Result<(), Fail> {
     let config = config(style_of(task.mode));
     let bindings = Bindings::new(alloc);
@@ -204,7 +207,7 @@ fn executes(
             is_right(rt, alloc, state)?;
         }
     }
-    assert_eq!(rt; (state.line(), state.pos()), wanted, "{task:?}");
+    assert_eq!(rt; (state.line(), state.pos()), wanted, "{what:?} {task:?}");
     let _ = execute(Cmd::Undo(65535), state, &input, &mut kills, &config)?;
     assert_eq!(rt; state.line(), task.text);
     Ok(())

@@ -153,7 +153,8 @@ fn holds(rt: &impl Abort, alloc: Global, case: Case<'_>, op: Op, mode: Mode) -> 
     };
     let (line, pos) = wanted(alloc, case, op, mode)?;
     let commands = commands(alloc, op, case.movement)?;
-    leaves(rt, alloc, task, commands, (line.as_str(), pos))
+    let wanted = (line.as_str(), pos);
+    leaves(rt, alloc, task, commands, wanted, &(op, case.movement))
 }
 
 fn in_each_mode(rt: &impl Abort, alloc: Global, case: Case<'_>, op: Op) -> Result<(), Fail> {
