@@ -34,17 +34,17 @@ fitted-start layout start line column = record {
   same = refl;
 }
 
-le_test : (a b : ℕ) → a ≤ b → nat_le a b ≡ true
+pub le_test : (a b : ℕ) → a ≤ b → nat_le a b ≡ true
 le_test a b h = grind (arith, nat_tests)
 
-lt_test : (a b : ℕ) → b < a → nat_le a b ≡ false
+pub lt_test : (a b : ℕ) → b < a → nat_le a b ≡ false
 lt_test a b h = grind (arith, nat_tests)
 
-last_fitting-yes : (p : ℕ → Bool) (m : ℕ) → p m ≡ true → last_fitting p m ≡ m
+pub last_fitting-yes : (p : ℕ → Bool) (m : ℕ) → p m ≡ true → last_fitting p m ≡ m
 last_fitting-yes p zero h = refl
 last_fitting-yes p (suc m) h = rw h refl
 
-last_fitting-no : (p : ℕ → Bool) (m : ℕ) → p (suc m) ≡ false → last_fitting p (suc m) ≡ last_fitting p m
+pub last_fitting-no : (p : ℕ → Bool) (m : ℕ) → p (suc m) ≡ false → last_fitting p (suc m) ≡ last_fitting p m
 last_fitting-no p m h = rw h refl
 
 pub fitted-found : (layout : Layout) (start : ℕ) (line : List ℕ) (column : ℕ) (rest : List (List ℕ)) → Fitted layout start line column rest

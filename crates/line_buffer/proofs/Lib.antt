@@ -2,6 +2,7 @@ pub mod BlankLemmas
 pub mod BoundaryLemmas
 pub mod ChangeLemmas
 pub mod ClusterLemmas
+pub mod ClusterStartLemmas
 pub mod FittingLemmas
 pub mod FrontLemmas
 pub mod GroupLemmas

@@ -1,6 +1,7 @@
 pub mod Changes
 pub mod Character
 pub mod Cluster
+pub mod ClusterStart
 pub mod Comparison
 pub mod Edit
 pub mod EntryKind

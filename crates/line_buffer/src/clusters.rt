@@ -4,6 +4,7 @@ ghost use Rattle.std.specs.Prelude.{◌≡◌, nat_le, ◌≤◌, IfSome, ◌==�
 ghost use Rattle.std.specs.List.{concat, prefix_len, suffix_len};
 ghost use Rattle.line_buffer.specs.Character.{is_alphanumeric, is_alphanumeric_cluster, is_one_alphanumeric};
 ghost use Rattle.line_buffer.specs.Cluster.{behind_first, before_last, clusters};
+ghost use Rattle.line_buffer.specs.ClusterStart.{cluster_start};
 ghost use Rattle.line_buffer.specs.Line.{is_no_newline};
 ghost use Rattle.line_buffer.specs.Transpose.{first_alphanumeric};
 ghost use Rattle.line_buffer.specs.Lines.{line_above, next_line};
@@ -94,6 +95,23 @@ pub(crate) fn last_start(text: &str, n: RepeatCount) -> usize
     ensures { IsOffset result text.now (length (before_last n text.now)) }
 {
     before_last(text, n).len()
+}
+
+/// Returns where the cluster of the text begins that holds the byte at `place`. Where the text ends before that byte, it is the
+/// text's end.
+pub fn cluster_start(text: &str, place: usize) -> usize
+    ensures { IsOffset result text.now (cluster_start text.now place) }
+{
+    let mut rest = text.graphemes(true);
+    let mut start = 0;
+    while let Some(_) = rest.next() {
+        let end = text.len() - rest.as_str().len();
+        if place < end {
+            return start;
+        }
+        start = end;
+    }
+    start
 }
 
 /// Returns the length of the text up to its first newline, or of all of it.

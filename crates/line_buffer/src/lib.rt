@@ -3,7 +3,7 @@
 #![tactic(auto)]
 
 mod char_search;
-mod clusters;
+pub mod clusters;
 pub mod kill_ring;
 pub mod laws;
 pub mod layout;
@@ -16,6 +16,7 @@ mod seams;
 pub mod undo;
 mod word_edges;
 
+pub use clusters::cluster_start;
 pub use kill_ring::{KillRing, Mode};
 pub use layout::{GraphemeClusterMode, Layout, Position, Unit};
 pub use line_buffer::{Direction, LineBuffer, OutOfMemory, WordAction};
