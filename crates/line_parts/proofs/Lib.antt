@@ -6,6 +6,7 @@ pub mod HistoryLawLemmas
 pub mod HistoryLemmas
 pub mod LinesLemmas
 pub mod LoadLemmas
+pub mod MatchLawLemmas
 pub mod MatchLemmas
 pub mod OrderLemmas
 pub mod PathLemmas

@@ -10,10 +10,10 @@ use Rattle.line_parts.specs.BracketMatch.{is_even, led_away, match_of, nearest_e
 
 -- ---- the bytes that lead away
 
-led-open : (text : List ℕ) (b place : ℕ) → is_open b ≡ true → led_away text b place ≡ drop (place + 1) text
+pub led-open : (text : List ℕ) (b place : ℕ) → is_open b ≡ true → led_away text b place ≡ drop (place + 1) text
 led-open text b place e = rw e refl
 
-led-close : (text : List ℕ) (b place : ℕ) → is_open b ≡ false → led_away text b place ≡ reverse (take place text)
+pub led-close : (text : List ℕ) (b place : ℕ) → is_open b ≡ false → led_away text b place ≡ reverse (take place text)
 led-close text b place e = rw e refl
 
 pub led_length : (text : List ℕ) (b place count : ℕ) → place < length text → count ≡ (if is_open b then length text - (place + 1) else place)
@@ -47,13 +47,13 @@ pub record Counts (b : ℕ) (led : List ℕ) (n unmatched : ℕ) : Type 0 where
   pub some : 0 < unmatched
   pub small : unmatched ≤ n + 1
 
-same : (b : ℕ) → eqb b b ≡ true
+pub same : (b : ℕ) → eqb b b ≡ true
 same b = grind arith
 
-other : (b c : ℕ) → b ≢ c → eqb b c ≡ false
+pub other : (b c : ℕ) → b ≢ c → eqb b c ≡ false
 other b c h = grind arith
 
-bracket_is : (b : ℕ) → is_bracket b ≡ true → (b ≡ 40) ⊎ ((b ≡ 91) ⊎ ((b ≡ 123) ⊎ ((b ≡ 41) ⊎ ((b ≡ 93) ⊎ (b ≡ 125)))))
+pub bracket_is : (b : ℕ) → is_bracket b ≡ true → (b ≡ 40) ⊎ ((b ≡ 91) ⊎ ((b ≡ 123) ⊎ ((b ≡ 41) ⊎ ((b ≡ 93) ⊎ (b ≡ 125)))))
 unfolding is_open is_close
 bracket_is b e = grind arith
 
@@ -79,13 +79,13 @@ count-first : (p : ℕ → Bool) (b : ℕ) (xs : List ℕ) → count_by p (b ∷
 count-first p b xs = sum_by-append (λ c. cond (p c) 1 0) (b ∷ []) xs
 
 -- one more byte counted, or not
-count-yes : (p : ℕ → Bool) (b : ℕ) (led : List ℕ) (n : ℕ) → n < length led → p (get_or led n 0) ≡ true
+pub count-yes : (p : ℕ → Bool) (b : ℕ) (led : List ℕ) (n : ℕ) → n < length led → p (get_or led n 0) ≡ true
     → count_by p (b ∷ take (n + 1) led) ≡ count_by p (b ∷ take n led) + 1
 count-yes p b led n lt e =
     let more : count_by p (take (n + 1) led) ≡ count_by p (take n led) + 1 = count_by_more_yes p led n 0 lt e in
     omega (arith, more, count-first p b (take (n + 1) led), count-first p b (take n led))
 
-count-no : (p : ℕ → Bool) (b : ℕ) (led : List ℕ) (n : ℕ) → n < length led → p (get_or led n 0) ≡ false
+pub count-no : (p : ℕ → Bool) (b : ℕ) (led : List ℕ) (n : ℕ) → n < length led → p (get_or led n 0) ≡ false
     → count_by p (b ∷ take (n + 1) led) ≡ count_by p (b ∷ take n led)
 count-no p b led n lt e =
     let more : count_by p (take (n + 1) led) ≡ count_by p (take n led) = count_by_more_no p led n 0 lt e in
@@ -94,7 +94,7 @@ count-no p b led n lt e =
 not-even : (b : ℕ) (part : List ℕ) (u : ℕ) → count_by (λ c. c == b) part ≡ count_by (λ c. c == partner b) part + u → 0 < u → is_even b part ≡ false
 not-even b part u e lt = other (count_by (λ c. c == b) part) (count_by (λ c. c == partner b) part) (λ f. omega (arith, e, lt, f))
 
-even : (b : ℕ) (part : List ℕ) (u : ℕ) → count_by (λ c. c == b) part ≡ count_by (λ c. c == partner b) part + u → u ≡ 0 → is_even b part ≡ true
+pub even : (b : ℕ) (part : List ℕ) (u : ℕ) → count_by (λ c. c == b) part ≡ count_by (λ c. c == partner b) part + u → u ≡ 0 → is_even b part ≡ true
 even b part u e none =
     let equal : count_by (λ c. c == b) part ≡ count_by (λ c. c == partner b) part = omega (arith, e, none) in
     rw equal (same (count_by (λ c. c == partner b) part))
@@ -102,7 +102,7 @@ even b part u e none =
 lt_or_here : (k n : ℕ) → k < n + 1 → (k < n) ⊎ (k ≡ n)
 lt_or_here k n lt = grind arith
 
-counts-more : (b : ℕ) (led : List ℕ) (n u v : ℕ) → Counts b led n u
+pub counts-more : (b : ℕ) (led : List ℕ) (n u v : ℕ) → Counts b led n u
     → count_by (λ c. c == b) (b ∷ take (n + 1) led) ≡ count_by (λ c. c == partner b) (b ∷ take (n + 1) led) + v → 0 < v → v ≤ u + 1 → Counts b led (n + 1) v
 counts-more b led n u v h e lt le = record {
   none_yet = λ k below. ⊎_elim (λ before. h.none_yet k before) (λ here. rw here (not-even b (b ∷ take (n + 1) led) v e lt)) (lt_or_here k n below);
@@ -111,7 +111,7 @@ counts-more b led n u v h e lt le = record {
   small = omega (arith, h.small, le);
 }
 
-is-here : (x b : ℕ) → x ≡ b → eqb x b ≡ true
+pub is-here : (x b : ℕ) → x ≡ b → eqb x b ≡ true
 is-here x b e = rw e (same b)
 
 pub counts_own : (b : ℕ) (led : List ℕ) (n u : ℕ) → is_bracket b ≡ true → n < length led → get_or led n 0 ≡ b → Counts b led n u → Counts b led (n + 1) (u + 1)
@@ -121,7 +121,7 @@ counts_own b led n u kind lt e h =
     counts-more b led n u (u + 1) h (omega (arith, one, none, h.counts)) (omega arith) (omega arith)
 
 -- after the partner there is one less
-less : (b : ℕ) (led : List ℕ) (n u : ℕ) → is_bracket b ≡ true → n < length led → get_or led n 0 ≡ partner b → Counts b led n u
+pub less : (b : ℕ) (led : List ℕ) (n u : ℕ) → is_bracket b ≡ true → n < length led → get_or led n 0 ≡ partner b → Counts b led n u
     → count_by (λ c. c == b) (b ∷ take (n + 1) led) ≡ count_by (λ c. c == partner b) (b ∷ take (n + 1) led) + (u - 1)
 less b led n u kind lt e h =
     let none = count-no (λ c. c == b) b led n lt (other (get_or led n 0) b (λ f. partner_differs b kind (sym f ∙ e))) in

@@ -1,5 +1,6 @@
 -- Laws of the brackets of a text.
-use Rattle.std.specs.Prelude.{◌≡◌, ℕ, List}
+use Rattle.std.specs.Prelude.{◌≡◌, ℕ, List, Some}
+use Rattle.line_parts.specs.BracketMatch.{matching_bracket}
 use Rattle.line_parts.specs.Brackets.{IsVerdict}
 use Rattle.line_parts.specs.BracketVerdict.{bracket_verdict}
 use Rattle.line_parts.specs.Verdict.{Verdict}
@@ -12,3 +13,8 @@ StrikingOutGivesAVerdict = (text : List ℕ) → IsVerdict text (bracket_verdict
 abbrev pub VerdictIsOne : Type 0
 VerdictIsOne = (text : List ℕ) (one other : Verdict) → IsVerdict text one → IsVerdict text other
     → one ≡ other
+
+-- brackets match each other: the match of a bracket has that bracket as its match
+abbrev pub MatchIsMutual : Type 0
+MatchIsMutual = (text : List ℕ) (one other : ℕ) → matching_bracket text one ≡ Some other
+    → matching_bracket text other ≡ Some one

@@ -41,6 +41,10 @@ abbrev pub bracket_at : List ℕ → ℕ → Option Seen
 bracket_at text place = kept_if (λ s. is_bracket s.bracket)
     (option_map (λ b. record { bracket = b; place = place }) (slice_get text place))
 
+-- the place of the match of the bracket at a place, if one stands there and has a match
+abbrev pub matching_bracket : List ℕ → ℕ → Option ℕ
+matching_bracket text place = option_and_then (λ s. match_of text s.bracket s.place) (bracket_at text place)
+
 -- whether anything stands where the match of a bracket would be
 abbrev pub has_room : List ℕ → Seen → Bool
 has_room text s = if is_open s.bracket then nat_lt (s.place + 1) (length text) else nat_lt 0 s.place

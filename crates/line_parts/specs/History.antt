@@ -152,7 +152,7 @@ search_in = nearest_match first_in
 abbrev pub starting_with : List (List ℕ) → List ℕ → ℕ → SearchDirection → Option Found
 starting_with = nearest_match behind_start
 
--- a history that counts the new lines, those that came since all were written or read
+-- a history that counts the new lines, those that came since the last save or load that succeeded
 pub record FiledHistory : Type 0 where
   pub lines : List (List ℕ)
   pub rules : HistoryRules

@@ -35,7 +35,8 @@ abbrev pub without_return : List ℕ → List ℕ
 without_return line =
     if bytes_eq (last_of 1 line) (13 ∷ []) then take (length line - 1) line else line
 
--- the lines of a text: each that a line feed ends, and what stands behind the last line feed
+-- the lines of a text: each that a line feed ends, without the carriage return before it; and what stands behind the last line
+-- feed, if anything does
 abbrev pub lines_of : List ℕ → List (List ℕ)
 lines_of text = let pieces = slice_split is_newline text in
     map without_return (take (length pieces - 1) pieces) ++ filter is_some_text (last_of 1 pieces)
@@ -78,7 +79,7 @@ pub record Loads (text : List ℕ) (old new : FiledHistory) (answer : Bool) : Ty
   pub added : new ≡ settled (all_filed old lines)
   pub answers : answer ≡ (is_some headed && takes_all old lines)
 
--- a history after the first lines of a text were read
+-- a history after some of the first lines of a text were read, or none
 pub record LoadsBeginning (text : List ℕ) (old new : FiledHistory) : Type 0 where
   pub headed : Option Escapes
   pub lines : List (List ℕ)
@@ -135,8 +136,8 @@ to_save escapes append h =
     if append then written escapes (last_of h.new_lines h.lines) else saved escapes h.lines
 
 -- a save with these escapes: what was to be saved stands behind what the writer had, and no line
--- counts as new; after an error, which for want of memory is no error of the stream, the history is
--- as it was
+-- counts as new; after an error the history is as it was. Want of memory is never an error of the
+-- stream
 pub record Saves {T : Type 0} (escapes : Escapes) (append : Bool) (result : Result T ReadlineError) (had has : Option (List ℕ)) (old new : FiledHistory) : Type 0 where
   pub text : OnOk result (Appends had has (to_save escapes append old))
   pub history : OnOk result (new ≡ settled old)

@@ -20,6 +20,7 @@ LoadsBack escapes xs ys = (old new : FiledHistory) (answer : Bool)
 abbrev pub SavedIsRead : Type 0
 SavedIsRead = (xs ys : List (List ℕ)) → All EndsPlain xs → All EndsPlain ys → ReadsBack V2 xs ys
 
+-- and loading that text leaves what adding these lines leaves
 abbrev pub SavedIsLoaded : Type 0
 SavedIsLoaded = (xs ys : List (List ℕ)) → All EndsPlain xs → All EndsPlain ys → LoadsBack V2 xs ys
 
@@ -27,6 +28,7 @@ SavedIsLoaded = (xs ys : List (List ℕ)) → All EndsPlain xs → All EndsPlain
 abbrev pub SavedV3IsRead : Type 0
 SavedV3IsRead = (xs ys : List (List ℕ)) → ReadsBack V3 xs ys
 
+-- and loading that text leaves what adding these lines leaves
 abbrev pub SavedV3IsLoaded : Type 0
 SavedV3IsLoaded = (xs ys : List (List ℕ)) → LoadsBack V3 xs ys
 

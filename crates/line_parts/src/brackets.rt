@@ -5,11 +5,13 @@ ghost use Rattle.line_parts.specs.Brackets.{is_bracket, is_close, is_open, partn
 ghost use Rattle.line_parts.specs.BracketMatch.{bracket_at, has_room, looked_at, match_of};
 ghost use Rattle.line_parts.specs.BracketMatch.{under_or_before};
 
-// A bracket, and the place where it was seen.
+/// A bracket, and the place where it was seen.
 #[derive(Clone, Copy)]
-pub(crate) struct Seen {
-    pub(crate) bracket: u8,
-    pub(crate) place: usize,
+pub struct Seen {
+    /// The bracket, a byte of ASCII.
+    pub bracket: u8,
+    /// The byte of the text at which it stood.
+    pub place: usize,
 }
 
 // Returns whether a byte is an opening bracket.
@@ -44,9 +46,13 @@ pub(crate) fn partner(bracket: u8) -> u8
     }
 }
 
-// Returns the bracket at a place, if one stands there.
-fn bracket_at(line: &[u8], place: usize) -> Option<Seen>
-    ensures { result ≡ bracket_at line.now place }
+#[tactic(auto, unfolding(crate::specs::Brackets::is_open, crate::specs::Brackets::is_close))]
+/// Returns the bracket at a byte of a text, if one stands there: one of `()[]{}`.
+pub fn bracket_at(line: &[u8], place: usize) -> Option<Seen>
+    ensures seen { result ≡ bracket_at line.now place }
+    ensures bracket { IfSome result (λ s. is_bracket s.bracket ≡ true) }
+    ensures within { IfSome result (λ s. s.place < length line.now) }
+    ensures single { IfSome result (λ s. slice_index line.now place < 128) }
 {
     match line.get(place) {
         Some(byte) if is_open(*byte) || is_close(*byte) => Some(Seen {
@@ -123,13 +129,16 @@ fn away(opens: bool, place: usize, len: usize, distance: usize) -> usize
     }
 }
 
-// Returns the place of the match of a bracket that counts as standing where it was seen.
-pub(crate) fn find_match(line: &[u8], seen: Seen) -> Option<usize>
+/// Returns the place of the match of a bracket, in bytes. The bracket counts as standing where it was seen, whatever stands there
+/// now. Brackets of its own kind alone are counted, from its place on or back, up to the first at which as many open as close.
+/// `None` where there is no such place.
+pub fn find_match(line: &[u8], seen: Seen) -> Option<usize>
     requires bracket { is_bracket seen.bracket ≡ true }
     requires within { seen.place < length line.now }
     ensures place { result ≡ match_of line.now seen.bracket seen.place }
     ensures within { IfSome result (λ at. at < length line.now) }
     ensures partner { IfSome result (λ at. slice_index line.now at ≡ partner seen.bracket) }
+    ensures single { IfSome result (λ at. slice_index line.now at < 128) }
 {
     let opens = is_open(seen.bracket);
     let other = partner(seen.bracket);

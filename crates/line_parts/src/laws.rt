@@ -1,6 +1,6 @@
 //! Laws over the definitions that the contracts cite.
 ghost use Rattle.line_buffer.specs.Comparison.{IsSameness, IsSamenessOf};
-ghost use Rattle.line_parts.specs.BracketLaws.{StrikingOutGivesAVerdict, VerdictIsOne};
+ghost use Rattle.line_parts.specs.BracketLaws.{MatchIsMutual, StrikingOutGivesAVerdict, VerdictIsOne};
 ghost use Rattle.line_parts.specs.CompletionLaws.{CommonStartIsOne, EscapedIsUnescaped, EscapedIsWord, OneQuoteIsOpen, OrderIsOne};
 ghost use Rattle.line_parts.specs.History.{found_of};
 ghost use Rattle.line_parts.specs.HistoryLaws.{AddingKeepsTheLast, FoundIsNearest, NoneIsNowhere};
@@ -65,6 +65,11 @@ pub fn text_says_one()
 pub fn brackets_have_one_verdict()
     ensures some { StrikingOutGivesAVerdict }
     ensures one { VerdictIsOne }
+{}
+
+/// Where a bracket has a match, the match of that one is the first.
+pub fn brackets_match_each_other()
+    ensures { MatchIsMutual }
 {}
 
 /// Escaping a text and then unescaping it gives the text, where the escape character is one of the

@@ -1,7 +1,7 @@
 //! What a line editor asks about a line: history, hints, validation, highlighting, completion.
 #![tactic(auto)]
 
-mod brackets;
+pub mod brackets;
 pub mod completion;
 pub mod consulted;
 pub mod context;

@@ -159,7 +159,7 @@ impl FileHistory {
 
     /// Writes the header line `#V2` and all lines to `out`, with a line feed behind each, and flushes it. In a line a
     /// backslash is written as `\\`, and a newline as `\n`. With `append` only the new lines are written, those that
-    /// came since all were saved or loaded, and no header. After that no line counts as new.
+    /// came since the last save or load that succeeded, and no header. After that no line counts as new.
     ///
     /// A line that ends in a carriage return is loaded without it: `save_v3_to` keeps it.
     ///

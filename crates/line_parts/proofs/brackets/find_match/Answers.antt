@@ -1,5 +1,5 @@
 use Rattle.std.proofs.Common.{◌<◌, sym, ◌∙◌, length}
-use Rattle.line_parts.proofs.MatchLemmas.{counts_other, counts_own, counts_partner, counts_start, led_byte, led_length, match_found, no_match}
+use Rattle.line_parts.proofs.MatchLemmas.{counts_other, counts_own, counts_partner, counts_start, led_byte, led_length, match_found, no_match, partner_small}
 use Rattle.line_parts.specs.BracketMatch.{led_away}
 use Rattle.line_parts.proofs.brackets.find_match.Goals as goal
 use Rattle.line_parts.proofs.brackets.find_match.Goals.{then-line-at, else-line-at+then-line-at-2+else-unmatched-eq0, else-line-at+else-line-at-2}
@@ -16,6 +16,9 @@ returns-then-unmatched-eq0-clause-place c =
     let byte = led_byte c.args.line.now c.args.seen.bracket c.args.seen.place c.loop-distance.distance c.away-at.result c.requires.within near place in
     match_found c.args.line.now c.args.seen.bracket c.args.seen.place c.loop-distance.distance c.loop-distance.unmatched c.away-at.result c.requires.bracket near
     (byte ∙ c.if-line-at-2.true ∙ c.partner-other.ensures) c.if-unmatched-eq0.true c.loop-distance.invariant place
+
+pub returns-then-unmatched-eq0-clause-single : goal.returns-then-unmatched-eq0-clause-single
+returns-then-unmatched-eq0-clause-single c = rw (c.if-line-at-2.true ∙ c.partner-other.ensures) (partner_small c.args.seen.bracket c.requires.bracket)
 
 pub loop-distance-preserved : goal.loop-distance-preserved
 loop-distance-preserved c =
