@@ -50,6 +50,10 @@ pub data Command : Type 0 where
   line_down_or_next_history : ℕ → Command
   newline : Command
   accept_or_insert_line : Bool → Command
+  move_to_bracket : Command
+  kill_to_bracket : Command
+  replace_to_bracket : Option (List ℕ) → Command
+  yank_to_bracket : Command
 
 -- the command as a value
 abbrev pub command_of : Cmd → Command
@@ -96,6 +100,10 @@ command_of (Cmd.LineUpOrPreviousHistory n) = line_up_or_previous_history n
 command_of (Cmd.LineDownOrNextHistory n) = line_down_or_next_history n
 command_of Cmd.Newline = newline
 command_of (Cmd.AcceptOrInsertLine in_the_middle) = accept_or_insert_line in_the_middle
+command_of Cmd.MoveToBracket = move_to_bracket
+command_of Cmd.KillToBracket = kill_to_bracket
+command_of (Cmd.ReplaceToBracket text) = replace_to_bracket (option_map string_bytes text)
+command_of Cmd.YankToBracket = yank_to_bracket
 
 -- a movement by single characters
 abbrev pub is_by_char : Movement → Bool
@@ -112,4 +120,6 @@ resets_kill_ring noop = false
 resets_kill_ring suspend = false
 resets_kill_ring (yank _ _) = false
 resets_kill_ring yank_pop = false
+resets_kill_ring kill_to_bracket = false
+resets_kill_ring (replace_to_bracket _) = false
 resets_kill_ring _ = true

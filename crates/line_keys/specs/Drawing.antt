@@ -209,7 +209,7 @@ pub record ShowsEdit {X T : Type 0} (e : Ghosts X) (edited : Bool) (result : Res
   pub frame : Frame e old new
   pub fails : FailsByParty e (asked_by (edit_drawn edited)) result old new
 
--- what a move of the cursor leaves: the line with its text, whatever comes; and the cursor drawn
+-- what a move of the cursor leaves: after an error too, the draft with this line, which has the old text; and the cursor drawn
 pub record MovesTo {X T : Type 0} (e : Ghosts X) (result : Result T ReadlineError) (old new : X) (kind : CmdKind) (line : Line) : Type 0 where
   pub draft : e.draft new ≡ record (e.draft old) { line = line }
   pub text : (e.draft new).line.text ≡ (e.draft old).line.text

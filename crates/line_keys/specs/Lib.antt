@@ -1,4 +1,5 @@
 pub mod Key
+pub mod BracketKeys
 pub mod Command
 pub mod Item
 pub mod Count

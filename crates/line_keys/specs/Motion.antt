@@ -9,7 +9,7 @@ use Rattle.line_buffer.specs.declared.movement.Movement.{Movement}
 use Rattle.line_buffer.specs.declared.movement.Movement.TheVariants.{BackwardChar, BackwardWord, BeginningOfLine, EndOfLine, ForwardChar, ForwardWord, LineDown, LineUp, ViFirstPrint}
 use Rattle.line_buffer.specs.declared.movement.Word.TheVariants.{Big}
 use Rattle.line_buffer.specs.declared.movement.Word.TheVariants as words
-use Rattle.line_keys.specs.Command.{Command, dedent, indent, kill, noop, replace, replace_char, unknown, vi_yank_to}
+use Rattle.line_keys.specs.Command.{Command, dedent, indent, kill, kill_to_bracket, noop, replace, replace_char, replace_to_bracket, unknown, vi_yank_to, yank_to_bracket}
 use Rattle.line_keys.specs.Count.{char_of, is_with}
 use Rattle.line_keys.specs.Key.{bits_of}
 use Rattle.line_keys.specs.declared.keys.KeyCode.{KeyCode}
@@ -20,11 +20,12 @@ use Rattle.line_keys.specs.declared.tables.Operator.{Operator}
 use Rattle.line_keys.specs.declared.tables.Operator.TheVariants.{Change, Dedent, Delete, Indent, Yank}
 
 -- What an operator is done to: what a movement covers, or a search for the character that is typed next, or the last search,
--- changed by a function. A key can be no motion.
+-- changed by a function, or the text from the bracket at the cursor to its match. A key can be no motion.
 pub data Motion : Type 0 where
   covers : Movement → Motion
   covers_search : ℕ → (ℕ → CharSearch) → Motion
   covers_last : ℕ → (CharSearch → CharSearch) → Motion
+  covers_bracket : Motion
   no_motion : Motion
 
 -- rows of characters: the motion of each, by the operator and the count
@@ -41,10 +42,17 @@ abbrev pub word_place : Operator → At
 word_place Change = AfterEnd
 word_place _ = Start
 
+-- what c, d and y do to the text from a bracket to its match; behind < and > that is no motion
+abbrev pub bracket_motion : Operator → Motion
+bracket_motion Indent = no_motion
+bracket_motion Dedent = no_motion
+bracket_motion _ = covers_bracket
+
 -- plain characters
 abbrev pub char_motions : Motions
 char_motions =
     (36, λ _ n. covers EndOfLine)
+    ∷ (37, λ operator _. bracket_motion operator)
     ∷ (48, λ _ n. covers BeginningOfLine)
     ∷ (94, λ _ n. covers ViFirstPrint)
     ∷ (98, λ _ n. covers (BackwardWord n words.Vi))
@@ -109,6 +117,13 @@ operated Delete movement = kill movement
 operated Yank movement = vi_yank_to movement
 operated Indent movement = indent movement
 operated Dedent movement = dedent movement
+
+-- the command of an operator over the text from a bracket to its match; < and > have none
+abbrev pub operated_to_bracket : Operator → Command
+operated_to_bracket Change = replace_to_bracket None
+operated_to_bracket Delete = kill_to_bracket
+operated_to_bracket Yank = yank_to_bracket
+operated_to_bracket _ = unknown
 
 -- the search for the character of a key, where the key is a plain character
 abbrev pub search_to : (ℕ → CharSearch) → KeyEvent → Option CharSearch

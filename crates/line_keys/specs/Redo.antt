@@ -2,7 +2,7 @@
 use Rattle.std.specs.Prelude.{ℕ, ◌==◌, Bool, true, false, not, if◌then◌else◌, min, List, length, Option, Some, None, unwrap_or, option_map}
 use Rattle.line_buffer.specs.declared.movement.Movement.{Movement}
 use Rattle.line_buffer.specs.declared.movement.Movement.TheVariants.{BackwardChar, BackwardWord, ForwardChar, ForwardWord, LineDown, LineUp, ViCharSearch}
-use Rattle.line_keys.specs.Command.{Command, dedent, indent, insert, kill, move, replace, replace_char, self_insert, vi_yank_to, yank}
+use Rattle.line_keys.specs.Command.{Command, dedent, indent, insert, kill, move, replace, replace_char, self_insert, vi_yank_to, yank, move_to_bracket, kill_to_bracket, replace_to_bracket, yank_to_bracket}
 use Rattle.line_keys.specs.declared.refresher.InputMode.{InputMode}
 
 -- the commands that change the line or copy from it, and can be done again
@@ -16,16 +16,21 @@ is_repeatable_change (replace _ _) = true
 is_repeatable_change (self_insert _ _) = true
 is_repeatable_change (vi_yank_to _) = true
 is_repeatable_change (yank _ _) = true
+is_repeatable_change kill_to_bracket = true
+is_repeatable_change (replace_to_bracket _) = true
+is_repeatable_change yank_to_bracket = true
 is_repeatable_change _ = false
 
 -- the commands that can be done again: these changes, and moves
 abbrev pub is_repeatable : Command → Bool
 is_repeatable (move _) = true
+is_repeatable move_to_bracket = true
 is_repeatable command = is_repeatable_change command
 
 -- a last change behind which typed characters belong to it: a replacement, or a typed character
 abbrev pub is_typed_on : Option Command → Bool
 is_typed_on (Some (replace _ _)) = true
+is_typed_on (Some (replace_to_bracket _)) = true
 is_typed_on (Some (self_insert _ _)) = true
 is_typed_on _ = false
 
@@ -83,6 +88,7 @@ redone by_dot new last (replace movement (Some text)) = replace (with_count new 
 redone by_dot new last (self_insert n c) = typed_again by_dot (unwrap_or new n) last c
 redone by_dot new last (vi_yank_to movement) = vi_yank_to (with_count new movement)
 redone by_dot new last (yank n anchor) = yank (unwrap_or new n) anchor
+redone by_dot new last (replace_to_bracket None) = replace_to_bracket last
 redone by_dot new last command = command
 
 -- what is done for a command that a program gave a key: it is done again, where it can be

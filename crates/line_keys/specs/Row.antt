@@ -8,7 +8,7 @@ use Rattle.line_keys.specs.EmacsTable.{second_at}
 use Rattle.line_keys.specs.Meaning as table
 use Rattle.line_keys.specs.Meaning.{again, gives, has_second, operates, pastes, replaces_char, searches, searches_again, unlisted}
 use Rattle.line_keys.specs.Motion as motions
-use Rattle.line_keys.specs.Motion.{covers, covers_last, covers_search, no_motion}
+use Rattle.line_keys.specs.Motion.{covers, covers_bracket, covers_last, covers_search, no_motion}
 use Rattle.line_keys.specs.declared.tables.Entry.{Entry}
 use Rattle.line_keys.specs.declared.tables.Meaning.{Meaning}
 use Rattle.line_keys.specs.declared.tables.Motion.{Motion}
@@ -44,4 +44,5 @@ motion_value (Motion.Covers movement) = covers movement
 motion_value (Motion.Search n kind) = covers_search n (λ c. search_for kind c)
 motion_value (Motion.SearchAgain n) = covers_last n (λ search. search)
 motion_value (Motion.SearchBack n) = covers_last n (λ search. opposite search)
+motion_value Motion.Bracket = covers_bracket
 motion_value Motion.None = no_motion

@@ -9,7 +9,7 @@ use Rattle.line_buffer.specs.declared.movement.Movement.{Movement}
 use Rattle.line_buffer.specs.declared.movement.Movement.TheVariants.{BackwardChar, BackwardWord, BeginningOfLine, EndOfLine, ForwardChar, ForwardWord, ViFirstPrint, WholeLine}
 use Rattle.line_buffer.specs.declared.movement.Word.TheVariants.{Big}
 use Rattle.line_buffer.specs.declared.movement.Word.TheVariants as words
-use Rattle.line_keys.specs.Command.{Command, abort, clear_screen, complete, complete_backward, complete_hint, forward_search_history, kill, line_down_or_next_history, line_up_or_previous_history, move, next_history, noop, overwrite, previous_history, replace, reverse_search_history, self_insert, undo, yank}
+use Rattle.line_keys.specs.Command.{Command, abort, clear_screen, complete, complete_backward, complete_hint, forward_search_history, kill, line_down_or_next_history, line_up_or_previous_history, move, move_to_bracket, next_history, noop, overwrite, previous_history, replace, reverse_search_history, self_insert, undo, yank}
 use Rattle.line_keys.specs.Draft.{Draft}
 use Rattle.line_keys.specs.Key.{bits_of}
 use Rattle.line_keys.specs.Meaning.{Row, Rows, again, always, at_hint, beginning_group, ending_group, entering, first_for, kills, meaning_row, moves, operates, replaces_char, row, row_at, searches, searches_again, stays, when, any_line}
@@ -71,10 +71,11 @@ operation operator = meaning_row (λ count. operates operator count.n)
 abbrev pub again_row : Row
 again_row = record { guard = any_line; entry = λ typed. stays (again (option_map (λ count. count.n) typed)) }
 
--- command mode: characters that move: $, 0, ^, and b, e, h, l, w, B, E, W and the space
+-- command mode: characters that move: $, %, 0, ^, and b, e, h, l, w, B, E, W and the space
 abbrev pub vi_move_rows : Rows
 vi_move_rows =
     (36, always (move EndOfLine))
+    ∷ (37, always move_to_bracket)
     ∷ (48, always (move BeginningOfLine))
     ∷ (94, always (move ViFirstPrint))
     ∷ (98, moves_by (λ n. BackwardWord n words.Vi))

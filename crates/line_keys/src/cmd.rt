@@ -110,6 +110,14 @@ pub enum Cmd {
         /// Whether a valid line is submitted also where the cursor is not at its end.
         accept_in_the_middle: bool,
     },
+    /// Moves the cursor to the bracket that matches the one at the cursor.
+    MoveToBracket,
+    /// Kills the text from the bracket at the cursor to the one that matches it, with both.
+    KillToBracket,
+    /// Kills that text, and inserts another where one is given.
+    ReplaceToBracket(Option<String>),
+    /// Copies that text to the kill ring.
+    YankToBracket,
 }
 
 impl Cmd {
@@ -169,6 +177,10 @@ impl Cmd {
             } => Cmd::AcceptOrInsertLine {
                 accept_in_the_middle: *accept_in_the_middle,
             },
+            Cmd::MoveToBracket => Cmd::MoveToBracket,
+            Cmd::KillToBracket => Cmd::KillToBracket,
+            Cmd::ReplaceToBracket(text) => Cmd::ReplaceToBracket(copied(alloc, text)?),
+            Cmd::YankToBracket => Cmd::YankToBracket,
         })
     }
 
@@ -184,7 +196,9 @@ impl Cmd {
             | Cmd::Noop
             | Cmd::Suspend
             | Cmd::Yank(_, _)
-            | Cmd::YankPop => false,
+            | Cmd::YankPop
+            | Cmd::KillToBracket
+            | Cmd::ReplaceToBracket(_) => false,
             _ => true,
         }
     }

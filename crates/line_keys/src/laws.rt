@@ -2,6 +2,7 @@
 
 ghost use Rattle.std.specs.Prelude.{◌≡◌};
 ghost use Rattle.bitflags.specs.Sets.{known_bits};
+ghost use Rattle.line_keys.specs.BracketKeys.{BracketTakesNoCount};
 ghost use Rattle.line_keys.specs.Key.{AreNamedBits, AreSetsOfBits, bits_of};
 ghost use Rattle.line_keys.specs.Key.{SettlesWithoutShift, SettlesAfterTwo};
 
@@ -29,4 +30,9 @@ pub fn normal_form_settles_without_shift()
 /// Normalizing an event three times is normalizing it twice.
 pub fn normal_form_settles_after_two()
     ensures { SettlesAfterTwo }
+{}
+
+/// In Vi's command mode % stands for the same command whatever the count, and behind each operator for the same motion.
+pub fn the_bracket_key_takes_no_count()
+    ensures { BracketTakesNoCount }
 {}

@@ -37,6 +37,7 @@ impl Cmd {
             Cmd::SelfInsert(n, c) => Cmd::SelfInsert(new.unwrap_or(n), c),
             Cmd::ViYankTo(movement) => Cmd::ViYankTo(recounted(movement, new)),
             Cmd::Yank(n, anchor) => Cmd::Yank(new.unwrap_or(n), anchor),
+            Cmd::ReplaceToBracket(None) => Cmd::ReplaceToBracket(wrt.last_insert()?),
             command => command,
         })
     }
@@ -73,7 +74,10 @@ impl Cmd {
             | Cmd::Replace(_, _)
             | Cmd::SelfInsert(_, _)
             | Cmd::ViYankTo(_)
-            | Cmd::Yank(_, _) => true,
+            | Cmd::Yank(_, _)
+            | Cmd::KillToBracket
+            | Cmd::ReplaceToBracket(_)
+            | Cmd::YankToBracket => true,
             _ => false,
         }
     }
@@ -100,7 +104,7 @@ fn is_typed_on(last: &Option<Cmd>) -> bool
     ensures { result ≡ is_typed_on (option_map command_of last.now) }
 {
     match last {
-        Some(Cmd::Replace(_, _) | Cmd::SelfInsert(_, _)) => true,
+        Some(Cmd::Replace(_, _) | Cmd::ReplaceToBracket(_) | Cmd::SelfInsert(_, _)) => true,
         _ => false,
     }
 }

@@ -136,6 +136,8 @@ pub enum Motion {
     SearchAgain(RepeatCount),
     /// What the last search in the other direction covers, to its n-th place.
     SearchBack(RepeatCount),
+    /// The text from the bracket at the cursor to the one that matches it, with both.
+    Bracket,
     /// Nothing: the key is no motion.
     None,
 }

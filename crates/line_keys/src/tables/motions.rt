@@ -1,7 +1,7 @@
 //! What is read behind the first key of a command of Vi: the motion of an operator, or the character of a replacement.
 ghost use Rattle.std.specs.Prelude.{◌≡◌};
 ghost use Rattle.line_keys.specs.Command.{command_of};
-ghost use Rattle.line_keys.specs.Motion.{char_motions, is_own_key, motion_at, motion_of, multiplied, operated, own_char, replaced_by, word_place};
+ghost use Rattle.line_keys.specs.Motion.{bracket_motion, char_motions, is_own_key, motion_at, motion_of, multiplied, operated, operated_to_bracket, own_char, replaced_by, word_place};
 ghost use Rattle.line_keys.specs.Row.{motion_value};
 
 use crate::cmd::Cmd;
@@ -46,6 +46,28 @@ impl Operator {
         }
     }
 
+    /// Returns the command that does this to the text from the bracket at the cursor to its match; Unknown for an indent.
+    pub fn to_bracket(self) -> Cmd
+        ensures { command_of result ≡ operated_to_bracket self }
+    {
+        match self {
+            Operator::Change => Cmd::ReplaceToBracket(None),
+            Operator::Delete => Cmd::KillToBracket,
+            Operator::Yank => Cmd::YankToBracket,
+            Operator::Indent | Operator::Dedent => Cmd::Unknown,
+        }
+    }
+
+    // Returns what the operator is done to behind %: an indent is done to lines alone, and so to nothing.
+    fn bracket_motion(self) -> Motion
+        ensures { motion_value result ≡ bracket_motion self }
+    {
+        match self {
+            Operator::Indent | Operator::Dedent => Motion::None,
+            Operator::Change | Operator::Delete | Operator::Yank => Motion::Bracket,
+        }
+    }
+
     // Returns where the operator goes behind w and W: to the end of a word, or to the start of the next.
     fn word_place(self) -> At
         ensures { result ≡ word_place self }
@@ -76,6 +98,7 @@ fn char_motion(operator: Operator, c: char, n: RepeatCount) -> Motion
 {
     Motion::Covers(match c {
         '$' => Movement::EndOfLine,
+        '%' => return operator.bracket_motion(),
         '0' => Movement::BeginningOfLine,
         '^' => Movement::ViFirstPrint,
         'b' => Movement::BackwardWord(n, Word::Vi),

@@ -58,6 +58,7 @@ fn vi_move<W: Refresher>(c: char, typed: Option<Count>, _wrt: &W) -> Option<Entr
     let n = Count::or_one(typed).n;
     let movement = match c {
         '$' => Movement::EndOfLine,
+        '%' => return command(Cmd::MoveToBracket),
         '0' => Movement::BeginningOfLine,
         '^' => Movement::ViFirstPrint,
         'b' => Movement::BackwardWord(n, Word::Vi),
