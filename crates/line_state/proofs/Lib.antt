@@ -1,3 +1,4 @@
+pub mod BracketLemmas
 pub mod EditedLemmas
 pub mod PlainTextLemmas
 pub mod DrawnPartLemmas

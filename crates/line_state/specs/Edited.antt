@@ -1,5 +1,5 @@
 -- A line with its changes.
-use Rattle.std.specs.Prelude.{◌≡◌, ℕ, min, Bool, true, false, List, length, ◌==◌, ◌&&◌, if◌then◌else◌, Option, Some, None, encode_utf8, Result, IfOk, OnOk, OnErr, is_some, not}
+use Rattle.std.specs.Prelude.{◌≡◌, ◌+◌, ℕ, max, min, Bool, true, false, List, length, ◌==◌, ◌&&◌, if◌then◌else◌, Option, Some, None, encode_utf8, Result, IfOk, OnOk, OnErr, is_some, not, [], option_map, slice_index, ◌<◌}
 use Rattle.std.specs.List.{repeat}
 use Rattle.line_buffer.specs.Changes.{Changes, Entry, begun, ended, no_changes, with_entries, with_insert, with_replaced, with_typed, with_update}
 use Rattle.line_keys.specs.declared.cmd.Anchor.{Anchor}
@@ -14,6 +14,7 @@ use Rattle.line_buffer.specs.Undo.{all_taken_back, first_text, newest_steps, wit
 use Rattle.line_buffer.specs.Yank.{can_pop, line_yank_popped, line_yanked, with_yank, with_yank_pop}
 use Rattle.line_buffer.specs.declared.movement.Movement.{Movement}
 use Rattle.line_buffer.specs.declared.line_buffer.WordAction.{WordAction}
+use Rattle.line_parts.specs.BracketMatch.{matching_bracket}
 
 -- a line, and the changes that led to it
 pub record Edited : Type 0 where
@@ -68,12 +69,13 @@ abbrev pub stepped_back : Bool → Edited → Edited
 stepped_back true e = with_place (place_back e.line 1) e
 stepped_back false e = e
 
--- n copies of a text are yanked at an anchor; the cursor then steps back or not, which it doesn't for the empty text
+-- n copies of a text are yanked at an anchor, and the cursor then steps back, if it is to; of the empty text the cursor only goes to the
+-- anchor
 abbrev pub yanked_at : Anchor → List ℕ → ℕ → Bool → Edited → Edited
 yanked_at anchor text n back e =
     if length text == 0 then at_anchor anchor e else stepped_back back (with_yanked text n (at_anchor anchor e))
 
--- so many bytes go from before the cursor and a text comes, one of which is not empty
+-- whether so many bytes can go from before the cursor for a text, and not both are empty
 abbrev pub pops_text : Line → ℕ → List ℕ → Bool
 pops_text line size text = if size == 0 && length text == 0 then false else can_pop line size
 
@@ -128,6 +130,21 @@ with_lines_shifted dedent amount movement e =
     let range = indented_range e.line movement in
     edited_to (indented dedent amount e.line range)
     (with_indents dedent amount e.line.text range) e
+
+-- from the lower of a bracket at the cursor and its match to behind the higher, if it has one
+abbrev pub bracket_range : Line → Option (ℕ × ℕ)
+bracket_range line = option_map (λ at. (min line.cursor at, max line.cursor at + 1)) (matching_bracket line.text line.cursor)
+
+-- at a place of a text stands a character of one byte
+pub record HasOneByteAt (text : List ℕ) (place : ℕ) : Type 0 where
+  pub within : place < length text
+  pub single : slice_index text place < 128
+
+-- nothing comes in the place of a range, if there is one
+abbrev pub with_nothing_for : Option (ℕ × ℕ) → Edited → Edited
+with_nothing_for None e = e
+with_nothing_for (Some range) e =
+    edited_to (replaced_in e.line range.0 range.1 []) (with_replaced e.line.text range.0 range.1 []) e
 
 -- n steps are taken back
 abbrev pub undone : ℕ → Edited → Edited

@@ -1,6 +1,7 @@
 -- The cursor, moved.
-use Rattle.std.specs.Prelude.{if◌then◌else◌, length}
+use Rattle.std.specs.Prelude.{if◌then◌else◌, length, ℕ, Option, option_map}
 use Rattle.line_buffer.specs.Cluster.{place_on, place_back}
+use Rattle.line_buffer.specs.ClusterStart.{cluster_start}
 use Rattle.line_buffer.specs.Line.{Line, after, moved_to, with_cursor, start_of_line, end_of_line}
 use Rattle.line_buffer.specs.Lines.{down_by, up_by}
 use Rattle.line_buffer.specs.Search.{search_place}
@@ -10,6 +11,7 @@ use Rattle.line_buffer.specs.declared.movement.Movement.{Movement}
 use Rattle.line_buffer.specs.declared.movement.Movement.TheVariants as By
 use Rattle.line_buffer.specs.declared.movement.Word.TheVariants.{Big}
 use Rattle.line_buffer.specs.declared.layout.Layout.{Layout}
+use Rattle.line_parts.specs.BracketMatch.{matching_bracket}
 use Rattle.line_parts.specs.History.{begins_blank}
 
 -- the cursor goes from white space on to the next Big word, and else stays
@@ -32,3 +34,7 @@ moved layout (By.LineDown n) line = moved_to line (down_by layout line n)
 moved layout By.WholeBuffer line = line
 moved layout By.BeginningOfBuffer line = with_cursor line 0
 moved layout By.EndOfBuffer line = with_cursor line (length line.text)
+
+-- the start of the cluster that holds the match of the bracket at the cursor, if one stands there and has a match
+abbrev pub bracket_place : Line → Option ℕ
+bracket_place line = option_map (cluster_start line.text) (matching_bracket line.text line.cursor)

@@ -5,8 +5,8 @@ use Rattle.line_buffer.specs.Printable.{is_plain, is_printable}
 use Rattle.line_buffer.specs.declared.layout.Layout.{Layout}
 use Rattle.line_keys.specs.Display.{Screen, Surface}
 
--- the shown text is printable ASCII and newlines, begins where the prompt ends, ends at the kept end if nothing stands behind it, and so many
--- characters at its end are printable
+-- the shown text is printable ASCII and newlines, begins where the prompt ends, in a column of the screen, ends at the kept end if nothing
+-- stands behind it, and so many characters at its end are printable
 abbrev pub IsShownPlain : Surface → Screen → Layout → ℕ → Type 0
 IsShownPlain surface screen layout printable =
     (list_all is_plain screen.text ≡ true)

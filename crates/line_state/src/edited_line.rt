@@ -8,6 +8,7 @@ ghost use Rattle.line_buffer.specs.Range.{range_of, text_in, unless_empty};
 ghost use Rattle.line_buffer.specs.Undo.{is_change, newest_steps};
 ghost use Rattle.line_state.specs.Edited.{EditsTo, Finds, undone, with_copies, without_range};
 
+mod brackets;
 mod moves;
 mod replacements;
 mod yanks;
