@@ -4,12 +4,12 @@ use Rattle.std.proofs.lemmas.Bool.{cases_lt}
 use Rattle.std.specs.Prelude.{◌||◌, ◌==◌, if◌then◌else◌, length, not, is_some}
 use Rattle.line_buffer.specs.Kill.{killed_range}
 use Rattle.line_buffer.specs.KillRing.{Ring, after_yank, after_yank_pop}
-use Rattle.line_buffer.specs.Line.{Line, ends_in_white_space}
+use Rattle.line_buffer.specs.Line.{Line, ends_in_white_space, moved_to}
 use Rattle.line_buffer.specs.declared.movement.Movement.{Movement}
 use Rattle.line_buffer.specs.declared.movement.Movement.TheVariants as By
 use Rattle.line_config.specs.declared.error.ReadlineError.{ReadlineError}
 use Rattle.line_config.specs.Error.{Rose, is_io, max_count}
-use Rattle.line_keys.specs.Command.{Command, accept_line, accept_or_insert_line, command_of, end_of_file, interrupt, kill, move, newline, replace, self_insert, vi_yank_to, yank, yank_pop}
+use Rattle.line_keys.specs.Command.{Command, accept_line, accept_or_insert_line, command_of, end_of_file, interrupt, kill, kill_to_bracket, move, move_to_bracket, newline, replace, replace_to_bracket, self_insert, vi_yank_to, yank, yank_pop, yank_to_bracket}
 use Rattle.line_keys.specs.declared.cmd.Anchor.{Anchor}
 use Rattle.line_keys.specs.declared.cmd.Cmd.{Cmd}
 use Rattle.line_buffer.specs.declared.layout.Position.{Position}
@@ -24,13 +24,13 @@ use Rattle.line_parts.specs.Asks.{Asks, for_hint, is_sure, nobody}
 use Rattle.line_parts.specs.Environment.{Environment, verdict_on}
 use Rattle.line_parts.specs.declared.highlight.CmdKind.{CmdKind}
 use Rattle.line_parts.specs.declared.highlight.CmdKind.TheVariants.{ForcedRefresh, MoveCursor, Other}
-use Rattle.line_state.specs.Moves.{moved}
+use Rattle.line_state.specs.Moves.{bracket_place, moved}
 use Rattle.line_state.specs.Edited as edits
-use Rattle.line_state.specs.Edited.{pops_text}
+use Rattle.line_state.specs.Edited.{bracket_range, pops_text}
 use Rattle.line_editor.specs.Accept.{reply_to}
-use Rattle.line_editor.specs.Drawings.{any_plain_kill, asked_of, drawing_of, draws_in_part, edited_asked, edited_drawn, edited_times, has_text, is_plain_kill, is_plain_typing, kill_drawn, move_drawn, moves_alone, once_for, pop_drawn, replacement_drawn, replacement_times, reply_times, times_of, unhinted_drawn, validated_times, verdict_drawn, yank_drawn}
+use Rattle.line_editor.specs.Drawings.{any_plain_kill, asked_of, bracket_drawn, drawing_of, draws_in_part, edited_asked, edited_drawn, edited_times, has_text, is_plain_kill, is_plain_typing, kill_drawn, move_drawn, moves_alone, once_for, pop_drawn, replacement_drawn, replacement_times, reply_times, times_of, unhinted_drawn, validated_times, verdict_drawn, yank_drawn}
 use Rattle.line_editor.specs.Editor.{Answer, Editor, Ruler, Step, proceeds, edited_of, measuring, proceeding, ruler_of, with_draft}
-use Rattle.line_editor.specs.DraftEdits.{after_edit, kill_popped, kill_yanked, killed_by, movement_replaced, popped_in, text_inserted, yanked_in}
+use Rattle.line_editor.specs.DraftEdits.{after_edit, bracket_replaced, kill_popped, kill_yanked, killed_by, movement_replaced, popped_in, text_inserted, yanked_in}
 use Rattle.line_editor.specs.Input.{Input}
 use Rattle.line_editor.specs.Outcomes.{DoesWithKills, DrewFor, Executed, Executes, StepsTo, editor_of}
 use Rattle.line_editor.specs.Status.{answer_at, answer_of}
@@ -110,14 +110,15 @@ once_more : (reply : Reply) (times : ℕ) → times ≤ 2 → reply_times reply 
 once_more GoesOn times few = omega (arith, few)
 once_more _ times few = omega (arith, few)
 
+twice_for : (drawing : Drawing) (comes : Bool) → (if comes then once_for drawing + 1 else 1) ≤ 3
+twice_for drawing true = omega (arith, once_at_most drawing)
+twice_for drawing false = omega arith
+
 pub few_drawn : (display : Display) (environment : Environment) (editor : Editor) (command : Command) → times_of display environment editor command ≤ 3
 few_drawn display environment editor newline = omega (arith, once_at_most (unhinted_drawn display editor.draft))
 few_drawn display environment editor (replace movement text) =
     twice_for (kill_drawn display environment editor.draft (killed_range editor.draft.line movement)) (has_text text)
-  where
-    twice_for : (drawing : Drawing) (comes : Bool) → (if comes then once_for drawing + 1 else 1) ≤ 3
-    twice_for drawing true = omega (arith, once_at_most drawing)
-    twice_for drawing false = omega arith
+few_drawn display environment editor (replace_to_bracket text) = twice_for (bracket_drawn editor.draft.line) (has_text text)
 few_drawn display environment editor accept_line =
     let few = twice_at_most display environment editor.draft in omega (arith, few)
 few_drawn display environment editor (accept_or_insert_line in_the_middle) =
@@ -133,6 +134,9 @@ only_edits end_of_file = false
 only_edits interrupt = false
 only_edits (kill movement) = false
 only_edits (replace movement text) = false
+only_edits kill_to_bracket = false
+only_edits (replace_to_bracket text) = false
+only_edits yank_to_bracket = false
 only_edits (vi_yank_to movement) = false
 only_edits (yank n anchor) = false
 only_edits yank_pop = false
@@ -141,17 +145,21 @@ only_edits _ = true
 -- a command is one of them where it is none of the others
 pub edits_else : (cmd : Cmd) → (cmd ≡ Cmd.AcceptLine → ⊥) → ((b : Bool) → cmd ≡ Cmd.AcceptOrInsertLine b → ⊥) → (cmd ≡ Cmd.EndOfFile → ⊥) → (cmd ≡ Cmd.Interrupt → ⊥)
     → ((m : Movement) → cmd ≡ Cmd.Kill m → ⊥) → ((m : Movement) (t : _) → cmd ≡ Cmd.Replace m t → ⊥) → ((m : Movement) → cmd ≡ Cmd.ViYankTo m → ⊥)
-    → ((n : ℕ) (a : Anchor) → cmd ≡ Cmd.Yank n a → ⊥) → (cmd ≡ Cmd.YankPop → ⊥) → only_edits (command_of cmd) ≡ true
-edits_else Cmd.AcceptLine a b c d e f g h i = absurd (a refl)
-edits_else (Cmd.AcceptOrInsertLine x) a b c d e f g h i = absurd (b x refl)
-edits_else Cmd.EndOfFile a b c d e f g h i = absurd (c refl)
-edits_else Cmd.Interrupt a b c d e f g h i = absurd (d refl)
-edits_else (Cmd.Kill x) a b c d e f g h i = absurd (e x refl)
-edits_else (Cmd.Replace x y) a b c d e f g h i = absurd (f x y refl)
-edits_else (Cmd.ViYankTo x) a b c d e f g h i = absurd (g x refl)
-edits_else (Cmd.Yank x y) a b c d e f g h i = absurd (h x y refl)
-edits_else Cmd.YankPop a b c d e f g h i = absurd (i refl)
-edits_else _ a b c d e f g h i = refl
+    → ((n : ℕ) (a : Anchor) → cmd ≡ Cmd.Yank n a → ⊥) → (cmd ≡ Cmd.YankPop → ⊥)
+    → (cmd ≡ Cmd.KillToBracket → ⊥) → ((t : _) → cmd ≡ Cmd.ReplaceToBracket t → ⊥) → (cmd ≡ Cmd.YankToBracket → ⊥) → only_edits (command_of cmd) ≡ true
+edits_else Cmd.AcceptLine a b c d e f g h i j k l = absurd (a refl)
+edits_else (Cmd.AcceptOrInsertLine x) a b c d e f g h i j k l = absurd (b x refl)
+edits_else Cmd.EndOfFile a b c d e f g h i j k l = absurd (c refl)
+edits_else Cmd.Interrupt a b c d e f g h i j k l = absurd (d refl)
+edits_else (Cmd.Kill x) a b c d e f g h i j k l = absurd (e x refl)
+edits_else (Cmd.Replace x y) a b c d e f g h i j k l = absurd (f x y refl)
+edits_else (Cmd.ViYankTo x) a b c d e f g h i j k l = absurd (g x refl)
+edits_else (Cmd.Yank x y) a b c d e f g h i j k l = absurd (h x y refl)
+edits_else Cmd.YankPop a b c d e f g h i j k l = absurd (i refl)
+edits_else Cmd.KillToBracket a b c d e f g h i j k l = absurd (j refl)
+edits_else (Cmd.ReplaceToBracket x) a b c d e f g h i j k l = absurd (k x refl)
+edits_else Cmd.YankToBracket a b c d e f g h i j k l = absurd (l refl)
+edits_else _ a b c d e f g h i j k l = refl
 
 -- the step and the drawing of such a command
 pub edit_steps : (ruler : Ruler) (environment : Environment) (input : Input) (editor : Editor) (command : Command) → only_edits command ≡ true
@@ -162,6 +170,9 @@ edit_steps ruler environment input editor end_of_file only = absurd (cc)
 edit_steps ruler environment input editor interrupt only = absurd (cc)
 edit_steps ruler environment input editor (kill movement) only = absurd (cc)
 edit_steps ruler environment input editor (replace movement text) only = absurd (cc)
+edit_steps ruler environment input editor kill_to_bracket only = absurd (cc)
+edit_steps ruler environment input editor (replace_to_bracket text) only = absurd (cc)
+edit_steps ruler environment input editor yank_to_bracket only = absurd (cc)
 edit_steps ruler environment input editor (vi_yank_to movement) only = absurd (cc)
 edit_steps ruler environment input editor (yank n anchor) only = absurd (cc)
 edit_steps ruler environment input editor yank_pop only = absurd (cc)
@@ -175,6 +186,9 @@ edit_draws display environment editor end_of_file only = absurd (cc)
 edit_draws display environment editor interrupt only = absurd (cc)
 edit_draws display environment editor (kill movement) only = absurd (cc)
 edit_draws display environment editor (replace movement text) only = absurd (cc)
+edit_draws display environment editor kill_to_bracket only = absurd (cc)
+edit_draws display environment editor (replace_to_bracket text) only = absurd (cc)
+edit_draws display environment editor yank_to_bracket only = absurd (cc)
 edit_draws display environment editor (vi_yank_to movement) only = absurd (cc)
 edit_draws display environment editor (yank n anchor) only = absurd (cc)
 edit_draws display environment editor yank_pop only = absurd (cc)
@@ -189,6 +203,9 @@ edit_times display environment editor end_of_file only = absurd (cc)
 edit_times display environment editor interrupt only = absurd (cc)
 edit_times display environment editor (kill movement) only = absurd (cc)
 edit_times display environment editor (replace movement text) only = absurd (cc)
+edit_times display environment editor kill_to_bracket only = absurd (cc)
+edit_times display environment editor (replace_to_bracket text) only = absurd (cc)
+edit_times display environment editor yank_to_bracket only = absurd (cc)
 edit_times display environment editor (vi_yank_to movement) only = absurd (cc)
 edit_times display environment editor (yank n anchor) only = absurd (cc)
 edit_times display environment editor yank_pop only = absurd (cc)
@@ -203,6 +220,9 @@ edit_asks display environment editor end_of_file only = absurd (cc)
 edit_asks display environment editor interrupt only = absurd (cc)
 edit_asks display environment editor (kill movement) only = absurd (cc)
 edit_asks display environment editor (replace movement text) only = absurd (cc)
+edit_asks display environment editor kill_to_bracket only = absurd (cc)
+edit_asks display environment editor (replace_to_bracket text) only = absurd (cc)
+edit_asks display environment editor yank_to_bracket only = absurd (cc)
 edit_asks display environment editor (vi_yank_to movement) only = absurd (cc)
 edit_asks display environment editor (yank n anchor) only = absurd (cc)
 edit_asks display environment editor yank_pop only = absurd (cc)
@@ -340,7 +360,7 @@ abbrev pub killed_as : Bool → Bool → Position → Drawing
 killed_as found plainly position = if found then change_drawn plainly position else nothing
 
 -- that is what is drawn of any kill
-record KilledAs (drawing : Drawing) : Type 0 where
+pub record KilledAs (drawing : Drawing) : Type 0 where
   found : Bool
   plainly : Bool
   position : Position
@@ -354,6 +374,10 @@ kill_as display environment draft (Some range) = record {
   position = columns_back (length draft.line.text - range.0) display.layout.end;
   same = refl;
 }
+
+-- and of a kill from a bracket to its match
+pub bracket_as : (line : Line) → KilledAs (bracket_drawn line)
+bracket_as line = record { found = is_some (bracket_range line); plainly = false; position = corner; same = refl }
 
 -- a part that was drawn, with nothing drawn behind it
 part_kept : {X : Type 0} (e : Ghosts X) (old mid new : X) (position : Position) → DrewNothing e mid new → (e.draft new).line ≡ (e.draft mid).line
@@ -428,22 +452,11 @@ none_put : (environment : Environment) (text : List ℕ) (draft : Draft) (empty 
 none_put environment text draft empty is none =
     ap (λ b. cond b draft (after_edit environment true (edits.with_text text (edited_of draft)) draft)) (is ∙ none)
 
--- what is not killed leaves the draft as it is
-none_killed : (environment : Environment) (movement : Movement) (editor : Editor) (range : Option (ℕ × ℕ)) → is_some range ≡ false → (killed_by environment movement editor range).draft ≡ editor.draft
-none_killed environment movement editor None none = refl
-none_killed environment movement editor (Some range) none = absurd (cc)
-
 -- a kill, and then a text in its place
-module _ {X T : Type 0} (e : Ghosts X) (x : T) (old mid new : X) (kills kills' : Ring) (movement : Movement) (range : Option (ℕ × ℕ)) (text : List ℕ)
-    (killed : DoesWithKills e (Ok x) old kills mid kills' (killed_by (e.environment old) movement (editor_of e old kills) range) (kill_drawn (e.display old) (e.environment old) (e.draft old) range) 1) where
-  abbrev before : Editor
-  before = killed_by (e.environment old) movement (editor_of e old kills) range
-
+module _ {X T : Type 0} (e : Ghosts X) (x : T) (old mid new : X) (kills kills' : Ring) (before : Editor) (killed_drawn : Drawing) (as_kill : KilledAs killed_drawn) (text : List ℕ)
+    (killed : DoesWithKills e (Ok x) old kills mid kills' before killed_drawn 1) where
   abbrev empty : Bool
   empty = length text == 0
-
-  abbrev killed_drawn : Drawing
-  killed_drawn = kill_drawn (e.display old) (e.environment old) (e.draft old) range
 
   abbrev put_in : Draft
   put_in = text_inserted (e.environment old) text before.draft
@@ -462,7 +475,6 @@ module _ {X T : Type 0} (e : Ghosts X) (x : T) (old mid new : X) (kills kills' :
   puts (Err f) put =
       record { draft = tt; start = tt; drew = tt; keeps = tt; change = tt; frame = frame_then e old mid new killed.does.frame put.frame; fails = fails_put (Err f) empty killed_drawn put.frame put.fails }
   puts (Ok y) put =
-      let as_kill = kill_as (e.display old) (e.environment old) (e.draft old) range in
       let stays : empty ≡ true → e.draft new ≡ e.draft mid = λ none. put.draft ∙ none_put (e.environment mid) text (e.draft mid) empty refl none in
       let first : Drew e 1 (killed_as as_kill.found as_kill.plainly as_kill.position) old mid = subst (λ (d : Drawing). Drew e 1 d old mid) (sym as_kill.same) killed.does.drew in
       let drew = twice_drawn e old mid new killed.does.frame as_kill.found as_kill.plainly empty as_kill.position stays first put.drew in
@@ -480,6 +492,19 @@ module _ {X T : Type 0} (e : Ghosts X) (x : T) (old mid new : X) (kills kills' :
       → Does e r mid new (text_inserted (e.environment mid) text (e.draft mid)) (drawn_if (not (length text == 0))) 1
       → DoesWithKills e r old kills new kills' (with_draft before put_in) (replacement_drawn killed_drawn (Some text)) (replacement_times killed_drawn (Some text))
   replaced r put = record { does = puts r put; kills_left = always r killed.kills_left }
+
+-- the same of a movement that is killed
+pub replaced_movement : {X T U : Type 0} (e : Ghosts X) (x : T) (old mid new : X) (kills kills' : Ring) (movement : Movement) (range : Option (ℕ × ℕ)) (text : List ℕ)
+    → DoesWithKills e (Ok x) old kills mid kills' (killed_by (e.environment old) movement (editor_of e old kills) range) (kill_drawn (e.display old) (e.environment old) (e.draft old) range) 1
+    → (r : Result U ReadlineError) → Does e r mid new (text_inserted (e.environment mid) text (e.draft mid)) (drawn_if (not (length text == 0))) 1
+    → DoesWithKills e r old kills new kills'
+      (with_draft (killed_by (e.environment old) movement (editor_of e old kills) range)
+      (text_inserted (e.environment old) text (killed_by (e.environment old) movement (editor_of e old kills) range).draft))
+      (replacement_drawn (kill_drawn (e.display old) (e.environment old) (e.draft old) range) (Some text))
+      (replacement_times (kill_drawn (e.display old) (e.environment old) (e.draft old) range) (Some text))
+replaced_movement e x old mid new kills kills' movement range text killed r put =
+    replaced e x old mid new kills kills' (killed_by (e.environment old) movement (editor_of e old kills) range) (kill_drawn (e.display old) (e.environment old) (e.draft old) range)
+    (kill_as (e.display old) (e.environment old) (e.draft old) range) text killed r put
 
 -- a kill with nothing in its place
 pub only_killed : {X T U : Type 0} (e : Ghosts X) (x : T) (y : U) (old new : X) (kills kills' : Ring) (left : Editor) (drawing : Drawing)
@@ -503,6 +528,12 @@ pub replaced_as : {X T : Type 0} (e : Ghosts X) (r : Result T ReadlineError) (ol
     → DoesWithKills e r old kills new kills' (movement_replaced (e.environment old) movement put' (editor_of e old kills)) (replacement_drawn drawing put') (replacement_times drawing put')
 replaced_as e r old new kills kills' movement drawing put put' same done =
     subst (λ (p : Option (List ℕ)). DoesWithKills e r old kills new kills' (movement_replaced (e.environment old) movement p (editor_of e old kills)) (replacement_drawn drawing p) (replacement_times drawing p)) same done
+
+pub bracket_replaced_as : {X T : Type 0} (e : Ghosts X) (r : Result T ReadlineError) (old new : X) (kills kills' : Ring) (drawing : Drawing) (put put' : Option (List ℕ)) → put ≡ put'
+    → DoesWithKills e r old kills new kills' (bracket_replaced (e.environment old) put (editor_of e old kills)) (replacement_drawn drawing put) (replacement_times drawing put)
+    → DoesWithKills e r old kills new kills' (bracket_replaced (e.environment old) put' (editor_of e old kills)) (replacement_drawn drawing put') (replacement_times drawing put')
+bracket_replaced_as e r old new kills kills' drawing put put' same done =
+    subst (λ (p : Option (List ℕ)). DoesWithKills e r old kills new kills' (bracket_replaced (e.environment old) p (editor_of e old kills)) (replacement_drawn drawing p) (replacement_times drawing p)) same done
 
 -- the current text of the kill ring that is yanked
 pub yanked_by : {X T : Type 0} (e : Ghosts X) (r : Result T ReadlineError) (old new : X) (kills kills' : Ring) (input : Input) (anchor : Anchor) (n : ℕ) (yanked : Option (List ℕ)) (text : List ℕ)
@@ -596,6 +627,8 @@ module _ {X : Type 0} (e : Ghosts X) where
   quiet_part input indent old new kills kills' (kill movement) answer steps drew is = quiet_kill 1 (killed_range (e.draft old).line movement) old new is drew
   quiet_part input indent old new kills kills' (move movement) answer steps drew is =
       quiet_move movement old new (ap (λ (x : Editor). x.draft.line) steps.editor ∙ sym (measured_by (e.display old) indent movement (e.draft old).line)) is drew
+  quiet_part input indent old new kills kills' move_to_bracket answer steps drew is =
+      quiet_way MoveCursor (moved_to (e.draft old).line (bracket_place (e.draft old).line)) old new (ap (λ (x : Editor). x.draft.line) steps.editor) is drew.way
   quiet_part input indent old new kills kills' _ answer steps drew is = absurd (cc)
 
 module _ {X : Type 0} (e : Ghosts X) (old new : X) (input : Input) (indent : ℕ) (kills kills' : Ring) (command : Command) where

@@ -11,15 +11,15 @@ use Rattle.line_buffer.specs.declared.movement.Movement.TheVariants.{LineDown, L
 use Rattle.line_parts.specs.Environment.{Environment, verdict_on}
 use Rattle.line_parts.specs.Hint.{Suggestion}
 use Rattle.line_parts.specs.Verdict.{Verdict, incomplete, invalid, valid}
-use Rattle.line_state.specs.Edited.{Edited, with_text, yanked_at}
-use Rattle.line_keys.specs.Command.{Command, accept_line, accept_or_insert_line, beginning_of_history, capitalize_word, complete_hint, downcase_word, end_of_history, history_search_backward, history_search_forward, insert, kill, line_down_or_next_history, line_up_or_previous_history, next_history, overwrite, previous_history, replace, replace_char, transpose_chars, transpose_words, undo, upcase_word, yank, yank_pop}
+use Rattle.line_state.specs.Edited.{Edited, bracket_range, with_nothing_for, with_text, yanked_at}
+use Rattle.line_keys.specs.Command.{Command, accept_line, accept_or_insert_line, beginning_of_history, capitalize_word, complete_hint, downcase_word, end_of_history, history_search_backward, history_search_forward, insert, kill, kill_to_bracket, line_down_or_next_history, line_up_or_previous_history, next_history, overwrite, previous_history, replace, replace_char, replace_to_bracket, transpose_chars, transpose_words, undo, upcase_word, yank, yank_pop}
 use Rattle.line_keys.specs.Draft.{Draft, in_group, out_of_group, unhinted}
 use Rattle.line_keys.specs.declared.cmd.Anchor.{Anchor}
 use Rattle.line_editor.specs.Accept.{replied, reply_to, unhinted_by, validated}
 use Rattle.line_editor.specs.declared.command.Reply.{Reply}
 use Rattle.line_editor.specs.declared.command.Reply.TheVariants as reply
 use Rattle.line_editor.specs.Editor.{Editor, Ruler, edited_of, measuring}
-use Rattle.line_editor.specs.DraftEdits.{after_edit, completed, cursor_moved, kill_popped, kill_yanked, killed_by, perhaps_inserted, movement_replaced, typed_in}
+use Rattle.line_editor.specs.DraftEdits.{after_edit, bracket_killed, bracket_replaced, completed, cursor_moved, kill_popped, kill_yanked, killed_by, perhaps_inserted, movement_replaced, typed_in}
 use Rattle.line_editor.specs.HistoryMoves.{come_back, first_shown, is_own_line, line_shown, next_shown, previous_shown, saved_at_end}
 use Rattle.line_editor.specs.Input.{Input, is_vi_command}
 use Rattle.line_editor.specs.Laws.{ComingBack, after_commands, searches}
@@ -68,6 +68,16 @@ replaced_stays environment movement text editor =
     let left : Editor = killed_by environment movement editor (killed_range editor.draft.line movement) in
     then_stays editor.draft left.draft (perhaps_inserted environment text left.draft)
     (killed_stays environment movement editor (killed_range editor.draft.line movement)) (text_stays environment text left.draft)
+
+-- and of a text from a bracket to its match
+emptied_stays : (environment : Environment) (editor : Editor) → Stays editor.draft (bracket_killed environment editor).draft
+emptied_stays environment editor =
+    edit_stays environment (is_some (bracket_range editor.draft.line)) (with_nothing_for (bracket_range editor.draft.line) (edited_of editor.draft)) editor.draft
+
+refilled_stays : (environment : Environment) (text : Option (List ℕ)) (editor : Editor) → Stays editor.draft (bracket_replaced environment text editor).draft
+refilled_stays environment text editor =
+    let left : Editor = bracket_killed environment editor in
+    then_stays editor.draft left.draft (perhaps_inserted environment text left.draft) (emptied_stays environment editor) (text_stays environment text left.draft)
 
 yanked_stays : (environment : Environment) (input : Input) (anchor : Anchor) (n : ℕ) (text : Option (List ℕ)) (editor : Editor)
     → Stays editor.draft (kill_yanked environment input anchor n text editor).draft
@@ -176,6 +186,10 @@ step_way ruler environment input draft kills (kill movement) none within =
 step_way ruler environment input draft kills (replace movement text) none within =
     let found : Editor = ready (replace movement text) draft kills in
     stays (then_stays draft found.draft (movement_replaced environment movement text found).draft (record { saved = refl; index = refl }) (replaced_stays environment movement text found))
+step_way ruler environment input draft kills kill_to_bracket none within = stays (emptied_stays environment (ready kill_to_bracket draft kills))
+step_way ruler environment input draft kills (replace_to_bracket text) none within =
+    let found : Editor = ready (replace_to_bracket text) draft kills in
+    stays (then_stays draft found.draft (bracket_replaced environment text found).draft (record { saved = refl; index = refl }) (refilled_stays environment text found))
 step_way ruler environment input draft kills (yank n anchor) none within =
     let found : Editor = ready (yank n anchor) draft kills in
     stays (yanked_stays environment input anchor n (yanked_text found.kills) found)

@@ -24,6 +24,7 @@ pub mod EditLemmas
 pub mod HistoryMoveLemmas
 pub mod HistoryWayLaws
 pub mod KeysLaws
+pub mod MatchWayLaws
 pub mod MoveLemmas
 pub mod GroupLemmas
 pub mod GrownLemmas

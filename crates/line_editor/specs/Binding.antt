@@ -45,7 +45,7 @@ node_count bound = beginning_count (map (λ binding. event_keys binding.0) bound
 abbrev pub all_sure : Bound → Bool
 all_sure bound = list_all (λ binding. binding.1.sure) bound
 
--- one event is bound to a handler anew, and the others as before; bindings whose handlers are all sure stay so by one that is sure
+-- one event is bound to this handler, and each other one as before; where all handlers were sure and this one is, all are
 pub record Rebinds (old new : Bound) (chord : Chord) (handler : Handler) : Type 0 where
   pub handlers : (other : Chord) → handler_of new other
       ≡ (if same_chord chord other then Some handler else handler_of old other)

@@ -16,7 +16,7 @@ use Rattle.line_keys.specs.Draft.{Draft, hinted}
 use Rattle.line_keys.specs.declared.cmd.Anchor.{Anchor}
 use Rattle.line_parts.specs.Environment.{Environment}
 use Rattle.line_parts.specs.Hint.{Suggestion}
-use Rattle.line_state.specs.Edited.{Edited, pops_text, undone, with_char_for, with_chars_swapped, with_copies, with_lines_shifted, with_next_word, with_overwritten, with_popped, with_text, with_words_swapped, with_yanked, without_range, yanked_at}
+use Rattle.line_state.specs.Edited.{Edited, bracket_range, pops_text, undone, with_char_for, with_chars_swapped, with_copies, with_lines_shifted, with_next_word, with_nothing_for, with_overwritten, with_popped, with_text, with_words_swapped, with_yanked, without_range, yanked_at}
 use Rattle.line_state.specs.Moves.{moved}
 use Rattle.line_editor.specs.Editor.{Editor, Ruler, edited_of, measuring, with_draft, with_edited}
 use Rattle.line_editor.specs.Input.{Input, is_vi_command}
@@ -92,6 +92,27 @@ copied_to kills (Some text) = after_kill kills text Append
 -- the text of a movement
 abbrev pub text_of : Line → Movement → Option (List ℕ)
 text_of line movement = text_in line.text (unless_empty (range_of line movement))
+
+-- a range goes as a replacement by nothing, and the hint is asked again; without a range nothing happens
+abbrev pub range_emptied : Environment → Option (ℕ × ℕ) → Draft → Draft
+range_emptied environment range draft = after_edit environment (is_some range) (with_nothing_for range (edited_of draft)) draft
+
+-- the text from the bracket at the cursor to its match, if it has one
+abbrev pub bracket_text : Line → Option (List ℕ)
+bracket_text line = text_in line.text (bracket_range line)
+
+-- that text is copied to the kill ring, and goes; without a match nothing happens
+abbrev pub bracket_killed : Environment → Editor → Editor
+bracket_killed environment editor = record {
+  draft = range_emptied environment (bracket_range editor.draft.line) editor.draft;
+  kills = copied_to editor.kills (bracket_text editor.draft.line);
+}
+
+-- and a text comes in its place, if there is one
+abbrev pub bracket_replaced : Environment → Option (List ℕ) → Editor → Editor
+bracket_replaced environment text editor =
+    let left = bracket_killed environment editor in
+    with_draft left (perhaps_inserted environment text left.draft)
 
 -- a character comes for each of n clusters
 abbrev pub char_replaced : Environment → ℕ → ℕ → Draft → Draft

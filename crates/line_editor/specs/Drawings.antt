@@ -4,13 +4,13 @@ use Rattle.std.specs.List.{list_any}
 use Rattle.line_buffer.specs.Cluster.{place_on}
 use Rattle.line_buffer.specs.Kill.{killed_range}
 use Rattle.line_buffer.specs.KillRing.{yank_popped, yanked_text}
-use Rattle.line_buffer.specs.Line.{Line, ends_in_white_space, start_of_line, with_cursor}
+use Rattle.line_buffer.specs.Line.{Line, ends_in_white_space, moved_to, start_of_line, with_cursor}
 use Rattle.line_buffer.specs.Lines.{down_by, up_by}
 use Rattle.line_buffer.specs.Transpose.{are_apart, has_two_chars, next_alphanumeric, words_beside}
 use Rattle.line_buffer.specs.Undo.{is_change, newest_steps}
 use Rattle.line_buffer.specs.declared.movement.Movement.{Movement}
 use Rattle.line_buffer.specs.declared.movement.Movement.TheVariants.{ViFirstPrint}
-use Rattle.line_keys.specs.Command.{Command, accept_line, accept_or_insert_line, beginning_of_history, capitalize_word, clear_screen, complete_hint, dedent, downcase_word, end_of_file, end_of_history, history_search_backward, history_search_forward, indent, insert, interrupt, kill, line_down_or_next_history, line_up_or_previous_history, move, newline, next_history, overwrite, previous_history, repaint, replace, replace_char, self_insert, transpose_chars, transpose_words, undo, upcase_word, yank, yank_pop}
+use Rattle.line_keys.specs.Command.{Command, accept_line, accept_or_insert_line, beginning_of_history, capitalize_word, clear_screen, complete_hint, dedent, downcase_word, end_of_file, end_of_history, history_search_backward, history_search_forward, indent, insert, interrupt, kill, kill_to_bracket, line_down_or_next_history, line_up_or_previous_history, move, move_to_bracket, newline, next_history, overwrite, previous_history, repaint, replace, replace_char, replace_to_bracket, self_insert, transpose_chars, transpose_words, undo, upcase_word, yank, yank_pop}
 use Rattle.line_keys.specs.Display.{Display, columns_back, columns_on}
 use Rattle.line_keys.specs.Draft.{Draft, unhinted}
 use Rattle.line_keys.specs.Drawing.{Drawing, asked_by, change_drawn, cursor, cursor_over, cursor_to_end, drawn_if, edit_drawn, in_part, nothing, with_hint, with_text}
@@ -20,8 +20,8 @@ use Rattle.line_parts.specs.Environment.{Environment, verdict_on}
 use Rattle.line_parts.specs.Verdict.{message_of}
 use Rattle.line_parts.specs.declared.highlight.CmdKind.TheVariants.{ForcedRefresh, MoveCursor}
 use Rattle.line_parts.specs.declared.history.SearchDirection.TheVariants.{Forward, Reverse}
-use Rattle.line_state.specs.Edited.{pops_text}
-use Rattle.line_state.specs.Moves.{moved}
+use Rattle.line_state.specs.Edited.{bracket_range, pops_text}
+use Rattle.line_state.specs.Moves.{bracket_place, moved}
 use Rattle.line_editor.specs.Accept.{reply_to}
 use Rattle.line_editor.specs.DraftEdits.{range_killed, typed_in}
 use Rattle.line_editor.specs.Editor.{Editor}
@@ -95,6 +95,10 @@ kill_drawn display environment draft (Some range) =
 abbrev pub replacement_drawn : Drawing → Option (List ℕ) → Drawing
 replacement_drawn killed text = if has_text text then with_hint else killed
 
+-- what is drawn of a kill from a bracket to its match: nothing where there is none
+abbrev pub bracket_drawn : Line → Drawing
+bracket_drawn line = drawn_if (is_some (bracket_range line))
+
 -- what a command draws that proceeds and leaves the kill ring; those that are left to the program above draw nothing
 abbrev pub edited_drawn : Display → Environment → Draft → Command → Drawing
 edited_drawn display environment draft (self_insert n c) = typing_drawn display environment draft n c
@@ -103,6 +107,7 @@ edited_drawn display environment draft (insert n text) = edit_drawn (not (length
 edited_drawn display environment draft (replace_char n c) = edit_drawn (is_some (place_on draft.line n))
 edited_drawn display environment draft (overwrite c) = edit_drawn (is_some (place_on draft.line 1))
 edited_drawn display environment draft (move movement) = move_drawn draft.line movement
+edited_drawn display environment draft move_to_bracket = cursor MoveCursor
 edited_drawn display environment draft (line_up_or_previous_history n) =
     if is_some (up_by display.layout draft.line n) then cursor MoveCursor else drawn_if (not (way_ends environment Reverse draft))
 edited_drawn display environment draft (line_down_or_next_history n) =
@@ -132,6 +137,8 @@ drawing_of display environment editor (kill movement) =
     kill_drawn display environment editor.draft (killed_range editor.draft.line movement)
 drawing_of display environment editor (replace movement text) =
     replacement_drawn (kill_drawn display environment editor.draft (killed_range editor.draft.line movement)) text
+drawing_of display environment editor kill_to_bracket = bracket_drawn editor.draft.line
+drawing_of display environment editor (replace_to_bracket text) = replacement_drawn (bracket_drawn editor.draft.line) text
 drawing_of display environment editor (yank n anchor) = yank_drawn (yanked_text editor.kills)
 drawing_of display environment editor yank_pop = pop_drawn editor.draft.line (yank_popped editor.kills)
 drawing_of display environment editor end_of_file = unhinted_drawn display editor.draft
@@ -168,6 +175,8 @@ asked_of display environment editor (accept_or_insert_line in_the_middle) =
     asked_for_reply (reply_to (verdict_on environment editor.draft.line.text) (in_the_middle || ends_in_white_space editor.draft.line))
 asked_of display environment editor (kill movement) = asked_by (drawing_of display environment editor (kill movement))
 asked_of display environment editor (replace movement text) = asked_by (drawing_of display environment editor (replace movement text))
+asked_of display environment editor kill_to_bracket = asked_by (drawing_of display environment editor kill_to_bracket)
+asked_of display environment editor (replace_to_bracket text) = asked_by (drawing_of display environment editor (replace_to_bracket text))
 asked_of display environment editor (yank n anchor) = asked_by (drawing_of display environment editor (yank n anchor))
 asked_of display environment editor yank_pop = asked_by (drawing_of display environment editor yank_pop)
 asked_of display environment editor command = edited_asked display environment editor.draft command
@@ -183,7 +192,7 @@ once_for drawing = 1
 abbrev pub replacement_times : Drawing → Option (List ℕ) → ℕ
 replacement_times killed text = if has_text text then once_for killed + 1 else 1
 
--- how often the line is drawn in full by a command that proceeds and leaves the kill ring: a newline takes the hint away first
+-- how often the line is drawn in full by a command that draws it, proceeds and leaves the kill ring: a newline takes the hint away first
 abbrev pub edited_times : Display → Draft → Command → ℕ
 edited_times display draft newline = once_for (unhinted_drawn display draft) + 1
 edited_times display draft command = 1
@@ -203,6 +212,7 @@ reply_times reply times = times
 abbrev pub times_of : Display → Environment → Editor → Command → ℕ
 times_of display environment editor (replace movement text) =
     replacement_times (kill_drawn display environment editor.draft (killed_range editor.draft.line movement)) text
+times_of display environment editor (replace_to_bracket text) = replacement_times (bracket_drawn editor.draft.line) text
 times_of display environment editor accept_line = validated_times display environment editor.draft
 times_of display environment editor (accept_or_insert_line in_the_middle) =
     reply_times (reply_to (verdict_on environment editor.draft.line.text) (in_the_middle || ends_in_white_space editor.draft.line))
@@ -227,4 +237,6 @@ draws_in_part display environment draft (self_insert n c) = is_plain_typing disp
 draws_in_part display environment draft (kill movement) =
     any_plain_kill display environment draft (killed_range draft.line movement)
 draws_in_part display environment draft (move movement) = moves_alone display environment draft.line movement
+draws_in_part display environment draft move_to_bracket =
+    not (has_highlighting environment display (moved_to draft.line (bracket_place draft.line)) MoveCursor)
 draws_in_part display environment draft _ = false

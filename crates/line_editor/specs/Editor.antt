@@ -3,7 +3,7 @@ use Rattle.std.specs.Prelude.{◌≡◌, ℕ, true, false}
 use Rattle.line_buffer.specs.KillRing.{Ring}
 use Rattle.line_buffer.specs.declared.layout.GraphemeClusterMode.{GraphemeClusterMode}
 use Rattle.line_buffer.specs.declared.layout.Layout.{Layout}
-use Rattle.line_keys.specs.Command.{Command, replace}
+use Rattle.line_keys.specs.Command.{Command, replace, replace_to_bracket}
 use Rattle.line_keys.specs.Display.{Display, corner}
 use Rattle.line_keys.specs.Draft.{Draft, in_group}
 use Rattle.line_keys.specs.declared.editor_state.EditorState.{Ghosts}
@@ -92,6 +92,7 @@ proceeding editor = record { editor = editor; answer = proceeds }
 -- a group of changes begins for each replacement
 abbrev pub grouped : Command → Draft → Draft
 grouped (replace _ _) draft = in_group draft
+grouped (replace_to_bracket _) draft = in_group draft
 grouped _ draft = draft
 
 -- the editor that is left and the answer are those of a step

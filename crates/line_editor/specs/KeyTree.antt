@@ -95,7 +95,7 @@ module _ {V : Type 0} where
     pub tree : IsTree shape
     pub leads : EachLeads shape values
 
-  -- one sequence has this value, and the others what they had; what all values had, and this one has, all have
+  -- one sequence has this value, and each other one has what it had; a test that all old values pass, and this one, all new ones pass
   pub record Puts (old new : List (List KeyEvent × V)) (sequence : List KeyEvent) (value : V) : Type 0 where
     pub values : (other : List KeyEvent) → value_of new other
         ≡ (if pointwise same_key sequence other then Some value else value_of old other)

@@ -1,6 +1,7 @@
 pub mod Accept
 pub mod Asked
 pub mod Editor
+pub mod BracketLaws
 pub mod DraftEdits
 pub mod HistoryMoves
 pub mod Event

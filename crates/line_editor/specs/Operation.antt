@@ -9,7 +9,7 @@ use Rattle.line_keys.specs.Command.{Command, unknown}
 use Rattle.line_keys.specs.Count.{count_of, is_count_before}
 use Rattle.line_keys.specs.Draft.{Draft}
 use Rattle.line_keys.specs.Item.{Item, key}
-use Rattle.line_keys.specs.Motion.{Motion, covers, covers_last, covers_search, is_own_key, motion_of, multiplied, no_motion, operated, search_to}
+use Rattle.line_keys.specs.Motion.{Motion, covers, covers_bracket, covers_last, covers_search, is_own_key, motion_of, multiplied, no_motion, operated, operated_to_bracket, search_to}
 use Rattle.line_keys.specs.declared.keys.KeyEvent.{KeyEvent}
 use Rattle.line_keys.specs.declared.refresher.InputMode.TheVariants as modes
 use Rattle.line_keys.specs.declared.tables.Operator.{Operator}
@@ -39,6 +39,8 @@ pub data Reaches (draft : Draft) (input : Input) (operator : Operator) : Motion 
   to_last : (n : ℕ) (change : CharSearch → CharSearch)
       → Reaches draft input operator (covers_last n change) []
       (quiet_read draft input [] (operated_if operator (option_map (λ search. ViCharSearch n (change search)) input.last_search)))
+  -- none
+  to_match : Reaches draft input operator covers_bracket [] (quiet_read draft input [] (operated_to_bracket operator))
   -- none
   nowhere : Reaches draft input operator no_motion [] (quiet_read draft input [] unknown)
 

@@ -2,17 +2,19 @@
 use Rattle.std.specs.Prelude.{ℕ, true, false, if◌then◌else◌, is_some}
 use Rattle.line_buffer.specs.Kill.{killed_range}
 use Rattle.line_buffer.specs.KillRing.{yank_popped, yanked_text}
+use Rattle.line_buffer.specs.Line.{moved_to}
 use Rattle.line_buffer.specs.Lines.{down_by, up_by}
 use Rattle.line_buffer.specs.declared.movement.Movement.TheVariants.{LineDown, LineUp}
 use Rattle.line_buffer.specs.declared.line_buffer.WordAction.TheVariants.{Capitalize, Lowercase, Uppercase}
-use Rattle.line_keys.specs.Command.{Command, accept_line, accept_or_insert_line, beginning_of_history, capitalize_word, clear_screen, complete_hint, dedent, downcase_word, end_of_file, end_of_history, history_search_backward, history_search_forward, indent, insert, interrupt, kill, line_down_or_next_history, line_up_or_previous_history, move, newline, next_history, overwrite, previous_history, repaint, replace, replace_char, self_insert, transpose_chars, transpose_words, undo, upcase_word, vi_yank_to, yank, yank_pop}
+use Rattle.line_keys.specs.Command.{Command, accept_line, accept_or_insert_line, beginning_of_history, capitalize_word, clear_screen, complete_hint, dedent, downcase_word, end_of_file, end_of_history, history_search_backward, history_search_forward, indent, insert, interrupt, kill, kill_to_bracket, line_down_or_next_history, line_up_or_previous_history, move, move_to_bracket, newline, next_history, overwrite, previous_history, repaint, replace, replace_char, replace_to_bracket, self_insert, transpose_chars, transpose_words, undo, upcase_word, vi_yank_to, yank, yank_pop, yank_to_bracket}
 use Rattle.line_keys.specs.Draft.{Draft, hinted, unhinted}
 use Rattle.line_keys.specs.declared.cmd.Anchor.TheVariants.{Before}
 use Rattle.line_parts.specs.Environment.{Environment}
 use Rattle.line_parts.specs.declared.history.SearchDirection.TheVariants.{Forward, Reverse}
+use Rattle.line_state.specs.Moves.{bracket_place}
 use Rattle.line_editor.specs.Accept.{accepted, answer_at_end, validated}
 use Rattle.line_editor.specs.Editor.{Editor, Ruler, Step, interrupted, measuring, proceeding, submitted, with_draft}
-use Rattle.line_editor.specs.DraftEdits.{chars_transposed, char_replaced, completed, copied_to, cursor_moved, kill_popped, kill_yanked, killed_by, lines_shifted, overwritten, movement_replaced, steps_undone, text_of, typed_in, word_changed, words_transposed, yanked_in}
+use Rattle.line_editor.specs.DraftEdits.{bracket_killed, bracket_replaced, bracket_text, chars_transposed, char_replaced, completed, copied_to, cursor_moved, kill_popped, kill_yanked, killed_by, lines_shifted, overwritten, movement_replaced, steps_undone, text_of, typed_in, word_changed, words_transposed, yanked_in}
 use Rattle.line_editor.specs.HistoryMoves.{end_shown, first_shown, next_shown, previous_shown, search_shown}
 use Rattle.line_editor.specs.Input.{Input}
 
@@ -36,6 +38,7 @@ edited_by ruler environment input draft (insert n text) = yanked_in environment 
 edited_by ruler environment input draft (replace_char n c) = char_replaced environment n c draft
 edited_by ruler environment input draft (overwrite c) = overwritten environment c draft
 edited_by ruler environment input draft (move movement) = cursor_moved ruler movement draft
+edited_by ruler environment input draft move_to_bracket = record draft { line = moved_to draft.line (bracket_place draft.line) }
 edited_by ruler environment input draft (line_up_or_previous_history n) = up_or_previous ruler environment n draft
 edited_by ruler environment input draft (line_down_or_next_history n) = down_or_next ruler environment n draft
 edited_by ruler environment input draft (undo n) = steps_undone environment n draft
@@ -64,6 +67,10 @@ step ruler environment input editor (kill movement) =
 step ruler environment input editor (replace movement text) = proceeding (movement_replaced environment movement text editor)
 step ruler environment input editor (vi_yank_to movement) =
     proceeding (record editor { kills = copied_to editor.kills (text_of editor.draft.line movement) })
+step ruler environment input editor kill_to_bracket = proceeding (bracket_killed environment editor)
+step ruler environment input editor (replace_to_bracket text) = proceeding (bracket_replaced environment text editor)
+step ruler environment input editor yank_to_bracket =
+    proceeding (record editor { kills = copied_to editor.kills (bracket_text editor.draft.line) })
 step ruler environment input editor (yank n anchor) =
     proceeding (kill_yanked environment input anchor n (yanked_text editor.kills) editor)
 step ruler environment input editor yank_pop = proceeding (kill_popped environment (yank_popped editor.kills) editor)

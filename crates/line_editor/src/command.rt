@@ -50,9 +50,10 @@ pub fn execute<'out, 'prompt, W: Renderer, H: Helper, P: Prompt, S: History>(
     kill_ring: &mut KillRing,
     config: &Config,
 ) -> Result<Status>
-    ensures { Executes ⟦<State<'out, 'prompt, W, H, P, S> as EditorState>⟧ result state.old
+    ensures executes { Executes ⟦<State<'out, 'prompt, W, H, P, S> as EditorState>⟧ result state.old
         (input_of input_state.now) config.now.indent_size kill_ring.old (command_of cmd)
         state.new kill_ring.new }
+    ensures ring { kill_ring.new.size ≡ kill_ring.old.size }
 {
     match cmd {
         Cmd::EndOfFile => return state.end_of_file(input_state),
@@ -71,6 +72,18 @@ pub fn execute<'out, 'prompt, W: Renderer, H: Helper, P: Prompt, S: History>(
         }
         Cmd::ViYankTo(movement) => {
             state.copy_to(&movement, kill_ring)?;
+            return Ok(Status::Proceed);
+        }
+        Cmd::KillToBracket => {
+            state.kill_to_bracket(kill_ring)?;
+            return Ok(Status::Proceed);
+        }
+        Cmd::ReplaceToBracket(text) => {
+            state.replace_to_bracket(text.as_deref(), kill_ring)?;
+            return Ok(Status::Proceed);
+        }
+        Cmd::YankToBracket => {
+            state.copy_to_bracket(kill_ring)?;
             return Ok(Status::Proceed);
         }
         Cmd::Yank(n, anchor) => {
@@ -112,6 +125,7 @@ impl<'out, 'prompt, W: Renderer, H: Helper, P: Prompt, S: History> State<
             Cmd::ReplaceChar(n, c) => self.edit_replace_char(c, n),
             Cmd::Overwrite(c) => self.edit_overwrite_char(c),
             Cmd::Move(movement) => self.move_by(&movement),
+            Cmd::MoveToBracket => self.move_to_bracket(),
             Cmd::LineUpOrPreviousHistory(n) => self.up_or_previous(n),
             Cmd::LineDownOrNextHistory(n) => self.down_or_next(n),
             Cmd::Undo(n) => self.undo(n),
@@ -140,15 +154,18 @@ impl<'out, 'prompt, W: Renderer, H: Helper, P: Prompt, S: History> State<
             | Cmd::ForwardSearchHistory
             | Cmd::Interrupt
             | Cmd::Kill(_)
+            | Cmd::KillToBracket
             | Cmd::Noop
             | Cmd::QuotedInsert
             | Cmd::Replace(_, _)
+            | Cmd::ReplaceToBracket(_)
             | Cmd::ReverseSearchHistory
             | Cmd::Suspend
             | Cmd::Unknown
             | Cmd::ViYankTo(_)
             | Cmd::Yank(_, _)
-            | Cmd::YankPop => Ok(()),
+            | Cmd::YankPop
+            | Cmd::YankToBracket => Ok(()),
         }
     }
 

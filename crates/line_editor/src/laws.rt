@@ -1,4 +1,5 @@
 //! Laws of the definitions that the contracts cite. No call of the editor is made here.
+ghost use Rattle.line_editor.specs.BracketLaws.{GoingToTheMatchTwice, KilledToTheMatchComesBack};
 ghost use Rattle.line_editor.specs.Laws.{ComingBack, ComparesEvents, EnoughUndo, ExecutesNoMoreThanKeys, HasOneEnd, InsertionIsOneStep, IsPrefixFree, ReadFromTheCut, ReadingAgain, TurnsAndRun, TwoRenderers, TurnsBeforeMore, TurnsFollow};
 
 use crate::edit::State;
@@ -71,6 +72,17 @@ pub fn an_insertion_is_one_step()
 /// its cursor, whatever was edited in between.
 pub fn coming_back_restores_the_line()
     ensures { ComingBack }
+{}
+
+/// In Vi's command mode % and again % leave the cursor where it was, if the bracket there and its match begin their clusters.
+pub fn going_to_the_match_twice_comes_back()
+    ensures { GoingToTheMatchTwice }
+{}
+
+/// In Vi's command mode d% at a bracket that has a match, and then P, leave the text as it was, if the kill ring has a slot at
+/// least and the last action was no kill.
+pub fn what_is_killed_to_the_match_comes_back()
+    ensures { KilledToTheMatchComesBack }
 {}
 
 /// Two runs over renderers of the same prompt end and cluster mode, which start alike, leave the same line, cursor, history

@@ -36,7 +36,8 @@ pub enum Turned {
 
 // Resets the kill ring where the command says so.
 fn reset_kills(command: &Cmd, kill_ring: &mut KillRing)
-    ensures { kill_ring.new ≡ kills_before (command_of command.now) kill_ring.old }
+    ensures reset { kill_ring.new ≡ kills_before (command_of command.now) kill_ring.old }
+    ensures ring { kill_ring.new.size ≡ kill_ring.old.size }
 {
     if command.should_reset_kill_ring() {
         kill_ring.reset();
@@ -59,11 +60,12 @@ pub fn advance<'out, 'prompt, W: Renderer, H: Helper, P: Prompt, S: History>(
     kill_ring: &mut KillRing,
     config: &Config,
 ) -> Result<Turned>
-    ensures { let k = keys_of ⟦<dyn ConditionalEventHandler as ConditionalEventHandler>⟧ in
+    ensures advances { let k = keys_of ⟦<dyn ConditionalEventHandler as ConditionalEventHandler>⟧ in
         Advances ⟦<State<'out, 'prompt, W, H, P, S> as EditorState>⟧ W.Reader.RawReader
         config.now.indent_size result
         (session state.old (k input_state.old) rdr.old kill_ring.old)
         (session state.new (k input_state.new) rdr.new kill_ring.new) }
+    ensures ring { kill_ring.new.size ≡ kill_ring.old.size }
 {
     let command = match state.next_cmd(input_state, rdr, false) {
         Ok(command) => command,
@@ -96,11 +98,12 @@ pub fn run<'out, 'prompt, W: Renderer, H: Helper, P: Prompt, S: History>(
     kill_ring: &mut KillRing,
     config: &Config,
 ) -> Result<()>
-    ensures { let k = keys_of ⟦<dyn ConditionalEventHandler as ConditionalEventHandler>⟧ in
+    ensures runs { let k = keys_of ⟦<dyn ConditionalEventHandler as ConditionalEventHandler>⟧ in
         Runs ⟦<State<'out, 'prompt, W, H, P, S> as EditorState>⟧ W.Reader.RawReader
         config.now.indent_size result
         (session state.old (k input_state.old) rdr.old kill_ring.old)
         (session state.new (k input_state.new) rdr.new kill_ring.new) }
+    ensures ring { kill_ring.new.size ≡ kill_ring.old.size }
 {
     state.refresh_line()?;
     'turns: loop {

@@ -116,7 +116,7 @@ impl<V: Drop> KeyTree<V> {
     }
 }
 
-// Returns the node that keys lead to from the root as far as they do, and how many of them that is.
+// Returns the last node that the keys lead to from the root, and how many of the keys lead there.
 fn reach<V>(nodes: &[Node<V>], keys: &[KeyEvent]) -> (usize, usize)
     requires root { 0 < length nodes.now }
     requires tree { IsKeyTree (shape_of nodes.now) (values_of nodes.now) }

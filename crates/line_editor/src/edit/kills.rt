@@ -1,13 +1,14 @@
 //! What takes text out of the line, and what the kill ring gives back.
-ghost use Rattle.std.specs.Prelude.{◌≡◌, ◌≤◌, ◌-◌, ◌==◌, ◌&&◌, true, length, option_map, IsCharBoundary};
+ghost use Rattle.std.specs.Prelude.{◌≡◌, ◌≤◌, ◌-◌, ◌==◌, ◌&&◌, true, length, option_map, is_some, IsCharBoundary};
 ghost use Rattle.line_buffer.specs.Kill.{killed_range};
 ghost use Rattle.line_buffer.specs.KillRing.{yank_popped, yanked_text};
-ghost use Rattle.line_editor.specs.Drawings.{kill_drawn, pop_drawn, replacement_drawn, replacement_times, yank_drawn};
-ghost use Rattle.line_editor.specs.DraftEdits.{copied_to, kill_popped, kill_yanked, killed_by, movement_replaced, text_of};
+ghost use Rattle.line_editor.specs.Drawings.{bracket_drawn, kill_drawn, pop_drawn, replacement_drawn, replacement_times, yank_drawn};
+ghost use Rattle.line_editor.specs.DraftEdits.{bracket_killed, bracket_replaced, bracket_text, copied_to, kill_popped, kill_yanked, killed_by, movement_replaced, range_emptied, text_of};
 ghost use Rattle.line_editor.specs.InputState.{input_of};
 ghost use Rattle.line_editor.specs.Outcomes.{DoesWithKills, editor_of};
-ghost use Rattle.line_keys.specs.Drawing.{nothing};
+ghost use Rattle.line_keys.specs.Drawing.{Does, nothing};
 ghost use Rattle.line_keys.specs.Plainly.{gives_end};
+ghost use Rattle.line_state.specs.Edited.{bracket_range};
 
 use crate::edit::State;
 use crate::input_state::InputState;
@@ -36,12 +37,13 @@ impl<'out, 'prompt, W: Renderer, H: Helper, P: Prompt, S: History> State<
     /// Those of the parties and of the renderer, and that memory ran out. The line is text with its cursor on a boundary,
     /// and the changes tell of it.
     pub fn edit_kill(&mut self, movement: &Movement, kill_ring: &mut KillRing) -> Result<()>
-        ensures { let e = ⟦<Self as EditorState>⟧ in
+        ensures does { let e = ⟦<Self as EditorState>⟧ in
             let range = killed_range (e.draft self.old).line movement.now in
             DoesWithKills e result self.old kill_ring.old self.new kill_ring.new
             (killed_by (e.environment self.old) movement.now
             (editor_of e self.old kill_ring.old) range)
             (kill_drawn (e.display self.old) (e.environment self.old) (e.draft self.old) range) 1 }
+        ensures ring { kill_ring.new.size ≡ kill_ring.old.size }
     {
         let Some((from, to)) = self.edited.killed_range(movement) else {
             return Ok(());
@@ -76,11 +78,12 @@ impl<'out, 'prompt, W: Renderer, H: Helper, P: Prompt, S: History> State<
 
     // Copies the text of a movement to the kill ring, if there is one.
     pub(crate) fn copy_to(&mut self, movement: &Movement, kill_ring: &mut KillRing) -> Result<()>
-        ensures { let e = ⟦<Self as EditorState>⟧ in
+        ensures does { let e = ⟦<Self as EditorState>⟧ in
             DoesWithKills e result self.old kill_ring.old self.new kill_ring.new
             (record (editor_of e self.old kill_ring.old) {
               kills = copied_to kill_ring.old (text_of (e.draft self.old).line movement.now);
             }) nothing 1 }
+        ensures ring { kill_ring.new.size ≡ kill_ring.old.size }
     {
         if let Some(text) = self.edited.copy(movement)? {
             kill_ring.kill(&text, Mode::Append)?;
@@ -96,11 +99,12 @@ impl<'out, 'prompt, W: Renderer, H: Helper, P: Prompt, S: History> State<
         n: RepeatCount,
         kill_ring: &mut KillRing,
     ) -> Result<()>
-        ensures { let e = ⟦<Self as EditorState>⟧ in
+        ensures does { let e = ⟦<Self as EditorState>⟧ in
             DoesWithKills e result self.old kill_ring.old self.new kill_ring.new
             (kill_yanked (e.environment self.old) (input_of input_state.now) anchor n
             (yanked_text kill_ring.old) (editor_of e self.old kill_ring.old))
             (yank_drawn (yanked_text kill_ring.old)) 1 }
+        ensures ring { kill_ring.new.size ≡ kill_ring.old.size }
     {
         if let Some(text) = kill_ring.yank() {
             self.edit_yank(input_state, text, anchor, n)?;
@@ -110,11 +114,12 @@ impl<'out, 'prompt, W: Renderer, H: Helper, P: Prompt, S: History> State<
 
     // Puts the text that was killed before the yanked one in its place, right after a yank.
     pub(crate) fn pop_killed(&mut self, kill_ring: &mut KillRing) -> Result<()>
-        ensures { let e = ⟦<Self as EditorState>⟧ in
+        ensures does { let e = ⟦<Self as EditorState>⟧ in
             DoesWithKills e result self.old kill_ring.old self.new kill_ring.new
             (kill_popped (e.environment self.old) (yank_popped kill_ring.old)
             (editor_of e self.old kill_ring.old))
             (pop_drawn (e.draft self.old).line (yank_popped kill_ring.old)) 1 }
+        ensures ring { kill_ring.new.size ≡ kill_ring.old.size }
     {
         if let Some((size, text)) = kill_ring.yank_pop() {
             self.edit_yank_pop(size, text)?;
@@ -129,7 +134,7 @@ impl<'out, 'prompt, W: Renderer, H: Helper, P: Prompt, S: History> State<
         text: Option<&str>,
         kill_ring: &mut KillRing,
     ) -> Result<()>
-        ensures { let e = ⟦<Self as EditorState>⟧ in
+        ensures does { let e = ⟦<Self as EditorState>⟧ in
             let put = option_map (λ s. s.now) text.entry in
             let d = e.draft self.old in
             let killed = kill_drawn (e.display self.old) (e.environment self.old) d
@@ -138,8 +143,71 @@ impl<'out, 'prompt, W: Renderer, H: Helper, P: Prompt, S: History> State<
             (movement_replaced (e.environment self.old) movement.now put
             (editor_of e self.old kill_ring.old))
             (replacement_drawn killed put) (replacement_times killed put) }
+        ensures ring { kill_ring.new.size ≡ kill_ring.old.size }
     {
         self.edit_kill(movement, kill_ring)?;
+        match text {
+            Some(text) => self.edit_insert_text(text),
+            None => Ok(()),
+        }
+    }
+
+    // Copies the text from the bracket at the cursor to its match to the kill ring, if it has one.
+    pub(crate) fn copy_to_bracket(&mut self, kill_ring: &mut KillRing) -> Result<()>
+        ensures does { let e = ⟦<Self as EditorState>⟧ in
+            DoesWithKills e result self.old kill_ring.old self.new kill_ring.new
+            (record (editor_of e self.old kill_ring.old) {
+              kills = copied_to kill_ring.old (bracket_text (e.draft self.old).line);
+            }) nothing 1 }
+        ensures ring { kill_ring.new.size ≡ kill_ring.old.size }
+    {
+        if let Some((from, to)) = self.edited.bracket_range() {
+            kill_ring.kill(&self.edited.line().as_str()[from..to], Mode::Append)?;
+        }
+        Ok(())
+    }
+
+    // Takes the text from the bracket at the cursor to its match away, if it has one, and draws the line again.
+    fn remove_to_bracket(&mut self) -> Result<()>
+        ensures { let e = ⟦<Self as EditorState>⟧ in let d = e.draft self.old in
+            Does e result self.old self.new
+            (range_emptied (e.environment self.old) (bracket_range d.line) d)
+            (bracket_drawn d.line) 1 }
+    {
+        if !self.edited.remove_to_bracket()? {
+            return Ok(());
+        }
+        self.refresh_line()
+    }
+
+    // Kills the text from the bracket at the cursor to its match, if it has one.
+    pub(crate) fn kill_to_bracket(&mut self, kill_ring: &mut KillRing) -> Result<()>
+        ensures does { let e = ⟦<Self as EditorState>⟧ in
+            DoesWithKills e result self.old kill_ring.old self.new kill_ring.new
+            (bracket_killed (e.environment self.old) (editor_of e self.old kill_ring.old))
+            (bracket_drawn (e.draft self.old).line) 1 }
+        ensures ring { kill_ring.new.size ≡ kill_ring.old.size }
+    {
+        self.copy_to_bracket(kill_ring)?;
+        self.remove_to_bracket()
+    }
+
+    // Kills the text from the bracket at the cursor to its match, and inserts a text in its place, if there is one.
+    pub(crate) fn replace_to_bracket(
+        &mut self,
+        text: Option<&str>,
+        kill_ring: &mut KillRing,
+    ) -> Result<()>
+        ensures does { let e = ⟦<Self as EditorState>⟧ in
+            let put = option_map (λ s. s.now) text.entry in
+            let killed = bracket_drawn (e.draft self.old).line in
+            DoesWithKills e result self.old kill_ring.old self.new kill_ring.new
+            (bracket_replaced (e.environment self.old) put
+            (editor_of e self.old kill_ring.old))
+            (replacement_drawn killed put) (replacement_times killed put) }
+        ensures ring { kill_ring.new.size ≡ kill_ring.old.size }
+    {
+        self.kill_to_bracket(kill_ring)?;
         match text {
             Some(text) => self.edit_insert_text(text),
             None => Ok(()),

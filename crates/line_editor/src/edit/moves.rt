@@ -15,7 +15,7 @@ ghost use Rattle.line_keys.specs.ShownLine.{HasShownEnd, ShowsLine};
 ghost use Rattle.line_parts.specs.Asks.{nobody};
 ghost use Rattle.line_parts.specs.declared.highlight.CmdKind.TheVariants.{MoveCursor};
 ghost use Rattle.line_parts.specs.declared.history.SearchDirection.TheVariants.{Forward, Reverse};
-ghost use Rattle.line_state.specs.Moves.{moved};
+ghost use Rattle.line_state.specs.Moves.{bracket_place, moved};
 
 use crate::edit::{Info, State};
 use line_buffer::{At, CharSearch, Movement, Position, RepeatCount, Word};
@@ -222,6 +222,18 @@ impl<'out, 'prompt, W: Renderer, H: Helper, P: Prompt, S: History> State<
             }
             _ => self.follow(movement, CmdKind::MoveCursor),
         }
+    }
+
+    // Moves the cursor to the bracket that matches the one at the cursor, if it has a match.
+    #[tactic(auto, using(crate::proofs::EditLemmas::moved_text, crate::proofs::MoveLemmas::first_placed))]
+    pub(crate) fn move_to_bracket(&mut self) -> Result<()>
+        ensures { let e = ⟦<Self as EditorState>⟧ in let line = (e.draft self.old).line in
+            MovesTo e result self.old self.new MoveCursor (moved_to line (bracket_place line)) }
+    {
+        if !self.edited.move_to_bracket() {
+            return Ok(());
+        }
+        self.move_cursor(CmdKind::MoveCursor)
     }
 
     // Moves the cursor `n` lines up, or from the first line to the line of the history before this one.

@@ -63,7 +63,7 @@ impl<'out, 'prompt, W: Renderer, H: Helper, P: Prompt, S: History> State<
         ensures memory { MemoryOnly result }
     {
         match command {
-            Cmd::Replace(_, _) => self.doing_insert(),
+            Cmd::Replace(_, _) | Cmd::ReplaceToBracket(_) => self.doing_insert(),
             _ => Ok(()),
         }
     }

@@ -100,6 +100,7 @@ impl InputState<'_> {
             Motion::SearchBack(n) => {
                 Ok(self.behind(over_if(operator, place_of(opposite_of(last), n))))
             }
+            Motion::Bracket => Ok(self.behind(operator.to_bracket())),
             Motion::None => Ok(self.behind(Cmd::Unknown)),
         }
     }

@@ -3,56 +3,75 @@ use Rattle.std.proofs.Common.{option_map, refl}
 use Rattle.std.specs.String.{string_bytes}
 use Rattle.line_keys.specs.Command.{command_of}
 use Rattle.line_editor.specs.InputState.{input_of}
-use Rattle.line_editor.proofs.CommandLemmas.{edits_else, edits_ok, edits_wrong, proceeds_ok, replaced_as}
+use Rattle.line_editor.proofs.CommandLemmas.{bracket_replaced_as, edits_else, edits_ok, edits_wrong, proceeds_ok, replaced_as}
 use Rattle.line_editor.proofs.command.execute.Goals as goal
 
-pub returns-in-EndOfFile : goal.returns-in-EndOfFile
-returns-in-EndOfFile g c = rw c.in-EndOfFile.is (c.end_of_file.ensures c.args.config.now.indent_size c.args.kill_ring.now)
+pub returns-in-EndOfFile-clause-executes : goal.returns-in-EndOfFile-clause-executes
+returns-in-EndOfFile-clause-executes g c = rw c.in-EndOfFile.is (c.end_of_file.ensures c.args.config.now.indent_size c.args.kill_ring.now)
 
-pub returns-in-AcceptLine : goal.returns-in-AcceptLine
-returns-in-AcceptLine g c = rw c.in-AcceptLine.is (c.accept_line.ensures (input_of c.args.input_state.now) c.args.config.now.indent_size c.args.kill_ring.now)
+pub returns-in-AcceptLine-clause-executes : goal.returns-in-AcceptLine-clause-executes
+returns-in-AcceptLine-clause-executes g c = rw c.in-AcceptLine.is (c.accept_line.ensures (input_of c.args.input_state.now) c.args.config.now.indent_size c.args.kill_ring.now)
 
-pub returns-in-AcceptOrInsertLine : goal.returns-in-AcceptOrInsertLine
-returns-in-AcceptOrInsertLine g c =
+pub returns-in-AcceptOrInsertLine-clause-executes : goal.returns-in-AcceptOrInsertLine-clause-executes
+returns-in-AcceptOrInsertLine-clause-executes g c =
     rw c.in-AcceptOrInsertLine.is (c.accept_or_insert_line.ensures (input_of c.args.input_state.now) c.args.config.now.indent_size c.args.kill_ring.now)
 
-pub returns-in-Interrupt : goal.returns-in-Interrupt
-returns-in-Interrupt g c = rw c.in-Interrupt.is (c.interrupt.ensures (input_of c.args.input_state.now) c.args.config.now.indent_size c.args.kill_ring.now)
+pub returns-in-Interrupt-clause-executes : goal.returns-in-Interrupt-clause-executes
+returns-in-Interrupt-clause-executes g c = rw c.in-Interrupt.is (c.interrupt.ensures (input_of c.args.input_state.now) c.args.config.now.indent_size c.args.kill_ring.now)
 
-pub returns-in-Kill : goal.returns-in-Kill
-returns-in-Kill g c =
+pub returns-in-Kill-clause-executes : goal.returns-in-Kill-clause-executes
+returns-in-Kill-clause-executes g c =
     rw c.in-Kill.is
-    (proceeds_ok _ c.args.state.now _ (input_of c.args.input_state.now) c.args.config.now.indent_size _ _ _ _ _ _ refl refl c.in_ok-edit_kill-in-Kill.ensures)
+    (proceeds_ok _ c.args.state.now _ (input_of c.args.input_state.now) c.args.config.now.indent_size _ _ _ _ _ _ refl refl c.in_ok-edit_kill-in-Kill.ensures.does)
 
-pub returns-in-Replace : goal.returns-in-Replace
-returns-in-Replace g c =
+pub returns-in-Replace-clause-executes : goal.returns-in-Replace-clause-executes
+returns-in-Replace-clause-executes g c =
     rw c.in-Replace.is
     (proceeds_ok _ c.args.state.now _ (input_of c.args.input_state.now) c.args.config.now.indent_size _ _ _ c.in_ok-replace-in-Replace.field-0 _ _ refl refl
     (replaced_as _ _ c.args.state.now _ _ _ c.in-Replace.movement _ _ (option_map string_bytes c.in-Replace.text) c.as_deref.ensures.value
-    c.in_ok-replace-in-Replace.ensures))
+    c.in_ok-replace-in-Replace.ensures.does))
 
-pub returns-in-Yank : goal.returns-in-Yank
-returns-in-Yank g c =
+pub returns-in-KillToBracket-clause-executes : goal.returns-in-KillToBracket-clause-executes
+returns-in-KillToBracket-clause-executes g c =
+    rw c.in-KillToBracket.is
+    (proceeds_ok _ c.args.state.now _ (input_of c.args.input_state.now) c.args.config.now.indent_size _ _ _ _ _ _ refl refl c.in_ok-kill_to_bracket-in-KillToBracket.ensures.does)
+
+pub returns-in-ReplaceToBracket-clause-executes : goal.returns-in-ReplaceToBracket-clause-executes
+returns-in-ReplaceToBracket-clause-executes g c =
+    rw c.in-ReplaceToBracket.is
+    (proceeds_ok _ c.args.state.now _ (input_of c.args.input_state.now) c.args.config.now.indent_size _ _ _ c.in_ok-replace_to_bracket-in-ReplaceToBracket.field-0 _ _ refl refl
+    (bracket_replaced_as _ _ c.args.state.now _ _ _ _ _ (option_map string_bytes c.in-ReplaceToBracket.field-0) c.as_deref-in-ReplaceToBracket.ensures.value
+    c.in_ok-replace_to_bracket-in-ReplaceToBracket.ensures.does))
+
+pub returns-in-YankToBracket-clause-executes : goal.returns-in-YankToBracket-clause-executes
+returns-in-YankToBracket-clause-executes g c =
+    rw c.in-YankToBracket.is
+    (proceeds_ok _ c.args.state.now _ (input_of c.args.input_state.now) c.args.config.now.indent_size _ _ _ _ _ _ refl refl c.in_ok-copy_to_bracket-in-YankToBracket.ensures.does)
+
+pub returns-in-Yank-clause-executes : goal.returns-in-Yank-clause-executes
+returns-in-Yank-clause-executes g c =
     rw c.in-Yank.is
-    (proceeds_ok _ c.args.state.now _ (input_of c.args.input_state.now) c.args.config.now.indent_size _ _ _ _ _ _ refl refl c.in_ok-yank_killed-in-Yank.ensures)
+    (proceeds_ok _ c.args.state.now _ (input_of c.args.input_state.now) c.args.config.now.indent_size _ _ _ _ _ _ refl refl c.in_ok-yank_killed-in-Yank.ensures.does)
 
-pub returns-in-YankPop : goal.returns-in-YankPop
-returns-in-YankPop g c =
+pub returns-in-YankPop-clause-executes : goal.returns-in-YankPop-clause-executes
+returns-in-YankPop-clause-executes g c =
     rw c.in-YankPop.is
-    (proceeds_ok _ c.args.state.now _ (input_of c.args.input_state.now) c.args.config.now.indent_size _ _ _ _ _ _ refl refl c.in_ok-pop_killed-in-YankPop.ensures)
+    (proceeds_ok _ c.args.state.now _ (input_of c.args.input_state.now) c.args.config.now.indent_size _ _ _ _ _ _ refl refl c.in_ok-pop_killed-in-YankPop.ensures.does)
 
-pub returns-in_default : goal.returns-in_default
-returns-in_default g c =
+pub returns-in_default-clause-executes : goal.returns-in_default-clause-executes
+returns-in_default-clause-executes g c =
     let other = c.in_default in
     edits_ok _ c.args.state.now _ (input_of c.args.input_state.now) c.args.config.now.indent_size _ _ (command_of c.args.cmd) c.in_ok-edit_by-in_default.field-0 _
-    (edits_else c.args.cmd other.not-AcceptLine other.not-AcceptOrInsertLine other.not-EndOfFile other.not-Interrupt other.not-Kill other.not-Replace other.not-ViYankTo other.not-Yank other.not-YankPop)
+    (edits_else c.args.cmd other.not-AcceptLine other.not-AcceptOrInsertLine other.not-EndOfFile other.not-Interrupt other.not-Kill other.not-Replace other.not-ViYankTo other.not-Yank other.not-YankPop
+    other.not-KillToBracket other.not-ReplaceToBracket other.not-YankToBracket)
     refl (rw c.indent_size.ensures at c.in_ok-edit_by-in_default.ensures)
 
-pub returns-in_err-edit_by-in_default : goal.returns-in_err-edit_by-in_default
-returns-in_err-edit_by-in_default g c =
+pub returns-in_err-edit_by-in_default-clause-executes : goal.returns-in_err-edit_by-in_default-clause-executes
+returns-in_err-edit_by-in_default-clause-executes g c =
     let other = c.in_default in
     let p = err_from_is_err_and c.from_residual-in_err-edit_by-in_default.result c.from_residual-in_err-edit_by-in_default.ensures.1 in
     rw (p.1, p.2)
     (edits_wrong _ c.args.state.now _ (input_of c.args.input_state.now) c.args.config.now.indent_size _ _ (command_of c.args.cmd) _ _ _ _
-    (edits_else c.args.cmd other.not-AcceptLine other.not-AcceptOrInsertLine other.not-EndOfFile other.not-Interrupt other.not-Kill other.not-Replace other.not-ViYankTo other.not-Yank other.not-YankPop)
+    (edits_else c.args.cmd other.not-AcceptLine other.not-AcceptOrInsertLine other.not-EndOfFile other.not-Interrupt other.not-Kill other.not-Replace other.not-ViYankTo other.not-Yank other.not-YankPop
+    other.not-KillToBracket other.not-ReplaceToBracket other.not-YankToBracket)
     (rw c.indent_size.ensures at c.in_err-edit_by-in_default.ensures))

@@ -1,4 +1,4 @@
-use Rattle.std.proofs.Common.{option_map, length}
+use Rattle.std.proofs.Common.{◌≡◌, option_map, length}
 use Rattle.std.specs.Borrow.{GName}
 use Rattle.line_parts.specs.Helped.{hint_by, sure_by, lights_by, verdict_by}
 use Rattle.line_parts.specs.Hint.{suggestion_of}
@@ -44,6 +44,7 @@ invariant-turns g l =
     let k = keys_of (λ v. (g.dyn-1.0.entry v).1) in
     Underway (editor_state g) g.W.Reader.RawReader l.fn.config.indent_size
     (session l.fn.state (k l.fn.input_state) l.fn.rdr l.fn.kill_ring) (session l.state (k l.input_state) l.rdr l.kill_ring)
+    × (l.kill_ring.size ≡ l.fn.kill_ring.size)
 
 abbrev pub decreases-turns : goal.decreases-turns
 decreases-turns g l = length (g.W.Reader.RawReader.rest l.rdr)

@@ -2,7 +2,7 @@ use Rattle.std.proofs.Common.{sym, ◌∙◌, ap}
 use Rattle.std.specs.Option.{option_or}
 use Rattle.std.proofs.lemmas.Result.{err_from_is_err_and}
 use Rattle.line_buffer.specs.Search.{opposite}
-use Rattle.line_editor.specs.Operation.{by_movement, nowhere}
+use Rattle.line_editor.specs.Operation.{by_movement, nowhere, to_match}
 use Rattle.line_editor.proofs.ReadingLemmas.{fault_dry}
 use Rattle.line_editor.proofs.TailLemmas.{changed_place, last_reached, motion_ends, motion_read, reached}
 use Rattle.line_editor.proofs.input_state.InputState.reach.Goals as goal
@@ -33,6 +33,11 @@ returns-in-SearchBack-clause-reads g c = λ i same.
     let place = changed_place _ (λ search. opposite search) _ _ _ c.place_of-in-SearchBack.ensures c.opposite_of.ensures in
     rw c.in-SearchBack.is (last_reached _ _ _ _ c.args.rdr.now c.args.rdr.now _ (λ search. opposite search) _ _ _ _ same c.behind-in-SearchBack.ensures.search place
     (c.behind-in-SearchBack.ensures.command ∙ c.over_if-in-SearchBack.ensures))
+
+pub returns-in-Bracket-clause-reads : goal.returns-in-Bracket-clause-reads
+returns-in-Bracket-clause-reads g c = λ i same.
+    rw c.in-Bracket.is (reached _ _ _ _ c.args.rdr.now c.args.rdr.now _ _ _ _ (c.behind-in-Bracket.ensures.search ∙ sym same)
+    (c.behind-in-Bracket.ensures.command ∙ c.to_bracket.ensures) to_match)
 
 pub returns-in-None-clause-reads : goal.returns-in-None-clause-reads
 returns-in-None-clause-reads g c = λ i same.

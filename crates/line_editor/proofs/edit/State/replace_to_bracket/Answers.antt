@@ -1,0 +1,10 @@
+use Rattle.line_editor.proofs.CommandLemmas.{bracket_as, only_killed, replaced}
+use Rattle.line_editor.proofs.edit.State.replace_to_bracket.Goals as goal
+
+pub returns-in-Some-clause-does : goal.returns-in-Some-clause-does
+returns-in-Some-clause-does g c =
+    let kill = c.in_ok-kill_to_bracket.ensures.does in
+    rw c.in-Some.is (replaced _ _ c.args.self.now _ _ _ _ _ _ (bracket_as c.args.self.now.edited.line) c.in-Some.text.now kill _ c.edit_insert_text.ensures)
+
+pub returns-in-None-clause-does : goal.returns-in-None-clause-does
+returns-in-None-clause-does g c = rw c.in-None.is (only_killed _ _ _ c.args.self.now _ _ _ _ _ c.in_ok-kill_to_bracket.ensures.does)
