@@ -142,6 +142,21 @@ const DOT: Row = Row {
     redraws: 4,
 };
 
+const BRACKET: Row = Row {
+    style: EditMode::Vi,
+    bound: &[],
+    typed: "f(a[b])",
+    phrases: &[
+        ("\u{1b}", &[], "f(a[b]|)", None),
+        ("%", &[], "f|(a[b])", None),
+        ("2d3%", &[1, 2, 3], "f|", Some("(a[b])")),
+        ("P", &[], "f(a[b]|)", Some("(a[b])")),
+    ],
+    end: "eof",
+    at: (0, 8),
+    redraws: 7,
+};
+
 /// A phrase that leads from insert mode to command mode by Alt.
 const BEHIND_ALT: Row = Row {
     style: EditMode::Vi,
@@ -358,6 +373,7 @@ const ROWS: &[Row] = &[
     IN_THE_TABLE,
     IN_VAIN,
     DOT,
+    BRACKET,
     BEHIND_ALT,
 ];
 

@@ -99,12 +99,22 @@ const IN_COMMAND_MODE: &[Row] = &[
         "Replace(ForwardChar(0), None)",
         COMMAND,
     ),
+    ("\u{1b}2d%", "KillToBracket", "KillToBracket", COMMAND),
+    ("\u{1b}y2%", "YankToBracket", "YankToBracket", COMMAND),
+    (
+        "\u{1b}c%q\u{1b}",
+        "ReplaceToBracket(None)",
+        "ReplaceToBracket(None)",
+        COMMAND,
+    ),
 ];
 
 /// What leaves the last change as it was: moves, searches, undo, keys that stand for nothing, the dot's own command.
 const LEAVE: &[&str] = &[
     "w",
     "3b",
+    "%",
+    ">%",
     "fz",
     ";",
     "u",

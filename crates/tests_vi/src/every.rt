@@ -18,6 +18,7 @@ const CODES: &[K] = &[
     K::Char('0'),
     K::Char('7'),
     K::Char('-'),
+    K::Char('%'),
     K::Char('.'),
     K::Char(';'),
     K::Char('w'),

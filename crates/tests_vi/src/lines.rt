@@ -139,3 +139,51 @@ const MOVED: &[Typing<'static>] = &[
 fn behind_moves(rt: HostRuntime) -> Result<(), Fail> {
     each(&rt, rt.alloc(), MOVED)
 }
+
+/// The key of the matching bracket, alone and behind each operator, with counts and behind the dot.
+const BRACKETS: &[Typing<'static>] = &[
+    ("f(a[b])\u{1b}0f(%", "f(a[b])", 6, "proceeds"),
+    ("f(a[b])\u{1b}0f(%%", "f(a[b])", 1, "proceeds"),
+    ("f(a[b])\u{1b}0f(3%", "f(a[b])", 6, "proceeds"),
+    ("f(a[b])\u{1b}0f(d%P", "f(a[b])", 6, "proceeds"),
+    ("f(a[b])\u{1b}0f(2d3%", "f", 1, "proceeds"),
+    ("f(a[b])\u{1b}0f[d%", "f(a)", 3, "proceeds"),
+    ("f(a[b])\u{1b}d%", "f", 1, "proceeds"),
+    ("([)]\u{1b}0%", "([)]", 2, "proceeds"),
+    ("({[x]})\u{1b}0%", "({[x]})", 6, "proceeds"),
+    ("({[x]})\u{1b}0l%", "({[x]})", 5, "proceeds"),
+    ("({[x]})\u{1b}02l%", "({[x]})", 4, "proceeds"),
+    ("((a)(b))\u{1b}0%", "((a)(b))", 7, "proceeds"),
+    ("((a)(b))\u{1b}%", "((a)(b))", 0, "proceeds"),
+    ("((a)(b))\u{1b}0l%l%", "((a)(b))", 6, "proceeds"),
+    ("(a)b\u{1b}0d%u", "(a)b", 3, "proceeds"),
+    ("(a)b\u{1b}0c%xy\u{1b}u", "(a)b", 3, "proceeds"),
+    ("(a)b\u{1b}0y%", "(a)b", 0, "proceeds"),
+    ("(a)b\u{1b}0y%.P", "(a)(a)b", 2, "proceeds"),
+    ("(a)\u{1b}0y%P", "(a)(a)", 2, "proceeds"),
+    ("(a)b\u{1b}0y%$p", "(a)b(a)", 6, "proceeds"),
+    ("(a)(b)c\u{1b}0d%d%P", "(a)(b)c", 5, "proceeds"),
+    ("(a)(b)(c)\u{1b}0d%.", "(c)", 0, "proceeds"),
+    ("(a)(b)(c)\u{1b}0d%3.", "(c)", 0, "proceeds"),
+    ("(a) (b)\u{1b}0c%x\u{1b}w.", "x x", 2, "proceeds"),
+    ("(a) (b)\u{1b}0c%\u{1b}w.", " ", 1, "proceeds"),
+    ("a(b\u{1b}0l%", "a(b", 1, "proceeds"),
+    ("a(b\u{1b}0ld%P", "a(b", 1, "proceeds"),
+    ("a(b\u{1b}0c%z", "za(b", 1, "proceeds"),
+    ("a)b\u{1b}0l%", "a)b", 1, "proceeds"),
+    ("ab\u{1b}0%", "ab", 0, "proceeds"),
+    ("(a)\u{1b}0>%", "(a)", 0, "proceeds"),
+    ("(a)\u{1b}0<%", "(a)", 0, "proceeds"),
+    // a mark behind a bracket, and a sign that joins what follows it
+    ("(\u{301}a)\u{301}\u{1b}0%", "(\u{301}a)\u{301}", 4, "proceeds"),
+    ("(\u{301}a)\u{301}\u{1b}0%%", "(\u{301}a)\u{301}", 0, "proceeds"),
+    ("(\u{301}a)\u{301}\u{1b}0d%", "\u{301}", 0, "proceeds"),
+    ("(a\u{600})\u{1b}0%", "(a\u{600})", 2, "proceeds"),
+    ("(a\u{600})\u{1b}0%%", "(a\u{600})", 2, "proceeds"),
+    ("(a\u{600})b\u{1b}0d%", "b", 0, "proceeds"),
+];
+
+#[test]
+fn behind_brackets(rt: HostRuntime) -> Result<(), Fail> {
+    each(&rt, rt.alloc(), BRACKETS)
+}

@@ -151,6 +151,28 @@ fn that_are_none(rt: HostRuntime) -> Result<(), Fail> {
     Ok(())
 }
 
+/// What each operator does to the text from a bracket to its match, and what x stands for then.
+const BRACKETS: &[(&str, &str, &str)] = &[
+    ("c", "ReplaceToBracket(None)", INSERT),
+    ("d", "KillToBracket", COMMAND),
+    ("y", "YankToBracket", COMMAND),
+    ("<", "Unknown", COMMAND),
+    (">", "Unknown", COMMAND),
+];
+
+/// The key of the matching bracket takes no count, behind an operator or before it.
+#[test]
+fn to_the_matching_bracket(rt: HostRuntime) -> Result<(), Fail> {
+    for (key, command, mode) in BRACKETS {
+        for (count, inner, _) in COUNTS {
+            let typed = format!(in rt.alloc(); "{count}{key}{inner}%")?;
+            let reading = ("\u{1b}", typed.as_str(), *command, *mode);
+            reads(&rt, rt.alloc(), &DESK, reading)?;
+        }
+    }
+    Ok(())
+}
+
 /// The operator's own key at once is the whole line, whatever its count; behind a count of its own it is no motion, and
 /// another operator's key never is one.
 #[test]

@@ -21,6 +21,7 @@ const MOVES: &[Row] = &[
     ("$", "Move(EndOfLine)", COMMAND),
     ("⇲", "Move(EndOfLine)", COMMAND),
     ("^", "Move(ViFirstPrint)", COMMAND),
+    ("%", "MoveToBracket", COMMAND),
     ("b", "Move(BackwardWord(#, Vi))", COMMAND),
     ("B", "Move(BackwardWord(#, Big))", COMMAND),
     ("e", "Move(ForwardWord(#, BeforeEnd, Vi))", COMMAND),

@@ -107,6 +107,8 @@ const EDITS: &[Case] = &[
     (PLAIN, "a|b", &[WHOLE], 2),
     (PLAIN, "a|b", &[FILL], 2),
     (PLAIN, "a|b", &[Replace(WholeLine, Some("x"))], 3),
+    (PLAIN, "|(日)", &[KillToBracket], 1),
+    (PLAIN, "|(日)", &[ReplaceToBracket(Some("x"))], 2),
     (PLAIN, "a|b", &[COPY, Yank(2, After)], 1),
     (PLAIN, "a|b", &[PopText(1, "日")], 1),
     (PLAIN, "日|本", &[TransposeChars], 1),
@@ -129,6 +131,7 @@ fn in_edits(rt: HostRuntime) -> Result<(), Fail> {
 
 const OTHERS: &[Case] = &[
     (PLAIN, "日|本", &[Move(EndOfLine)], 1),
+    (PLAIN, "|(日)", &[MoveToBracket], 1),
     (PLAIN, "  |a", &[Move(ViFirstPrint)], 2),
     (PLAIN, "a\n日|", &[LineUpOrPreviousHistory(1)], 1),
     (OVER_ONE, "日|", &[LineUpOrPreviousHistory(1)], 1),

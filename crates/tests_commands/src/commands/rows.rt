@@ -140,3 +140,39 @@ fn of_vi(rt: HostRuntime) -> Result<(), Fail> {
     }
     Ok(())
 }
+
+/// From a bracket to the one that matches it: a move draws the cursor, a removal the line, and without a match nothing.
+const BRACKETS: &[Case] = &[
+    ("|(a)b", &[MoveToBracket], "(a|)b", "m"),
+    ("|(a)b", &[MoveToBracket, MoveToBracket], "|(a)b", "mm"),
+    ("(|[日\n(é)])b", &[MoveToBracket], "([日\n(é)|])b", "m"),
+    ("(a)|b", &[MoveToBracket], "(a)|b", ""),
+    ("|(a", &[MoveToBracket], "|(a", ""),
+    ("(a)|", &[MoveToBracket], "(a)|", ""),
+    ("|(a)b", &[KillToBracket], "|b", "d"),
+    ("([日\n(é)|])b", &[KillToBracket], "(|)b", "d"),
+    ("|(a)b", &[KillToBracket, Undo(1)], "(a)|b", "dd"),
+    ("(a|)b", &[KillToBracket, YANK], "(a)|b", "dd"),
+    (
+        "|(a)(b)c",
+        &[KillToBracket, KillToBracket, YANK],
+        "(a)(b)|c",
+        "ddd",
+    ),
+    ("a|(b", &[KillToBracket, YANK], "a|(b", ""),
+    ("|(a)b", &[ReplaceToBracket(None)], "|b", "d"),
+    ("|(a)b", &[ReplaceToBracket(Some(""))], "|b", "d"),
+    ("|(a)b", &[ReplaceToBracket(Some("é"))], "|éb", "dd"),
+    ("|ab", &[ReplaceToBracket(Some("é"))], "|éab", "d"),
+    ("|(a)b", &[YankToBracket, YANK], "(a)|(a)b", "d"),
+    ("(a|)b", &[YankToBracket, YANK], "(a(a)|)b", "d"),
+    ("|(b", &[YankToBracket, YANK], "|(b", ""),
+];
+
+#[test]
+fn of_brackets(rt: HostRuntime) -> Result<(), Fail> {
+    for case in BRACKETS {
+        leaves(&rt, rt.alloc(), case)?;
+    }
+    Ok(())
+}

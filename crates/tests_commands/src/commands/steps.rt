@@ -51,6 +51,10 @@ pub(super) enum Step {
     LineDownOrNextHistory(RepeatCount),
     Newline,
     AcceptOrInsertLine(bool),
+    MoveToBracket,
+    KillToBracket,
+    ReplaceToBracket(Option<&'static str>),
+    YankToBracket,
     /// The kill ring's reset, as a run makes it after other commands.
     Reset,
     /// Copies of a text, put before or behind the cluster at the cursor.
@@ -135,6 +139,10 @@ fn counted(alloc: Global, step: &Step) -> Result<Option<Cmd>> {
             let text = String::from_str(alloc, text)?;
             Cmd::Replace(movement.clone()?, Some(text))
         }
+        Step::ReplaceToBracket(None) => Cmd::ReplaceToBracket(None),
+        Step::ReplaceToBracket(Some(text)) => {
+            Cmd::ReplaceToBracket(Some(String::from_str(alloc, text)?))
+        }
         Step::SelfInsert(n, c) => Cmd::SelfInsert(*n, *c),
         Step::TransposeWords(n) => Cmd::TransposeWords(*n),
         Step::Undo(n) => Cmd::Undo(*n),
@@ -179,6 +187,9 @@ fn plain(step: &Step) -> Option<Cmd> {
         Step::Unknown => Cmd::Unknown,
         Step::UpcaseWord => Cmd::UpcaseWord,
         Step::YankPop => Cmd::YankPop,
+        Step::MoveToBracket => Cmd::MoveToBracket,
+        Step::KillToBracket => Cmd::KillToBracket,
+        Step::YankToBracket => Cmd::YankToBracket,
         Step::Newline => Cmd::Newline,
         _ => return None,
     };
