@@ -4,6 +4,7 @@ pub mod ChangeLemmas
 pub mod ClusterLemmas
 pub mod ClusterStartLemmas
 pub mod FittingLemmas
+pub mod FlagLemmas
 pub mod FrontLemmas
 pub mod GroupLemmas
 pub mod IndentLemmas

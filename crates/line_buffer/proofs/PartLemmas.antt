@@ -17,7 +17,7 @@ use Rattle.line_buffer.specs.declared.layout.GraphemeClusterMode.{GraphemeCluste
 use Rattle.line_buffer.specs.declared.layout.GraphemeClusterMode.TheVariants.{Unicode, WcWidth, NoZwj}
 
 -- the columns of the parts, the first of them with a text before it
-abbrev led : List ℕ → List (List ℕ) → ℕ
+abbrev pub led : List ℕ → List (List ℕ) → ℕ
 led front [] = columns_as_one front
 led front (p ∷ ps) = columns_as_one (front ++ p) + sum_by columns_as_one ps
 
@@ -25,23 +25,23 @@ no_columns : columns_as_one [] ≡ 0
 unfolding str_width
 no_columns = refl
 
-led-none : (ps : List (List ℕ)) → led [] ps ≡ sum_by columns_as_one ps
+pub led-none : (ps : List (List ℕ)) → led [] ps ≡ sum_by columns_as_one ps
 led-none [] = no_columns
 led-none (p ∷ ps) = sym (sum_by-cons columns_as_one p ps)
 
-led-onto : (front : List ℕ) (x : ℕ) (ps : List (List ℕ)) → led front (onto_first x ps) ≡ led (front ++ x ∷ []) ps
+pub led-onto : (front : List ℕ) (x : ℕ) (ps : List (List ℕ)) → led front (onto_first x ps) ≡ led (front ++ x ∷ []) ps
 led-onto front x [] = add-zero (columns_as_one (front ++ x ∷ []))
 led-onto front x (p ∷ ps) = ap (λ t. columns_as_one t + sum_by columns_as_one ps) (sym (append_assoc front (x ∷ []) p))
 
 -- a joiner begins another piece
-led-joiner : (front : List ℕ) (ps : List (List ℕ)) → led front ([] ∷ ps) ≡ columns_as_one front + led [] ps
+pub led-joiner : (front : List ℕ) (ps : List (List ℕ)) → led front ([] ∷ ps) ≡ columns_as_one front + led [] ps
 led-joiner front ps = ap₂ (λ t n. columns_as_one t + n) (append-nil front) (sym (led-none ps))
 
 true_or_false : (b : Bool) → (b ≡ true) ⊎ (b ≡ false)
 true_or_false true = inl refl
 true_or_false false = inr refl
 
-joiner_or_not : (c : ℕ) → (is_joiner c ≡ true) ⊎ (is_joiner c ≡ false)
+pub joiner_or_not : (c : ℕ) → (is_joiner c ≡ true) ⊎ (is_joiner c ≡ false)
 joiner_or_not c = true_or_false (is_joiner c)
 
 led-seam-onto : (front : List ℕ) (a c : ℕ) (ps : List (List ℕ)) → is_joiner a ≡ false → BeginsAnew c
@@ -93,12 +93,12 @@ pieces-meet us ds a c h anew =
     ∙ ap₂ (λ m n. m + n) (led-none (slice_split is_joiner (us ++ a ∷ []))) (led-none (slice_split is_joiner (c ∷ ds)))
 
 -- the columns of characters
-abbrev chars_width : GraphemeClusterMode → List ℕ → ℕ
+abbrev pub chars_width : GraphemeClusterMode → List ℕ → ℕ
 chars_width Unicode cs = columns_as_one cs
 chars_width WcWidth cs = sum_by columns_of_char cs
 chars_width NoZwj cs = sum_by columns_as_one (slice_split is_joiner cs)
 
-width_of_chars : (mode : GraphemeClusterMode) (text : List ℕ) → text_width mode text ≡ chars_width mode (chars text)
+pub width_of_chars : (mode : GraphemeClusterMode) (text : List ℕ) → text_width mode text ≡ chars_width mode (chars text)
 width_of_chars Unicode text = refl
 width_of_chars WcWidth text = refl
 width_of_chars NoZwj text = refl
@@ -133,7 +133,7 @@ no_width NoZwj = refl
 pub AddUp-start : (text : List ℕ) → AddUp [] text
 AddUp-start text = λ mode. let none = no_width mode in omega arith
 
-AddUp-end : (text : List ℕ) → AddUp text []
+pub AddUp-end : (text : List ℕ) → AddUp text []
 AddUp-end text = λ mode. ap (text_width mode) (append-nil text) ∙ sym (add-zero (text_width mode text)) ∙ ap (λ n. text_width mode text + n) (sym (no_width mode))
 
 -- the text begins with the character
@@ -176,7 +176,7 @@ searched-next front behind rest shorter first before u v w s e =
           (append_assoc (encode_utf8 before) s.passed behind);
     }
 
-parts_at : (front behind rest passed : List ℕ) → IsUtf8 front → IsUtf8 rest → rest ++ passed ≡ front → AddUp rest (passed ++ behind) → AddUp rest passed → PartsAt front behind (length rest)
+pub parts_at : (front behind rest passed : List ℕ) → IsUtf8 front → IsUtf8 rest → rest ++ passed ≡ front → AddUp rest (passed ++ behind) → AddUp rest passed → PartsAt front behind (length rest)
 parts_at front behind rest passed u v e whole own =
     let first : take (length rest) front ≡ rest = ap (take (length rest)) (sym e) ∙ take-append_seam rest passed in
     let others : drop (length rest) front ≡ passed = ap (drop (length rest)) (sym e) ∙ drop-append_seam rest passed in

@@ -288,7 +288,7 @@ step-settled : (a total : ℕ) (s : State) → (a == 0x200D) ≡ false → Settl
 step-settled a total s h (inl e) = ap (λ x. step false a (total, x)) e
 step-settled a total s h (inr e) = ap (λ x. step false a (total, x)) e ∙ step-before_emoji a total h
 
-read-append : (xs ys : List ℕ) (r : Reading) → read_before false (xs ++ ys) r ≡ read_before false xs (read_before false ys r)
+pub read-append : (xs ys : List ℕ) (r : Reading) → read_before false (xs ++ ys) r ≡ read_before false xs (read_before false ys r)
 read-append [] ys r = refl
 read-append (x ∷ xs) ys r = ap (step false x) (read-append xs ys r)
 
@@ -314,7 +314,7 @@ read_spaces n =
     ∙ ap (λ m. (m, plain)) (zero-add (length (spaces n)) ∙ length-spaces n)
 
 -- what is read from a number of columns on adds to it
-read_from : (xs : List ℕ) (n : ℕ) → (read_before false xs (n, plain)).0 ≡ str_width false xs + n
+pub read_from : (xs : List ℕ) (n : ℕ) → (read_before false xs (n, plain)).0 ≡ str_width false xs + n
 unfolding str_width
 read_from xs n =
     ap (λ r. (read_before false xs r).0) (sym (read_spaces n)) ∙ ap (λ r. r.0) (sym (read-append xs (spaces n) (0, plain)))
@@ -331,7 +331,7 @@ str_width-meet front behind a c h n starts =
     ∙ ap (read_before false front) (step-settled a r.0 r.1 h settled) ∙ sym (read-append front (a ∷ []) (r.0, plain)))
     ∙ read_from (front ++ a ∷ []) r.0
 
-implied : (a b : Bool) → (not a || b) ≡ true → a ≡ true → b ≡ true
+pub implied : (a b : Bool) → (not a || b) ≡ true → a ≡ true → b ≡ true
 implied true b h e = h
 implied false b h e = cc
 

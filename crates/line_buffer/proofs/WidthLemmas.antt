@@ -22,7 +22,7 @@ split_at : (cs rest : List ℕ) → NonePass is_joiner cs → slice_split is_joi
 split_at [] rest h = slice_split-cons_yes is_joiner 0x200D rest refl
 split_at (c ∷ cs) rest h = slice_split-cons_no is_joiner c (cs ++ 0x200D ∷ rest) h.0 ∙ ap (onto_first c) (split_at cs rest h.1)
 
-split_none : (cs : List ℕ) → NonePass is_joiner cs → slice_split is_joiner cs ≡ cs ∷ []
+pub split_none : (cs : List ℕ) → NonePass is_joiner cs → slice_split is_joiner cs ≡ cs ∷ []
 split_none [] h = refl
 split_none (c ∷ cs) h = slice_split-cons_no is_joiner c cs h.0 ∙ ap (onto_first c) (split_none cs h.1)
 

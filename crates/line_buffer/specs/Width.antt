@@ -1,7 +1,7 @@
 -- How many columns a text takes.
 use Rattle.std.specs.Prelude.{◌≡◌, ◌≢◌, true, ℕ, ◌+◌, min, ◌==◌, Bool, false, List, [], ◌∷◌, ◌++◌, chars, take, drop, unwrap_or, IsCharBoundary}
 use Rattle.std.specs.List.{sum_by, slice_split}
-use Rattle.unicode_width.specs.Width.{str_width, char_width}
+use Rattle.unicode_width.specs.Width.{str_width, char_width, is_indicator}
 use Rattle.line_buffer.specs.Cluster.{stands_alone}
 use Rattle.line_buffer.specs.declared.layout.GraphemeClusterMode.{GraphemeClusterMode}
 use Rattle.line_buffer.specs.declared.layout.GraphemeClusterMode.TheVariants.{Unicode, WcWidth, NoZwj}
@@ -35,6 +35,15 @@ unit_width mode text = min (text_width mode text) 65535
 -- the columns of a text are those of its two parts, however they are counted
 abbrev pub AddUp : List ℕ → List ℕ → Type 0
 AddUp front behind = (mode : GraphemeClusterMode) → text_width mode (front ++ behind) ≡ text_width mode front + text_width mode behind
+
+-- a text that ends in two regional indicators
+pub record EndsInFlag (text : List ℕ) : Type 0 where
+  pub before : List ℕ
+  pub first : ℕ
+  pub second : ℕ
+  pub ends : chars text ≡ before ++ first ∷ second ∷ []
+  pub one : is_indicator first ≡ true
+  pub two : is_indicator second ≡ true
 
 -- columns add up before the character wherever no joiner stands there
 abbrev pub BeginsAnew : ℕ → Type 0

@@ -1,8 +1,9 @@
 //! Places in a text where the columns before them and those from them add up.
 ghost use Rattle.std.specs.Prelude.{◌≡◌, ◌<◌, ◌&&◌, nat_le, ◌∷◌, ◌++◌, [], true, length, drop, chars, encode_utf8, IfSome, IsUtf8};
-ghost use Rattle.std.specs.List.{list_any};
+ghost use Rattle.std.specs.List.{list_all, list_any};
 ghost use Rattle.line_buffer.specs.declared.seams.TheConstants.{LETTERS};
-ghost use Rattle.line_buffer.specs.Width.{BeginsAnew, IsSeam, PartsAt};
+ghost use Rattle.line_buffer.specs.Width.{BeginsAnew, EndsInFlag, IsSeam, PartsAt};
+ghost use Rattle.unicode_width.specs.Width.{is_indicator};
 
 /// The zero width joiner, which makes one cluster of several.
 pub(crate) const JOINER: char = '\u{200d}';
@@ -24,6 +25,9 @@ static LETTERS: [(u32, u32); 29] = [
 pub(crate) fn seam(front: &str, behind: &str) -> usize
     ensures { PartsAt front.now behind.now result }
 {
+    if ends_in_flag(front) && is_of_indicators(behind) {
+        return front.len();
+    }
     let Some(mut first) = first_char(behind) else {
         return 0;
     };
@@ -62,6 +66,33 @@ fn is_letter(c: u32) -> bool
     ensures { result ≡ list_any (λ range. nat_le range.0 c && nat_le c range.1) LETTERS }
 {
     LETTERS.iter().any(|range| range.0 <= c && c <= range.1)
+}
+
+/// Returns whether the text ends in two regional indicators.
+fn ends_in_flag(text: &str) -> bool
+    ensures { result ≡ true → EndsInFlag text.now }
+{
+    let Some((second, rest)) = split_last(text) else {
+        return false;
+    };
+    let Some((first, _)) = split_last(rest) else {
+        return false;
+    };
+    is_indicator(first) && is_indicator(second)
+}
+
+/// Returns whether all characters of the text are regional indicators.
+fn is_of_indicators(text: &str) -> bool
+    ensures { result ≡ list_all is_indicator (chars text.now) }
+{
+    text.chars().all(is_indicator)
+}
+
+/// Returns whether the character is a regional indicator, of which two make a flag.
+fn is_indicator(c: char) -> bool
+    ensures { result ≡ is_indicator c }
+{
+    matches!(c, '\u{1f1e6}'..='\u{1f1ff}')
 }
 
 /// Returns the text's first character, if it has one.

@@ -1,6 +1,11 @@
-use Rattle.std.proofs.Common.{refl}
+use Rattle.std.proofs.Common.{refl, sym}
+use Rattle.line_buffer.proofs.FlagLemmas.{parts_behind_flag}
 use Rattle.line_buffer.proofs.PartLemmas.{searched-start, searched-next, searched-found, parts-start}
 use Rattle.line_buffer.proofs.seams.seam.Goals as goal
+
+pub returns-then-is_of_indicators : goal.returns-then-is_of_indicators
+returns-then-is_of_indicators c =
+    parts_behind_flag c.args.front.now c.args.behind.now c.utf8.front (c.if-ends_in_flag.ensures refl) (sym c.if-is_of_indicators.ensures)
 
 pub returns-in_default : goal.returns-in_default
 returns-in_default c = parts-start c.args.front.now c.args.behind.now c.utf8.front
