@@ -352,6 +352,30 @@ const LINES: &[Case] = &[
     (THREE_LINES, 0, Move::LineDown(2), Some(8)),
     (THREE_LINES, 4, Move::LineUp(1), Some(0)),
     (THREE_LINES, 4, Move::LineDown(1), Some(7)),
+    ("🇩🇪🇫🇷🇬🇧\nabcdef", 27, Move::LineUp(1), Some(0)),
+    ("🇩🇪🇫🇷🇬🇧\nabcdef", 30, Move::LineUp(1), Some(8)),
+    ("🇩🇪🇫🇷🇬🇧\nabcdef", 31, Move::LineUp(1), Some(16)),
+    ("abcdef\n🇩🇪🇫🇷🇬🇧", 3, Move::LineDown(1), Some(23)),
+    ("abc\n🇩🇪\u{1f1eb}", 0, Move::LineDown(1), Some(12)),
+    ("abc\n🇩🇪\u{1f1eb}", 1, Move::LineDown(1), Some(16)),
+    (
+        "abc\n\u{995}\u{995}\u{995}\u{995}",
+        0,
+        Move::LineDown(1),
+        Some(10),
+    ),
+    (
+        "abc\n\u{627}\u{627}\u{627}\u{627}",
+        0,
+        Move::LineDown(1),
+        Some(8),
+    ),
+    (
+        "abc\n\u{644}\u{627}\u{644}\u{627}\u{644}\u{627}",
+        0,
+        Move::LineDown(1),
+        Some(12),
+    ),
 ];
 
 #[test]
