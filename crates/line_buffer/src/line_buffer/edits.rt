@@ -1,7 +1,8 @@
 //! Calls that put text into the line.
 ghost use Rattle.line_buffer.specs.Offset.{IsSpan};
-ghost use Rattle.std.specs.Prelude.{◌≡◌, ◌≢◌, ◌≤◌, ◌==◌, length, encode_utf8, slice_range, string_bytes, IfOk, OnOk, OnErr, IsCharBoundary};
-ghost use Rattle.std.specs.List.{repeat};
+ghost use Rattle.std.specs.Prelude.{◌≡◌, ◌≢◌, ◌≤◌, ◌==◌, ◌&&◌, ◌||◌, not, length, encode_utf8, slice_range, string_bytes, IfOk, OnOk, OnErr, IsCharBoundary};
+ghost use Rattle.std.specs.List.{list_all, repeat};
+ghost use Rattle.line_buffer.specs.Printable.{is_plain};
 ghost use Rattle.line_buffer.specs.Changes.{with_insert, with_replaced, with_typed, with_update};
 ghost use Rattle.line_buffer.specs.Edit.{Edits, EditsIfOk, on_entries};
 ghost use Rattle.line_buffer.specs.Undo.{KeepsFront};
@@ -303,8 +304,9 @@ impl LineBuffer {
         ensures front { OnOk result (KeepsFront self.old.text self.new.text from) }
         ensures cursor { IsCharBoundary self.new.text self.new.cursor }
     {
+        let went_plain = is_plain_text(&self.buf.as_str()[from..to]);
         self.buf.replace_range(from..to, text)?;
-        self.plain = is_plain_text(text) && (self.plain || is_plain_text(self.buf.as_str()));
+        self.plain = is_plain_after(self.plain, went_plain, text, self.buf.as_str());
         self.pos = from + text.len();
         Ok(())
     }
@@ -349,4 +351,13 @@ pub(super) fn repeated(alloc: Global, text: &str, n: RepeatCount) -> Result<Stri
     ensures { IfOk result (λ copies. string_bytes copies ≡ repeat n text.now) }
 {
     Ok(text.repeat(alloc, n as usize)?)
+}
+
+/// Returns whether a text is plain in which `came` stands for a part that went, given whether it was
+/// plain before, and that part.
+fn is_plain_after(was_plain: bool, went_plain: bool, came: &str, text: &str) -> bool
+    ensures { result ≡ (list_all is_plain came.now
+        && (was_plain || (not went_plain && list_all is_plain text.now))) }
+{
+    is_plain_text(came) && (was_plain || (!went_plain && is_plain_text(text)))
 }

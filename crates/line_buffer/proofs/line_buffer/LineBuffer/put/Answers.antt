@@ -1,10 +1,10 @@
-use Rattle.std.proofs.Common.{string_bytes, ap, length, arith}
+use Rattle.std.proofs.Common.{string_bytes, ap, ◌∙◌, length, arith}
 use Rattle.std.proofs.lemmas.Str.{IsUtf8-had}
+use Rattle.std.specs.List.{slice_range}
 use Rattle.line_buffer.specs.Line.{Line}
 use Rattle.line_buffer.proofs.PlainLemmas.{plain_replaced}
 use Rattle.line_buffer.proofs.TellsLemmas.{front-replaced}
 use Rattle.line_buffer.proofs.line_buffer.LineBuffer.put.Goals as goal
-use Rattle.line_buffer.proofs.line_buffer.LineBuffer.put.Goals.{then-is_plain_text+then-self, then-is_plain_text+else-self, else-is_plain_text}
 
 pub returns-clause-front : goal.returns-clause-front
 returns-clause-front c =
@@ -14,9 +14,6 @@ returns-clause-front c =
 
 pub invariant_of-self-inside-2 : goal.invariant_of-self-inside-2
 invariant_of-self-inside-2 c =
-    let plain = plain_replaced (string_bytes c.self.inside.buf) (string_bytes c.replace_range.new.self) c.args.text.now c.args.from c.args.to c.in_ok-replace_range.ensures.bytes in
-    elim c.if-is_plain_text.branch [
-      | then-is_plain_text+then-self w ↦ (grind (arith, plain), tt)
-      | then-is_plain_text+else-self w ↦ (grind (arith, plain), tt)
-      | else-is_plain_text w ↦ (grind (arith, plain), tt)
-    ]
+    let plain = plain_replaced (string_bytes c.self.inside.buf) (string_bytes c.replace_range.new.self) c.args.text.now c.range.result.now c.args.from c.args.to
+    c.requires.ordered (c.range.ensures.value ∙ ap (λ t. slice_range t c.args.from c.args.to) c.as_str.ensures.value) c.in_ok-replace_range.ensures.bytes in
+    (grind (arith, plain), tt)
