@@ -8,6 +8,10 @@ mod cuts;
 #[cfg(test)]
 mod desk;
 #[cfg(test)]
+mod handler;
+#[cfg(test)]
+mod mended;
+#[cfg(test)]
 mod odd;
 #[cfg(test)]
 mod ranges;

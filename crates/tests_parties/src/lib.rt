@@ -5,4 +5,5 @@
 pub mod advisor;
 pub mod countdown;
 pub mod fault;
+pub mod guide;
 pub mod shelf;

@@ -69,6 +69,16 @@ impl Recorder {
         self.log.as_str()
     }
 
+    /// What it shows: the text behind the prompt, where the cursor is, and where the prompt ends.
+    pub fn shows(&self) -> (&str, Position, Position) {
+        (self.text.as_str(), self.place, self.origin)
+    }
+
+    /// How often all was drawn.
+    pub fn redraws(&self) -> u64 {
+        self.redraws
+    }
+
     /// Counts a call, writes it down, and fails where it is the one that is to fail.
     fn note(&mut self, call: &str) -> Result<()>
         ensures columns { self.new.columns ≡ self.old.columns }

@@ -13,6 +13,9 @@ use std::io;
 /// What a reader says of an item of the wrong kind.
 pub const WRONG: &str = "another item stands there";
 
+/// What a reader says of a call that fails by an error of its own.
+pub const CUT: &str = "the keyboard is cut";
+
 /// A key, or else a pasted text.
 #[derive(Drop)]
 struct Item {
@@ -20,13 +23,15 @@ struct Item {
     pasted: String,
 }
 
-/// A reader: the items that are left, and the flag that came with each key that was asked for.
+/// A reader: the items that are left, and the flag that came with each key that was asked for. One call of it can fail.
 #[derive(Drop)]
 pub struct Typist {
     alloc: Global,
     items: VecDeque<Item>,
     flags: Vec<bool>,
     failures: u64,
+    calls: u64,
+    failing: u64,
 }
 
 impl Typist {
@@ -37,7 +42,15 @@ impl Typist {
             items: VecDeque::new(alloc),
             flags: Vec::new(alloc),
             failures: 0,
+            calls: 0,
+            failing: 0,
         }
+    }
+
+    /// Its call of the number `failing`, from 1 on, fails by an error of its own, and takes nothing; none does where that
+    /// is 0. A key, a character and a pasted text that are asked for are such calls.
+    pub fn cut_at(&mut self, failing: u64) {
+        self.failing = failing;
     }
 
     /// Adds keys.
@@ -65,6 +78,25 @@ impl Typist {
         self.flags.as_slice()
     }
 
+    /// Counts a call. Whether it is the one that is to fail.
+    fn is_cut(&mut self) -> bool
+        ensures items { self.new.items ≡ self.old.items }
+        ensures failures { self.new.failures ≡ self.old.failures }
+    {
+        self.calls = self.calls.saturating_add(1);
+        self.calls == self.failing
+    }
+
+    /// Counts the failure of the call that is to fail, and gives its error.
+    fn cut(&mut self) -> io::Error
+        ensures items { self.new.items ≡ self.old.items }
+        ensures rose { Rose self.old.failures self.new.failures }
+        ensures counts { self.old.failures ≤ self.new.failures }
+    {
+        self.failures = self.failures.saturating_add(1);
+        io::Error::new(io::ErrorKind::UnexpectedEof, CUT)
+    }
+
     /// Counts the failure that the next item is of the wrong kind, and gives its error.
     fn wrong_item(&mut self) -> io::Error
         ensures items { self.new.items ≡ self.old.items }
@@ -90,6 +122,9 @@ impl RawReader for Typist {
 
     fn next_key(&mut self, single_esc_abort: bool) -> Result<KeyEvent, ReadlineError> {
         self.flags.push(single_esc_abort)?;
+        if self.is_cut() {
+            return Err(ReadlineError::Io(self.cut()));
+        }
         match self.items.front() {
             Some(Item { key: Some(key), .. }) => {
                 let key = *key;
@@ -102,6 +137,9 @@ impl RawReader for Typist {
     }
 
     fn next_char(&mut self) -> Result<char, ReadlineError> {
+        if self.is_cut() {
+            return Err(ReadlineError::Io(self.cut()));
+        }
         match self.items.front() {
             Some(
                 Item {
@@ -119,6 +157,9 @@ impl RawReader for Typist {
     }
 
     fn read_pasted_text(&mut self) -> Result<String, ReadlineError> {
+        if self.is_cut() {
+            return Err(ReadlineError::Io(self.cut()));
+        }
         match self.items.front() {
             Some(Item { key: None, .. }) => match self.items.pop_front() {
                 Some(Item { pasted, .. }) => Ok(pasted),

@@ -1,0 +1,106 @@
+//! A helper that hints from the history, and of which a call can fail.
+ghost use Rattle.std.specs.Prelude.{true, false, None, option_map, if◌then◌else◌};
+ghost use Rattle.line_parts.specs.Hint.{suggested};
+ghost use Rattle.line_parts.specs.HistoryHint.{history_hint};
+ghost use Rattle.line_parts.specs.Verdict.{valid};
+
+use crate::countdown::Countdown;
+use crate::fault::Fault;
+use line_config::Result;
+use line_parts::{
+    CmdKind, Completer, Context, Helper, Highlighter, Hinter, History, HistoryHinter,
+    ValidationContext, ValidationResult, Validator,
+};
+use std::alloc::Global;
+
+/// A helper that hints from the history where it is to, takes each line, and asks for no drawing. One of its hints and
+/// verdicts can fail.
+#[derive(Drop)]
+pub struct Guide {
+    hints: bool,
+    countdown: Countdown,
+}
+
+impl Guide {
+    /// A helper that hints, or does not.
+    pub fn new(hints: bool) -> Guide {
+        Guide {
+            hints,
+            countdown: Countdown::new(0),
+        }
+    }
+
+    /// Its hint or verdict of the number `failing`, from 1 on, fails by this fault; none does where that is 0.
+    pub fn fail_by(&mut self, failing: u64, fault: Fault) {
+        self.countdown = Countdown::with(failing, fault);
+    }
+}
+
+impl Completer for Guide {
+    type Candidate = String;
+
+    ghost sure = { λ _. true };
+}
+
+impl Hinter for Guide {
+    type Hint = String;
+
+    ghost sure = { λ _. false };
+
+    ghost hint_at = { λ guide shown.
+        if guide.hints then option_map suggested (history_hint shown) else None };
+
+    fn hint<S: History>(
+        &self,
+        alloc: Global,
+        line: &str,
+        pos: usize,
+        ctx: &Context<'_, S>,
+    ) -> Result<Option<String>> {
+        self.countdown.call()?;
+        if self.hints {
+            HistoryHinter::new().hint(alloc, line, pos, ctx)
+        } else {
+            Ok(None)
+        }
+    }
+}
+
+impl Highlighter for Guide {
+    ghost sure = { λ _. true };
+
+    ghost lights = { λ _ _ _ _. false };
+
+    fn highlight_char(&mut self, _line: &str, _pos: usize, _kind: CmdKind) -> bool {
+        false
+    }
+}
+
+impl Validator for Guide {
+    ghost sure = { λ _. false };
+
+    ghost verdict_at = { λ _ _. valid None };
+
+    fn validate(&self, _alloc: Global, _ctx: &ValidationContext<'_>) -> Result<ValidationResult> {
+        self.countdown.call()?;
+        Ok(ValidationResult::Valid(None))
+    }
+}
+
+impl Helper for Guide {
+    ghost use Rattle.std.proofs.Common.{ap, refl};
+
+    ghost hints_kept = { λ _ _ same. ap Self.hint_at same };
+
+    ghost verdicts_kept = { λ _ _ _. refl };
+
+    ghost lights_kept = { λ _ _ _. refl };
+
+    ghost completions_kept = { λ _ _ _. refl };
+
+    ghost hinter_kept = { λ _ _ _. refl };
+
+    ghost validator_kept = { λ _ _ _. refl };
+
+    ghost completer_kept = { λ _ _ _. refl };
+}
