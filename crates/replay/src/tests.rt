@@ -167,7 +167,17 @@ const FAULTS: &[Case] = &[
         "outcome fault\nline a\\\\b\\nc\ncursor 4\nplace 1\nat 1 0\nredraws 2\n",
         3,
     ),
-    // the mark is the second key of C-], and the text is read where a key is
+    (
+        "key PasteStart\ntype a\n",
+        "outcome fault\nline \ncursor 0\nplace 0\nat 0 2\nredraws 1\n",
+        3,
+    ),
+    // the mark is the second key of C-X or C-], and the text is read where a key is
+    (
+        "key C-x\npaste x\n",
+        "outcome fault\nline \ncursor 0\nplace 0\nat 0 2\nredraws 1\n",
+        3,
+    ),
     (
         "type a\nkey C-]\npaste x\nkey Enter\n",
         "outcome fault\nline a\ncursor 1\nplace 0\nat 0 3\nredraws 1\n",
@@ -255,44 +265,51 @@ fn takes_no_refused_allocation_for_a_bad_line(rt: HostRuntime) {
     }
 }
 
-/// A stream that gives these bytes, and then can't be read.
+/// A stream that gives so many bytes a call, and at the end can't be read, or ends.
 #[derive(Drop)]
 struct Cut {
     rest: &'static [u8],
+    at_once: usize,
+    fails: bool,
 }
 
 impl Read for Cut {
     fn read(&mut self, buf: &mut [u8]) -> io::Result<usize> {
-        if self.rest.is_empty() {
-            Err(io::Error::from(io::ErrorKind::Other))
-        } else {
-            self.rest.read(buf)
+        if self.fails && self.rest.is_empty() {
+            return Err(io::Error::from(io::ErrorKind::Other));
         }
+        let count = self.at_once.min(buf.len());
+        self.rest.read(&mut buf[..count])
     }
 }
 
-/// Plays a script that its stream cuts short: nothing is printed, and the status is that of a fault.
-fn is_cut(rt: &impl Abort, alloc: Global, script: &'static str) {
+/// Plays a script that its stream cuts short behind so many bytes: nothing is printed, and the status is that of a fault.
+fn is_cut(rt: &impl Abort, alloc: Global, script: &'static str, at: usize, at_once: usize) {
     let mut out = Vec::new(alloc);
     let input = Cut {
-        rest: script.as_bytes(),
+        rest: script.as_bytes().get(..at).unwrap_or(&[]),
+        at_once,
+        fails: true,
     };
-    assert_eq!(rt; play(alloc, input, &mut out), 3, "{script}");
-    assert_eq!(rt; out.len(), 0, "{script}");
+    assert_eq!(rt; play(alloc, input, &mut out), 3, "{script} at {at}");
+    assert_eq!(rt; out.len(), 0, "{script} at {at}");
 }
 
-const CUT: &[&str] = &[
-    "",
-    "type a\n",
-    "type a\nkey Enter\n",
-    "type a\nkey Ent",
-    "key\n",
-];
+/// Scripts that are good or bad where they are cut.
+const CUT: &[&str] = &["", "history é\n\ntype a\nkey Enter\n", "key\n"];
+
+/// Cuts a script behind each of its bytes, which come together or one by one.
+fn is_cut_at_each_byte(rt: &impl Abort, alloc: Global, script: &'static str) {
+    for at in 0..=script.len() {
+        is_cut(rt, alloc, script, at, script.len());
+        is_cut(rt, alloc, script, at, 1);
+    }
+}
 
 #[test]
 fn ends_with_the_fault_of_its_input(rt: HostRuntime) {
     for script in CUT {
-        is_cut(&rt, rt.alloc(), script);
+        is_cut_at_each_byte(&rt, rt.alloc(), script);
     }
 }
 
@@ -331,6 +348,96 @@ impl Write for Faulty {
         } else {
             Err(io::Error::from(io::ErrorKind::Other))
         }
+    }
+}
+
+/// Plays a script that comes byte by byte, to a stream that takes it so: nothing else is printed, and the status is the same.
+fn prints_by_bytes(rt: &impl Abort, alloc: Global, case: Case) {
+    let (script, printed, status) = case;
+    let input = Cut {
+        rest: script.as_bytes(),
+        at_once: 1,
+        fails: false,
+    };
+    let mut out = Faulty {
+        bytes: Vec::new(alloc),
+        writes: 0,
+        failing: usize::MAX,
+        goes_on: false,
+        flushes: true,
+    };
+    let ended = play(alloc, input, &mut out);
+    assert_eq!(rt;
+        (out.bytes.as_slice(), ended),
+        (printed.as_bytes(), status),
+        "{script}"
+    );
+}
+
+#[test]
+fn prints_the_same_byte_by_byte(rt: HostRuntime) {
+    for case in SCRIPTS {
+        prints_by_bytes(&rt, rt.alloc(), *case);
+    }
+}
+
+/// How each of the six lines begins.
+const HEADS: &[&str] = &["outcome ", "line ", "cursor ", "place ", "at ", "redraws "];
+
+/// Whether a text is a beginning of six lines.
+fn is_beginning(printed: &str) -> bool {
+    let mut lines = printed.lines();
+    for head in HEADS {
+        let Some(line) = lines.next() else {
+            return true;
+        };
+        if !line.starts_with(head) {
+            return head.starts_with(line) && lines.next().is_none();
+        }
+    }
+    lines.next().is_none()
+}
+
+/// Plays a script. So it ends; and where an allocation is refused, maybe with the status of a fault, and what is printed is
+/// a beginning of these lines or of those of a fault.
+fn prints_all_or_a_beginning(rt: &impl Abort, alloc: Global, case: Case) {
+    let (script, whole, status) = case;
+    let mut out = Vec::new(alloc);
+    let ended = play(alloc, script.as_bytes(), &mut out);
+    let Ok(shown) = str::from_utf8(&out) else {
+        panic!(rt; "no text after {script}");
+    };
+    if ended == 3 {
+        let is_of_these = whole.starts_with(shown) || shown.starts_with("outcome fault\n");
+        assert!(rt; is_of_these && is_beginning(shown), "{shown:?} of {script}");
+    } else {
+        assert_eq!(rt; (shown, ended), (whole, status), "{script}");
+    }
+}
+
+/// Scripts of which no outcome is a fault.
+const SPARED: &[Case] = &[
+    (
+        "hints\nhistory git status\ntype git\nkey Right\nkey Enter\n",
+        "outcome submitted\nline git status\ncursor 10\nplace 1\nat 0 12\nredraws 5\n",
+        0,
+    ),
+    (
+        "paste a\\nb\n",
+        "outcome eof\nline a\\nb\ncursor 3\nplace 0\nat 1 1\nredraws 2\n",
+        1,
+    ),
+    (
+        "history rustc\nhistory cargo\ntype a\nkey M-<\nkey M->\nkey Enter\n",
+        "outcome submitted\nline a\ncursor 1\nplace 2\nat 0 3\nredraws 3\n",
+        0,
+    ),
+];
+
+#[test]
+fn prints_a_beginning_without_memory(rt: HostRuntime) {
+    for case in SPARED {
+        prints_all_or_a_beginning(&rt, rt.alloc(), *case);
     }
 }
 

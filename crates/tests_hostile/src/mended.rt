@@ -340,15 +340,11 @@ fn kept(state: &Editor<'_, '_>) -> (Position, Position, Position, bool, bool) {
     )
 }
 
-/// What a screen was handed by its last drawing, before and behind the old layout.
+/// What a screen was handed by its last drawing, before and behind the old layout. A line of its log can miss its end, where
+/// memory ran out.
 fn last_drawing(screen: &Recorder) -> Option<(&str, &str)> {
-    let mut last = "";
-    for call in screen.log().lines() {
-        if call.starts_with("draw ") {
-            last = call;
-        }
-    }
-    let (before, behind) = last.split_once(" old ")?;
+    let (_, drawn) = screen.log().rsplit_once("draw ")?;
+    let (before, behind) = drawn.split_once(" old ")?;
     let (_, behind) = behind.split_once(" new ")?;
     Some((before, behind))
 }
