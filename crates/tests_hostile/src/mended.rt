@@ -309,8 +309,10 @@ fn is_mended(
 fn is_kept(rt: &impl Abort, take: Take, history: &Shelf) -> Result<()> {
     assert_eq!(rt; history.len(), take.scene.entries.len());
     for (index, entry) in take.scene.entries.iter().enumerate() {
-        let found = history.get(index, SearchDirection::Forward)?;
-        let is_there = found.is_some_and(|found| found.entry.as_str() == *entry);
+        let is_there = match history.get(index, SearchDirection::Forward)? {
+            Some(found) => found.entry.as_str() == *entry,
+            None => false,
+        };
         assert!(rt; is_there, "{index} after {:?}", take.failing);
     }
     Ok(())
