@@ -55,12 +55,12 @@ bytes_to-up (c ∷ cs) (suc i) (suc j) h =
 last_fitting-is : (p : ℕ → Bool) (m k : ℕ) → k ≤ m → p k ≡ true → ((i : ℕ) → k < i → i ≤ m → p i ≡ false) → last_fitting p m ≡ k
 last_fitting-is p zero k h fit none = omega arith
 last_fitting-is p (suc m) k h fit none = elim (cases_lt k (suc m)) [
-    | inl less ↦ last_fitting-no p m (none (suc m) less (omega arith))
-        ∙ last_fitting-is p m k (omega (arith, less)) fit (λ i above below. none i above (omega (arith, below)))
-    | inr more ↦
-        let last : suc m ≡ k = omega (arith, more, h) in
-        last_fitting-yes p (suc m) (ap p last ∙ fit) ∙ last
-  ]
+  | inl less ↦ last_fitting-no p m (none (suc m) less (omega arith))
+      ∙ last_fitting-is p m k (omega (arith, less)) fit (λ i above below. none i above (omega (arith, below)))
+  | inr more ↦
+      let last : suc m ≡ k = omega (arith, more, h) in
+      last_fitting-yes p (suc m) (ap p last ∙ fit) ∙ last
+]
 
 abbrev fits : List (List ℕ) → ℕ → ℕ → Bool
 fits cs place i = nat_le (bytes_to cs i) place

@@ -498,10 +498,10 @@ pub replaced_movement : {X T U : Type 0} (e : Ghosts X) (x : T) (old mid new : X
     → DoesWithKills e (Ok x) old kills mid kills' (killed_by (e.environment old) movement (editor_of e old kills) range) (kill_drawn (e.display old) (e.environment old) (e.draft old) range) 1
     → (r : Result U ReadlineError) → Does e r mid new (text_inserted (e.environment mid) text (e.draft mid)) (drawn_if (not (length text == 0))) 1
     → DoesWithKills e r old kills new kills'
-      (with_draft (killed_by (e.environment old) movement (editor_of e old kills) range)
-      (text_inserted (e.environment old) text (killed_by (e.environment old) movement (editor_of e old kills) range).draft))
-      (replacement_drawn (kill_drawn (e.display old) (e.environment old) (e.draft old) range) (Some text))
-      (replacement_times (kill_drawn (e.display old) (e.environment old) (e.draft old) range) (Some text))
+    (with_draft (killed_by (e.environment old) movement (editor_of e old kills) range)
+    (text_inserted (e.environment old) text (killed_by (e.environment old) movement (editor_of e old kills) range).draft))
+    (replacement_drawn (kill_drawn (e.display old) (e.environment old) (e.draft old) range) (Some text))
+    (replacement_times (kill_drawn (e.display old) (e.environment old) (e.draft old) range) (Some text))
 replaced_movement e x old mid new kills kills' movement range text killed r put =
     replaced e x old mid new kills kills' (killed_by (e.environment old) movement (editor_of e old kills) range) (kill_drawn (e.display old) (e.environment old) (e.draft old) range)
     (kill_as (e.display old) (e.environment old) (e.draft old) range) text killed r put

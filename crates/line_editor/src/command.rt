@@ -145,23 +145,25 @@ impl<'out, 'prompt, W: Renderer, H: Helper, P: Prompt, S: History> State<
             Cmd::CompleteHint => self.complete_hint(),
             Cmd::ClearScreen => self.clear_and_redraw(),
             Cmd::Repaint => self.refresh_line(),
+            // The program above does these.
             Cmd::Abort
-            | Cmd::AcceptLine
-            | Cmd::AcceptOrInsertLine { .. }
             | Cmd::Complete
             | Cmd::CompleteBackward
-            | Cmd::EndOfFile
             | Cmd::ForwardSearchHistory
+            | Cmd::Noop
+            | Cmd::QuotedInsert
+            | Cmd::ReverseSearchHistory
+            | Cmd::Suspend
+            | Cmd::Unknown => Ok(()),
+            // And `execute` these.
+            Cmd::AcceptLine
+            | Cmd::AcceptOrInsertLine { .. }
+            | Cmd::EndOfFile
             | Cmd::Interrupt
             | Cmd::Kill(_)
             | Cmd::KillToBracket
-            | Cmd::Noop
-            | Cmd::QuotedInsert
             | Cmd::Replace(_, _)
             | Cmd::ReplaceToBracket(_)
-            | Cmd::ReverseSearchHistory
-            | Cmd::Suspend
-            | Cmd::Unknown
             | Cmd::ViYankTo(_)
             | Cmd::Yank(_, _)
             | Cmd::YankPop

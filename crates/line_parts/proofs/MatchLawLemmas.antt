@@ -153,17 +153,17 @@ one_counted : (b : ℕ) (led : List ℕ) (n : ℕ) → is_bracket b ≡ true →
 one_counted b led n kind lt odd h = ⊎_elim
     (λ own. record { unmatched = h.unmatched + 1; counts = counts_own b led n h.unmatched kind lt (eqb-true (get_or led n 0) b own) h.counts })
     (λ not_own. ⊎_elim
-        (λ mate. record {
-          unmatched = h.unmatched - 1;
-          counts = counts_partner b led n h.unmatched kind lt (eqb-true (get_or led n 0) (partner b) mate)
-              (λ none. let it : is_even b (b ∷ take (n + 1) led) ≡ true = even b (b ∷ take (n + 1) led) (h.unmatched - 1)
-              (less b led n h.unmatched kind lt (eqb-true (get_or led n 0) (partner b) mate) h.counts) none in absurd (cc)) h.counts;
-        })
-        (λ not_mate. record {
-          unmatched = h.unmatched;
-          counts = counts_other b led n h.unmatched lt (eqb-false (get_or led n 0) b not_own) (eqb-false (get_or led n 0) (partner b) not_mate) h.counts;
-        })
-        (cases_Bool (get_or led n 0 == partner b)))
+    (λ mate. record {
+      unmatched = h.unmatched - 1;
+      counts = counts_partner b led n h.unmatched kind lt (eqb-true (get_or led n 0) (partner b) mate)
+          (λ none. let it : is_even b (b ∷ take (n + 1) led) ≡ true = even b (b ∷ take (n + 1) led) (h.unmatched - 1)
+          (less b led n h.unmatched kind lt (eqb-true (get_or led n 0) (partner b) mate) h.counts) none in absurd (cc)) h.counts;
+    })
+    (λ not_mate. record {
+      unmatched = h.unmatched;
+      counts = counts_other b led n h.unmatched lt (eqb-false (get_or led n 0) b not_own) (eqb-false (get_or led n 0) (partner b) not_mate) h.counts;
+    })
+    (cases_Bool (get_or led n 0 == partner b)))
     (cases_Bool (get_or led n 0 == b))
 
 counted_to : (b : ℕ) (led : List ℕ) (n : ℕ) → is_bracket b ≡ true → n ≤ length led → NoneEven b led n → Counted b led n
@@ -180,11 +180,11 @@ matched_byte b led n kind lt none whole =
     (λ own. let more : Counts b led (n + 1) (h.unmatched + 1) = counts_own b led n h.unmatched kind lt (eqb-true (get_or led n 0) b own) h.counts in
     let odd : is_even b (b ∷ take (n + 1) led) ≡ false = more.none_yet n (omega arith) in absurd (cc))
     (λ not_own. ⊎_elim
-        (λ mate. eqb-true (get_or led n 0) (partner b) mate)
-        (λ not_mate. let more : Counts b led (n + 1) h.unmatched =
-        counts_other b led n h.unmatched lt (eqb-false (get_or led n 0) b not_own) (eqb-false (get_or led n 0) (partner b) not_mate) h.counts in
-        let odd : is_even b (b ∷ take (n + 1) led) ≡ false = more.none_yet n (omega arith) in absurd (cc))
-        (cases_Bool (get_or led n 0 == partner b)))
+    (λ mate. eqb-true (get_or led n 0) (partner b) mate)
+    (λ not_mate. let more : Counts b led (n + 1) h.unmatched =
+    counts_other b led n h.unmatched lt (eqb-false (get_or led n 0) b not_own) (eqb-false (get_or led n 0) (partner b) not_mate) h.counts in
+    let odd : is_even b (b ∷ take (n + 1) led) ≡ false = more.none_yet n (omega arith) in absurd (cc))
+    (cases_Bool (get_or led n 0 == partner b)))
     (cases_Bool (get_or led n 0 == b))
 
 -- ---- a match, in parts
@@ -238,9 +238,11 @@ has_match text place match e = by (slice_get text place) refl
           nearest = nearest_is text b place n found;
           at = some_is _ _ m;
         }
+
     by_kind : (b : ℕ) → slice_get text place ≡ Some b → (k : Bool) → is_bracket b ≡ k → HasMatch text place match
     by_kind b there true kind = by_place b there kind (nearest_even b (led_away text b place)) refl (rw (there, kind) at e)
     by_kind b there false kind = absurd (let none = rw (there, kind) at e in cc)
+
     by : (found : Option ℕ) → slice_get text place ≡ found → HasMatch text place match
     by None none = absurd (let gone = rw none at e in cc)
     by (Some b) there = by_kind b there (is_bracket b) refl

@@ -175,8 +175,18 @@ const BRACKETS: &[Typing<'static>] = &[
     ("(a)\u{1b}0>%", "(a)", 0, "proceeds"),
     ("(a)\u{1b}0<%", "(a)", 0, "proceeds"),
     // a mark behind a bracket, and a sign that joins what follows it
-    ("(\u{301}a)\u{301}\u{1b}0%", "(\u{301}a)\u{301}", 4, "proceeds"),
-    ("(\u{301}a)\u{301}\u{1b}0%%", "(\u{301}a)\u{301}", 0, "proceeds"),
+    (
+        "(\u{301}a)\u{301}\u{1b}0%",
+        "(\u{301}a)\u{301}",
+        4,
+        "proceeds",
+    ),
+    (
+        "(\u{301}a)\u{301}\u{1b}0%%",
+        "(\u{301}a)\u{301}",
+        0,
+        "proceeds",
+    ),
     ("(\u{301}a)\u{301}\u{1b}0d%", "\u{301}", 0, "proceeds"),
     ("(a\u{600})\u{1b}0%", "(a\u{600})", 2, "proceeds"),
     ("(a\u{600})\u{1b}0%%", "(a\u{600})", 2, "proceeds"),

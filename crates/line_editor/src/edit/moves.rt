@@ -233,7 +233,8 @@ impl<'out, 'prompt, W: Renderer, H: Helper, P: Prompt, S: History> State<
         if !self.edited.move_to_bracket() {
             return Ok(());
         }
-        self.move_cursor(CmdKind::MoveCursor)
+        self.move_cursor(CmdKind::MoveCursor)?;
+        Ok(())
     }
 
     // Moves the cursor `n` lines up, or from the first line to the line of the history before this one.

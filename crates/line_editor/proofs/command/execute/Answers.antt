@@ -40,7 +40,7 @@ pub returns-in-ReplaceToBracket-clause-executes : goal.returns-in-ReplaceToBrack
 returns-in-ReplaceToBracket-clause-executes g c =
     rw c.in-ReplaceToBracket.is
     (proceeds_ok _ c.args.state.now _ (input_of c.args.input_state.now) c.args.config.now.indent_size _ _ _ c.in_ok-replace_to_bracket-in-ReplaceToBracket.field-0 _ _ refl refl
-    (bracket_replaced_as _ _ c.args.state.now _ _ _ _ _ (option_map string_bytes c.in-ReplaceToBracket.field-0) c.as_deref-in-ReplaceToBracket.ensures.value
+    (bracket_replaced_as _ _ c.args.state.now _ _ _ _ _ (option_map string_bytes c.in-ReplaceToBracket.text) c.as_deref-in-ReplaceToBracket.ensures.value
     c.in_ok-replace_to_bracket-in-ReplaceToBracket.ensures.does))
 
 pub returns-in-YankToBracket-clause-executes : goal.returns-in-YankToBracket-clause-executes
