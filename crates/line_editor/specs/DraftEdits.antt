@@ -108,7 +108,7 @@ bracket_killed environment editor = record {
   kills = copied_to editor.kills (bracket_text editor.draft.line);
 }
 
--- and a text comes in its place, if there is one
+-- and then a text comes in behind the cursor, if there is one, with a match or without
 abbrev pub bracket_replaced : Environment → Option (List ℕ) → Editor → Editor
 bracket_replaced environment text editor =
     let left = bracket_killed environment editor in

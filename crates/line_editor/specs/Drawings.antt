@@ -192,7 +192,7 @@ once_for drawing = 1
 abbrev pub replacement_times : Drawing → Option (List ℕ) → ℕ
 replacement_times killed text = if has_text text then once_for killed + 1 else 1
 
--- how often the line is drawn in full by a command that draws it, proceeds and leaves the kill ring: a newline takes the hint away first
+-- how often the line is drawn in full by any other command that draws it: once, and by a newline before that, without its hint
 abbrev pub edited_times : Display → Draft → Command → ℕ
 edited_times display draft newline = once_for (unhinted_drawn display draft) + 1
 edited_times display draft command = 1

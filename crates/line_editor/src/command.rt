@@ -145,7 +145,7 @@ impl<'out, 'prompt, W: Renderer, H: Helper, P: Prompt, S: History> State<
             Cmd::CompleteHint => self.complete_hint(),
             Cmd::ClearScreen => self.clear_and_redraw(),
             Cmd::Repaint => self.refresh_line(),
-            // The program above does these.
+            // These do nothing here: what they mean, if anything, is left to the program above.
             Cmd::Abort
             | Cmd::Complete
             | Cmd::CompleteBackward
@@ -155,7 +155,7 @@ impl<'out, 'prompt, W: Renderer, H: Helper, P: Prompt, S: History> State<
             | Cmd::ReverseSearchHistory
             | Cmd::Suspend
             | Cmd::Unknown => Ok(()),
-            // And `execute` these.
+            // These never come here: `execute` does them.
             Cmd::AcceptLine
             | Cmd::AcceptOrInsertLine { .. }
             | Cmd::EndOfFile

@@ -74,13 +74,13 @@ pub fn coming_back_restores_the_line()
     ensures { ComingBack }
 {}
 
-/// In Vi's command mode % and again % leave the cursor where it was, if the bracket there and its match begin their clusters.
+/// `MoveToBracket`, executed twice, leaves the draft as it was, if the bracket at the cursor and its match begin their clusters.
 pub fn going_to_the_match_twice_comes_back()
     ensures { GoingToTheMatchTwice }
 {}
 
-/// In Vi's command mode d% at a bracket that has a match, and then P, leave the text as it was, if the kill ring has a slot at
-/// least and the last action was no kill.
+/// `KillToBracket` at a bracket that has a match, and then `Yank(1, Before)`, leave the text as it was, if the kill ring has a
+/// slot at least and the last action was no kill.
 pub fn what_is_killed_to_the_match_comes_back()
     ensures { KilledToTheMatchComesBack }
 {}

@@ -42,7 +42,7 @@ abbrev pub word_place : Operator → At
 word_place Change = AfterEnd
 word_place _ = Start
 
--- what c, d and y do to the text from a bracket to its match; behind < and > that is no motion
+-- the motion of %: for c, d and y the text from a bracket to its match, for < and > none
 abbrev pub bracket_motion : Operator → Motion
 bracket_motion Indent = no_motion
 bracket_motion Dedent = no_motion

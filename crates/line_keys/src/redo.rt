@@ -12,8 +12,8 @@ use line_config::Result;
 
 impl Cmd {
     /// Returns the command as it is done for a key that a program bound to it. A repeatable change and a move take the new
-    /// count, if there is one, and a replacement without a text of its own the text that came in last. Each other command
-    /// stays as it is, also one with a count.
+    /// count, if there is one and they have a count, and a replacement without a text of its own the text that came in last.
+    /// Each other command stays as it is, also one with a count.
     ///
     /// # Errors
     /// That memory ran out.

@@ -140,7 +140,7 @@ pub record HasOneByteAt (text : List ℕ) (place : ℕ) : Type 0 where
   pub within : place < length text
   pub single : slice_index text place < 128
 
--- nothing comes in the place of a range, if there is one
+-- a range is replaced by the empty text, if there is one
 abbrev pub with_nothing_for : Option (ℕ × ℕ) → Edited → Edited
 with_nothing_for None e = e
 with_nothing_for (Some range) e =

@@ -297,7 +297,7 @@ fn is_cut(rt: &impl Abort, alloc: Global, script: &'static str, at: usize, at_on
     assert_eq!(rt; out.len(), 0, "{script} at {at}");
 }
 
-/// Scripts that are good or bad where they are cut.
+/// Scripts that are good or bad by where they are cut.
 const CUT: &[&str] = &["", "history é\n\ntype a\nkey Enter\n", "key\n"];
 
 /// Cuts a script behind each of its bytes, which come together or one by one.
@@ -386,7 +386,7 @@ fn prints_the_same_byte_by_byte(rt: HostRuntime) {
 /// How each of the six lines begins.
 const HEADS: &[&str] = &["outcome ", "line ", "cursor ", "place ", "at ", "redraws "];
 
-/// Whether a text is a beginning of six lines.
+/// Whether a text is a beginning of the six lines that are printed.
 fn is_beginning(printed: &str) -> bool {
     let mut lines = printed.lines();
     for head in HEADS {
@@ -400,8 +400,8 @@ fn is_beginning(printed: &str) -> bool {
     lines.next().is_none()
 }
 
-/// Plays a script. So it ends; and where an allocation is refused, maybe with the status of a fault, and what is printed is
-/// a beginning of these lines or of those of a fault.
+/// Plays a script. With ample memory it prints these lines and ends with this status. Where an allocation is refused the
+/// status may be that of a fault, and what is printed is then a beginning of these lines or of those of a fault.
 fn prints_all_or_a_beginning(rt: &impl Abort, alloc: Global, case: Case) {
     let (script, whole, status) = case;
     let mut out = Vec::new(alloc);
@@ -418,7 +418,7 @@ fn prints_all_or_a_beginning(rt: &impl Abort, alloc: Global, case: Case) {
 }
 
 /// Scripts of which no outcome is a fault.
-const SPARED: &[Case] = &[
+const NO_FAULTS: &[Case] = &[
     (
         "hints\nhistory git status\ntype git\nkey Right\nkey Enter\n",
         "outcome submitted\nline git status\ncursor 10\nplace 1\nat 0 12\nredraws 5\n",
@@ -438,7 +438,7 @@ const SPARED: &[Case] = &[
 
 #[test]
 fn prints_a_beginning_without_memory(rt: HostRuntime) {
-    for case in SPARED {
+    for case in NO_FAULTS {
         prints_all_or_a_beginning(&rt, rt.alloc(), *case);
     }
 }

@@ -65,6 +65,10 @@ impl Failing {
 /// A run: the style, the history's lines, whether there are hints, and what is typed; how it ends where nothing fails; the
 /// line that is left then with a bar at its cursor, the place in the history, where the cursor is drawn, and how often all
 /// was drawn; and how many calls each party gets.
+///
+/// The reader is asked for each key, and once more where the input ends. The screen draws all, or writes a character or moves
+/// the cursor. The helper is asked for a hint where the text changes or all is drawn, and for a verdict by Enter. The handler of
+/// each key is asked for no key of a count, and for no further key behind an operator or of a sequence.
 #[derive(Clone, Copy)]
 struct Scene {
     style: EditMode,
@@ -79,9 +83,6 @@ struct Scene {
     calls: &'static [(Party, u64)],
 }
 
-/// The reader is asked for each key, and once more where the input ends. The screen draws all or writes a character or moves
-/// the cursor; the helper is asked for a hint where the text changes or all is drawn, and for a verdict by Enter. The handler
-/// of each key is not asked for a further key of a count, an operator or a sequence.
 const OUT_AND_BACK: Scene = Scene {
     style: EditMode::Emacs,
     entries: &["rustc", "cargo"],
@@ -161,6 +162,28 @@ const TAKEN_HINT: Scene = Scene {
         (Party::OfEachKey, 5),
         (Party::OfSequence, 0),
         (Party::History, 4),
+    ],
+};
+
+/// The screen is asked for a drawing of each typed character, since a hint stands behind it; for the two moves; and for what goes
+/// and comes back.
+const TO_THE_MATCH: Scene = Scene {
+    style: EditMode::Vi,
+    entries: &["(a)bc"],
+    hints: true,
+    typed: "(a)\u{1b}%d%P",
+    end: "eof",
+    left: "(a|)",
+    place: 1,
+    at: (0, 4),
+    redraws: 6,
+    calls: &[
+        (Party::Screen, 1 + 3 + 2 + 2),
+        (Party::Reader, 8 + 1),
+        (Party::Helper, 1 + 3 + 2),
+        (Party::OfEachKey, 7),
+        (Party::OfSequence, 0),
+        (Party::History, 3),
     ],
 };
 
@@ -382,7 +405,13 @@ fn by_each_party(rt: &impl Abort, alloc: Global, scene: &Scene) -> Result<()> {
     Ok(())
 }
 
-const SCENES: &[Scene] = &[OUT_AND_BACK, COUNTED_KILL, SEQUENCE, TAKEN_HINT];
+const SCENES: &[Scene] = &[
+    OUT_AND_BACK,
+    COUNTED_KILL,
+    SEQUENCE,
+    TAKEN_HINT,
+    TO_THE_MATCH,
+];
 
 #[test]
 fn after_each_fault(rt: HostRuntime) -> std::result::Result<(), Fail> {
@@ -423,4 +452,9 @@ fn sequence_or_memory(rt: HostRuntime) {
 #[test]
 fn taken_hint_or_memory(rt: HostRuntime) {
     ends_well_or_by_memory(&rt, rt.alloc(), TAKEN_HINT);
+}
+
+#[test]
+fn to_the_match_or_memory(rt: HostRuntime) {
+    ends_well_or_by_memory(&rt, rt.alloc(), TO_THE_MATCH);
 }

@@ -13,8 +13,8 @@ use line_parts::{
 };
 use std::alloc::Global;
 
-/// A helper that hints from the history where it is to, takes each line, and asks for no drawing. One of its hints and
-/// verdicts can fail.
+/// A helper that hints from the history where it is to, takes each line, and highlights nothing. One of the calls for a hint
+/// or a verdict can fail.
 #[derive(Drop)]
 pub struct Guide {
     hints: bool,

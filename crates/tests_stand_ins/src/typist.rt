@@ -48,7 +48,7 @@ impl Typist {
     }
 
     /// Its call of the number `failing`, from 1 on, fails by an error of its own, and takes nothing; none does where that
-    /// is 0. A key, a character and a pasted text that are asked for are such calls.
+    /// is 0. These are the calls that ask for a key, a character or a pasted text.
     pub fn cut_at(&mut self, failing: u64) {
         self.failing = failing;
     }
@@ -78,7 +78,7 @@ impl Typist {
         self.flags.as_slice()
     }
 
-    /// Counts a call. Whether it is the one that is to fail.
+    /// Counts a call, and returns whether it is the one that is to fail.
     fn is_cut(&mut self) -> bool
         ensures items { self.new.items ≡ self.old.items }
         ensures failures { self.new.failures ≡ self.old.failures }

@@ -24,6 +24,7 @@ const ONE_KEY: Bound = &[
     ("s", To::PutsAgain),
     ("3", To::Types(1, 'y')),
     ("d", To::KillsBack(4)),
+    ("%", To::ReplacesToBracket),
 ];
 
 /// In command mode a bound command takes the count that is typed, where it can be done again. It is no last change.
@@ -40,6 +41,7 @@ fn of_one_key_in_command_mode(rt: HostRuntime) -> Result<(), Fail> {
         ("\u{1b}", "5u", "Undo(1)", COMMAND),
         ("\u{1b}", "s", "Replace(ForwardChar(0), None)", COMMAND),
         ("\u{1b}", "5s", "Replace(ForwardChar(0), None)", COMMAND),
+        ("\u{1b}", "5%", "ReplaceToBracket(None)", COMMAND),
         ("\u{1b}", "3w", "Kill(BackwardChar(3))", COMMAND),
         ("\u{1b}", "d", "Kill(BackwardChar(4))", COMMAND),
         (
@@ -200,5 +202,11 @@ fn on_a_line(rt: HostRuntime) -> Result<(), Fail> {
         ("acf\u{1b}b", "aczzf", 4, "proceeds"),
     )?;
     leaves(&rt, rt.alloc(), &desk, ("acf\u{1b}2w", "f", 0, "proceeds"))?;
+    leaves(
+        &rt,
+        rt.alloc(),
+        &desk,
+        ("(f)\u{1b}0iac\u{1b}l%", "acac", 2, "proceeds"),
+    )?;
     leaves(&rt, rt.alloc(), &desk, ("acf⌥1w", "ac", 2, "proceeds"))
 }

@@ -140,7 +140,7 @@ fn behind_moves(rt: HostRuntime) -> Result<(), Fail> {
     each(&rt, rt.alloc(), MOVED)
 }
 
-/// The key of the matching bracket, alone and behind each operator, with counts and behind the dot.
+/// The key of the matching bracket, alone and behind each operator, with counts and with the dot behind it.
 const BRACKETS: &[Typing<'static>] = &[
     ("f(a[b])\u{1b}0f(%", "f(a[b])", 6, "proceeds"),
     ("f(a[b])\u{1b}0f(%%", "f(a[b])", 1, "proceeds"),

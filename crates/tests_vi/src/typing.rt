@@ -32,6 +32,7 @@ pub(crate) enum To {
     KillsBack(RepeatCount),
     Moves(RepeatCount),
     PutsAgain,
+    ReplacesToBracket,
     Undoes,
 }
 
@@ -103,6 +104,7 @@ fn command(to: To) -> Cmd {
         To::KillsBack(n) => Cmd::Kill(Movement::BackwardChar(n)),
         To::Moves(n) => Cmd::Move(Movement::ForwardChar(n)),
         To::PutsAgain => Cmd::Replace(Movement::ForwardChar(0), None),
+        To::ReplacesToBracket => Cmd::ReplaceToBracket(None),
         To::Undoes => Cmd::Undo(1),
     }
 }

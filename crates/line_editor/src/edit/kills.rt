@@ -192,7 +192,7 @@ impl<'out, 'prompt, W: Renderer, H: Helper, P: Prompt, S: History> State<
         self.remove_to_bracket()
     }
 
-    // Kills the text from the bracket at the cursor to its match, and inserts a text in its place, if there is one.
+    // Kills the text from the bracket at the cursor to its match, if it has one, and inserts a text, if there is one.
     pub(crate) fn replace_to_bracket(
         &mut self,
         text: Option<&str>,

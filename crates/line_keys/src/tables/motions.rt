@@ -46,7 +46,8 @@ impl Operator {
         }
     }
 
-    /// Returns the command that does this to the text from the bracket at the cursor to its match; Unknown for an indent.
+    /// Returns the operator's command over the text from the bracket at the cursor to its match; `Unknown` for `Indent` and
+    /// `Dedent`.
     pub fn to_bracket(self) -> Cmd
         ensures { command_of result ≡ operated_to_bracket self }
     {
@@ -58,7 +59,7 @@ impl Operator {
         }
     }
 
-    // Returns what the operator is done to behind %: an indent is done to lines alone, and so to nothing.
+    // Returns the motion of %: behind < and > it is none.
     fn bracket_motion(self) -> Motion
         ensures { motion_value result ≡ bracket_motion self }
     {

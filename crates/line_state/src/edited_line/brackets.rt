@@ -38,8 +38,7 @@ impl EditedLine {
         Some((at, pos + 1))
     }
 
-    /// Takes the text of that range away, as a replacement by nothing, with the cursor where it was. Returns whether there is
-    /// such a range.
+    /// Replaces that range by the empty text, and the cursor goes to its start. Returns whether there is such a range.
     pub fn remove_to_bracket(&mut self) -> Result<bool, OutOfMemory>
         ensures { let range = bracket_range self.old.line in Finds result self.old self.new
             (with_nothing_for range self.old) (is_some range) }

@@ -127,6 +127,7 @@ fn edits_by_the_tables_of_vi(rt: HostRuntime) -> Result<(), Fail> {
     Ok(())
 }
 
+/// Rows of the key of the matching bracket.
 const BRACKETS: &[Case] = &[
     (
         "mode vi\ntype f(a[b])\nkey Esc\ntype 0f(%\n",
@@ -187,6 +188,16 @@ const BRACKETS: &[Case] = &[
     (
         "mode vi\ncolumns 10\npaste {abcdefgh\\ni[j]k}\nkey Esc\ntype %%\n",
         "outcome eof\nline {abcdefgh\\ni[j]k}\ncursor 15\nplace 0\nat 2 5\nredraws 2\n",
+        1,
+    ),
+    (
+        "mode vi\ncolumns 10\npaste {abcdefgh\\ni[j]k}\nkey Esc\ntype d%\n",
+        "outcome eof\nline \ncursor 0\nplace 0\nat 0 2\nredraws 3\n",
+        1,
+    ),
+    (
+        "mode vi\ncolumns 10\npaste {abcdefgh\\ni[j]k}\nkey Esc\ntype d%P\n",
+        "outcome eof\nline {abcdefgh\\ni[j]k}\ncursor 15\nplace 0\nat 2 5\nredraws 4\n",
         1,
     ),
 ];

@@ -327,6 +327,24 @@ draw \"> \" \"ab\" 1 None old 0:9 0:10 0:11 new 0:2 0:3 0:4 for the last time",
 draw \"> \" \"ab\" 2 Some(\"!!\") old 0:2 0:4 0:6+ new 0:2 0:4 0:6+ plain",
     ),
     (
+        (
+            HINTED,
+            "|(a)",
+            &[
+                &[MoveToBracket, PaintAll],
+                &[MoveToBracket, YankToBracket, PaintAll],
+            ],
+        ),
+        ("proceeds", "(a|)", 0),
+        "move (0, 2) to (0, 4)
+draw \"> \" \"(a)\" 2 Some(\"!!\") old 0:2 0:4 0:7+ new 0:2 0:4 0:7+ plain",
+    ),
+    (
+        (LIT, "|(a)", &[&[MoveToBracket]]),
+        ("proceeds", "(a|)", 0),
+        "draw \"> \" \"(a)\" 2 None old 0:2 0:2 0:5 new 0:2 0:4 0:5 after a move",
+    ),
+    (
         (COLOURED, "a|b", &[&[PaintKept]]),
         ("proceeds", "a|b", 0),
         "draw \"> \" \"ab\" 1 None old none new 0:2 0:3 0:4 after an edit",

@@ -141,7 +141,8 @@ fn of_vi(rt: HostRuntime) -> Result<(), Fail> {
     Ok(())
 }
 
-/// From a bracket to the one that matches it: a move draws the cursor, a removal the line, and without a match nothing.
+/// From a bracket to the one that matches it: a move draws the cursor, and a removal the line; without a match a text alone is
+/// drawn, where one comes in.
 const BRACKETS: &[Case] = &[
     ("|(a)b", &[MoveToBracket], "(a|)b", "m"),
     ("|(a)b", &[MoveToBracket, MoveToBracket], "|(a)b", "mm"),
