@@ -1,11 +1,9 @@
 -- Facts on the nodes of a tree.
-use Rattle.std.proofs.Common.{arith, ◌≡◌, ◌≢◌, ◌⊎◌, inl, inr, ◌<◌, ◌+◌, ◌++◌, ◌∙◌, ◌==◌, ap, sym, refl, subst, ℕ, zero, suc, List, [], ◌∷◌, get_or, set, length, Bool, true, false, Option, Some, None, find, option_map, is_some, length-append, length-set, eq-eqb, eqb-true}
+use Rattle.std.proofs.Common.{arith, ◌≡◌, ◌≢◌, ◌⊎◌, inl, inr, ◌<◌, ◌+◌, ◌++◌, ◌∙◌, ◌==◌, ap, sym, refl, subst, ℕ, zero, suc, List, [], ◌∷◌, get_or, set, length, Bool, true, false, Option, Some, None, find, option_map, length-append, length-set, eq-eqb, eqb-true}
 use Rattle.std.specs.Option.{option_or}
 use Rattle.std.proofs.lemmas.List.{get_or_push, get_or_append_left}
 use Rattle.std.proofs.lemmas.List.Folds.{find-append}
-use Rattle.std.proofs.lemmas.Option.{same_Some}
 use Rattle.line_keys.specs.declared.keys.KeyEvent.{KeyEvent}
-use Rattle.line_editor.specs.Event.{same_key}
 use Rattle.line_editor.specs.KeyTree.{IsChild, IsTree, Shape, child_by, parent_from, parent_of, path_behind, paths}
 use Rattle.line_editor.proofs.TreePlaceLemmas.{child-none, map-none, or-none_first, parent-later}
 

@@ -1,5 +1,5 @@
 -- Changes of a line that are drawn in part: a character typed at its end, and characters killed there.
-use Rattle.std.specs.Prelude.{◌≡◌, ◌⊎◌, ℕ, ◌+◌, ◌-◌, ◌==◌, ◌&&◌, ◌||◌, nat_lt, nat_le, Bool, true, not, [], ◌∷◌, length, drop, Some, is_some}
+use Rattle.std.specs.Prelude.{◌≡◌, ℕ, ◌+◌, ◌-◌, ◌==◌, ◌&&◌, ◌||◌, nat_lt, nat_le, Bool, true, not, [], ◌∷◌, length, drop, Some, is_some}
 use Rattle.std.specs.List.{list_all}
 use Rattle.line_buffer.specs.Line.{Line, inserted_at_cursor, is_at_end, without}
 use Rattle.line_buffer.specs.Printable.{is_plain, is_printable}

@@ -1,5 +1,5 @@
 -- The range from a bracket to its match.
-use Rattle.std.proofs.Common.{◌≡◌, ℕ, ◌+◌, ◌<◌, ◌≤◌, max, min, Option, Some, option_map, refl, sym, ap, ◌∙◌, arith}
+use Rattle.std.proofs.Common.{◌≡◌, ℕ, ◌+◌, ◌<◌, ◌≤◌, max, min, Option, Some, option_map, refl, ap, ◌∙◌, arith}
 use Rattle.std.proofs.lemmas.Str.{IsCharBoundary-after_ascii, IsCharBoundary-before_ascii}
 use Rattle.std.specs.Str.{IsUtf8}
 use Rattle.line_buffer.specs.Line.{Line}

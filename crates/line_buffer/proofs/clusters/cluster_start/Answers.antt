@@ -1,4 +1,4 @@
-use Rattle.std.proofs.Common.{◌-◌, true, length, ap, ◌∙◌, arith}
+use Rattle.std.proofs.Common.{◌-◌, true, length, ap, arith}
 use Rattle.unicode_segmentation.proofs.SegmentsLemmas.{concat-segments}
 use Rattle.unicode_segmentation.specs.Grapheme.{is_grapheme_break}
 use Rattle.unicode_segmentation.specs.Iter.{graphemes_left}

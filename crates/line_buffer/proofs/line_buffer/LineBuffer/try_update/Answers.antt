@@ -1,4 +1,4 @@
-use Rattle.std.proofs.Common.{rules, ap, ◌∙◌}
+use Rattle.std.proofs.Common.{rules, ap}
 use Rattle.std.proofs.lemmas.Str.{IsUtf8-had}
 use Rattle.line_buffer.specs.Changes.{Changes}
 use Rattle.line_buffer.specs.Line.{Line}
