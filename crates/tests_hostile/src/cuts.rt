@@ -285,8 +285,12 @@ fn goes_on(
         typist.press(keys.get(last.0..).unwrap_or(keys))?;
         end = turns(state, input, &mut typist, kills, config)?;
     }
-    let submits = end == Turned::Submitted;
-    assert_eq!(rt; submits, row.end == "submits", "cut at {at}");
+    let wanted = if row.end == "submits" {
+        Turned::Submitted
+    } else {
+        Turned::NeedsMore
+    };
+    assert_eq!(rt; end, wanted, "cut at {at}");
     is_left(rt, state, kills, stage(rt, row, keys.len()), at);
     is_right(rt, alloc, state)?;
     let cursor = state.layout().cursor;

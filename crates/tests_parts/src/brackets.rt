@@ -195,13 +195,15 @@ fn remembers_the_bracket_at_the_cursor(rt: HostRuntime) {
 /// A line and the cursor by which a bracket is remembered, the line that is drawn, and what is shown.
 type Lit = (&'static str, usize, &'static str, &'static str);
 
-/// What a highlighter shows that was told of a line.
+/// What a highlighter shows that was told of a line, whatever drew it, and wherever the cursor is now.
 fn shown(alloc: Global, case: Lit, assertions: &impl Abort) -> Result<()> {
     let (told, pos, line, wanted) = case;
-    let mut highlighter = MatchingBracketHighlighter::new();
-    let _ = highlighter.highlight_char(told, pos, CmdKind::MoveCursor);
-    let shown = highlighter.highlight(alloc, line, 0)?;
-    assert_eq!(assertions; shown.as_str(), wanted, "{told} {pos} {line}");
+    for (kind, cursor) in [(CmdKind::MoveCursor, 0), (CmdKind::Other, line.len())] {
+        let mut highlighter = MatchingBracketHighlighter::new();
+        let _ = highlighter.highlight_char(told, pos, kind);
+        let shown = highlighter.highlight(alloc, line, cursor)?;
+        assert_eq!(assertions; shown.as_str(), wanted, "{told} {pos} {line}");
+    }
     Ok(())
 }
 

@@ -67,6 +67,7 @@ const BEFORE: &[(&str, bool)] = &[
     ("ab\u{1b}30", true),
     ("ab\u{1b}c", false),
     ("ab\u{1b}d", false),
+    ("(b)\u{1b}0c", false),
     ("ab\u{1b}y", false),
     ("ab\u{1b}<", false),
     ("ab\u{1b}>", false),

@@ -171,6 +171,8 @@ const BRACKETS: &[Typing<'static>] = &[
     ("a(b\u{1b}0ld%P", "a(b", 1, "proceeds"),
     ("a(b\u{1b}0c%z", "za(b", 1, "proceeds"),
     ("a)b\u{1b}0l%", "a)b", 1, "proceeds"),
+    (")a\u{1b}0%", ")a", 0, "proceeds"),
+    ("a(\u{1b}%", "a(", 1, "proceeds"),
     ("ab\u{1b}0%", "ab", 0, "proceeds"),
     ("(a)\u{1b}0>%", "(a)", 0, "proceeds"),
     ("(a)\u{1b}0<%", "(a)", 0, "proceeds"),

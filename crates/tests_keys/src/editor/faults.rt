@@ -1,4 +1,4 @@
-//! Errors of the renderer: they stay what they are.
+//! Errors of the renderer, and one of the hinter in the first drawing: they stay what they are.
 
 use super::Step::*;
 use super::{Case, Cut, PLAIN, Setup, Wanted, holds};
@@ -49,6 +49,12 @@ const BARE_FOURTH: Setup = Setup {
 /// Call 1 of the renderer fails by an error of its own.
 const CUT: Setup = Setup {
     cut: Cut::Screen(1),
+    ..PLAIN
+};
+
+/// Call 1 of the helper fails.
+const ASLEEP: Setup = Setup {
+    cut: Cut::Helper(1),
     ..PLAIN
 };
 
@@ -106,6 +112,9 @@ const FAULTS: &[Case] = &[
     (SECOND, &[Run(&[A])], "fails", Wanted::Len(1)),
     (THIRD, &[Run(&[A])], "eof", Wanted::Len(1)),
     (CUT, &[Run(&[A])], "is denied", Wanted::Words(SCREEN_CUT)),
+    // no key is read
+    (ASLEEP, &[Run(&[A])], "is denied", Wanted::Flags(&[])),
+    (ASLEEP, &[Run(&[A])], "is denied", Wanted::Len(0)),
 ];
 
 #[test]

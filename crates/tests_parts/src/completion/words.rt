@@ -10,7 +10,7 @@ use std::test::Fail;
 
 /// Whether words break at a character in these tests.
 fn breaks(c: char) -> bool {
-    matches!(c, ' ' | '\\' | '"' | 'é')
+    matches!(c, ' ' | '\\' | '"' | '\'' | 'é')
 }
 
 /// A line, the cursor in it, the escape character, where the word before the cursor begins, and the word.
@@ -29,7 +29,7 @@ fn finds(rt: &impl Abort, case: &Word) -> result::Result<(), Fail> {
 
 #[test]
 fn words_begin_behind_breaks_that_are_not_escaped(rt: HostRuntime) -> result::Result<(), Fail> {
-    let cases: [Word; 24] = [
+    let cases: [Word; 25] = [
         (
             r"ls /User\ Information",
             21,
@@ -37,6 +37,7 @@ fn words_begin_behind_breaks_that_are_not_escaped(rt: HostRuntime) -> result::Re
             3,
             r"/User\ Information",
         ),
+        ("ls '/usr/local/b", 16, Some('\\'), 4, "/usr/local/b"),
         ("", 0, Some('\\'), 0, ""),
         ("abc", 3, Some('\\'), 0, "abc"),
         (" abc", 4, Some('\\'), 1, "abc"),

@@ -1,12 +1,14 @@
 //! What each call leaves where an allocation is refused. Run with any one allocation refused, each test passes: it
 //! looks at what is left, or the call was not reached.
 
+use super::streams::Trickle;
 use super::{gives, save};
 use Escapes::{V2, V3};
 use line_config::{ReadlineError, Result};
 use line_parts::{Escapes, FileHistory, History, MemHistory, SearchResult};
 use std::alloc::Global;
 use std::borrow::CowStr;
+use std::io::ErrorKind;
 use std::process::Abort;
 use std::result;
 use std::test::Fail;
@@ -189,6 +191,27 @@ fn of_a_text_that_is_read(rt: HostRuntime) -> result::Result<(), Fail> {
         reads(&rt, rt.alloc(), written)?;
     }
     Ok(())
+}
+
+/// Whether a text was read up to the place where its reader fails, and was not refused before.
+fn is_broken(outcome: &Result<bool>) -> result::Result<bool, Fail> {
+    match outcome {
+        Err(ReadlineError::Memory) => Ok(false),
+        Err(ReadlineError::Io(cause)) if cause.kind() == ErrorKind::BrokenPipe => Ok(true),
+        _ => Err(Fail::from("no answer, and no other error")),
+    }
+}
+
+/// The line before the fault is there, and is new; none may be where memory ran out.
+#[test]
+fn of_a_text_that_breaks_off(rt: HostRuntime) -> result::Result<(), Fail> {
+    let mut history = FileHistory::new(rt.alloc());
+    let outcome = history.load_from(Trickle::new(b"#V2\na\nb", 7, false));
+    if !is_broken(&outcome)? && history.is_empty() {
+        return Ok(());
+    }
+    gives(&rt, &history, &["a"])?;
+    appends(&rt, rt.alloc(), &mut history, V2, b"a\n")
 }
 
 /// A history of the first four lines; none where there is no memory for it.

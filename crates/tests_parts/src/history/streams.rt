@@ -12,7 +12,7 @@ use std::{io, result};
 
 /// A reader that gives one byte a call. It may be interrupted before each, and fails from one of them on.
 #[derive(Drop)]
-struct Trickle {
+pub(super) struct Trickle {
     text: &'static [u8],
     at: usize,
     failing: usize,
@@ -21,7 +21,7 @@ struct Trickle {
 }
 
 impl Trickle {
-    fn new(text: &'static [u8], failing: usize, interrupts: bool) -> Trickle {
+    pub(super) fn new(text: &'static [u8], failing: usize, interrupts: bool) -> Trickle {
         Trickle {
             text,
             at: 0,
