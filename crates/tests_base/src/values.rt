@@ -182,14 +182,10 @@ fn debug_names_each_of_the_settings(rt: HostRuntime) -> Result<(), Fail> {
 fn positions_are_ordered(rt: HostRuntime) {
     for (index, one) in POSITIONS.iter().enumerate() {
         for (place, other) in POSITIONS.iter().enumerate() {
-            let wanted = index.cmp(&place);
-            assert_eq!(rt; one.cmp(other), wanted, "{one:?} {other:?}");
-            assert_eq!(rt; one.partial_cmp(other), Some(wanted), "{one:?} {other:?}");
-            assert_eq!(rt;
-                *one < *other,
-                wanted == Ordering::Less,
-                "{one:?} {other:?}"
-            );
+            let order = index.cmp(&place);
+            let found = (one.cmp(other), one.partial_cmp(other), *one < *other);
+            let wanted = (order, Some(order), order == Ordering::Less);
+            assert_eq!(rt; found, wanted, "{one:?} {other:?}");
         }
     }
 }
@@ -261,8 +257,8 @@ fn no_two_movements_are_equal(rt: HostRuntime) -> Result<(), Fail> {
         assert_eq!(rt; shown.as_str(), *name);
         for (place, (other, _)) in MOVEMENTS.iter().enumerate() {
             let copy = other.clone()?;
-            assert_eq!(rt; *one == copy, index == place, "{one:?} {other:?}");
-            assert_eq!(rt; *one != copy, index != place, "{one:?} {other:?}");
+            let (found, wanted) = (*one == copy, index == place);
+            assert_eq!(rt; (found, *one != copy), (wanted, !wanted), "{one:?} {other:?}");
         }
     }
     Ok(())

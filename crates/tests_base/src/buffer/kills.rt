@@ -3,7 +3,7 @@
 use super::{FAMILY, line_at};
 use line_buffer::Direction::{self, *};
 use line_buffer::Movement::{self, *};
-use line_buffer::{Changeset, CharSearch as Search, KillRing, RepeatCount};
+use line_buffer::{Changeset, CharSearch as Search, KillRing, LineBuffer, RepeatCount};
 use std::alloc::Global;
 use std::process::Abort;
 use std::test::Fail;
@@ -42,23 +42,34 @@ fn kills(rt: &impl Abort, alloc: Global, case: &Case) -> Result<(), Fail> {
     let mut changes = Changeset::new(alloc);
     let killed = line.kill(mvt, &mut changes, &mut KillRing::new(alloc, 2))?;
     went(rt, &killed, gone);
-    assert_eq!(rt; line.as_str(), *after);
-    assert_eq!(rt; (line.pos(), changes.len()), (place, entries));
+    let left = (line.as_str(), line.pos(), changes.len());
+    assert_eq!(rt; left, (*after, place, entries));
     Ok(())
 }
 
 /// A cut leaves the line and the ring as a kill does.
 fn cuts(rt: &impl Abort, alloc: Global, case: &Case) -> Result<(), Fail> {
     let (text, pos, mvt, after, _) = case;
-    let mut killed = line_at(rt, alloc, text, *pos)?;
-    let mut cut = line_at(rt, alloc, text, *pos)?;
-    let mut changes = Changeset::new(alloc);
-    let mut killed_ring = KillRing::new(alloc, 2);
-    let mut cut_ring = KillRing::new(alloc, 2);
-    let _ = killed.kill(mvt, &mut changes, &mut killed_ring)?;
-    cut.cut(mvt, &mut changes, &mut cut_ring)?;
-    assert_eq!(rt; (cut.as_str(), cut.pos()), (*after, killed.pos()));
-    assert_eq!(rt; cut_ring.yank(), killed_ring.yank());
+    let mut ring = KillRing::new(alloc, 2);
+    let mut line = line_at(rt, alloc, text, *pos)?;
+    line.cut(mvt, &mut Changeset::new(alloc), &mut ring)?;
+    assert_eq!(rt; line.as_str(), *after);
+    is_as_killed(rt, alloc, case, &line, ring.yank())
+}
+
+/// The cursor and the ring's text are those that a kill leaves.
+fn is_as_killed(
+    rt: &impl Abort,
+    alloc: Global,
+    case: &Case,
+    cut: &LineBuffer,
+    kept: Option<&str>,
+) -> Result<(), Fail> {
+    let (text, pos, mvt, _, _) = case;
+    let mut ring = KillRing::new(alloc, 2);
+    let mut line = line_at(rt, alloc, text, *pos)?;
+    let _ = line.kill(mvt, &mut Changeset::new(alloc), &mut ring)?;
+    assert_eq!(rt; (cut.pos(), kept), (line.pos(), ring.yank()));
     Ok(())
 }
 
@@ -167,15 +178,10 @@ fn discards(rt: &impl Abort, alloc: Global, case: &Discard) -> Result<(), Fail> 
     let (text, pos, n, some, after) = *case;
     let mut line = line_at(rt, alloc, text, pos)?;
     let mut changes = Changeset::new(alloc);
-    assert_eq!(rt;
-        line.discard(n, &mut changes)?,
-        some,
-        "{n} from {pos} in {text:?}"
-    );
-    assert_eq!(rt;
-        (line.as_str(), line.pos(), changes.len()),
-        (after, pos, some as usize)
-    );
+    let done = line.discard(n, &mut changes)?;
+    let left = (done, line.as_str(), line.pos(), changes.len());
+    let wanted = (some, after, pos, some as usize);
+    assert_eq!(rt; left, wanted, "{n} from {pos} in {text:?}");
     Ok(())
 }
 
