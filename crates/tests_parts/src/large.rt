@@ -122,61 +122,94 @@ const ESCAPED: &[Escaped] = &[
     (&[("日", 2_000)], Quote::None, &[("日", 2_000)]),
 ];
 
+fn is_escaped(rt: &impl Abort, alloc: Global, case: &Escaped) -> Result<()> {
+    let (pieces, quote, escaped) = case;
+    let wanted = built(alloc, *escaped)?;
+    let found = escape(built(alloc, *pieces)?, Some('\\'), is_blank, *quote)?;
+    assert_eq!(rt; found.as_str(), wanted.as_str());
+    Ok(())
+}
+
+fn is_unescaped(rt: &impl Abort, alloc: Global, case: &Escaped) -> Result<()> {
+    let (pieces, _, escaped) = case;
+    let wanted = built(alloc, *pieces)?;
+    let text = built(alloc, *escaped)?;
+    let found = unescape(alloc, text.as_str(), Some('\\'))?;
+    assert_eq!(rt; found.as_str(), wanted.as_str());
+    Ok(())
+}
+
+/// Without an escape character a text stays.
+fn stays(rt: &impl Abort, alloc: Global, pieces: Pieces, quote: Quote) -> Result<()> {
+    let text = built(alloc, pieces)?;
+    let escaped = escape(built(alloc, pieces)?, None, is_blank, quote)?;
+    let unescaped = unescape(alloc, text.as_str(), None)?;
+    let found = (escaped.as_str(), unescaped.as_str());
+    assert_eq!(rt; found, (text.as_str(), text.as_str()));
+    Ok(())
+}
+
 #[test]
 fn are_escaped(rt: HostRuntime) -> Result<()> {
-    for (pieces, quote, escaped) in ESCAPED {
-        let wanted = built(rt.alloc(), *escaped)?;
-        let text = built(rt.alloc(), *pieces)?;
-        let found = escape(text, Some('\\'), is_blank, *quote)?;
-        assert_eq!(rt; found.as_str(), wanted.as_str());
-        let text = built(rt.alloc(), *pieces)?;
-        let found = unescape(rt.alloc(), wanted.as_str(), Some('\\'))?;
-        assert_eq!(rt; found.as_str(), text.as_str());
-        let found = escape(text, None, is_blank, *quote)?;
-        assert_eq!(rt; found.as_str(), built(rt.alloc(), *pieces)?.as_str());
-        let found = unescape(rt.alloc(), wanted.as_str(), None)?;
-        assert_eq!(rt; found.as_str(), wanted.as_str());
+    for case in ESCAPED {
+        is_escaped(&rt, rt.alloc(), case)?;
+        is_unescaped(&rt, rt.alloc(), case)?;
+        stays(&rt, rt.alloc(), case.0, case.1)?;
+        stays(&rt, rt.alloc(), case.2, case.1)?;
     }
     Ok(())
 }
 
-/// The word behind a blank, and what two words begin with in common.
+/// The word behind a blank.
 #[test]
-fn are_words(rt: HostRuntime) -> result::Result<(), Fail> {
+fn are_words(rt: HostRuntime) -> Result<()> {
     let line = built(rt.alloc(), &[("ls ", 1), ("\\ a", 2_000)])?;
     let (start, word) = extract_word(line.as_str(), line.len(), Some('\\'), is_blank);
     assert_eq!(rt; (start, word.len()), (3, 6_000));
+    Ok(())
+}
+
+/// What two words begin with in common.
+#[test]
+fn begin_alike(rt: HostRuntime) -> Result<()> {
     let one = built(rt.alloc(), &[("日", 2_000), ("a", 1)])?;
     let other = built(rt.alloc(), &[("日", 2_000), ("b", 1)])?;
-    let common = built(rt.alloc(), &[("日", 2_000)])?;
     let words = [one.as_str(), other.as_str()];
-    assert_eq!(rt;
-        longest_common_prefix(words.as_slice()),
-        Some(common.as_str())
+    let common = longest_common_prefix(words.as_slice());
+    assert_eq!(rt; common, one.as_str().get(..6_000));
+    Ok(())
+}
+
+/// The hint at so many characters of a long line is its rest.
+fn is_hinted_at(
+    rt: &impl Abort,
+    alloc: Global,
+    history: &MemHistory,
+    line: &str,
+    count: usize,
+) -> result::Result<(), Fail> {
+    let Some(text) = line.get(..count) else {
+        return Err(Fail::from("a text of so many bytes"));
+    };
+    let Some(hint) = HistoryHinter::new().hint(alloc, text, count, &Context::new(history))? else {
+        return Err(Fail::from("a hint"));
+    };
+    assert_eq!(rt; Some(hint.as_str()), line.get(count..));
+    assert!(rt;
+        ().hint(alloc, text, count, &Context::new(history))?
+            .is_none()
     );
     Ok(())
 }
 
-/// The hint at the rest of a long line, for a short text and for a long one.
+/// A short text and long ones.
 #[test]
 fn are_hinted_at(rt: HostRuntime) -> result::Result<(), Fail> {
-    let alloc = rt.alloc();
-    let mut history = MemHistory::new(alloc);
-    let line = built(alloc, &[("a", 5_000)])?;
+    let mut history = MemHistory::new(rt.alloc());
+    let line = built(rt.alloc(), &[("a", 5_000)])?;
     assert!(rt; history.add(line.as_str())?);
     for count in [1, 2_000, 4_999] {
-        let Some(text) = line.get(..count) else {
-            return Err(Fail::from("a text of so many bytes"));
-        };
-        let found = HistoryHinter::new().hint(alloc, text, count, &Context::new(&history))?;
-        let Some(hint) = found else {
-            return Err(Fail::from("a hint"));
-        };
-        assert_eq!(rt; Some(hint.as_str()), line.get(count..));
-        assert!(rt;
-            ().hint(alloc, text, count, &Context::new(&history))?
-                .is_none()
-        );
+        is_hinted_at(&rt, rt.alloc(), &history, line.as_str(), count)?;
     }
     Ok(())
 }

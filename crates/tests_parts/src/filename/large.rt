@@ -63,6 +63,36 @@ fn numbered(alloc: Global, count: usize) -> Result<Vec<Entry>> {
     Ok(entries)
 }
 
+/// So many names complete a line, in either order.
+fn counts(
+    rt: &impl Abort,
+    alloc: Global,
+    completer: &FilenameCompleter<Crowd>,
+    line: &str,
+    count: usize,
+) -> result::Result<(), Fail> {
+    assert!(rt; line.is_char_boundary(line.len()));
+    let (_, sorted) = completer.complete_path(alloc, line, line.len())?;
+    let (_, unsorted) = completer.complete_path_unsorted(alloc, line, line.len())?;
+    assert_eq!(rt; (sorted.len(), unsorted.len()), (count, count), "{line:?}");
+    Ok(())
+}
+
+/// The name that comes last in the order, and what is put in for it.
+fn ends_with(
+    rt: &impl Abort,
+    alloc: Global,
+    completer: &FilenameCompleter<Crowd>,
+    wanted: (&str, &str),
+) -> result::Result<(), Fail> {
+    let (_, pairs) = completer.complete_path(alloc, "", 0)?;
+    let Some(last) = pairs.last() else {
+        return Err(Fail::from("a name"));
+    };
+    assert_eq!(rt; (last.display.as_str(), last.replacement.as_str()), wanted);
+    Ok(())
+}
+
 /// Of the numbers below 3,000 there are 1,111 that begin with 1: 1, 10, 100, 1000 and so on.
 #[test]
 fn of_many_names(rt: HostRuntime) -> result::Result<(), Fail> {
@@ -70,56 +100,52 @@ fn of_many_names(rt: HostRuntime) -> result::Result<(), Fail> {
         entries: numbered(rt.alloc(), 3_000)?,
     });
     for (line, count) in [("", 3_000), ("n\\ 1", 1_111), ("x", 0)] {
-        assert!(rt; line.is_char_boundary(line.len()));
-        let (_, pairs) = completer.complete_path(rt.alloc(), line, line.len())?;
-        assert_eq!(rt; pairs.len(), count, "{line:?}");
-        let (_, pairs) = completer.complete_path_unsorted(rt.alloc(), line, line.len())?;
-        assert_eq!(rt; pairs.len(), count, "{line:?}");
+        counts(&rt, rt.alloc(), &completer, line, count)?;
     }
-    let (_, pairs) = completer.complete_path(rt.alloc(), "", 0)?;
-    let Some(last) = pairs.last() else {
-        return Err(Fail::from("a name"));
-    };
-    assert_eq!(rt;
-        (last.display.as_str(), last.replacement.as_str()),
-        ("n 999", "n\\ 999/")
-    );
-    Ok(())
+    ends_with(&rt, rt.alloc(), &completer, ("n 999", "n\\ 999/"))
 }
 
 /// How many bytes one name has, in a folder whose name has as many, and how many are put in for it.
 type Long = (usize, usize);
 
-/// The one candidate is as long as that.
-fn is_long(rt: &impl Abort, pairs: &[Pair], case: Long) -> result::Result<(), Fail> {
+/// The one candidate is as long as that, and comes in from the line's start on.
+fn is_long(rt: &impl Abort, found: &(usize, Vec<Pair>), case: Long) -> result::Result<(), Fail> {
+    let (start, pairs) = found;
     let Some(pair) = pairs.first() else {
         return Err(Fail::from("a name"));
     };
-    assert_eq!(rt; pairs.len(), 1);
-    assert_eq!(rt; (pair.display.len(), pair.replacement.len()), case);
+    let long = (pair.display.len(), pair.replacement.len());
+    assert_eq!(rt; (*start, pairs.len(), long), (0, 1, case));
     Ok(())
 }
 
-fn completes(rt: &impl Abort, alloc: Global, case: Long) -> result::Result<(), Fail> {
-    let (count, _) = case;
+/// A folder with one name of so many bytes.
+fn completer_of(alloc: Global, count: usize) -> Result<FilenameCompleter<Crowd>> {
     let entry = Entry {
         name: text_of(alloc, 'b', count)?,
         folder: false,
     };
     let entries = vec![in alloc; entry]?;
-    let completer = FilenameCompleter::new(Crowd { entries });
+    Ok(FilenameCompleter::new(Crowd { entries }))
+}
+
+/// The path of a folder whose name has so many bytes.
+fn folder_of(alloc: Global, count: usize) -> Result<String> {
     let mut line = text_of(alloc, 'a', count)?;
     line.push('/')?;
+    Ok(line)
+}
+
+fn completes(rt: &impl Abort, alloc: Global, case: Long) -> result::Result<(), Fail> {
+    let completer = completer_of(alloc, case.0)?;
+    let line = folder_of(alloc, case.0)?;
     let line = line.as_str();
     assert!(rt; line.is_char_boundary(line.len()));
-    let (start, pairs) = completer.complete_path(alloc, line, line.len())?;
-    assert_eq!(rt; start, 0);
-    is_long(rt, pairs.as_slice(), case)?;
+    let found = completer.complete_path(alloc, line, line.len())?;
+    is_long(rt, &found, case)?;
     let history = MemHistory::new(alloc);
-    let ctx = Context::new(&history);
-    let (start, pairs) = completer.complete(alloc, line, line.len(), &ctx)?;
-    assert_eq!(rt; start, 0);
-    is_long(rt, pairs.as_slice(), case)
+    let found = completer.complete(alloc, line, line.len(), &Context::new(&history))?;
+    is_long(rt, &found, case)
 }
 
 #[test]
