@@ -258,7 +258,11 @@ fn no_two_movements_are_equal(rt: HostRuntime) -> Result<(), Fail> {
         for (place, (other, _)) in MOVEMENTS.iter().enumerate() {
             let copy = other.clone()?;
             let (found, wanted) = (*one == copy, index == place);
-            assert_eq!(rt; (found, *one != copy), (wanted, !wanted), "{one:?} {other:?}");
+            assert_eq!(rt;
+                (found, *one != copy),
+                (wanted, !wanted),
+                "{one:?} {other:?}"
+            );
         }
     }
     Ok(())

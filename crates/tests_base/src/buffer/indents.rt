@@ -13,11 +13,8 @@ use std::test::Fail;
 fn shifts(rt: &impl Abort, alloc: Global, case: &Case) -> Result<(), Fail> {
     let (text, pos, steps, answer, left, cursor, entries) = case;
     let (mut line, mut changes, last) = after(rt, alloc, text, *pos, steps)?;
-    assert_eq!(rt; line.as_str(), *left);
-    assert_eq!(rt;
-        (last, line.pos(), changes.len()),
-        (*answer, *cursor, *entries)
-    );
+    let found = (last, line.as_str(), line.pos(), changes.len());
+    assert_eq!(rt; found, (*answer, *left, *cursor, *entries));
     let undone = edited(rt, &mut line, &mut changes, &Edit::Undo(9))?;
     assert_eq!(rt; (line.as_str(), undone), (*text, Some(*entries > 0)));
     Ok(())

@@ -4,7 +4,8 @@ ghost use Rattle.line_buffer.specs.Undo.{Tells};
 
 use super::edits::{Edit, after, all_edited, edited};
 use line_buffer::{
-    Changeset, KillRing, LineBuffer, Mode, Movement, OutOfMemory, RepeatCount, WordAction,
+    Changeset, Direction, KillRing, LineBuffer, Mode, Movement, OutOfMemory, RepeatCount,
+    WordAction,
 };
 use std::alloc::Global;
 use std::process::Abort;
@@ -70,10 +71,11 @@ fn edits(rt: &impl Abort, alloc: Global, case: &Case) -> Result<(), Fail> {
     let text = text_of(alloc, "日 ", 1_000)?;
     let (mut line, mut changes, _) = after(rt, alloc, "", 0, steps)?;
     let found = stepped(rt, &mut line, &mut changes, step, text.as_str())?;
-    assert_eq!(rt; found, *answer);
-    assert_eq!(rt; (line.len(), line.pos(), changes.len()), *left);
-    assert!(rt; changes.undo(&mut line, 65_535)?);
-    assert_eq!(rt; (line.len(), line.pos(), changes.len()), (0, 0, 0));
+    let done = (line.len(), line.pos(), changes.len());
+    let undone = changes.undo(&mut line, 65_535)?;
+    let back = (line.len(), line.pos(), changes.len());
+    let found = ((found, done), (undone, back));
+    assert_eq!(rt; found, ((*answer, *left), (true, (0, 0, 0))));
     Ok(())
 }
 
@@ -193,8 +195,7 @@ fn groups(rt: &impl Abort, alloc: Global, case: &Rounds) -> Result<(), Fail> {
     let mut line = LineBuffer::new(alloc);
     let mut changes = Changeset::new(alloc);
     let found = rounds(rt, &mut line, &mut changes, steps, 2_000)?;
-    assert_eq!(rt; found, *answer);
-    assert_eq!(rt; (line.len(), changes.len()), *left);
+    assert_eq!(rt; (found, (line.len(), changes.len())), (*answer, *left));
     for (step, answer, len, entries) in *further {
         let found = edited(rt, &mut line, &mut changes, step)?;
         assert_eq!(rt;
@@ -262,69 +263,61 @@ fn groups_are_opened_closed_and_taken_back(rt: HostRuntime) -> Result<(), Fail> 
     Ok(())
 }
 
-/// A copy has this text.
-fn copies(rt: &impl Abort, line: &LineBuffer, mvt: &Movement, wanted: &str) -> Result<(), Fail> {
+/// A movement in a word of 6,000 bytes, where what goes by it begins, and how many characters that is.
+type Gone = (Movement, usize, usize);
+
+const GONE: &[Gone] = &[
+    (Movement::WholeBuffer, 0, 3_000),
+    (Movement::EndOfLine, 4, 2_998),
+    (Movement::WholeLine, 0, 3_000),
+    (Movement::EndOfBuffer, 4, 2_998),
+];
+
+/// The text is copied.
+fn copies(rt: &impl Abort, alloc: Global, case: &Gone) -> Result<(), Fail> {
+    let (mvt, _, gone) = case;
+    let wanted = text_of(alloc, "é", *gone)?;
+    let (line, _, _) = after(rt, alloc, "", 0, WORD)?;
     match line.copy(mvt)? {
-        Some(copy) => assert_eq!(rt; copy.as_str(), wanted),
+        Some(copy) => assert_eq!(rt; copy.as_str(), wanted.as_str()),
         None => panic!(rt; "no copy"),
     }
     Ok(())
 }
 
-/// A kill takes a text from its place, and the ring then has it.
-fn kills(
-    rt: &impl Abort,
-    line: &mut LineBuffer,
-    changes: &mut Changeset,
-    ring: &mut KillRing,
-    mvt: &Movement,
-    gone: (usize, &str),
-) -> Result<(), Fail>
-    requires { Tells changes.old.entries line.old.text }
-    ensures { OnOk result (Tells changes.new.entries line.new.text) }
-{
-    match line.kill(mvt, changes, ring)? {
-        Some((at, text, _)) => assert_eq!(rt; (at, text.as_str()), gone),
-        None => panic!(rt; "no kill"),
-    }
-    assert_eq!(rt; ring.yank(), Some(gone.1));
+/// The text is killed, the ring then has it, and it is taken back.
+fn kills(rt: &impl Abort, alloc: Global, case: &Gone) -> Result<(), Fail> {
+    let (mvt, place, gone) = case;
+    let (mut line, mut changes, _) = after(rt, alloc, "", 0, WORD)?;
+    let mut ring = KillRing::new(alloc, 1);
+    let killed = line.kill(mvt, &mut changes, &mut ring)?;
+    is_killed(rt, alloc, &killed, &mut ring, (*place, *gone))?;
+    let undone = changes.undo(&mut line, 1)?;
+    assert_eq!(rt; (undone, line.len()), (true, 6_000));
     Ok(())
 }
 
-/// The text of a word of 6,000 bytes is copied, killed and taken back.
-fn copies_and_kills(
+fn is_killed(
     rt: &impl Abort,
     alloc: Global,
-    mvt: &Movement,
-    place: usize,
-    gone: usize,
+    killed: &Option<(usize, String, Direction)>,
+    ring: &mut KillRing,
+    wanted: (usize, usize),
 ) -> Result<(), Fail> {
-    let wanted = text_of(alloc, "é", gone)?;
-    let (mut line, mut changes, _) = after(rt, alloc, "", 0, WORD)?;
-    copies(rt, &line, mvt, wanted.as_str())?;
-    let mut ring = KillRing::new(alloc, 1);
-    kills(
-        rt,
-        &mut line,
-        &mut changes,
-        &mut ring,
-        mvt,
-        (place, wanted.as_str()),
-    )?;
-    assert!(rt; changes.undo(&mut line, 1)?);
-    assert_eq!(rt; line.len(), 6_000);
+    let text = text_of(alloc, "é", wanted.1)?;
+    match killed {
+        Some((at, gone, _)) => assert_eq!(rt; (*at, gone.as_str()), (wanted.0, text.as_str())),
+        None => panic!(rt; "no kill"),
+    }
+    assert_eq!(rt; ring.yank(), Some(text.as_str()));
     Ok(())
 }
 
 #[test]
 fn texts_are_copied_and_killed(rt: HostRuntime) -> Result<(), Fail> {
-    for (mvt, place, gone) in [
-        (Movement::WholeBuffer, 0, 3_000),
-        (Movement::EndOfLine, 4, 2_998),
-        (Movement::WholeLine, 0, 3_000),
-        (Movement::EndOfBuffer, 4, 2_998),
-    ] {
-        copies_and_kills(&rt, rt.alloc(), &mvt, place, gone)?;
+    for case in GONE {
+        copies(&rt, rt.alloc(), case)?;
+        kills(&rt, rt.alloc(), case)?;
     }
     Ok(())
 }

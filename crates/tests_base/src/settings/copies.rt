@@ -90,11 +90,11 @@ fn built(changed: Changed) -> Result<Builder> {
 fn compares(rt: &impl Abort, one: Changed, other: Changed, same: bool) -> Result<()> {
     let first = built(one)?.build();
     let second = built(other)?.build();
-    assert_eq!(rt; first == second, same, "{one:?} {other:?}");
-    assert_eq!(rt; first != second, !same, "{one:?} {other:?}");
+    let found = (first == second, first != second);
+    let settings_found = settings(&first) == settings(&second);
     assert_eq!(rt;
-        settings(&first) == settings(&second),
-        same,
+        (found, settings_found),
+        ((same, !same), same),
         "{one:?} {other:?}"
     );
     Ok(())
@@ -110,15 +110,23 @@ fn no_two_are_equal(rt: HostRuntime) -> Result<()> {
     Ok(())
 }
 
-/// The clone of a builder and that of a configuration have what was set, and leave their source as it was.
+/// The clone of a configuration has what was set, and leaves its source as it was.
 fn copies(rt: &impl Abort, changed: Changed) -> result::Result<(), Fail> {
     let wanted = settings(&built(changed)?.build());
+    let config = built(changed)?.build();
+    let copy = config.clone()?;
+    let found = (settings(&copy), settings(&config));
+    assert_eq!(rt; found, (wanted, wanted), "{changed:?}");
+    Ok(())
+}
+
+/// So has the clone of a builder.
+fn builds_a_copy(rt: &impl Abort, changed: Changed) -> result::Result<(), Fail> {
+    let wanted = settings(&built(changed)?.build());
     let builder = built(changed)?;
-    let copy = builder.clone()?.build();
-    assert_eq!(rt; settings(&copy), wanted, "{changed:?}");
-    let config = builder.build();
-    assert_eq!(rt; settings(&config.clone()?), wanted, "{changed:?}");
-    assert_eq!(rt; settings(&config), wanted, "{changed:?}");
+    let copy = builder.clone()?;
+    let found = (settings(&copy.build()), settings(&builder.build()));
+    assert_eq!(rt; found, (wanted, wanted), "{changed:?}");
     Ok(())
 }
 
@@ -126,6 +134,7 @@ fn copies(rt: &impl Abort, changed: Changed) -> result::Result<(), Fail> {
 fn keep_what_was_set(rt: HostRuntime) -> result::Result<(), Fail> {
     for changed in ALL {
         copies(&rt, *changed)?;
+        builds_a_copy(&rt, *changed)?;
     }
     Ok(())
 }
