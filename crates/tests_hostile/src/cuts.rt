@@ -40,6 +40,17 @@ struct Row {
     redraws: u64,
 }
 
+impl Row {
+    /// How its last turn ends.
+    fn last_turn(&self) -> Turned {
+        if self.end == "submits" {
+            Turned::Submitted
+        } else {
+            Turned::NeedsMore
+        }
+    }
+}
+
 const COUNT: Row = Row {
     style: EditMode::Emacs,
     bound: &[],
@@ -276,28 +287,38 @@ fn goes_on(
 ) -> Result<(), Fail> {
     let Cut { row, keys, at } = cut;
     let last = stage(rt, row, at);
+    state.refresh_line()?;
+    let end = reads_again(rt, alloc, cut, last.0, state, input, kills, config)?;
+    let cursor = state.layout().cursor;
+    let found = (end, (cursor.row, cursor.col), redraws(state.out()));
+    let wanted = (row.last_turn(), row.at, row.redraws.saturating_add(last.1));
+    assert_eq!(rt; found, wanted, "cut at {at}");
+    is_left(rt, state, kills, stage(rt, row, keys.len()), at);
+    is_right(rt, alloc, state)?;
+    Ok(())
+}
+
+/// Makes turns of the first keys, and where they are not all, of those from this one on. Returns how they ended.
+fn reads_again(
+    rt: &impl Abort,
+    alloc: Global,
+    cut: Cut<'_>,
+    from: usize,
+    state: &mut Editor<'_, '_>,
+    input: &mut InputState<'_>,
+    kills: &mut KillRing,
+    config: &Config,
+) -> Result<Turned, Fail> {
+    let Cut { keys, at, .. } = cut;
     let mut typist = Typist::new(alloc);
     typist.press(keys.get(..at).unwrap_or(keys))?;
-    state.refresh_line()?;
     let mut end = turns(state, input, &mut typist, kills, config)?;
     if at < keys.len() {
         assert_eq!(rt; end, Turned::NeedsMore, "cut at {at}");
-        typist.press(keys.get(last.0..).unwrap_or(keys))?;
+        typist.press(keys.get(from..).unwrap_or(keys))?;
         end = turns(state, input, &mut typist, kills, config)?;
     }
-    let wanted = if row.end == "submits" {
-        Turned::Submitted
-    } else {
-        Turned::NeedsMore
-    };
-    assert_eq!(rt; end, wanted, "cut at {at}");
-    is_left(rt, state, kills, stage(rt, row, keys.len()), at);
-    is_right(rt, alloc, state)?;
-    let cursor = state.layout().cursor;
-    let found = ((cursor.row, cursor.col), redraws(state.out()));
-    let wanted = (row.at, row.redraws.saturating_add(last.1));
-    assert_eq!(rt; found, wanted, "cut at {at}");
-    Ok(())
+    Ok(end)
 }
 
 /// Makes turns until one does not proceed. No list has more keys.

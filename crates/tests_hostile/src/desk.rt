@@ -201,15 +201,27 @@ fn executes(
     enters(alloc, task.mode, state, &mut input)?;
     for command in commands {
         let is_looked_at = command != Cmd::Noop;
-        let status = execute(command, state, &input, &mut kills, &config)?;
-        assert_eq!(rt; status, Status::Proceed);
+        proceeds(rt, command, state, &input, &mut kills, &config)?;
         if is_looked_at {
             is_right(rt, alloc, state)?;
         }
     }
     assert_eq!(rt; (state.line(), state.pos()), wanted, "{what:?} {task:?}");
-    let _ = execute(Cmd::Undo(65535), state, &input, &mut kills, &config)?;
+    proceeds(rt, Cmd::Undo(65535), state, &input, &mut kills, &config)?;
     assert_eq!(rt; state.line(), task.text);
+    Ok(())
+}
+
+fn proceeds(
+    rt: &impl Abort,
+    command: Cmd,
+    state: &mut Editor<'_, '_>,
+    input: &InputState<'_>,
+    kills: &mut KillRing,
+    config: &Config,
+) -> Result<()> {
+    let status = execute(command, state, input, kills, config)?;
+    assert_eq!(rt; status, Status::Proceed);
     Ok(())
 }
 

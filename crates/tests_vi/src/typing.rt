@@ -170,17 +170,42 @@ fn reads_on(
         let _ = state.next_cmd(&mut input, &mut typist, false);
     }
     let typed = keys(alloc, typed)?;
+    let typed = typed.as_slice();
+    is_cut_everywhere(rt, state, &mut input, &mut typist, typed)?;
+    gives(rt, alloc, state, &mut input, &mut typist, typed, wanted)?;
+    gives(rt, alloc, state, &mut input, &mut typist, &[PROBE], mode)
+}
+
+/// Where keys that are one phrase are cut, they are none.
+fn is_cut_everywhere(
+    rt: &impl Abort,
+    state: &mut Editor<'_, '_>,
+    input: &mut InputState<'_>,
+    typist: &mut Typist,
+    typed: &[KeyEvent],
+) -> Result<()> {
     for cut in 1..typed.len() {
         typist.press(&typed[..cut])?;
-        let found = state.next_cmd(&mut input, &mut typist, false);
-        assert!(rt; is_cut(&found), "{reading:?} cut at {cut} gives {found:?}");
+        let found = state.next_cmd(input, typist, false);
+        assert!(rt; is_cut(&found), "{typed:?} cut at {cut} gives {found:?}");
     }
-    for (keys, wanted) in [(typed.as_slice(), wanted), (&[PROBE], mode)] {
-        typist.press(keys)?;
-        let found = state.next_cmd(&mut input, &mut typist, false)?;
-        let found = format!(in alloc; "{found:?}")?;
-        assert_eq!(rt; found.as_str(), wanted, "{reading:?}");
-    }
+    Ok(())
+}
+
+/// The command of keys.
+fn gives(
+    rt: &impl Abort,
+    alloc: Global,
+    state: &mut Editor<'_, '_>,
+    input: &mut InputState<'_>,
+    typist: &mut Typist,
+    typed: &[KeyEvent],
+    wanted: &str,
+) -> std::result::Result<(), Fail> {
+    typist.press(typed)?;
+    let found = state.next_cmd(input, typist, false)?;
+    let found = format!(in alloc; "{found:?}")?;
+    assert_eq!(rt; found.as_str(), wanted, "{typed:?}");
     Ok(())
 }
 

@@ -1,7 +1,7 @@
 //! Commands that kill or copy the text of a movement, and what the kill ring then gives back.
 
 use super::Step::*;
-use super::{PLAIN, does, halves, leaving};
+use super::{PLAIN, Step, does, halves, leaving};
 use line_buffer::At::*;
 use line_buffer::CharSearch as Search;
 use line_buffer::Movement::{self, *};
@@ -23,22 +23,27 @@ type Case = (
 
 /// A kill and a yank; the same by a replacement by nothing; and by one that puts a text behind the cursor.
 fn kills(rt: &impl Abort, alloc: Global, case: &Case) -> Result<(), Fail> {
-    let (start, movement, after, ring, kill) = case;
-    let yank = if ring.is_empty() { "" } else { "d" };
+    let movement = &case.1;
+    kills_by(rt, alloc, case, Kill(movement.clone()?), "")?;
+    kills_by(rt, alloc, case, Replace(movement.clone()?, None), "")?;
+    kills_by(rt, alloc, case, Replace(movement.clone()?, Some("+")), "+")
+}
+
+/// A text that comes in is drawn once more.
+fn kills_by(
+    rt: &impl Abort,
+    alloc: Global,
+    case: &Case,
+    kill: Step,
+    text: &str,
+) -> Result<(), Fail> {
+    let (start, _, after, ring, calls) = case;
+    let drawn = |text: &str| if text.is_empty() { "" } else { "d" };
+    let calls = format!(in alloc; "{calls}{}{}", drawn(text), drawn(ring))?;
     let (before, behind) = halves(rt, after);
-    let yanked = format!(in alloc; "{before}{ring}|{behind}")?;
-    let calls = format!(in alloc; "{kill}{yank}")?;
-    let killed = [Kill(movement.clone()?), Yank(1, Anchor::Before)];
-    does(rt, alloc, &PLAIN, start, &killed, &leaving(&yanked, &calls))?;
-    let killed = [Replace(movement.clone()?, None), Yank(1, Anchor::Before)];
-    does(rt, alloc, &PLAIN, start, &killed, &leaving(&yanked, &calls))?;
-    let yanked = format!(in alloc; "{before}{ring}|+{behind}")?;
-    let calls = format!(in alloc; "{kill}d{yank}")?;
-    let killed = [
-        Replace(movement.clone()?, Some("+")),
-        Yank(1, Anchor::Before),
-    ];
-    does(rt, alloc, &PLAIN, start, &killed, &leaving(&yanked, &calls))
+    let yanked = format!(in alloc; "{before}{ring}|{text}{behind}")?;
+    let steps = [kill, Yank(1, Anchor::Before)];
+    does(rt, alloc, &PLAIN, start, &steps, &leaving(&yanked, &calls))
 }
 
 const CHARACTERS: &[Case] = &[

@@ -13,7 +13,7 @@ use line_editor::Bindings;
 use line_editor::command::{Status, execute};
 use line_editor::edit::State;
 use line_editor::input_state::InputState;
-use line_keys::cmd::Anchor::{self, *};
+use line_keys::cmd::Anchor::*;
 use line_keys::cmd::Cmd;
 use line_keys::refresher::Refresher;
 use line_parts::{Context, History};
@@ -26,32 +26,34 @@ use tests_stand_ins::recorder::Recorder;
 /// The editor, the line with a bar at its cursor, steps, and the line that they leave with ample memory.
 type Case = (Setup, &'static str, &'static [Step], &'static str);
 
-/// Does the steps; where memory runs out in one of them, looks at what is left.
+/// Does the steps, which leave the history as it was.
 fn tries(rt: &impl Abort, alloc: Global, case: &Case) -> Result<()> {
-    let (setup, start, steps, after) = case;
-    let config = Config::new(GraphemeClusterMode::Unicode);
-    let bindings = Bindings::new(alloc);
+    let setup = &case.0;
     let history = shelved(alloc, setup)?;
-    let input = InputState::new(&config, &bindings);
-    let mut kills = KillRing::new(alloc, 60);
     let mut screen = Recorder::new(alloc, 80, false, 0);
     let mut helper = Advisor::hinting(setup.hint, setup.verdict, setup.lit);
     let context = Context::new(&history);
     let mut state = State::new(alloc, &mut screen, &"> ", Some(&mut helper), context)?;
-    let (before, behind) = halves(rt, start);
-    state.refresh_line()?;
-    state.edit_yank(&input, before, Anchor::Before, 1)?;
-    state.edit_insert_text(behind)?;
+    let outcome = does(rt, alloc, case, &mut state);
+    assert_eq!(rt; history.len(), setup.entries.len());
+    outcome
+}
+
+/// Does the steps; where memory runs out in one of them, looks at what is left.
+fn does(rt: &impl Abort, alloc: Global, case: &Case, state: &mut Editor<'_, '_>) -> Result<()> {
+    let (_, start, steps, after) = case;
+    let config = Config::new(GraphemeClusterMode::Unicode);
+    let bindings = Bindings::new(alloc);
+    let input = InputState::new(&config, &bindings);
+    let mut kills = KillRing::new(alloc, 60);
+    super::begins(rt, state, &input, start)?;
     for step in *steps {
-        match done(alloc, &mut state, &input, &mut kills, &config, step) {
+        match done(alloc, state, &input, &mut kills, &config, step) {
             Ok(_) | Err(ReadlineError::Interrupted) | Err(ReadlineError::Eof) => {}
-            Err(error) => {
-                assert_eq!(rt; history.len(), setup.entries.len());
-                return settled(rt, &mut state, &input, &mut kills, &config, error);
-            }
+            Err(error) => return settled(rt, state, &input, &mut kills, &config, error),
         }
     }
-    assert_eq!(rt; at(rt, &state), halves(rt, after));
+    assert_eq!(rt; at(rt, state), halves(rt, after));
     Ok(())
 }
 
