@@ -83,6 +83,20 @@ fn drawn(alloc: Global, seed: u32) -> Result<Event> {
     Ok(Event::KeySeq(keys))
 }
 
+/// Both give an event a number, and answer the one that it had.
+fn puts(
+    rt: &impl Abort,
+    bindings: &mut Bindings,
+    pairs: &mut Pairs,
+    event: Event,
+    copy: Event,
+    own: u16,
+) -> std::result::Result<(), Fail> {
+    let old = bindings.insert(event, EventHandler::from(Cmd::SelfInsert(own, 'x')))?;
+    assert_eq!(rt; counted(old.as_ref()), put(pairs, copy, own)?);
+    Ok(())
+}
+
 /// One call of both, as the number has it: `insert`, `get` or `begins`.
 fn agrees(
     rt: &impl Abort,
@@ -96,8 +110,7 @@ fn agrees(
     match (seed >> 16) % 3 {
         0 => {
             let copy = event.clone(alloc)?;
-            let old = bindings.insert(event, EventHandler::from(Cmd::SelfInsert(own, 'x')))?;
-            assert_eq!(rt; counted(old.as_ref()), put(pairs, copy, own)?);
+            puts(rt, bindings, pairs, event, copy, own)?;
         }
         1 => assert_eq!(rt;
             counted(bindings.get(&event)),

@@ -198,11 +198,10 @@ fn found(rt: &impl Abort, alloc: Global, len: usize) -> Result<()> {
     let keys = sequence(alloc, len)?;
     let mut bindings = Bindings::new(alloc);
     let old = bindings.insert(keyed(alloc, keys.as_slice())?, types(1, 'x'))?;
-    assert!(rt; old.is_none());
-    assert_eq!(rt; bindings.nodes(), len);
+    assert_eq!(rt; (old.is_none(), bindings.nodes()), (true, len));
     let event = keyed(alloc, keys.as_slice())?;
-    assert_eq!(rt; typed(bindings.get(&event)), Some((1, 'x')));
-    assert!(rt; bindings.begins(&event));
+    let found = (typed(bindings.get(&event)), bindings.begins(&event));
+    assert_eq!(rt; found, (Some((1, 'x')), true));
     Ok(())
 }
 
