@@ -29,6 +29,11 @@ fn kills(rt: &impl Abort, alloc: Global, case: &Case) -> Result<(), Fail> {
     kills_by(rt, alloc, case, Replace(movement.clone()?, Some("+")), "+")
 }
 
+/// What draws a text that comes in.
+fn drawn(text: &str) -> &'static str {
+    if text.is_empty() { "" } else { "d" }
+}
+
 /// A text that comes in is drawn once more.
 fn kills_by(
     rt: &impl Abort,
@@ -38,8 +43,8 @@ fn kills_by(
     text: &str,
 ) -> Result<(), Fail> {
     let (start, _, after, ring, calls) = case;
-    let drawn = |text: &str| if text.is_empty() { "" } else { "d" };
-    let calls = format!(in alloc; "{calls}{}{}", drawn(text), drawn(ring))?;
+    let (again, yank) = (drawn(text), drawn(ring));
+    let calls = format!(in alloc; "{calls}{again}{yank}")?;
     let (before, behind) = halves(rt, after);
     let yanked = format!(in alloc; "{before}{ring}|{text}{behind}")?;
     let steps = [kill, Yank(1, Anchor::Before)];
