@@ -1,6 +1,6 @@
 //! Commands, handed to the editor one after another.
 
-use line_buffer::{GraphemeClusterMode, KillRing, Movement, Unit};
+use line_buffer::{GraphemeClusterMode, KillRing, Layout, Movement, Unit};
 use line_config::{Config, EditMode, ReadlineError, Result};
 use line_editor::Bindings;
 use line_editor::command::{Status, execute};
@@ -387,15 +387,27 @@ fn is_left(
     let mut kills = KillRing::new(alloc, 60);
     begins(rt, state, &input, start)?;
     let last = all_done(alloc, state, &input, &mut kills, &config, steps);
-    assert_eq!(rt; ended(&last), wanted.end, "{start:?} to {:?}", wanted.line);
-    looks(rt, state, wanted)?;
-    if !wanted.said.is_empty() {
-        says(rt, alloc, &last, wanted.said)?;
-    }
+    stops(rt, alloc, &last, start, wanted)?;
     if is_fault(wanted.end) {
-        recovers(rt, state, &input, &mut kills, &config)?;
+        return recovers(rt, state, &input, &mut kills, &config);
     }
+    looks(rt, state, wanted);
     Ok(())
+}
+
+/// Looks at how the last step ended, and at what its error says.
+fn stops(
+    rt: &impl Abort,
+    alloc: Global,
+    last: &Result<Status>,
+    start: &str,
+    wanted: &Outcome<'_>,
+) -> std::result::Result<(), Fail> {
+    assert_eq!(rt; ended(last), wanted.end, "{start:?} to {:?}", wanted.line);
+    if wanted.said.is_empty() {
+        return Ok(());
+    }
+    says(rt, alloc, last, wanted.said)
 }
 
 /// Draws the empty line, and puts the text before and behind the cursor into it.
@@ -439,7 +451,8 @@ fn shelved(alloc: Global, setup: &Setup) -> Result<Shelf> {
     Ok(history)
 }
 
-/// After a fault all changes can be taken back, which leaves the empty line, and it can be drawn again.
+/// After a fault the cursor is on a boundary, and all changes can be taken back, which leaves the empty line, and it can be
+/// drawn again.
 fn recovers(
     rt: &impl Abort,
     state: &mut Editor<'_, '_>,
@@ -447,15 +460,14 @@ fn recovers(
     kills: &mut KillRing,
     config: &Config,
 ) -> std::result::Result<(), Fail> {
+    assert!(rt; state.line().is_char_boundary(state.pos()));
     for command in [Cmd::Undo(65535), Cmd::Repaint] {
-        assert_eq!(rt;
-            execute(command, state, input, kills, config)?,
-            Status::Proceed
-        );
+        let status = execute(command, state, input, kills, config)?;
+        assert_eq!(rt; status, Status::Proceed);
     }
     let cursor = state.layout().cursor;
-    assert_eq!(rt; (state.line(), state.pos()), ("", 0));
-    assert_eq!(rt; (cursor.row, cursor.col), (0, 2));
+    let found = (state.line(), state.pos(), (cursor.row, cursor.col));
+    assert_eq!(rt; found, ("", 0, (0, 2)));
     Ok(())
 }
 
@@ -471,33 +483,28 @@ fn keeps(rt: &impl Abort, history: &Shelf, entries: &[&str]) -> std::result::Res
     Ok(())
 }
 
-/// Looks at the line, its cursor, the place, and where the cursor is drawn; after a fault, at the cursor alone.
-fn looks(
-    rt: &impl Abort,
-    state: &Editor<'_, '_>,
-    wanted: &Outcome<'_>,
-) -> std::result::Result<(), Fail> {
+/// Looks at the line, its cursor, the place, and where the cursor is drawn.
+fn looks(rt: &impl Abort, state: &Editor<'_, '_>, wanted: &Outcome<'_>) {
     let (line, pos) = (state.line(), state.pos());
     assert!(rt; line.is_char_boundary(pos), "{pos} in {line:?}");
-    if is_fault(wanted.end) {
-        return Ok(());
-    }
-    let (before, after) = halves(rt, wanted.line);
+    let (before, behind) = halves(rt, wanted.line);
     let found = (&line[..pos], &line[pos..], state.place());
-    assert_eq!(rt; found, (before, after, wanted.place));
-    let layout = state.layout();
+    assert_eq!(rt; found, (before, behind, wanted.place));
+    is_drawn(rt, state.layout(), before, wanted);
+}
+
+/// The cursor is drawn behind this text, at the end of what is shown, or where the case says.
+fn is_drawn(rt: &impl Abort, layout: &Layout, before: &str, wanted: &Outcome<'_>) {
+    let (cursor, end) = (layout.cursor, layout.end);
+    let found = ((cursor.row, cursor.col), (end.row, end.col));
     if let Some(drawn) = wanted.drawn {
-        let (cursor, end) = (layout.cursor, layout.end);
-        let found = ((cursor.row, cursor.col), (end.row, end.col));
-        assert_eq!(rt; found, drawn, "{line:?}");
+        assert_eq!(rt; found, drawn, "{before:?}");
     } else if wanted.end == "interrupted" {
-        assert_eq!(rt; layout.cursor, layout.end, "{line:?}");
+        assert_eq!(rt; found.0, found.1, "{before:?}");
     } else {
-        let (row, col) = (layout.cursor.row, layout.cursor.col);
-        let drawn = (usize::from(row), usize::from(col));
-        assert_eq!(rt; drawn, drawn_at(&line[..pos]), "{line:?}");
+        let drawn = (usize::from(cursor.row), usize::from(cursor.col));
+        assert_eq!(rt; drawn, drawn_at(before), "{before:?}");
     }
-    Ok(())
 }
 
 /// The row and the column, in bytes, where a text ends behind the prompt, in rows that aren't full.
