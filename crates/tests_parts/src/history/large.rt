@@ -230,7 +230,8 @@ fn where_a_long_line_is_saved(rt: HostRuntime) -> result::Result<(), Fail> {
     history.save_to(&mut text, false)?;
     assert_eq!(rt; text.len(), 4 + 2 + 8_001);
     let mut copy = FileHistory::new(rt.alloc());
-    assert!(rt; copy.load_from(text.as_slice())? && copy.len() == 2);
+    assert!(rt; copy.load_from(text.as_slice())?);
+    assert!(rt; copy.len() == 2 && history.len() == 2);
     assert_eq!(rt; copy.entry(1), history.entry(1));
     Ok(())
 }
