@@ -136,8 +136,9 @@ pub(crate) fn is_right(rt: &impl Abort, alloc: Global, state: &Editor<'_, '_>) -
     let prompt_end = Position { row: 0, col: 2 };
     let wanted = state.out().compute_layout(prompt_end, true, &line, None);
     let kept = state.layout();
-    assert_eq!(rt; kept.cursor, wanted.cursor, "{pos} in {text:?}");
-    assert!(rt; kept.has_info || kept.end == wanted.end, "{text:?}");
+    let end = if kept.has_info { wanted.end } else { kept.end };
+    let found = (kept.cursor, end);
+    assert_eq!(rt; found, (wanted.cursor, wanted.end), "{pos} in {text:?}");
     Ok(())
 }
 
@@ -212,7 +213,8 @@ fn executes(
     Ok(())
 }
 
-fn proceeds(
+/// Executes a command that proceeds.
+pub(crate) fn proceeds(
     rt: &impl Abort,
     command: Cmd,
     state: &mut Editor<'_, '_>,

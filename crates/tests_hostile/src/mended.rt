@@ -203,17 +203,22 @@ struct Take {
     ending: Ending,
 }
 
+/// Binds an event to a handler.
+fn binds(alloc: Global, bindings: &mut Bindings, event: Event, handler: Handler) -> Result<()> {
+    let handler = EventHandler::Conditional(Box::new(alloc, handler)?);
+    let _ = bindings.insert(event, handler)?;
+    Ok(())
+}
+
 /// The map of both handlers.
 fn bindings(alloc: Global, failing: Failing) -> Result<Bindings> {
     let mut bindings = Bindings::new(alloc);
     let (key, sequence) = (Party::OfEachKey, Party::OfSequence);
     let nothing = Handler::new(false, failing.of(key), key.fault());
-    let handler = EventHandler::Conditional(Box::new(alloc, nothing)?);
-    let _ = bindings.insert(Event::Any, handler)?;
-    let event = Event::KeySeq(keys(alloc, "⌃Xa")?);
+    binds(alloc, &mut bindings, Event::Any, nothing)?;
     let moves = Handler::new(true, failing.of(sequence), sequence.fault());
-    let handler = EventHandler::Conditional(Box::new(alloc, moves)?);
-    let _ = bindings.insert(event, handler)?;
+    let event = Event::KeySeq(keys(alloc, "⌃Xa")?);
+    binds(alloc, &mut bindings, event, moves)?;
     Ok(bindings)
 }
 
@@ -286,23 +291,15 @@ fn is_left(rt: &impl Abort, take: Take, outcome: &Result<()>, state: &Editor<'_,
     let Take { scene, failing, .. } = take;
     assert_eq!(rt; ended(outcome), scene.end, "{failing:?}");
     let (line, pos) = (state.line(), state.pos());
-    let (before, behind) = halves(rt, scene.left);
-    assert_eq!(rt;
-        (line.get(..pos), line.get(pos..)),
-        (Some(before), Some(behind)),
-        "{failing:?}"
-    );
     let cursor = state.layout().cursor;
     let found = (
-        state.place(),
+        (line.get(..pos), line.get(pos..), state.place()),
         (cursor.row, cursor.col),
         state.out().redraws(),
     );
-    assert_eq!(rt;
-        found,
-        (scene.place, scene.at, scene.redraws),
-        "{failing:?}"
-    );
+    let (before, behind) = halves(rt, scene.left);
+    let left = (Some(before), Some(behind), scene.place);
+    assert_eq!(rt; found, (left, scene.at, scene.redraws), "{failing:?}");
 }
 
 /// The history has its lines and no others, and the line is drawn again as an editor that is made of it draws it.
@@ -314,18 +311,31 @@ fn is_mended(
     state: &mut Editor<'_, '_>,
 ) -> Result<()> {
     is_kept(rt, take, history)?;
-    let (text, pos, place) = (state.line(), state.pos(), state.place());
-    assert!(rt; text.is_char_boundary(pos), "{pos} in {text:?}");
-    assert!(rt; place <= history.len());
     let mut screen = Recorder::new(alloc, 80, false, 0);
     let mut helper = Guide::new(take.scene.hints);
     let mut context = Context::new(history);
-    context.set_history_index(place);
+    assert!(rt; state.place() <= history.len());
+    context.set_history_index(state.place());
+    let (text, pos) = (state.line(), state.pos());
+    assert!(rt; text.is_char_boundary(pos), "{pos} in {text:?}");
     let advisor = Some(&mut helper);
     let mut anew = State::with_line(alloc, &mut screen, &"> ", advisor, context, text, pos)?;
+    is_drawn_alike(rt, take.failing, state, &mut anew)
+}
+
+/// Both editors draw their line again.
+fn is_drawn_alike(
+    rt: &impl Abort,
+    failing: Failing,
+    state: &mut Editor<'_, '_>,
+    anew: &mut Editor<'_, '_>,
+) -> Result<()> {
     anew.refresh_line()?;
     state.refresh_line()?;
-    is_alike(rt, take.failing, state, &anew);
+    assert_eq!(rt; seen(state), seen(anew), "{failing:?}");
+    let drawn = last_drawing(state.out());
+    assert!(rt; drawn.is_some(), "{failing:?}");
+    assert_eq!(rt; drawn, last_drawing(anew.out()), "{failing:?}");
     Ok(())
 }
 
@@ -341,20 +351,22 @@ fn is_kept(rt: &impl Abort, take: Take, history: &Shelf) -> Result<()> {
     Ok(())
 }
 
-/// Two editors show the same, keep the same layout and hint, and were handed the same by their last drawing.
-fn is_alike(rt: &impl Abort, failing: Failing, state: &Editor<'_, '_>, anew: &Editor<'_, '_>) {
-    assert_eq!(rt; state.out().shows(), anew.out().shows(), "{failing:?}");
-    assert_eq!(rt; kept(state), kept(anew), "{failing:?}");
-    let hint = (state.has_hint(), state.hint_text());
-    assert_eq!(rt; hint, (anew.has_hint(), anew.hint_text()), "{failing:?}");
-    let drawn = last_drawing(state.out());
-    assert!(rt; drawn.is_some(), "{failing:?}");
-    assert_eq!(rt; drawn, last_drawing(anew.out()), "{failing:?}");
+/// What an editor shows, its layout, and its hint.
+type Seen<'s> = ((&'s str, Position, Position), Kept, (bool, Option<&'s str>));
+
+fn seen<'s>(state: &'s Editor<'_, '_>) -> Seen<'s> {
+    (
+        state.out().shows(),
+        kept(state),
+        (state.has_hint(), state.hint_text()),
+    )
 }
 
 /// Where the kept layout has the prompt's end, the cursor and the end; whether the prompt is the editor's own, and whether
 /// something is shown behind the line.
-fn kept(state: &Editor<'_, '_>) -> (Position, Position, Position, bool, bool) {
+type Kept = (Position, Position, Position, bool, bool);
+
+fn kept(state: &Editor<'_, '_>) -> Kept {
     let layout = state.layout();
     (
         layout.prompt_size,

@@ -1,9 +1,9 @@
 //! Commands bound to keys with counts that no person types, and some that find nothing to do.
 
-use crate::desk::{Bound, Editor, To, config, ended, halves, keys, map_of};
+use crate::desk::{Bound, Editor, To, config, ended, halves, keys, map_of, proceeds};
 use line_buffer::{KillRing, Movement};
+use line_config::Config;
 use line_config::EditMode::{self, Emacs, Vi};
-use line_editor::command::execute;
 use line_editor::edit::State;
 use line_editor::input_state::InputState;
 use line_editor::run::run;
@@ -134,18 +134,31 @@ fn runs(
     case: &Case,
     state: &mut Editor<'_, '_>,
 ) -> Result<(), Fail> {
-    let (style, _, bound, pasted, typed, end, _) = case;
-    let config = config(*style);
-    let bindings = map_of(alloc, bound)?;
+    let config = config(case.0);
+    let bindings = map_of(alloc, case.2)?;
     let mut input = InputState::new(&config, &bindings);
     let mut kills = KillRing::new(alloc, 60);
-    let mut typist = types(alloc, *pasted, typed)?;
-    let outcome = run(state, &mut input, &mut typist, &mut kills, &config);
-    assert_eq!(rt; ended(&outcome), *end, "{typed}");
-    is_left(rt, alloc, state, case)?;
-    let _ = execute(Cmd::Undo(65535), state, &input, &mut kills, &config)?;
-    assert_eq!(rt; state.line(), "", "{typed}");
+    ends(rt, alloc, case, state, &mut input, &mut kills, &config)?;
+    proceeds(rt, Cmd::Undo(65535), state, &input, &mut kills, &config)?;
+    assert_eq!(rt; state.line(), "", "{}", case.4);
     Ok(())
+}
+
+/// Runs, and looks at what is left.
+fn ends(
+    rt: &impl Abort,
+    alloc: Global,
+    case: &Case,
+    state: &mut Editor<'_, '_>,
+    input: &mut InputState<'_>,
+    kills: &mut KillRing,
+    config: &Config,
+) -> Result<(), Fail> {
+    let (_, _, _, pasted, typed, end, _) = case;
+    let mut typist = types(alloc, *pasted, typed)?;
+    let outcome = run(state, input, &mut typist, kills, config);
+    assert_eq!(rt; ended(&outcome), *end, "{typed}");
+    is_left(rt, alloc, state, case)
 }
 
 /// A reader of so many x that are pasted, and of keys behind them.
