@@ -39,18 +39,28 @@ const KILLED: &str = "é";
 
 const DASH: Cmd = Cmd::SelfInsert(1, '-');
 
-fn commands(alloc: Global, op: Op, n: RepeatCount) -> line_config::Result<[Cmd; 3]> {
-    let first = match op {
+fn command(alloc: Global, op: Op, n: RepeatCount) -> line_config::Result<Cmd> {
+    Ok(match op {
         Op::Types => Cmd::SelfInsert(n, '-'),
         Op::Puts => Cmd::Insert(n, String::from_str(alloc, "e")?),
         Op::PutsOver => Cmd::ReplaceChar(n, 'x'),
         Op::Yanks => Cmd::Yank(n, Anchor::Before),
         Op::YanksBehind => Cmd::Yank(n, Anchor::After),
-        Op::Undoes => return Ok([DASH, DASH, Cmd::Undo(n)]),
+        Op::Undoes => Cmd::Undo(n),
         Op::GoesUp => Cmd::LineUpOrPreviousHistory(n),
         Op::GoesDown => Cmd::LineDownOrNextHistory(n),
-    };
-    Ok([first, Cmd::Noop, Cmd::Noop])
+    })
+}
+
+/// The command, behind two dashes where they are to be taken back.
+fn commands(alloc: Global, op: Op, n: RepeatCount) -> line_config::Result<Vec<Cmd>> {
+    let mut commands = Vec::new(alloc);
+    if op == Op::Undoes {
+        commands.push(DASH)?;
+        commands.push(DASH)?;
+    }
+    commands.push(command(alloc, op, n)?)?;
+    Ok(commands)
 }
 
 /// A text and a cursor in it.
@@ -121,20 +131,15 @@ fn copies(alloc: Global, copy: &str, n: usize) -> line_config::Result<String> {
 /// An x comes for each of so many characters, or of as many as there are. The cursor is on the last.
 fn over(alloc: Global, place: Place, n: RepeatCount) -> line_config::Result<(String, usize)> {
     let (text, cursor) = place;
-    let mut end = cursor;
-    let mut count: usize = 0;
-    for c in text.get(cursor..).unwrap_or("").chars() {
-        if count < usize::from(n) {
-            end = end.saturating_add(c.len_utf8());
-            count = count.saturating_add(1);
-        }
-    }
-    let line = spliced(
-        alloc,
-        text,
-        (cursor, end),
-        copies(alloc, "x", count)?.as_str(),
-    )?;
+    let behind = text.get(cursor..).unwrap_or("");
+    let len = match behind.char_indices().nth(usize::from(n)) {
+        Some((len, _)) => len,
+        None => behind.len(),
+    };
+    let count = behind.get(..len).unwrap_or("").chars().count();
+    let crosses = copies(alloc, "x", count)?;
+    let end = cursor.saturating_add(len);
+    let line = spliced(alloc, text, (cursor, end), crosses.as_str())?;
     Ok((line, cursor.saturating_add(count.saturating_sub(1))))
 }
 
@@ -243,7 +248,7 @@ fn transposes(
         killed: "",
     };
     let line = swapped(alloc, text, cell.0)?;
-    let commands = [Cmd::TransposeWords(n), Cmd::Noop, Cmd::Noop];
+    let commands = vec![in alloc; Cmd::TransposeWords(n)]?;
     leaves(rt, alloc, task, commands, (line.as_str(), cell.1), &n)
 }
 

@@ -167,7 +167,7 @@ pub(crate) fn leaves(
     rt: &impl Abort,
     alloc: Global,
     task: Task,
-    commands: [Cmd; 3],
+    commands: Vec<Cmd>,
     wanted: (&str, usize),
     what: &impl Debug,
 ) -> std::result::Result<(), Fail> {
@@ -188,7 +188,7 @@ fn executes(
     alloc: Global,
     task: Task,
     state: &mut Editor<'_, '_>,
-    commands: [Cmd; 3],
+    commands: Vec<Cmd>,
     wanted: (&str, usize),
     what: &impl Debug,
 ) -> std::result::Result<(), Fail> {
@@ -201,11 +201,8 @@ fn executes(
     }
     enters(alloc, task.mode, state, &mut input)?;
     for command in commands {
-        let is_looked_at = command != Cmd::Noop;
         proceeds(rt, command, state, &input, &mut kills, &config)?;
-        if is_looked_at {
-            is_right(rt, alloc, state)?;
-        }
+        is_right(rt, alloc, state)?;
     }
     assert_eq!(rt; (state.line(), state.pos()), wanted, "{what:?} {task:?}");
     proceeds(rt, Cmd::Undo(65535), state, &input, &mut kills, &config)?;

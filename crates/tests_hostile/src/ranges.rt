@@ -48,19 +48,24 @@ const OPS: &[Op] = &[
 
 const YANK: Cmd = Cmd::Yank(1, Anchor::Before);
 
-fn commands(alloc: Global, op: Op, movement: &Movement) -> line_config::Result<[Cmd; 3]> {
-    let movement = movement.clone()?;
+fn command(alloc: Global, op: Op, movement: Movement) -> line_config::Result<Cmd> {
     Ok(match op {
-        Op::Moves => [Cmd::Move(movement), Cmd::Noop, Cmd::Noop],
-        Op::Kills => [Cmd::Kill(movement), YANK, Cmd::Noop],
-        Op::Replaces => {
-            let text = String::from_str(alloc, "x")?;
-            [Cmd::Replace(movement, Some(text)), Cmd::Noop, Cmd::Noop]
-        }
-        Op::Copies => [Cmd::ViYankTo(movement), YANK, Cmd::Noop],
-        Op::Indents => [Cmd::Indent(movement), Cmd::Noop, Cmd::Noop],
-        Op::Dedents => [Cmd::Dedent(movement), Cmd::Noop, Cmd::Noop],
+        Op::Moves => Cmd::Move(movement),
+        Op::Kills => Cmd::Kill(movement),
+        Op::Replaces => Cmd::Replace(movement, Some(String::from_str(alloc, "x")?)),
+        Op::Copies => Cmd::ViYankTo(movement),
+        Op::Indents => Cmd::Indent(movement),
+        Op::Dedents => Cmd::Dedent(movement),
     })
+}
+
+fn commands(alloc: Global, op: Op, movement: &Movement) -> line_config::Result<Vec<Cmd>> {
+    let mut commands = Vec::new(alloc);
+    commands.push(command(alloc, op, movement.clone()?)?)?;
+    if matches!(op, Op::Kills | Op::Copies) {
+        commands.push(YANK)?;
+    }
+    Ok(commands)
 }
 
 /// Whether what a kill takes away is kept.
