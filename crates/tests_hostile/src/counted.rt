@@ -1,7 +1,7 @@
 //! Each command with a count of its own, with the counts 0, 1 and 65535, on an empty line and at the start, in the middle and at
 //! the end of two texts, in both styles and in Vi's command mode.
 
-use crate::desk::{LONG, MODES, Mode, Task, behind, leaves, spliced};
+use crate::desk::{LONG, MODES, Mode, Task, behind, copies, leaves, spliced};
 use line_buffer::RepeatCount;
 use line_keys::cmd::{Anchor, Cmd};
 use std::alloc::Global;
@@ -118,14 +118,6 @@ fn with(
     let end = cursor.saturating_add(copies.len());
     let cursor = behind(mode, line.get(..end).unwrap_or(""), end);
     Ok((line, cursor))
-}
-
-fn copies(alloc: Global, copy: &str, n: usize) -> line_config::Result<String> {
-    let mut copies = String::new(alloc);
-    for _ in 0..n {
-        copies.push_str(copy)?;
-    }
-    Ok(copies)
 }
 
 /// An x comes for each of so many characters, or of as many as there are. The cursor is on the last.

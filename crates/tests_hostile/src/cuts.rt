@@ -343,8 +343,8 @@ fn is_left(rt: &impl Abort, state: &Editor<'_, '_>, kills: &mut KillRing, stage:
     let (_, _, before, behind, kill) = stage;
     let (line, pos) = (state.line(), state.pos());
     let found = (line.get(..pos), line.get(pos..), state.place());
-    assert_eq!(rt; found, (Some(before), Some(behind), 0), "cut at {at}");
-    assert_eq!(rt; kills.yank(), kill, "cut at {at}");
+    let wanted = (Some(before), Some(behind), 0);
+    assert_eq!(rt; (found, kills.yank()), (wanted, kill), "cut at {at}");
 }
 
 /// How often all was drawn.

@@ -259,6 +259,15 @@ pub(crate) fn spliced(
     Ok(format!(in alloc; "{before}{by}{behind}")?)
 }
 
+/// So many times one text.
+pub(crate) fn copies(alloc: Global, text: &str, count: usize) -> Result<String> {
+    let mut copies = String::new(alloc);
+    for _ in 0..count {
+        copies.push_str(text)?;
+    }
+    Ok(copies)
+}
+
 /// Where the cursor is behind a text that was yanked there: in Vi's command mode one character back.
 pub(crate) fn behind(mode: Mode, text: &str, end: usize) -> usize {
     match (mode, text.chars().next_back()) {

@@ -332,11 +332,17 @@ fn is_drawn_alike(
 ) -> Result<()> {
     anew.refresh_line()?;
     state.refresh_line()?;
-    assert_eq!(rt; seen(state), seen(anew), "{failing:?}");
+    is_alike(rt, failing, state, anew);
+    Ok(())
+}
+
+/// Two editors show the same, and were handed the same by their last drawing.
+fn is_alike(rt: &impl Abort, failing: Failing, state: &Editor<'_, '_>, anew: &Editor<'_, '_>) {
     let drawn = last_drawing(state.out());
     assert!(rt; drawn.is_some(), "{failing:?}");
-    assert_eq!(rt; drawn, last_drawing(anew.out()), "{failing:?}");
-    Ok(())
+    let found = (seen(state), drawn);
+    let wanted = (seen(anew), last_drawing(anew.out()));
+    assert_eq!(rt; found, wanted, "{failing:?}");
 }
 
 fn is_kept(rt: &impl Abort, take: Take, history: &Shelf) -> Result<()> {

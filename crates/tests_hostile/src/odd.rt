@@ -1,6 +1,6 @@
 //! Commands bound to keys with counts that no person types, and some that find nothing to do.
 
-use crate::desk::{Bound, Editor, To, config, ended, halves, keys, map_of, proceeds};
+use crate::desk::{Bound, Editor, To, config, copies, ended, halves, keys, map_of, proceeds};
 use line_buffer::{KillRing, Movement};
 use line_config::Config;
 use line_config::EditMode::{self, Emacs, Vi};
@@ -86,15 +86,6 @@ const CASES: &[Case] = &[
     (Emacs, OPEN, ACCEPT, 0, "(③", "submits", Line("(|")),
 ];
 
-/// So many x.
-fn copies(alloc: Global, count: usize) -> line_config::Result<String> {
-    let mut text = String::new(alloc);
-    for _ in 0..count {
-        text.push('x')?;
-    }
-    Ok(text)
-}
-
 /// Looks at the line and its cursor.
 fn is_left(
     rt: &impl Abort,
@@ -111,7 +102,7 @@ fn is_left(
             assert_eq!(rt; found, (Some(before), Some(behind)), "{typed}");
         }
         Copies(count, cursor) => {
-            let wanted = copies(alloc, *count)?;
+            let wanted = copies(alloc, "x", *count)?;
             assert!(rt; line == wanted.as_str() && pos == *cursor, "{typed}");
         }
     }
@@ -139,7 +130,19 @@ fn runs(
     let mut input = InputState::new(&config, &bindings);
     let mut kills = KillRing::new(alloc, 60);
     ends(rt, alloc, case, state, &mut input, &mut kills, &config)?;
-    proceeds(rt, Cmd::Undo(65535), state, &input, &mut kills, &config)?;
+    takes_back(rt, case, state, &input, &mut kills, &config)
+}
+
+/// All is taken back, which leaves the empty line.
+fn takes_back(
+    rt: &impl Abort,
+    case: &Case,
+    state: &mut Editor<'_, '_>,
+    input: &InputState<'_>,
+    kills: &mut KillRing,
+    config: &Config,
+) -> Result<(), Fail> {
+    proceeds(rt, Cmd::Undo(65535), state, input, kills, config)?;
     assert_eq!(rt; state.line(), "", "{}", case.4);
     Ok(())
 }
@@ -166,7 +169,7 @@ fn types(alloc: Global, pasted: usize, typed: &str) -> line_config::Result<Typis
     let mut typist = Typist::new(alloc);
     if pasted > 0 {
         typist.press(keys(alloc, "⎘")?.as_slice())?;
-        typist.paste(copies(alloc, pasted)?.as_str())?;
+        typist.paste(copies(alloc, "x", pasted)?.as_str())?;
     }
     typist.press(keys(alloc, typed)?.as_slice())?;
     Ok(typist)

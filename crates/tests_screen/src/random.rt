@@ -395,10 +395,10 @@ fn is_sound(
 ) {
     let read = before.1.saturating_sub(unread);
     let drawn = state.out().redraws().saturating_sub(before.0);
-    assert!(rt; state.line().is_char_boundary(state.pos()), "{desk:?}");
-    assert!(rt; state.place() <= desk.entries.len(), "{desk:?}");
+    let is_within = state.place() <= desk.entries.len();
+    let is_bound = drawn <= (read as u64).saturating_add(3);
     assert!(rt;
-        drawn <= (read as u64).saturating_add(3),
+        state.line().is_char_boundary(state.pos()) && is_within && is_bound,
         "{drawn} for {read}, {desk:?}"
     );
 }
@@ -418,11 +418,11 @@ fn is_shown(
     let prompt_end = screen.calculate_position(desk.prompt, Position { row: 0, col: 0 });
     let wanted = screen.compute_layout(prompt_end, true, &line, screen.hint());
     let kept = state.layout();
-    let found = (kept.prompt_size, kept.cursor, kept.end, kept.has_info);
+    let kept = (kept.prompt_size, kept.cursor, kept.end, kept.has_info);
     let measured = (prompt_end, wanted.cursor, wanted.end, wanted.has_info);
-    assert_eq!(rt; found, measured, "{text:?} {pos} {desk:?}");
     let shown = (screen.prompt(), screen.text(), screen.cursor());
-    assert_eq!(rt; shown, (desk.prompt, text, wanted.cursor), "{desk:?}");
+    let laid = (desk.prompt, text, wanted.cursor);
+    assert_eq!(rt; (kept, shown), (measured, laid), "{pos} {desk:?}");
     Ok(())
 }
 
@@ -540,7 +540,24 @@ fn leaves(
     takes_back(rt, alloc, list, way, state, &mut input, &config)
 }
 
-/// The same. All of it can be taken back.
+/// Reads the list. How that ended: by a failure where the reader counts one.
+fn ends(
+    rt: &impl Abort,
+    alloc: Global,
+    list: List<'_>,
+    way: Way,
+    state: &mut Editor<'_, '_>,
+    input: &mut InputState<'_>,
+    kills: &mut KillRing,
+    config: &Config,
+) -> line_config::Result<&'static str> {
+    let mut keys = queue(alloc, list, way)?;
+    let end = reads(rt, alloc, list, way, state, input, &mut keys, kills, config)?;
+    assert_eq!(rt; keys.failures() > 0, end == "fails", "{:?}", list.items);
+    Ok(end)
+}
+
+/// Reads the list in this way, and takes all of it back. What it left before that.
 fn takes_back(
     rt: &impl Abort,
     alloc: Global,
@@ -551,11 +568,7 @@ fn takes_back(
     config: &Config,
 ) -> line_config::Result<Left> {
     let mut kills = KillRing::new(alloc, 60);
-    let mut keys = queue(alloc, list, way)?;
-    let end = reads(
-        rt, alloc, list, way, state, input, &mut keys, &mut kills, config,
-    )?;
-    assert_eq!(rt; keys.failures() > 0, end == "fails", "{:?}", list.items);
+    let end = ends(rt, alloc, list, way, state, input, &mut kills, config)?;
     let left = looks(alloc, state, &mut kills, end)?;
     let _ = execute(Cmd::Undo(65535), state, input, &mut kills, config)?;
     let (desk, items) = (list.desk, list.items);
