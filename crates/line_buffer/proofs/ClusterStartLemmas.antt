@@ -16,9 +16,6 @@ pub record Passed (cs rest : List (List ℕ)) (place start : ℕ) : Type 0 where
   pub start_is : start ≡ bytes_to cs k
   pub low : start ≤ place
 
-pub passed-start : (cs : List (List ℕ)) (place : ℕ) → Passed cs cs place 0
-passed-start cs place = record { k = 0; within = omega arith; rest_is = refl; start_is = refl; low = omega arith }
-
 -- where a further cluster ends
 ends_at : (cs rest rest' : List (List ℕ)) (cluster : List ℕ) (place start end : ℕ) → (p : Passed cs rest place start) → rest ≡ cluster ∷ rest'
     → end + length (concat rest') ≡ length (concat cs) → end ≡ bytes_to cs (p.k + 1)

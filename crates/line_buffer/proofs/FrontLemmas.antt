@@ -90,18 +90,6 @@ module _ (text t : List ℕ) (start : ℕ) (within : start ≤ length text) wher
       let same : drop (start + length t) text' ≡ drop start text = ap (drop (start + length t)) e ∙ drop_at (take start text ++ t) (drop start text) (start + length t) len in
       omega (arith, ap (prefix_len is_no_newline) same, length-line_from text start, length-append t (line_from text start))
 
-  pub boundary_with_front : (text' : List ℕ) (i : ℕ) → text' ≡ insert_slice text start t → IsCharBoundary text i → start ≤ i → IsCharBoundary text' (i + length t)
-  boundary_with_front text' i e b h =
-      let len : length (take start text ++ t) + (i - start) ≡ i + length t = omega (arith, length-append (take start text) t, length-take-le start text within) in
-      subst (IsCharBoundary text') len (boundary_behind text text' (take start text ++ t) start i e b h)
-
-  pub boundary_before_front : (text' : List ℕ) (i : ℕ) → text' ≡ insert_slice text start t → IsCharBoundary text i → i < start → IsCharBoundary text' i
-  boundary_before_front text' i e b h =
-      let len : length (take start text) ≡ start = length-take-le start text within in
-      let cut = e ∙ append_assoc (take start text) t (drop start text) in
-      let fits : start ≤ length text' = omega (arith, ap length cut, length-append (take start text) (t ++ drop start text)) in
-      boundary_ahead text text' start i (ap (take start) cut ∙ take_at (take start text) (t ++ drop start text) start len) fits within h b
-
 pub cursor_with_front : (amount start : ℕ) (line : List ℕ) (cursor : ℕ) → start ≤ cursor → moved_from false amount start (line ∷ []) cursor ≡ cursor + amount
 cursor_with_front amount start line cursor h =
     let len : length (shifted false amount line) ≡ amount + length line = omega (arith, length-append (replicate amount 32) line, length-replicate {A = ℕ} amount 32) in

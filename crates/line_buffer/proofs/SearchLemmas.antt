@@ -133,9 +133,6 @@ found-next c places text k found left left' place f e b d = record {
   behind = d;
 }
 
-pub found-n : (c : ℕ) (places text : List ℕ) (n : ℕ) (found : Option ℕ) (left : List ℕ) → Found c places text n found left → found ≡ nth_or_last places n
-found-n c places text n found left f = f.found_is ∙ taken f.done left n f.count ∙ ap (λ ps. nth_or_last ps n) (sym f.all)
-
 found-fewer : (c : ℕ) (places text : List ℕ) (k n : ℕ) (found : Option ℕ) (left : List ℕ) → Found c places text k found left → left ≡ [] → k ≤ n → found ≡ nth_or_last places n
 found-fewer c places text k n found left f e h =
     let short : length f.done ≤ n = omega (arith, f.count) in

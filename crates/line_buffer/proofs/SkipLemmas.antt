@@ -22,9 +22,6 @@ pub record Skipped (test : List ℕ → Bool) (cs rest : List (List ℕ)) (at : 
   pub at_is : at ≡ bytes_to cs k
   pub none : (j : ℕ) → j < k → test (get_or cs j []) ≡ false
 
-pub skipped-start : (test : List ℕ → Bool) (cs : List (List ℕ)) → Skipped test cs cs 0
-skipped-start test cs = record { k = 0; within = omega arith; rest_is = refl; at_is = refl; none = λ j h. absurd (omega arith) }
-
 pub skipped-next : (test : List ℕ → Bool) (cs rest rest' : List (List ℕ)) (cluster : List ℕ) (at at' : ℕ) → Skipped test cs rest at → rest ≡ cluster ∷ rest' → test cluster ≡ false
     → at' + length (concat rest') ≡ length (concat cs) → Skipped test cs rest' at'
 skipped-next test cs rest rest' cluster at at' s e t p =

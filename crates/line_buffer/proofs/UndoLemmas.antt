@@ -113,13 +113,6 @@ steps-found all n k left h l target t =
     let first : left - 1 ≡ 0 = omega arith in
     ap (λ o. unwrap_or o (length all)) (sym target ∙ ap (λ xs. slice_get xs (left - 1)) (steps_from-yes all k h t) ∙ ap (slice_get ((k + 1) ∷ steps_from all (k + 1))) first)
 
-pub steps-end : (all : List Entry) (n k left : ℕ) → length all ≤ k → slice_get (steps_from all k) (left - 1) ≡ nth (steps_from all 0) n
-    → unwrap_or (nth (steps_from all 0) n) (length all) ≡ length all
-steps-end all n k left h target =
-    let none : length all - k ≡ 0 = omega arith in
-    let nothing : steps_from all k ≡ [] = rw none refl in
-    ap (λ o. unwrap_or o (length all)) (sym target ∙ ap (λ xs. slice_get xs (left - 1)) nothing)
-
 -- ---- one entry more
 
 opened-kind : (e : Entry) → opened_by (taken_kind e) ≡ one_if (is_begin e)
@@ -163,13 +156,6 @@ took-next all start k (x ∷ left) line opened closed undone taken line' opened'
 pub took-step : (all : List Entry) (start : Line) (k : ℕ) (left : List Entry) (line : Line) (opened closed : ℕ) (undone : Bool) (b : Bool) → Took all start k left line opened closed undone
     → nat_le closed opened ≡ b → is_step all k ≡ b
 took-step all start k left line opened closed undone b t h = sym (ap₂ nat_le t.ends_is t.begins_is) ∙ h
-
--- the counts stay within the number of entries
-pub took-counts : (all : List Entry) (start : Line) (k : ℕ) (left : List Entry) (line : Line) (opened closed : ℕ) (undone : Bool) → Took all start k left line opened closed undone
-    → (opened ≤ length all) × (closed ≤ length all)
-took-counts all start k left line opened closed undone t =
-    let len = length-take k all in
-    (omega (arith, t.begins_is, count_by-le-length is_begin (take k all)), omega (arith, t.ends_is, count_by-le-length is_end (take k all)))
 
 -- nothing was left to take
 pub took-none : (all : List Entry) (start : Line) (k : ℕ) (left : List Entry) (line : Line) (opened closed : ℕ) (undone : Bool) → Took all start k left line opened closed undone

@@ -94,9 +94,6 @@ pub record Read (cs : List (List ℕ)) (kinds : List Kind) (test : Kind → Kind
   pub some : 0 < left
   pub target : slice_get (edges_from test kinds (max k 1)) (left - 1) ≡ nth (edges test kinds) n
 
-pub read-start : (cs : List (List ℕ)) (kinds : List Kind) (test : Kind → Kind → Bool) (n : ℕ) → 0 < n → Read cs kinds test n cs None 0 0 n
-read-start cs kinds test n h = record { k = 0; rest_is = refl; within = omega arith; previous_is = refl; place_is = refl; before_is = refl; some = h; target = refl }
-
 kind_before-next : (kinds : List Kind) (k : ℕ) → kind_before kinds (k + 1) ≡ Some (kind_at kinds k)
 kind_before-next kinds k = rw add-one refl
 

@@ -144,36 +144,11 @@ module _ {X : Type 0} {P : X → Type 0} (g : (v : X) → Ghosts (P v)) where
   sure-parts None None entries = keys-sure entries
 
   module _ (any click : Option (EventHandler X P)) (entries : List (List KeyEvent × EventHandler X P)) (handler : EventHandler X P) where
-    each-anew : (other : Chord) → handler_of (bound-by (Some handler) click entries) other ≡ (if same_chord each_key other then Some (handled g handler) else handler_of (bound-by any click entries) other)
-    each-anew each_key = each-handler (Some handler) click entries
-    each-anew (keys sequence) = keys-handler (Some handler) click entries sequence ∙ sym (keys-handler any click entries sequence)
-    each-anew mouse = mouse-handler (Some handler) click entries ∙ sym (mouse-handler any click entries)
-
-    mouse-anew : (other : Chord) → handler_of (bound-by any (Some handler) entries) other ≡ (if same_chord mouse other then Some (handled g handler) else handler_of (bound-by any click entries) other)
-    mouse-anew each_key = each-handler any (Some handler) entries ∙ sym (each-handler any click entries)
-    mouse-anew (keys sequence) = keys-handler any (Some handler) entries sequence ∙ sym (keys-handler any click entries sequence)
-    mouse-anew mouse = mouse-handler any (Some handler) entries
-
     all-of : all_sure (bound-by any click entries) ≡ true → (own_sure any ≡ true) × (own_sure click ≡ true) × (list_all (λ entry. (handled g entry.1).sure) entries ≡ true)
     all-of all =
         let first = and-are (own_sure any) (own_sure click && list_all (λ entry. (handled g entry.1).sure) entries) (sym (sure-parts any click entries) ∙ all) in
         let second = and-are (own_sure click) (list_all (λ entry. (handled g entry.1).sure) entries) first.1 in
         (first.0, second.0, second.1)
-
-    -- an event bound anew
-    pub rebinds-each : Rebinds (bound-by any click entries) (bound-by (Some handler) click entries) each_key (handled g handler)
-    rebinds-each = record {
-      handlers = each-anew;
-      sure = λ all sure. sure-parts (Some handler) click entries ∙ and-is (handled g handler).sure (own_sure click && list_all (λ entry. (handled g entry.1).sure) entries) sure
-          (and-is (own_sure click) (list_all (λ entry. (handled g entry.1).sure) entries) (all-of all).1 (all-of all).2);
-    }
-
-    pub rebinds-mouse : Rebinds (bound-by any click entries) (bound-by any (Some handler) entries) mouse (handled g handler)
-    rebinds-mouse = record {
-      handlers = mouse-anew;
-      sure = λ all sure. sure-parts any (Some handler) entries ∙ and-is (own_sure any) ((handled g handler).sure && list_all (λ entry. (handled g entry.1).sure) entries) (all-of all).0
-          (and-is (handled g handler).sure (list_all (λ entry. (handled g entry.1).sure) entries) sure (all-of all).2);
-    }
 
     module _ (after : List (List KeyEvent × EventHandler X P)) (sequence : List KeyEvent) (puts : Puts entries after sequence handler) where
       keys-anew : (other : Chord) → handler_of (bound-by any click after) other ≡ (if same_chord (keys sequence) other then Some (handled g handler) else handler_of (bound-by any click entries) other)

@@ -42,7 +42,7 @@ use Rattle.line_editor.specs.declared.command.Status.TheVariants.{Proceed}
 use Rattle.line_editor.proofs.AskedLemmas.{fails_more}
 use Rattle.line_editor.proofs.CountLemmas.{rises_more, rises_stays, rises_twice, rises_up_to, rises_within, stays_rises}
 use Rattle.line_editor.proofs.HistoryMoveLemmas.{always}
-use Rattle.line_editor.proofs.DoneLemmas.{does_nothing, nothing_drawn}
+use Rattle.line_editor.proofs.DoneLemmas.{nothing_drawn}
 use Rattle.line_editor.proofs.DrawnLemmas.{frame_then, hint_trails, keeps_then}
 
 abbrev pub editor_with : Draft → Ring → Editor
@@ -72,13 +72,6 @@ pub moved_by_ruler : {X T : Type 0} (e : Ghosts X) (asks : Asks) (r : Result T R
     → DoesAsking e asks r old new (record (e.draft old) { line = moved (measuring (ruler_of (e.display old) indent)) movement (e.draft old).line }) drawing most
 moved_by_ruler e asks r old new indent movement drawing most does =
     subst (λ l. DoesAsking e asks r old new (record (e.draft old) { line = l }) drawing most) (measured_by (e.display old) indent movement (e.draft old).line) does
-
--- a command that is left to the program above does nothing
-pub nothing_there : {X T : Type 0} (e : Ghosts X) (asks : Asks) (x : T) (old : X) (left : Draft) (drawing : Drawing) (most : ℕ) → drawing ≡ nothing → left ≡ e.draft old
-    → DoesAsking e asks (Ok x) old old left drawing most
-nothing_there e asks x old left drawing most none same =
-    subst (λ d. DoesAsking e asks (Ok x) old old left d most) (sym none) (subst (λ l. DoesAsking e asks (Ok x) old old l nothing most) (sym same)
-    (does_nothing e asks x old old most (nothing_drawn e old old refl refl refl refl refl refl) refl))
 
 -- a count that rose behind one that never falls rose from before it
 rose_later : (old mid new : ℕ) → old ≤ mid → mid ≤ new → Rose mid new → Rose old new
@@ -636,11 +629,6 @@ module _ {X : Type 0} (e : Ghosts X) (old new : X) (input : Input) (indent : ℕ
   pub executed_ok : (status : Status) → Executed e old input indent kills command new kills' (answer_of status) → Frame e old new → e.failures new ≡ e.failures old
       → Executes e (Ok status) old input indent kills command new kills'
   executed_ok status done frame none = record { comes = done; frame = frame; io = tt; quiet = none }
-
-  -- one that ended the input or interrupted
-  pub executed_at : (f : ReadlineError) → is_io f ≡ false → Executed e old input indent kills command new kills' (answer_at f) → Frame e old new → e.failures new ≡ e.failures old
-      → Executes e (Err f) old input indent kills command new kills'
-  executed_at f other done frame none = record { comes = λ fault. done; frame = frame; io = λ is. absurd (cc); quiet = λ is. none }
 
   -- one that went wrong
   pub executed_wrong : {T : Type 0} (f : ReadlineError) → FailsByParty {T = T} e (asked_of (e.display old) (e.environment old) (editor_of e old kills) command) (Err f) old new → Frame e old new → Executes e (Err f) old input indent kills command new kills'

@@ -185,19 +185,6 @@ line_reported e r old mid new edited left undrawn draft same first shows =
 abbrev lined : Draft → Line → Option Suggestion → Draft
 lined draft line hint = record draft { line = line; hint = hint }
 
--- where nothing happens, all stays
-pub does_nothing : {X T : Type 0} (e : Ghosts X) (asks : Asks) (x : T) (old new : X) (most : ℕ) → Undrawn e old new → e.draft new ≡ e.draft old
-    → DoesAsking {T = T} e asks (Ok x) old new (e.draft old) nothing most
-does_nothing e asks x old new most undrawn same = record {
-  draft = same;
-  start = ap start_text same;
-  drew = undrawn.drew;
-  keeps = drawn_stays e old new undrawn.frame.environment undrawn.drew (ap (λ (d : Draft). d.line) same) (ap (λ (d : Draft). d.hint) same);
-  change = text_same (ap (λ (d : Draft). d.line.text) same);
-  frame = undrawn.frame;
-  fails = record { io = tt; faults = tt; quiet = undrawn.failures };
-}
-
 -- what is done behind a step that draws nothing and leaves the line and its hint is done from before it
 pub does_after : {X T : Type 0} (e : Ghosts X) (asks : Asks) (r : Result T ReadlineError) (old mid new : X) (left left' : Draft) (reported : Bool)
     → Undrawn e old mid → (e.draft mid).line ≡ (e.draft old).line → (e.draft mid).hint ≡ (e.draft old).hint

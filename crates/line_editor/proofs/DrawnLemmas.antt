@@ -23,9 +23,6 @@ hint_trails e editor shows = record { trailing = _; shows = shows; trails = inl 
 pub nothing_trails : {X : Type 0} (e : Ghosts X) (editor : X) → Shows e editor None → ShowsLine e editor
 nothing_trails e editor shows = record { trailing = None; shows = shows; trails = inr (inr refl) }
 
-pub no_hint_behind : {X : Type 0} (e : Ghosts X) (editor : X) → Shows e editor None → ShowsNoHint e editor
-no_hint_behind e editor shows = record { trailing = None; shows = shows; trails = inr refl }
-
 -- a line that was drawn with its verdict's message has no hint behind it
 pub message_behind : {X : Type 0} (e : Ghosts X) (editor : X) (verdict : Verdict) → verdict ≡ verdict_on (e.environment editor) (e.draft editor).line.text
     → Shows e editor (message_of verdict) → ShowsNoHint e editor
@@ -238,10 +235,6 @@ keeps_move e kind old new frame text hint right way placed = record {
   right = right;
   line = λ shown. line_led e kind old new frame text hint way (placed shown.shows.in_full.layout.cursor) shown;
 }
-
--- where the hint is taken away, what is drawn stays good
-pub hint_lost : {X : Type 0} (e : Ghosts X) (old new : X) → LosesHint e old new → KeepsDrawn e old new
-hint_lost e old new loses = record { right = loses.right; line = λ shown. no_hint_line e new (loses.no_hint shown) }
 
 -- what is drawn stays good where nothing of it and nothing of the line and its hint changes
 pub drawn_stays : {X : Type 0} (e : Ghosts X) (old new : X) → e.environment new ≡ e.environment old → DrewNothing e old new

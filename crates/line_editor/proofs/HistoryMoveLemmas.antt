@@ -79,9 +79,6 @@ none_some x e = subst (λ o. elim o as (λ _. Type 0) [ None ↦ Unit {0} | Some
 some_number : (x y : ℕ) → Some x ≡ Some y → x ≡ y
 some_number x y e = ap (λ o. elim o as (λ _. ℕ) [ None ↦ x | Some z ↦ z ]) e
 
-some_entry : (x y : Found) → Some x ≡ Some y → x.entry ≡ y.entry
-some_entry x y e = ap (λ o. elim o as (λ _. List ℕ) [ None ↦ x.entry | Some z ↦ z.entry ]) e
-
 -- the saved line came back as the one that is being written
 pub came_back : {X T : Type 0} (e : Ghosts X) (r : Result T ReadlineError) (old back mid new : X) (at : ℕ)
     → Undrawn e old back → e.draft back ≡ restored (e.draft old) → start_text (e.draft back) ≡ start_text (e.draft old)
@@ -120,16 +117,6 @@ left_for e r old mid new index undrawn draft shown =
     (ap start_text draft ∙ saved_starts at_end (e.draft old))
     (ap (λ w. line_shown w index (e.draft mid)) undrawn.frame.environment ∙ ap (λ d. line_shown (e.environment old) index d) draft)
     shown
-
--- the line of a history at an index is there
-pub line_is_there : (lines : List (List ℕ)) (index : ℕ) → index + 1 ≤ length lines → None ≡ entry_at lines index → ⊥
-line_is_there lines index within none =
-    none_some _ (none ∙ ap (λ o. option_map (λ entry. record { entry = entry; index = index; pos = 0 }) o) (slice_get-get_or lines index [] (omega (arith, within))))
-
-pub entry_is_line : (lines : List (List ℕ)) (index : ℕ) (found : Found) → index + 1 ≤ length lines → Some found ≡ entry_at lines index
-    → found.entry ≡ line_at lines index
-entry_is_line lines index found within some =
-    some_entry _ _ (some ∙ ap (λ o. option_map (λ entry. record { entry = entry; index = index; pos = 0 }) o) (slice_get-get_or lines index [] (omega (arith, within))))
 
 -- at the way's end all stays, and before it an edit is drawn
 pub way_stays : {X T : Type 0} (e : Ghosts X) (x : T) (old : X) (b : Bool) (asks : Asks) (left : Draft) → b ≡ true
@@ -183,14 +170,6 @@ search_shows e r old new found f index some edit =
     subst (λ o. DoesAsking e (asked_for o) r old new (found_shown (e.environment old) o (at_index index (e.draft old))) (drawn_if (is_some o)) 1) some
     (does_more e r for_hint for_line old new (showing (e.environment old) f.entry f.pos (at_index f.index (e.draft old))) with_hint 1 (sure_hint (e.sure old)) edit)
 
--- there is nothing to search at the way's end
-pub search_stops : {X T : Type 0} (e : Ghosts X) (r : Result T ReadlineError) (old new : X) (b : Bool) (asks : Asks) (found : Option Found) (left : Draft)
-    → b ≡ true → DrewNothing e old new → Paints e false r old new
-    → DoesAsking e (if b then nobody else asks) r old new (if b then e.draft old else left) (drawn_if (is_some (if b then None else found))) 1
-search_stops e r old new b asks found left at undrew beep =
-    subst (λ c. DoesAsking e (if c then nobody else asks) r old new (if c then e.draft old else left) (drawn_if (is_some (if c then None else found))) 1) (sym at)
-    (still_done e nobody r old new (e.draft old) beep.draft refl refl refl undrew beep.frame (fails_by e nobody r old old new refl beep.fails))
-
 pub search_goes : {X T : Type 0} (e : Ghosts X) (r : Result T ReadlineError) (old new : X) (b : Bool) (asks : Asks) (found : Option Found) (left : Draft)
     → b ≡ false → DoesAsking e asks r old new left (drawn_if (is_some found)) 1
     → DoesAsking e (if b then nobody else asks) r old new (if b then e.draft old else left) (drawn_if (is_some (if b then None else found))) 1
@@ -221,29 +200,6 @@ found_cut lines term index dir f utf8 utf8' some =
 on_side : (dir : SearchDirection) (count start index : ℕ) → start ≤ count → IsOnSide dir count start index → index ≤ count
 on_side Forward count start index within side = omega (arith, side.1)
 on_side Reverse count start index within side = omega (arith, within, side)
-
--- a line that was found is one of the history's
-pub found_within : (lines : List (List ℕ)) (term : List ℕ) (index : ℕ) (dir : SearchDirection) (f : Found) → index ≤ length lines
-    → Some f ≡ starting_with lines term index dir → f.index ≤ length lines
-found_within lines term index dir f within some =
-    on_side dir (length lines) index f.index within (found_is_nearest behind_start lines term index dir f (sym some)).on_side
-
--- without a hint nothing is put into the line
-pub hint_missing : {X T U : Type 0} (e : Ghosts X) (x : T) (old : X) (as_text : U → Suggestion) (hint : Option U) → is_some hint ≡ false
-    → Does e (Ok x) old old (completed (e.environment old) (option_map as_text hint) (e.draft old)) (drawn_if (is_some (option_map as_text hint))) 1
-hint_missing e x old as_text None none = nothing_done e nobody x old
-hint_missing e x old as_text (Some hint) none = absurd (cc)
-
--- a hint was put into the line, or there was a beep, and the line was drawn
-pub hint_taken : {X T U : Type 0} (e : Ghosts X) (r : Result T ReadlineError) (old mid new : X) (as_text : U → Suggestion) (hint : Option U)
-    → is_some hint ≡ true → (e.draft old).hint ≡ option_map as_text hint
-    → e.draft mid ≡ with_edited (e.draft old) (with_completion (option_and_then (λ h. h.completion) (option_map as_text hint))
-    (record (edited_of (e.draft old)) { line = with_cursor (e.draft old).line (end_of_line (e.draft old).line) }))
-    → start_text (e.draft mid) ≡ start_text (e.draft old) → Undrawn e old mid → Redrawn e r mid new
-    → Does e r old new (completed (e.environment old) (option_map as_text hint) (e.draft old)) (drawn_if (is_some (option_map as_text hint))) 1
-hint_taken e r old mid new as_text None some is draft first undrawn shows = absurd (cc)
-hint_taken e r old mid new as_text (Some hint) some is draft first undrawn shows =
-    edit_reported e r old mid new _ _ undrawn draft refl (sym (ap start_text draft) ∙ first) refl shows
 
 -- what holds in any case holds where there is no error
 pub always : {T E P : Type 0} (r : Result T E) → P → OnOk r P

@@ -168,36 +168,6 @@ module _ {X Y : Type 0} (e : editors.Ghosts X) (r : readers.Ghosts Y) where
     fails = record { io = λ is. not_io f memory is; quiet = λ no. (part.fails.quiet.0, undrawn.failures ∙ part.fails.quiet.1) };
   }
 
-  -- memory ran out before anything was read
-  pub memory_first : {T : Type 0} (Comes : List Item → Read → Type 0) (front : List Item) (from : Draft) (begun : Command → Draft → Draft) (command : T → Command) (input : T → Input)
-      (f : ReadlineError) (editor : X) (keys : KeyState) (reader : Y) (new : X)
-      → is_memory f ≡ true → Undrawn e editor new → KeepsLine (e.draft editor) (e.draft new)
-      → ReadsPart e r Comes front from begun command input (Err f) editor keys reader new reader
-  memory_first Comes front from begun command input f editor keys reader new memory undrawn line = record {
-    read = λ no. not_calm f memory no;
-    line = line;
-    start = λ no. not_calm f memory no;
-    redraws = λ no. not_calm f memory no;
-    fewer = λ no. not_calm f memory no;
-    keeps = record { frame = undrawn.frame; own = refl; counts = omega arith };
-    fails = record { io = λ is. not_io f memory is; quiet = λ no. (refl, undrawn.failures) };
-  }
-
-  -- a handler that was asked first failed
-  pub asking_fails : {T : Type 0} (Comes : List Item → Read → Type 0) (front : List Item) (from : Draft) (begun : Command → Draft → Draft) (command : T → Command) (input : T → Input)
-      (f : ReadlineError) (editor : X) (keys : KeyState) (reader : Y)
-      → is_fault f ≡ true → (is_io f ≡ true → all_sure keys.bound ≡ false)
-      → ReadsPart e r Comes front from begun command input (Err f) editor keys reader editor reader
-  asking_fails Comes front from begun command input f editor keys reader fault unsure = record {
-    read = λ no. absurd (cc);
-    line = record { line = refl; saved = refl; index = refl };
-    start = λ no. refl;
-    redraws = λ no below. (omega arith, omega arith);
-    fewer = λ no. omega arith;
-    keeps = record { frame = frame_stays e editor; own = refl; counts = omega arith };
-    fails = record { io = λ is sure below other. absurd (let no = unsure is in let yes = sure.1 in cc); quiet = λ no. (refl, refl) };
-  }
-
   -- a command that is the key's alone was read
   pub at_once_part : {T : Type 0} (Comes : List Item → Read → Type 0) (begun : Command → Draft → Draft) (command : T → Command) (input : T → Input) (x : T) (i : Input)
       (editor : X) (keys : KeyState) (reader : Y)

@@ -31,7 +31,7 @@ use Rattle.line_editor.specs.DraftEdits.{killed_by, range_killed, typed_in}
 use Rattle.line_editor.specs.Drawings.{kill_drawn, typing_drawn}
 use Rattle.line_editor.specs.Editor.{edited_of, with_edited}
 use Rattle.line_editor.specs.Outcomes.{DoesWithKills, editor_of}
-use Rattle.line_editor.proofs.DoneLemmas.{Redrawn, does_nothing, fails_after, line_after, line_reported, nothing_drawn}
+use Rattle.line_editor.proofs.DoneLemmas.{Redrawn, fails_after, line_after, line_reported, nothing_drawn}
 use Rattle.line_editor.proofs.HistoryMoveLemmas.{always}
 use Rattle.line_editor.proofs.DrawnLemmas.{frame_then, hint_trails, right_shown, shown_right}
 
@@ -299,10 +299,3 @@ module _ {X T : Type 0} (e : Ghosts X) (r : Result T ReadlineError) (old mid new
 
     pub killed_full : ((to == length (e.draft old).line.text) && gives_end (e.display old) (e.draft old) from) ≡ false → Redrawn e r mid new → Leaves r range
     killed_full plainly shows = subst (λ (x : Option (ℕ × ℕ)). Leaves r x) is (record { does = full_kill plainly shows; kills_left = always r rung })
-
--- where there is no range nothing is killed
-pub kills_nothing : {X T : Type 0} (e : Ghosts X) (x : T) (old : X) (kills : Ring) (movement : Movement) (range : Option (ℕ × ℕ)) → None ≡ range
-    → DoesWithKills e {T = T} (Ok x) old kills old kills (killed_by (e.environment old) movement (editor_of e old kills) range) (kill_drawn (e.display old) (e.environment old) (e.draft old) range) 1
-kills_nothing e x old kills movement range is =
-    subst (λ (r : Option (ℕ × ℕ)). DoesWithKills e (Ok x) old kills old kills (killed_by (e.environment old) movement (editor_of e old kills) r) (kill_drawn (e.display old) (e.environment old) (e.draft old) r) 1) is
-    (record { does = does_nothing e nobody x old old 1 (nothing_drawn e old old refl refl refl refl refl refl) refl; kills_left = refl })

@@ -35,18 +35,9 @@ use Rattle.line_editor.proofs.DrawnLemmas.{frame_then}
 use Rattle.line_editor.proofs.KeyFitLemmas.{enter}
 use Rattle.line_editor.proofs.ShownLemmas.{counting-each, counts_then, drew_none, quiet-any, quiet-last, so_far_counting, so_far_none, so_far_kept, so_far_then}
 
--- what holds in any case
-pub on_error : {T E P : Type 0} (result : Result T E) → P → OnErr result P
-on_error (Ok x) p = tt
-on_error (Err f) p = p
-
 pub on_answer_then : {T E P Q : Type 0} (result : Result T E) → (P → Q) → OnOk result P → OnOk result Q
 on_answer_then (Ok x) goes p = goes p
 on_answer_then (Err f) goes p = tt
-
-on_answer : {T E P : Type 0} (result : Result T E) → P → OnOk result P
-on_answer (Ok x) p = p
-on_answer (Err f) p = tt
 
 pub unless_fault : {T P : Type 0} (result : Result T ReadlineError) → P → UnlessFault result P
 unless_fault (Ok x) p = p

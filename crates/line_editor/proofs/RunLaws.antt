@@ -14,11 +14,6 @@ use Rattle.line_editor.specs.Editor.{Editor, Step, Answer, Ruler, proceeds}
 use Rattle.line_editor.specs.Step.{step}
 use Rattle.line_editor.proofs.PhraseLemmas.{phrases-fit}
 
--- nothing is behind a list that stays as it is
-append-nothing : {A : Type 0} (xs : List A) → xs ++ [] ≡ xs
-append-nothing [] = refl
-append-nothing (x ∷ xs) = ap (λ r. x ∷ r) (append-nothing xs)
-
 -- nothing is in a list that joins to nothing
 nothing-in : {A : Type 0} (xs ys : List A) → xs ++ ys ≡ [] → ys ≡ []
 nothing-in [] ys e = e

@@ -23,28 +23,6 @@ module _ {Y : Type 0} (r : readers.Ghosts Y) (s : Sequences) (first : KeyEvent) 
     pub quiet : r.failures now ≡ r.failures reader
     pub fewer : length (r.rest now) ≤ length (r.rest reader)
 
-  pub begins_in : true ≡ s.leads (first ∷ []) → InSequence (first ∷ []) reader
-  begins_in leads = record {
-    more = [];
-    is = refl;
-    cut = refl;
-    read_on = none_read s first;
-    leads = sym leads;
-    unanswered = refl;
-    own = refl;
-    quiet = refl;
-    fewer = omega arith;
-  }
-
-  -- a key that leads nowhere is read in vain
-  pub vain_alone : false ≡ s.leads (first ∷ []) → IsInVain r reader reader s first None
-  vain_alone leads = record {
-    more = [];
-    cut = refl;
-    sequenced = record { read_on = none_read s first; ends = (refl, sym leads) };
-    told = refl;
-  }
-
   module _ (typed : List KeyEvent) (now next : Y) (k : KeyEvent) (i : InSequence typed now) (took : r.rest now ≡ key k ∷ r.rest next) where
     abbrev further : List KeyEvent
     further = i.more ++ (k ∷ [])

@@ -14,13 +14,6 @@ use Rattle.line_editor.proofs.TreePlaceLemmas.{parent-later, parent-single}
 use Rattle.line_editor.proofs.TreeLookLemmas.{entry-missing, leads-found, leads-missing, root-path, value-found, value-missing}
 use Rattle.line_editor.proofs.TreePathLemmas.{absent, one-node, path, path-child}
 
--- one child more looked at
-pub child-hit : (children : Children) (i : ℕ) (d : KeyEvent × ℕ) (key : KeyEvent) → i < length children → same_key (get_or children i d).0 key ≡ true → child_by (drop i children) key ≡ Some (get_or children i d).1
-child-hit children i d key within is = rw (drop_more children i d within, is) refl
-
-pub child-past : (children : Children) (i : ℕ) (d : KeyEvent × ℕ) (key : KeyEvent) → i < length children → same_key (get_or children i d).0 key ≡ false → child_by (drop i children) key ≡ child_by (drop (i + 1) children) key
-child-past children i d key within not = rw (drop_more children i d within, not) refl
-
 pub any-err : {T E : Type 0} (result : Result T E) (P : Type 0) → P → OnErr result P
 any-err (Ok value) P holds = tt
 any-err (Err error) P holds = holds

@@ -174,20 +174,3 @@ needs_more e r old new keys keys' indent reader reader' kills f read eof =
       stays = record { keeps = record { both = read.phrase.keeps; bound = read.bound }; fails = record { io = tt; quiet = read.phrase.fails.quiet (ap is_io eof) } };
       faults = tt;
     }
-
--- reading went wrong
-pub reading_fails : {X Y : Type 0} (e : editors.Ghosts X) (r : readers.Ghosts Y) (old new : X) (keys keys' : KeyState) (indent : ℕ) (reader reader' : Y) (kills : Ring) (f : ReadlineError)
-    → ReadsCommand e r grouped (Err f) old keys reader new keys' reader' → (f ≡ Eof → ⊥)
-    → Advances e r indent (Err f) (session old keys reader kills) (session new keys' reader' kills)
-reading_fails e r old new keys keys' indent reader reader' kills f read other = record {
-  turned = tt;
-  stays = record {
-    keeps = record { both = read.phrase.keeps; bound = read.bound };
-    fails = record { io = λ is sure. read.phrase.fails.io is (sure_all (e.sure old) for_hint sure.0, sure.1); quiet = read.phrase.fails.quiet };
-  };
-  faults = is_fault_there (is_fault f) refl;
-}
-  where
-    is_fault_there : (b : Bool) → is_fault f ≡ b → is_fault f ≡ true
-    is_fault_there true is = is
-    is_fault_there false is = absurd (other (read.phrase.read is).0)

@@ -140,9 +140,3 @@ pub count-pushed : (typed typed' : TypedCount) (keys : List KeyEvent) (k : KeyEv
 count-pushed typed typed' [] k sign number is = absurd is
 count-pushed typed typed' (first ∷ more) k sign number is =
     (sign ∙ is.0, number (digits_of (first ∷ more)) is.1 ∙ sym (ap (λ ds. number_of ds) (filter_map-append digit_of (first ∷ more) (k ∷ []))))
-
--- the count of the keys
-pub count-is : (typed : TypedCount) (keys : List KeyEvent) (count : Count) → IsCountOf typed keys → count ≡ count_by typed.negative typed.number
-    → count ≡ count_of keys
-count-is typed [] count is e = absurd is
-count-is typed (first ∷ more) count is e = e ∙ ap (λ b. count_by b typed.number) is.0 ∙ ap (λ n. count_by (is_minus first) n) is.1

@@ -614,9 +614,3 @@ pub unfinished_at : (text bytes items : List ℕ) (i n : ℕ) → bytes ≡ text
     → IsVerdict text incomplete
 unfinished_at text bytes items i n e le h len some =
     incomplete-end (reverse items) text (rw (at-end text bytes i e le) at h) (omega (arith, not_none n some, len, length-reverse items))
-
-pub valid_at : (text bytes items : List ℕ) (i : ℕ) → bytes ≡ text → length bytes ≤ i → Leaves (reverse items) (take i bytes) → length items ≡ 0
-    → IsVerdict text (valid None)
-valid_at text bytes items i e le h none =
-    let balanced : IsBalanced (take i bytes) = rw (nil_from_length items none) at h in
-    judge_valid text (valid None) (rw (at-end text bytes i e le) at balanced) refl

@@ -47,9 +47,6 @@ lines_of-last line lacks =
     let plain : All (λ b. is_newline b ≡ false) line = λ k d lt. not_10 _ (lacks k d lt) in
     rw (slice_split_none is_newline line plain) refl
 
-pub lines_of-none : lines_of [] ≡ []
-lines_of-none = refl
-
 -- a piece of a text up to its line feed, as a line
 abbrev pub trimmed : List ℕ → List ℕ
 trimmed piece = if ends_with_byte 10 piece then strip_last 13 (strip_last 10 piece) else piece
@@ -100,12 +97,6 @@ last_byte b bs =
     let at : length (b ∷ bs) - 1 < length (b ∷ bs) = omega arith in
     let end : length (b ∷ bs) ≤ length (b ∷ bs) - 1 + 1 = omega arith in
     drop_more (b ∷ bs) (length (b ∷ bs) - 1) 0 at ∙ ap (λ r. get_or (b ∷ bs) (length (b ∷ bs) - 1) 0 ∷ r) (drop_all (length (b ∷ bs) - 1 + 1) (b ∷ bs) end)
-
-ltb_holds : (a b : ℕ) → ltb a b ≡ true → a < b
-ltb_holds a b e = grind arith
-
-ltb_fails : (a b : ℕ) → ltb a b ≡ false → b ≤ a
-ltb_fails a b e = grind arith
 
 and_true : (b : Bool) → (b && true) ≡ b
 and_true true = refl

@@ -276,12 +276,6 @@ order_permutes [] = IsPermutation-refl []
 order_permutes (offer ∷ more) =
     IsPermutation-trans (offer ∷ more) (offer ∷ in_order more) (put_in offer (in_order more)) (IsPermutation-cons offer more (in_order more) (order_permutes more)) (put_permutes offer (in_order more))
 
--- what stands in order is sorted
-far_above : (x : Offer) (xs : List Offer) (k : ℕ) (d : Offer) → Above is_before by_text x xs → k < length xs → is_before (get_or xs k d) x ≡ false
-far_above x [] k d above within = absurd (omega arith)
-far_above x (y ∷ ys) zero d above within = above.0
-far_above x (y ∷ ys) (suc k) d above within = far_above x ys k d above.1 (omega arith)
-
 up_sorted : (xs : List Offer) → Up is_before by_text xs → IsSortedBy is_before xs
 up_sorted [] up k d low high = absurd (omega arith)
 up_sorted (x ∷ []) up k d low high = absurd (omega arith)

@@ -18,16 +18,6 @@ pub record BeginAlike (one other one_rest other_rest : List ℕ) : Type 0 where
   pub one_utf8 : IsUtf8 one_rest
   pub other_utf8 : IsUtf8 other_rest
 
-pub alike_start : (one other : List ℕ) → IsUtf8 one → IsUtf8 other → BeginAlike one other one other
-alike_start one other utf8 good = record {
-  start = [];
-  utf8 = IsUtf8-nil;
-  one_is = refl;
-  other_is = refl;
-  one_utf8 = utf8;
-  other_utf8 = good;
-}
-
 pub alike_more : (c : ℕ) (one other rest other_rest behind more : List ℕ) → BeginAlike one other rest other_rest → rest ≡ encode c ++ behind → other_rest ≡ encode c ++ more
     → IsUtf8 behind → IsUtf8 more → BeginAlike one other behind more
 alike_more c one other rest other_rest behind more so is is_more utf8 good =
@@ -103,14 +93,6 @@ pub start_boundary : (one other rest other_rest : List ℕ) → BeginAlike one o
 start_boundary one other rest other_rest so =
     let at : length so.start ≡ length one - length rest = omega (arith, ap length so.one_is, length-append so.start rest) in
     subst (IsCharBoundary one) at (IsCharBoundary-at_seam one so.start rest so.one_is so.one_utf8)
-
--- one text
-pub longest_of_one : (text : List ℕ) → IsUtf8 text → IsLongestCommon (text ∷ []) text
-longest_of_one text utf8 = record {
-  whole = utf8;
-  common = (([], sym (append-nil text)), tt);
-  longest = λ long good all. omega (arith, ap length all.0.1, length-append long all.0.0);
-}
 
 All-more : (P : List ℕ → Type 0) (xs : List (List ℕ)) (x : List ℕ) → AllByRecursion P xs → P x → AllByRecursion P (xs ++ x ∷ [])
 All-more P [] x all here = (here, tt)

@@ -102,9 +102,6 @@ no_chars : (rest : List ℕ) → length rest ≡ 0 → rest ≡ []
 no_chars [] none = refl
 no_chars (b ∷ bs) none = absurd (omega (arith, none))
 
-pub escapes_start : (escape : ℕ) (is_break : ℕ → Bool) (whole : List ℕ) → IsUtf8 whole → EscapesTo escape is_break whole [] whole
-escapes_start escape is_break whole utf8 = record { utf8 = utf8; joins = refl }
-
 pub escapes_more : (escape : ℕ) (is_break : ℕ → Bool) (whole text rest more new : List ℕ) (c : ℕ) (breaks : Bool)
     → EscapesTo escape is_break whole text rest → rest ≡ encode c ++ more → (IsScalar c → breaks ≡ is_break c)
     → new ≡ text ++ encodes (if breaks then escape ∷ c ∷ [] else c ∷ []) → EscapesTo escape is_break whole new more
@@ -131,9 +128,6 @@ escapes_all escape is_break whole text rest so none =
     none_of_none : on_chars (flat_map (escaped_char escape is_break)) [] ≡ []
     none_of_none = ap (λ cs. encodes (flat_map (escaped_char escape is_break) cs)) chars-nil
 
-pub unescapes_start : (escape : ℕ) (whole : List ℕ) → IsUtf8 whole → UnescapesTo escape whole [] whole
-unescapes_start escape whole utf8 = record { utf8 = utf8; joins = refl }
-
 -- the next character that unescaping keeps
 pub kept_other : (escape c : ℕ) (rest more : List ℕ) → IsUtf8 rest → rest ≡ encode c ++ more → eqb c escape ≡ false
     → unescaped (Some escape) (chars rest) ≡ c ∷ unescaped (Some escape) (chars more)
@@ -154,24 +148,8 @@ kept_last escape c rest more utf8 is same none =
     let next = next_char c rest more utf8 is in
     ap (unescaped (Some escape)) (next.0 ∙ ap (λ t. c ∷ chars t) (no_chars more none) ∙ ap (λ cs. c ∷ cs) chars-nil) ∙ unescaped_last (Some escape) c same
 
-pub kept_none : (escape : ℕ) (rest : List ℕ) → length rest ≡ 0 → unescaped (Some escape) (chars rest) ≡ []
-kept_none escape rest none = ap (λ t. unescaped (Some escape) (chars t)) (no_chars rest none) ∙ ap (unescaped (Some escape)) chars-nil
-
 pub shorter_by : (c : ℕ) (rest more : List ℕ) → rest ≡ encode c ++ more → length more < length rest
 shorter_by c rest more is = omega (arith, ap length is, length-append (encode c) more, length-encode c, len_utf8_bounds c)
-
-pub unescapes_more : (escape c : ℕ) (whole text rest more new : List ℕ) → UnescapesTo escape whole text rest → IsUtf8 more
-    → unescaped (Some escape) (chars rest) ≡ c ∷ unescaped (Some escape) (chars more) → new ≡ text ++ encode c → UnescapesTo escape whole new more
-unescapes_more escape c whole text rest more new so utf8 first grown =
-    let kept = encodes (unescaped (Some escape) (chars more)) in
-    record {
-      utf8 = utf8;
-      joins = so.joins ∙ ap (λ cs. text ++ encodes cs) first ∙ sym (append_assoc text (encode c) kept) ∙ ap (λ t. t ++ kept) (sym grown);
-    }
-
-pub unescapes_all : (escape : ℕ) (whole text rest : List ℕ) → UnescapesTo escape whole text rest → unescaped (Some escape) (chars rest) ≡ []
-    → text ≡ on_chars (unescaped (Some escape)) whole
-unescapes_all escape whole text rest so ended = sym (so.joins ∙ ap (λ cs. text ++ encodes cs) ended ∙ append-nil text)
 
 stays : (escape : Option ℕ) (cs : List ℕ) → NonePass (λ c. is_escape escape c) cs → unescaped escape cs ≡ cs
 stays escape [] none = refl
@@ -194,9 +172,6 @@ stays_without text utf8 = stays_as_it_is None text utf8 (chars text, encodes-cha
 -- the text of a string stays
 pub string_stays : {Z : Type 0} (text : String Z) → string_bytes text ≡ on_chars (λ cs. cs) (string_bytes text)
 string_stays text = sym (encodes-chars (string_bytes text) (IsUtf8-string_bytes text))
-
-escaped_nowhere : (is_break : ℕ → Bool) (kind : Quote) (cs : List ℕ) → escaped None is_break kind cs ≡ cs
-escaped_nowhere is_break kind cs = refl
 
 -- nothing is escaped without an escape character, or in single quotes
 pub stays_unescaped : {Z : Type 0} (text : String Z) (escape : Option ℕ) (is_break : ℕ → Bool) (kind : Quote) → escape ≡ None

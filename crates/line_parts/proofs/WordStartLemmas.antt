@@ -17,11 +17,6 @@ use Rattle.line_parts.specs.declared.completion.escapes.Quote.TheVariants as quo
 use Rattle.line_parts.proofs.WordLemmas.{is_same}
 use Rattle.line_parts.proofs.PieceLemmas.{and, both, made_append, made_nil, made_one, made_pieces}
 
--- a text of whole characters is made of pieces of a word
-pub record WordBehind (escape : Option ℕ) (is_break : ℕ → Bool) (tail : List ℕ) : Type 0 where
-  pub utf8 : IsUtf8 tail
-  pub word : is_made_of_pieces (is_word_piece escape is_break) (chars tail) ≡ true
-
 -- whether characters, read from the last one back, are pieces of a word
 abbrev back_word : Option ℕ → (ℕ → Bool) → List ℕ → Bool
 back_word escape is_break [] = true
