@@ -14,7 +14,6 @@ use std::test::Fail;
 use std::{fmt, result};
 
 /// How a configuration was made.
-#[derive(Clone, Copy, Debug)]
 enum Made {
     New,
     Builder,
@@ -73,7 +72,7 @@ fn built() -> Result<Builder> {
     )
 }
 
-fn config_by(how: Made) -> result::Result<Config, Fail> {
+fn config_by(how: &Made) -> result::Result<Config, Fail> {
     Ok(match how {
         Made::New => Config::new(GraphemeClusterMode::WcWidth),
         Made::Builder => Builder::new(GraphemeClusterMode::WcWidth).build(),
@@ -144,13 +143,6 @@ fn settings(config: &Config) -> Settings {
     )
 }
 
-fn reads_back(rt: &impl Abort, how: Made, wanted: &Settings) -> result::Result<(), Fail> {
-    let config = config_by(how)?;
-    assert_eq!(rt; settings(&config), *wanted, "{how:?}");
-    assert_eq!(rt; config, config_by(how)?, "{how:?}");
-    Ok(())
-}
-
 const DEFAULTS: Settings = (
     (100, HistoryDuplicates::IgnoreConsecutive, false, false),
     (CompletionType::Circular, 100, false),
@@ -209,8 +201,10 @@ const HOLDERS: &[(Made, Settings)] = &[
 
 #[test]
 fn are_read_back(rt: HostRuntime) -> result::Result<(), Fail> {
-    for (how, wanted) in HOLDERS {
-        reads_back(&rt, *how, wanted)?;
+    for (index, (how, wanted)) in HOLDERS.iter().enumerate() {
+        let config = config_by(how)?;
+        assert_eq!(&rt; settings(&config), *wanted, "{index}");
+        assert_eq!(&rt; config, config_by(how)?, "{index}");
     }
     assert_eq!(rt;
         (BellStyle::default(), Behavior::default()),
@@ -219,50 +213,8 @@ fn are_read_back(rt: HostRuntime) -> result::Result<(), Fail> {
     Ok(())
 }
 
-/// What the builder is told, one after another, and the timeout then.
-type Timed = (&'static [(Option<EditMode>, Option<u16>)], Option<u16>);
-
-/// Each step is a style, or else a timeout.
-fn times(rt: &impl Abort, case: &Timed) {
-    let (steps, timeout) = case;
-    let mut builder = Config::builder(GraphemeClusterMode::Unicode);
-    for (style, time) in *steps {
-        builder = match style {
-            Some(style) => builder.edit_mode(*style),
-            None => builder.keyseq_timeout(*time),
-        };
-    }
-    assert_eq!(rt; builder.build().keyseq_timeout(), *timeout);
-}
-
-const TIMED: &[Timed] = &[
-    (&[(None, Some(7)), (Some(EditMode::Vi), None)], Some(500)),
-    (&[(Some(EditMode::Vi), None), (None, Some(7))], Some(7)),
-    (
-        &[(Some(EditMode::Vi), None), (Some(EditMode::Emacs), None)],
-        None,
-    ),
-];
-
-#[test]
-fn the_style_sets_the_timeout(rt: HostRuntime) {
-    for case in TIMED {
-        times(&rt, case);
-    }
-}
-
 /// What is set, the value of `NO_COLOR`, and what is shown.
-type Colors = (ColorMode, Option<&'static str>, ColorMode);
-
-fn colors(rt: &impl Abort, case: Colors) {
-    let (set, value, shown) = case;
-    let config = Config::builder(GraphemeClusterMode::Unicode)
-        .color_mode(set)
-        .build();
-    assert_eq!(rt; config.color_mode(value), shown);
-}
-
-const COLORS: &[Colors] = &[
+const COLORS: &[(ColorMode, Option<&str>, ColorMode)] = &[
     (ColorMode::Enabled, Some("1"), ColorMode::Disabled),
     (ColorMode::Enabled, Some(""), ColorMode::Enabled),
     (ColorMode::Enabled, None, ColorMode::Enabled),
@@ -271,14 +223,32 @@ const COLORS: &[Colors] = &[
 ];
 
 #[test]
-fn no_color(rt: HostRuntime) {
-    for case in COLORS {
-        colors(&rt, *case);
+fn colors_and_timeouts(rt: HostRuntime) {
+    for (set, value, shown) in COLORS {
+        let config = Config::builder(GraphemeClusterMode::Unicode)
+            .color_mode(*set)
+            .build();
+        assert_eq!(&rt; config.color_mode(*value), *shown);
     }
+    // the style sets the timeout
+    let before = Config::builder(GraphemeClusterMode::Unicode)
+        .keyseq_timeout(Some(7))
+        .edit_mode(EditMode::Vi);
+    let behind = Config::builder(GraphemeClusterMode::Unicode)
+        .edit_mode(EditMode::Vi)
+        .keyseq_timeout(Some(7));
+    let back = Config::builder(GraphemeClusterMode::Unicode)
+        .edit_mode(EditMode::Vi)
+        .edit_mode(EditMode::Emacs);
+    let found = (
+        before.build().keyseq_timeout(),
+        behind.build().keyseq_timeout(),
+        back.build().keyseq_timeout(),
+    );
+    assert_eq!(rt; found, (Some(500), Some(7), None));
 }
 
 /// Where an error comes from.
-#[derive(Clone, Copy)]
 enum Cause {
     Eof,
     Interrupted,
@@ -292,7 +262,7 @@ enum Cause {
     OutOfMemory,
 }
 
-fn error_of(cause: Cause) -> ReadlineError {
+fn error_of(cause: &Cause) -> ReadlineError {
     match cause {
         Cause::Eof => ReadlineError::Eof,
         Cause::Interrupted => ReadlineError::Interrupted,
@@ -307,44 +277,59 @@ fn error_of(cause: Cause) -> ReadlineError {
     }
 }
 
-/// A cause, the text, if one is written down for it, and the kind of an error of input or output.
-type Error = (Cause, Option<&'static str>, Option<ErrorKind>);
-
-fn errors(rt: &impl Abort, alloc: Global, case: Error) -> result::Result<(), Fail> {
-    let (cause, text, kind) = case;
-    let error = error_of(cause);
-    let shown = format!(in alloc; "{error}")?;
-    assert_eq!(rt; shown.as_str(), text.unwrap_or(shown.as_str()));
-    let found = match error {
-        ReadlineError::Io(cause) => Some(cause.kind()),
-        _ => None,
-    };
-    assert_eq!(rt; found, kind, "{shown}");
-    Ok(())
-}
+/// A cause; the text and what `Debug` shows, where these are written down; and the kind of an error of input or output.
+type Error = (
+    Cause,
+    Option<&'static str>,
+    Option<&'static str>,
+    Option<ErrorKind>,
+);
 
 const ERRORS: &[Error] = &[
-    (Cause::Eof, Some("EOF"), None),
-    (Cause::Interrupted, Some("Interrupted"), None),
+    (Cause::Eof, Some("EOF"), Some("Eof"), None),
+    (
+        Cause::Interrupted,
+        Some("Interrupted"),
+        Some("Interrupted"),
+        None,
+    ),
     (
         Cause::OnFire,
         Some("the disk is on fire"),
+        None,
         Some(ErrorKind::Other),
     ),
-    (Cause::Memory, Some("out of memory"), None),
-    (Cause::Broken, Some("gone"), Some(ErrorKind::BrokenPipe)),
-    (Cause::Invalid, None, Some(ErrorKind::InvalidData)),
-    (Cause::Format, None, Some(ErrorKind::Other)),
-    (Cause::Refused, Some("out of memory"), None),
-    (Cause::RefusedWithValue, Some("out of memory"), None),
-    (Cause::OutOfMemory, Some("out of memory"), None),
+    (Cause::Memory, Some("out of memory"), Some("Memory"), None),
+    (
+        Cause::Broken,
+        Some("gone"),
+        None,
+        Some(ErrorKind::BrokenPipe),
+    ),
+    (Cause::Invalid, None, None, Some(ErrorKind::InvalidData)),
+    (Cause::Format, None, None, Some(ErrorKind::Other)),
+    (Cause::Refused, Some("out of memory"), None, None),
+    (Cause::RefusedWithValue, Some("out of memory"), None, None),
+    (Cause::OutOfMemory, Some("out of memory"), None, None),
 ];
 
 #[test]
 fn errors_by_their_cause(rt: HostRuntime) -> result::Result<(), Fail> {
-    for case in ERRORS {
-        errors(&rt, rt.alloc(), *case)?;
+    for (cause, text, name, kind) in ERRORS {
+        let error = error_of(cause);
+        let shown = format!(in rt.alloc(); "{error}")?;
+        let named = format!(in rt.alloc(); "{error:?}")?;
+        let found = match error {
+            ReadlineError::Io(cause) => Some(cause.kind()),
+            _ => None,
+        };
+        let (shown, named) = (shown.as_str(), named.as_str());
+        let wanted = (text.unwrap_or(shown), name.unwrap_or(named), *kind);
+        assert_eq!(&rt; (shown, named, found), wanted);
     }
+    let error = OutOfMemory;
+    let shown = format!(in rt.alloc(); "{error}")?;
+    assert_eq!(rt; shown.as_str(), "out of memory");
     Ok(())
 }
 

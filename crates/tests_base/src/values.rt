@@ -5,7 +5,8 @@ use line_buffer::{
     Movement, OutOfMemory, Position, Word, WordAction,
 };
 use line_config::{
-    Behavior, BellStyle, ColorMode, CompletionType, EditMode, HistoryDuplicates, ReadlineError,
+    Behavior, BellStyle, ColorMode, CompletionType, Config, EditMode, HistoryDuplicates,
+    ReadlineError,
 };
 use std::alloc::Global;
 use std::cmp::Ordering;
@@ -14,189 +15,144 @@ use std::io;
 use std::process::Abort;
 use std::test::Fail;
 
-/// Values of the list are equal where they stand at one place, a copy included.
-fn are_distinct<T: Copy + PartialEq>(rt: &impl Abort, values: &[T]) {
-    for (index, one) in values.iter().enumerate() {
-        for (place, other) in values.iter().enumerate() {
-            let copy = *other;
-            assert_eq!(rt; *one == copy, index == place, "{index} {place}");
-            assert_eq!(rt; *one != copy, index != place, "{index} {place}");
-        }
-    }
-}
-
-/// Each value is shown by its name.
-fn are_shown<T: Debug>(
+/// Each value is shown by its name, and is equal, a copy of it included, where it stands at the same place.
+fn are_distinct<T: Copy + PartialEq + Debug>(
     rt: &impl Abort,
     alloc: Global,
-    values: &[T],
-    names: &[&str],
+    values: &[(T, &str)],
 ) -> Result<(), Fail> {
-    assert_eq!(rt; values.len(), names.len());
-    for (value, name) in values.iter().zip(names) {
-        let shown = format!(in alloc; "{value:?}")?;
+    for (index, (one, name)) in values.iter().enumerate() {
+        let shown = format!(in alloc; "{one:?}")?;
         assert_eq!(rt; shown.as_str(), *name);
+        for (place, (other, _)) in values.iter().enumerate() {
+            let copy = *other;
+            let (found, wanted) = (*one == copy, index == place);
+            assert_eq!(rt; (found, *one != copy), (wanted, !wanted), "{name} {place}");
+        }
     }
     Ok(())
 }
 
-const WORDS: &[Word] = &[Word::Big, Word::Emacs, Word::Vi];
+const WORDS: &[(Word, &str)] = &[(Word::Big, "Big"), (Word::Emacs, "Emacs"), (Word::Vi, "Vi")];
 
-const PLACES: &[At] = &[At::Start, At::BeforeEnd, At::AfterEnd];
-
-const SEARCHES: &[CharSearch] = &[
-    CharSearch::Forward('a'),
-    CharSearch::ForwardBefore('a'),
-    CharSearch::Backward('a'),
-    CharSearch::BackwardAfter('a'),
-    CharSearch::Forward('b'),
-    CharSearch::ForwardBefore('b'),
-    CharSearch::Backward('b'),
-    CharSearch::BackwardAfter('b'),
+const PLACES: &[(At, &str)] = &[
+    (At::Start, "Start"),
+    (At::BeforeEnd, "BeforeEnd"),
+    (At::AfterEnd, "AfterEnd"),
 ];
 
-const MODES: &[Mode] = &[Mode::Append, Mode::Prepend];
-
-const CLUSTERS: &[GraphemeClusterMode] = &[
-    GraphemeClusterMode::Unicode,
-    GraphemeClusterMode::WcWidth,
-    GraphemeClusterMode::NoZwj,
+const SEARCHES: &[(CharSearch, &str)] = &[
+    (CharSearch::Forward('a'), "Forward('a')"),
+    (CharSearch::ForwardBefore('a'), "ForwardBefore('a')"),
+    (CharSearch::Backward('a'), "Backward('a')"),
+    (CharSearch::BackwardAfter('a'), "BackwardAfter('a')"),
+    (CharSearch::Forward('b'), "Forward('b')"),
+    (CharSearch::ForwardBefore('b'), "ForwardBefore('b')"),
+    (CharSearch::Backward('b'), "Backward('b')"),
+    (CharSearch::BackwardAfter('b'), "BackwardAfter('b')"),
 ];
 
-const ACTIONS: &[WordAction] = &[
-    WordAction::Capitalize,
-    WordAction::Lowercase,
-    WordAction::Uppercase,
+const MODES: &[(Mode, &str)] = &[(Mode::Append, "Append"), (Mode::Prepend, "Prepend")];
+
+const CLUSTERS: &[(GraphemeClusterMode, &str)] = &[
+    (GraphemeClusterMode::Unicode, "Unicode"),
+    (GraphemeClusterMode::WcWidth, "WcWidth"),
+    (GraphemeClusterMode::NoZwj, "NoZwj"),
 ];
 
-const SIDES: &[Direction] = &[Direction::Forward, Direction::Backward];
-
-const BELLS: &[BellStyle] = &[BellStyle::Audible, BellStyle::None, BellStyle::Visible];
-
-const DUPLICATES: &[HistoryDuplicates] = &[
-    HistoryDuplicates::AlwaysAdd,
-    HistoryDuplicates::IgnoreConsecutive,
+const ACTIONS: &[(WordAction, &str)] = &[
+    (WordAction::Capitalize, "Capitalize"),
+    (WordAction::Lowercase, "Lowercase"),
+    (WordAction::Uppercase, "Uppercase"),
 ];
 
-const COMPLETIONS: &[CompletionType] = &[CompletionType::Circular, CompletionType::List];
+const SIDES: &[(Direction, &str)] = &[
+    (Direction::Forward, "Forward"),
+    (Direction::Backward, "Backward"),
+];
 
-const STYLES: &[EditMode] = &[EditMode::Emacs, EditMode::Vi];
+const BELLS: &[(BellStyle, &str)] = &[
+    (BellStyle::Audible, "Audible"),
+    (BellStyle::None, "None"),
+    (BellStyle::Visible, "Visible"),
+];
 
-const COLORS: &[ColorMode] = &[ColorMode::Enabled, ColorMode::Forced, ColorMode::Disabled];
+const DUPLICATES: &[(HistoryDuplicates, &str)] = &[
+    (HistoryDuplicates::AlwaysAdd, "AlwaysAdd"),
+    (HistoryDuplicates::IgnoreConsecutive, "IgnoreConsecutive"),
+];
 
-const BEHAVIORS: &[Behavior] = &[Behavior::Stdio, Behavior::PreferTerm];
+const COMPLETIONS: &[(CompletionType, &str)] = &[
+    (CompletionType::Circular, "Circular"),
+    (CompletionType::List, "List"),
+];
+
+const STYLES: &[(EditMode, &str)] = &[(EditMode::Emacs, "Emacs"), (EditMode::Vi, "Vi")];
+
+const COLORS: &[(ColorMode, &str)] = &[
+    (ColorMode::Enabled, "Enabled"),
+    (ColorMode::Forced, "Forced"),
+    (ColorMode::Disabled, "Disabled"),
+];
+
+const BEHAVIORS: &[(Behavior, &str)] = &[
+    (Behavior::Stdio, "Stdio"),
+    (Behavior::PreferTerm, "PreferTerm"),
+];
 
 /// Places in their order: by row, then by column.
-const POSITIONS: &[Position] = &[
-    Position { row: 0, col: 0 },
-    Position { row: 0, col: 1 },
-    Position {
-        row: 0,
-        col: 65_535,
-    },
-    Position { row: 1, col: 0 },
-    Position { row: 1, col: 1 },
-    Position { row: 2, col: 0 },
-    Position {
-        row: 65_535,
-        col: 0,
-    },
+const POSITIONS: &[(Position, &str)] = &[
+    (Position { row: 0, col: 0 }, "Position { row: 0, col: 0 }"),
+    (Position { row: 0, col: 1 }, "Position { row: 0, col: 1 }"),
+    (Position { row: 0, col: 9 }, "Position { row: 0, col: 9 }"),
+    (
+        Position { row: 0, col: 65535 },
+        "Position { row: 0, col: 65535 }",
+    ),
+    (Position { row: 1, col: 0 }, "Position { row: 1, col: 0 }"),
+    (Position { row: 1, col: 1 }, "Position { row: 1, col: 1 }"),
+    (Position { row: 1, col: 2 }, "Position { row: 1, col: 2 }"),
+    (Position { row: 2, col: 0 }, "Position { row: 2, col: 0 }"),
+    (
+        Position { row: 65535, col: 0 },
+        "Position { row: 65535, col: 0 }",
+    ),
 ];
 
+/// No two of a list are equal, and positions are in order.
 #[test]
-fn no_two_of_the_line_are_equal(rt: HostRuntime) {
-    are_distinct(&rt, WORDS);
-    are_distinct(&rt, PLACES);
-    are_distinct(&rt, SEARCHES);
-    are_distinct(&rt, MODES);
-    are_distinct(&rt, CLUSTERS);
-    are_distinct(&rt, ACTIONS);
-    are_distinct(&rt, SIDES);
-    are_distinct(&rt, POSITIONS);
-    are_distinct(&rt, &[OutOfMemory]);
-}
-
-#[test]
-fn no_two_of_the_settings_are_equal(rt: HostRuntime) {
-    are_distinct(&rt, BELLS);
-    are_distinct(&rt, DUPLICATES);
-    are_distinct(&rt, COMPLETIONS);
-    are_distinct(&rt, STYLES);
-    are_distinct(&rt, COLORS);
-    are_distinct(&rt, BEHAVIORS);
-}
-
-#[test]
-fn debug_names_each_of_the_line(rt: HostRuntime) -> Result<(), Fail> {
+fn no_two_are_equal(rt: HostRuntime) -> Result<(), Fail> {
     let alloc = rt.alloc();
-    are_shown(&rt, alloc, WORDS, &["Big", "Emacs", "Vi"])?;
-    are_shown(&rt, alloc, PLACES, &["Start", "BeforeEnd", "AfterEnd"])?;
-    are_shown(
-        &rt,
-        alloc,
-        &[CharSearch::ForwardBefore('a')],
-        &["ForwardBefore('a')"],
-    )?;
-    are_shown(&rt, alloc, MODES, &["Append", "Prepend"])?;
-    are_shown(&rt, alloc, CLUSTERS, &["Unicode", "WcWidth", "NoZwj"])?;
-    are_shown(
-        &rt,
-        alloc,
-        ACTIONS,
-        &["Capitalize", "Lowercase", "Uppercase"],
-    )?;
-    are_shown(&rt, alloc, SIDES, &["Forward", "Backward"])?;
-    are_shown(&rt, alloc, &[OutOfMemory], &["OutOfMemory"])?;
-    are_shown(
-        &rt,
-        alloc,
-        &[Position { row: 1, col: 2 }],
-        &["Position { row: 1, col: 2 }"],
-    )
-}
-
-#[test]
-fn debug_names_each_of_the_settings(rt: HostRuntime) -> Result<(), Fail> {
-    let alloc = rt.alloc();
-    are_shown(&rt, alloc, BELLS, &["Audible", "None", "Visible"])?;
-    are_shown(&rt, alloc, DUPLICATES, &["AlwaysAdd", "IgnoreConsecutive"])?;
-    are_shown(&rt, alloc, COMPLETIONS, &["Circular", "List"])?;
-    are_shown(&rt, alloc, STYLES, &["Emacs", "Vi"])?;
-    are_shown(&rt, alloc, COLORS, &["Enabled", "Forced", "Disabled"])?;
-    are_shown(&rt, alloc, BEHAVIORS, &["Stdio", "PreferTerm"])?;
-    let errors = [
-        ReadlineError::Eof,
-        ReadlineError::Interrupted,
-        ReadlineError::Memory,
-    ];
-    are_shown(
-        &rt,
-        alloc,
-        errors.as_slice(),
-        &["Eof", "Interrupted", "Memory"],
-    )
-}
-
-/// By each comparison.
-#[test]
-fn positions_are_ordered(rt: HostRuntime) {
-    for (index, one) in POSITIONS.iter().enumerate() {
-        for (place, other) in POSITIONS.iter().enumerate() {
+    are_distinct(&rt, alloc, WORDS)?;
+    are_distinct(&rt, alloc, PLACES)?;
+    are_distinct(&rt, alloc, SEARCHES)?;
+    are_distinct(&rt, alloc, MODES)?;
+    are_distinct(&rt, alloc, CLUSTERS)?;
+    are_distinct(&rt, alloc, ACTIONS)?;
+    are_distinct(&rt, alloc, SIDES)?;
+    are_distinct(&rt, alloc, POSITIONS)?;
+    are_distinct(&rt, alloc, &[(OutOfMemory, "OutOfMemory")])?;
+    are_distinct(&rt, alloc, BELLS)?;
+    are_distinct(&rt, alloc, DUPLICATES)?;
+    are_distinct(&rt, alloc, COMPLETIONS)?;
+    are_distinct(&rt, alloc, STYLES)?;
+    are_distinct(&rt, alloc, COLORS)?;
+    are_distinct(&rt, alloc, BEHAVIORS)?;
+    // positions by each comparison; the defaults are looked at without a comparison of the type too
+    for (index, (one, name)) in POSITIONS.iter().enumerate() {
+        for (place, (other, _)) in POSITIONS.iter().enumerate() {
             let order = index.cmp(&place);
             let found = (one.cmp(other), one.partial_cmp(other), *one < *other);
             let wanted = (order, Some(order), order == Ordering::Less);
-            assert_eq!(rt; found, wanted, "{one:?} {other:?}");
+            assert_eq!(&rt; found, wanted, "{name} {place}");
         }
     }
-}
-
-/// The first is the default. It is looked at without a comparison of this type.
-#[test]
-fn defaults_are_the_first(rt: HostRuntime) {
     let origin = Position::default();
-    assert_eq!(rt; (origin.row, origin.col), (0, 0));
-    assert!(rt; matches!(BellStyle::default(), BellStyle::Audible));
-    assert!(rt; matches!(Behavior::default(), Behavior::Stdio));
+    assert_eq!(&rt; (origin.row, origin.col), (0, 0));
+    assert!(&rt; origin == Position { row: 0, col: 0 });
+    assert!(&rt; matches!(BellStyle::default(), BellStyle::Audible));
+    assert!(&rt; matches!(Behavior::default(), Behavior::Stdio));
+    Ok(())
 }
 
 /// Movements, and how each is shown.
@@ -268,60 +224,85 @@ fn no_two_movements_are_equal(rt: HostRuntime) -> Result<(), Fail> {
     Ok(())
 }
 
-/// A value is shown with these pieces.
-fn has_pieces<T: Debug>(
-    rt: &impl Abort,
-    alloc: Global,
-    value: &T,
-    pieces: &[&str],
-) -> Result<(), Fail> {
-    let shown = format!(in alloc; "{value:?}")?;
-    for piece in pieces {
-        assert!(rt; shown.as_str().contains(*piece), "{piece} in {shown}");
+/// A value that is shown in pieces.
+enum Shown {
+    Line,
+    Changes,
+    Ring,
+    Layout,
+    Error,
+    Config,
+    Builder,
+}
+
+fn text_of(alloc: Global, which: &Shown) -> Result<String, Fail> {
+    Ok(match which {
+        Shown::Line | Shown::Changes => {
+            let mut line = LineBuffer::init(alloc, "ab日", 2)?;
+            let mut changes = Changeset::new(alloc);
+            line.yank("xyz", 1, &mut changes)?;
+            match which {
+                Shown::Line => format!(in alloc; "{line:?}")?,
+                _ => format!(in alloc; "{changes:?}")?,
+            }
+        }
+        Shown::Ring => {
+            let mut ring = KillRing::new(alloc, 7);
+            ring.kill("uvw", Mode::Append)?;
+            format!(in alloc; "{ring:?}")?
+        }
+        Shown::Layout => {
+            let mut layout = Layout::new(GraphemeClusterMode::NoZwj);
+            layout.end = Position { row: 3, col: 4 };
+            format!(in alloc; "{layout:?}")?
+        }
+        Shown::Error => {
+            let error = ReadlineError::Io(io::Error::other("the disk is on fire"));
+            format!(in alloc; "{error:?}")?
+        }
+        Shown::Builder | Shown::Config => {
+            let builder = Config::builder(GraphemeClusterMode::Unicode).max_history_size(7)?;
+            match which {
+                Shown::Builder => format!(in alloc; "{builder:?}")?,
+                _ => format!(in alloc; "{:?}", builder.build())?,
+            }
+        }
+    })
+}
+
+const PIECES: &[(Shown, &str)] = &[
+    (Shown::Line, "LineBuffer"),
+    (Shown::Line, "\"abxyz日\""),
+    (Shown::Line, "5"),
+    (Shown::Changes, "Changeset"),
+    (Shown::Changes, "\"xyz\""),
+    (Shown::Changes, "2"),
+    (Shown::Ring, "KillRing"),
+    (Shown::Ring, "\"uvw\""),
+    (Shown::Ring, "7"),
+    (Shown::Layout, "Layout"),
+    (Shown::Layout, "NoZwj"),
+    (Shown::Layout, "end: Position { row: 3, col: 4 }"),
+    (Shown::Error, "Io"),
+    (Shown::Error, "the disk is on fire"),
+    (Shown::Config, "max_history_size: 7"),
+    (Shown::Config, "history_duplicates: IgnoreConsecutive"),
+    (Shown::Config, "keyseq_timeout: None"),
+    (Shown::Config, "edit_mode: Emacs"),
+    (Shown::Config, "tab_stop: 8"),
+    (Shown::Config, "enable_signals: false"),
+];
+
+/// What `Debug` shows. A builder is shown with its settings.
+#[test]
+fn debug_shows_each_piece(rt: HostRuntime) -> Result<(), Fail> {
+    for (which, piece) in PIECES {
+        let text = text_of(rt.alloc(), which)?;
+        assert!(&rt; text.as_str().contains(*piece), "{piece} in {text}");
     }
-    Ok(())
-}
-
-#[test]
-fn debug_shows_a_line(rt: HostRuntime) -> Result<(), Fail> {
-    let mut line = LineBuffer::init(rt.alloc(), "ab日", 2)?;
-    line.yank("xyz", 1, &mut Changeset::new(rt.alloc()))?;
-    has_pieces(&rt, rt.alloc(), &line, &["LineBuffer", "\"abxyz日\"", "5"])
-}
-
-#[test]
-fn debug_shows_changes(rt: HostRuntime) -> Result<(), Fail> {
-    let mut line = LineBuffer::init(rt.alloc(), "ab日", 2)?;
-    let mut changes = Changeset::new(rt.alloc());
-    line.yank("xyz", 1, &mut changes)?;
-    has_pieces(&rt, rt.alloc(), &changes, &["Changeset", "\"xyz\"", "2"])
-}
-
-#[test]
-fn debug_shows_a_kill_ring(rt: HostRuntime) -> Result<(), Fail> {
-    let mut ring = KillRing::new(rt.alloc(), 7);
-    ring.kill("uvw", Mode::Append)?;
-    has_pieces(&rt, rt.alloc(), &ring, &["KillRing", "\"uvw\"", "7"])
-}
-
-#[test]
-fn debug_shows_a_layout(rt: HostRuntime) -> Result<(), Fail> {
-    let mut layout = Layout::new(GraphemeClusterMode::NoZwj);
-    layout.end = Position { row: 3, col: 4 };
-    let pieces = ["Layout", "NoZwj", "end: Position { row: 3, col: 4 }"];
-    has_pieces(&rt, rt.alloc(), &layout, pieces.as_slice())
-}
-
-#[test]
-fn debug_shows_an_error(rt: HostRuntime) -> Result<(), Fail> {
-    let error = ReadlineError::Io(io::Error::other("the disk is on fire"));
-    has_pieces(&rt, rt.alloc(), &error, &["Io", "the disk is on fire"])
-}
-
-#[test]
-fn want_of_memory_is_displayed(rt: HostRuntime) -> Result<(), Fail> {
-    let error = OutOfMemory;
-    let shown = format!(in rt.alloc(); "{error}")?;
-    assert_eq!(rt; shown.as_str(), "out of memory");
+    let builder = text_of(rt.alloc(), &Shown::Builder)?;
+    let config = text_of(rt.alloc(), &Shown::Config)?;
+    assert!(&rt; builder.as_str().contains(config.as_str()));
+    assert!(&rt; builder.as_str().starts_with("Builder") && config.as_str().starts_with("Config"));
     Ok(())
 }

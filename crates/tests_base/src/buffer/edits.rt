@@ -1,22 +1,37 @@
-//! Changes of the text.
-ghost use Rattle.std.specs.Prelude.{IfOk, OnOk};
+//! Changes of the text: calls on a line, one after another, and what each of them leaves.
+ghost use Rattle.std.specs.Prelude.{OnOk};
 ghost use Rattle.line_buffer.specs.Undo.{Tells};
 
-use super::line_at;
+use self::Call::*;
+use self::Edit::*;
+use self::Line::*;
+use self::Wanted::*;
+use super::{FAMILY, indents, large, line_at, text_of, undo};
+use line_buffer::WordAction::*;
 use line_buffer::{Changeset, LineBuffer, Movement, OutOfMemory, RepeatCount, WordAction};
 use std::alloc::Global;
 use std::process::Abort;
 use std::test::Fail;
 
+/// A call that is handed a text.
+pub(super) enum Call {
+    InsertText(usize),
+    Yank(RepeatCount),
+    YankPop(usize),
+    Update(usize),
+    Replace(usize, usize),
+}
+
 /// A call that changes the text, its groups of changes, or takes changes back.
 pub(super) enum Edit {
     Insert(char, RepeatCount),
-    InsertText(usize, &'static str),
-    Yank(&'static str, RepeatCount),
-    YankPop(usize, &'static str),
-    Update(&'static str, usize),
-    Replace(usize, usize, &'static str),
+    /// So many of a character, and the cursor is then set to a place.
+    Written(char, RepeatCount, usize),
+    Text(Call, &'static str),
+    /// The text that is handed to the call has 4,000 bytes.
+    Much(Call),
     Delete(RepeatCount),
+    Discard(RepeatCount),
     Go(usize),
     TransposeChars,
     TransposeWords(RepeatCount),
@@ -25,45 +40,46 @@ pub(super) enum Edit {
     Dedent(Movement, usize),
     Begin,
     End,
+    /// A group with a character typed in it.
+    Group,
     Undo(RepeatCount),
 }
 
-/// Makes a call that names a place; none for another step.
-fn placed(
+/// Makes a call that is handed this text. Its answer, where it has one.
+fn handed(
     rt: &impl Abort,
     line: &mut LineBuffer,
     changes: &mut Changeset,
-    step: &Edit,
-) -> Result<(), OutOfMemory>
+    call: &Call,
+    text: &str,
+) -> Result<Option<bool>, OutOfMemory>
     requires { Tells changes.old.entries line.old.text }
     ensures { OnOk result (Tells changes.new.entries line.new.text) }
 {
-    match step {
-        Edit::InsertText(place, text) => {
+    match call {
+        Yank(n) => return line.yank(text, *n, changes),
+        YankPop(size) => return line.yank_pop(*size, text, changes),
+        InsertText(place) => {
             assert!(rt; line.as_str().is_char_boundary(*place) && line.pos() <= *place);
-            line.insert_str(*place, text, changes)
+            line.insert_str(*place, text, changes)?;
         }
-        Edit::Update(text, pos) => {
+        Update(pos) => {
             assert!(rt; text.is_char_boundary(*pos));
-            line.update(text, *pos, changes)
+            line.update(text, *pos, changes)?;
         }
-        Edit::Replace(start, end, text) => {
+        Replace(start, end) => {
             assert!(rt; start <= end && line.as_str().is_char_boundary(*start));
             assert!(rt; line.as_str().is_char_boundary(*end));
-            line.replace(*start..*end, text, changes)
+            line.replace(*start..*end, text, changes)?;
         }
-        Edit::Go(place) => {
-            assert!(rt; line.as_str().is_char_boundary(*place));
-            line.set_pos(*place);
-            Ok(())
-        }
-        _ => Ok(()),
     }
+    Ok(None)
 }
 
 /// Makes the call. Its answer, where it has one.
 pub(super) fn edited(
     rt: &impl Abort,
+    alloc: Global,
     line: &mut LineBuffer,
     changes: &mut Changeset,
     step: &Edit,
@@ -72,313 +88,283 @@ pub(super) fn edited(
     ensures { OnOk result (Tells changes.new.entries line.new.text) }
 {
     let answer = match step {
-        Edit::Insert(c, n) => line.insert(*c, *n, changes)?,
-        Edit::Yank(text, n) => return line.yank(text, *n, changes),
-        Edit::YankPop(size, text) => return line.yank_pop(*size, text, changes),
-        Edit::Delete(n) => line.delete(*n, changes)?.is_some(),
-        Edit::TransposeChars => line.transpose_chars(changes)?,
-        Edit::TransposeWords(n) => line.transpose_words(*n, changes)?,
-        Edit::EditWord(action) => line.edit_word(*action, changes)?,
-        Edit::Indent(mvt, amount) => line.indent(mvt, *amount, false, changes)?,
-        Edit::Dedent(mvt, amount) => line.indent(mvt, *amount, true, changes)?,
-        Edit::Begin => {
-            changes.begin()?;
-            return Ok(None);
-        }
-        Edit::End => changes.end()?,
-        Edit::Undo(n) => changes.undo(line, *n)?,
-        _ => {
-            placed(rt, line, changes, step)?;
-            return Ok(None);
-        }
+        Insert(c, n) => line.insert(*c, *n, changes)?,
+        Delete(n) => line.delete(*n, changes)?.is_some(),
+        Discard(n) => line.discard(*n, changes)?,
+        TransposeChars => line.transpose_chars(changes)?,
+        TransposeWords(n) => line.transpose_words(*n, changes)?,
+        EditWord(action) => line.edit_word(*action, changes)?,
+        Indent(mvt, amount) => line.indent(mvt, *amount, false, changes)?,
+        Dedent(mvt, amount) => line.indent(mvt, *amount, true, changes)?,
+        End => changes.end()?,
+        Undo(n) => changes.undo(line, *n)?,
+        _ => return composed(rt, alloc, line, changes, step),
     };
     Ok(Some(answer))
 }
 
-/// Makes the calls in order. The last one's answer, where it has one.
-pub(super) fn all_edited(
+/// Makes a call that answers nothing or is handed a text, or several calls.
+fn composed(
     rt: &impl Abort,
+    alloc: Global,
     line: &mut LineBuffer,
     changes: &mut Changeset,
-    steps: &[Edit],
+    step: &Edit,
 ) -> Result<Option<bool>, OutOfMemory>
     requires { Tells changes.old.entries line.old.text }
     ensures { OnOk result (Tells changes.new.entries line.new.text) }
 {
-    let mut answer = None;
-    for step in steps {
-        answer = edited(rt, line, changes, step)?;
+    match step {
+        Text(call, text) => return handed(rt, line, changes, call, text),
+        Much(call) => {
+            let text = text_of(alloc, "日 ", 1_000)?;
+            return handed(rt, line, changes, call, text.as_str());
+        }
+        Written(c, n, place) => {
+            let _ = line.insert(*c, *n, changes)?;
+            assert!(rt; line.as_str().is_char_boundary(*place));
+            line.set_pos(*place);
+        }
+        Go(place) => {
+            assert!(rt; line.as_str().is_char_boundary(*place));
+            line.set_pos(*place);
+        }
+        Begin => changes.begin()?,
+        Group => {
+            changes.begin()?;
+            let _ = line.insert('a', 1, changes)?;
+            return Ok(Some(changes.end()?));
+        }
+        _ => {}
     }
-    Ok(answer)
+    Ok(None)
 }
 
-/// The line, its changes and the last answer after the calls.
-pub(super) fn after(
+/// Which line a call is made on.
+pub(super) enum Line {
+    /// A new one, with this text and the cursor there.
+    On(&'static str, usize),
+    /// The one that the row before left.
+    Then,
+    /// A new one that is empty; the call is made so many times.
+    Often(usize),
+}
+
+/// What is looked at after a call.
+pub(super) enum Wanted {
+    Any,
+    /// The last answer, the text, the cursor and how many entries there are.
+    Is(Option<bool>, &'static str, usize, usize),
+    /// So, with the length of the text in its place.
+    Long(Option<bool>, usize, usize, usize),
+    /// The answer and the text.
+    Back(bool, &'static str),
+}
+
+/// A call on a line, and what it leaves.
+pub(super) type Row = (Line, Edit, Wanted);
+
+fn leaves(
     rt: &impl Abort,
     alloc: Global,
-    text: &str,
-    pos: usize,
-    steps: &[Edit],
-) -> Result<(LineBuffer, Changeset, Option<bool>), Fail>
-    ensures { IfOk result (λ r. Tells r.1.entries r.0.text) }
+    line: &mut LineBuffer,
+    changes: &mut Changeset,
+    row: &Row,
+) -> Result<(), Fail>
+    requires { Tells changes.old.entries line.old.text }
+    ensures { OnOk result (Tells changes.new.entries line.new.text) }
 {
-    let mut line = line_at(rt, alloc, text, pos)?;
-    let mut changes = Changeset::new(alloc);
-    let answer = all_edited(rt, &mut line, &mut changes, steps)?;
-    Ok((line, changes, answer))
-}
-
-/// A text, the cursor, the calls; the last answer, the text, the cursor and how many entries there are then.
-pub(super) type Case = (
-    &'static str,
-    usize,
-    &'static [Edit],
-    Option<bool>,
-    &'static str,
-    usize,
-    usize,
-);
-
-pub(super) fn edits(rt: &impl Abort, alloc: Global, case: &Case) -> Result<(), Fail> {
-    let (text, pos, steps, answer, left, cursor, entries) = case;
-    let (line, changes, last) = after(rt, alloc, text, *pos, steps)?;
-    let found = (last, line.as_str(), line.pos(), changes.len());
-    assert_eq!(rt;
-        found,
-        (*answer, *left, *cursor, *entries),
-        "from {pos} in {text:?}"
-    );
-    Ok(())
-}
-
-const INSERTS: &[Case] = &[
-    ("", 0, &[Edit::Insert('x', 0)], Some(true), "", 0, 0),
-    ("", 0, &[Edit::Insert('x', 1)], Some(true), "x", 1, 1),
-    ("ab", 1, &[Edit::Insert('é', 3)], Some(false), "aéééb", 7, 1),
-    ("ab", 2, &[Edit::Insert('日', 1)], Some(true), "ab日", 5, 1),
-    (
-        "ab",
-        0,
-        &[Edit::Insert('\n', 2)],
-        Some(false),
-        "\n\nab",
-        2,
-        1,
-    ),
-];
-
-#[test]
-fn inserts(rt: HostRuntime) -> Result<(), Fail> {
-    for case in INSERTS {
-        edits(&rt, rt.alloc(), case)?;
+    let (start, step, wanted) = row;
+    let times = match start {
+        Then => 1,
+        On(text, pos) => {
+            *line = line_at(rt, alloc, text, *pos)?;
+            *changes = Changeset::new(alloc);
+            1
+        }
+        Often(times) => {
+            *line = LineBuffer::new(alloc);
+            *changes = Changeset::new(alloc);
+            *times
+        }
+    };
+    let mut answer = None;
+    for _time in 0..times {
+        answer = edited(rt, alloc, line, changes, step)?;
     }
+    is_left(rt, line, changes, answer, wanted);
     Ok(())
 }
 
-/// Calls that change nothing, or put nothing in: none of them is an error.
-const NOTHING: &[Case] = &[
-    ("ab", 1, &[Edit::Update("", 0)], None, "", 0, 1),
-    ("", 0, &[Edit::Update("", 0)], None, "", 0, 0),
-    ("ab", 1, &[Edit::Replace(1, 2, "")], None, "a", 1, 1),
-    ("ab", 1, &[Edit::Yank("x", 0)], Some(false), "ab", 1, 0),
-    ("ab", 2, &[Edit::Yank("x", 0)], Some(true), "ab", 2, 0),
-    ("ab", 1, &[Edit::YankPop(0, "x")], Some(false), "axb", 2, 1),
-    ("ab", 1, &[Edit::YankPop(1, "")], None, "b", 0, 1),
-    ("ab", 1, &[Edit::Delete(0)], Some(false), "ab", 1, 0),
-    ("", 0, &[Edit::Delete(9)], Some(false), "", 0, 0),
-    ("", 0, &[Edit::TransposeChars], Some(false), "", 0, 0),
-    ("", 0, &[Edit::TransposeWords(1)], Some(false), "", 0, 0),
-    (
-        "",
-        0,
-        &[Edit::EditWord(WordAction::Uppercase)],
-        Some(false),
-        "",
-        0,
-        0,
-    ),
-    (
-        "--",
-        1,
-        &[Edit::EditWord(WordAction::Lowercase)],
-        Some(false),
-        "--",
-        1,
-        0,
-    ),
-];
+/// The last answer, the line and its changes are those that are wanted.
+fn is_left(
+    rt: &impl Abort,
+    line: &LineBuffer,
+    changes: &Changeset,
+    answer: Option<bool>,
+    wanted: &Wanted,
+) {
+    let (text, place, entries) = (line.as_str(), line.pos(), changes.len());
+    match *wanted {
+        Any => {}
+        Is(last, left, cursor, count) => {
+            assert_eq!(rt; (answer, text, place, entries), (last, left, cursor, count));
+        }
+        Long(last, len, cursor, count) => {
+            assert_eq!(rt;
+                (answer, text.len(), place, entries),
+                (last, len, cursor, count)
+            );
+        }
+        Back(last, left) => assert_eq!(rt; (answer, text), (Some(last), left)),
+    }
+}
 
 #[test]
-fn nothing(rt: HostRuntime) -> Result<(), Fail> {
-    for case in NOTHING {
-        edits(&rt, rt.alloc(), case)?;
+fn leave_a_line_and_its_changes(rt: HostRuntime) -> Result<(), Fail> {
+    let mut line = LineBuffer::new(rt.alloc());
+    let mut changes = Changeset::new(rt.alloc());
+    for table in [ROWS, undo::ROWS, indents::ROWS, large::ROWS] {
+        for row in table {
+            leaves(&rt, rt.alloc(), &mut line, &mut changes, row)?;
+        }
     }
     Ok(())
 }
 
 const WORDS: &str = "foo bar baz";
 
-const EXCHANGES: &[Case] = &[
-    ("abc", 1, &[Edit::TransposeChars], Some(true), "bac", 2, 1),
-    ("abc", 3, &[Edit::TransposeChars], Some(true), "acb", 3, 1),
-    ("abc", 0, &[Edit::TransposeChars], Some(false), "abc", 0, 0),
-    ("a", 1, &[Edit::TransposeChars], Some(false), "a", 1, 0),
+const ROWS: &[Row] = &[
+    // inserts
+    (On("", 0), Insert('x', 0), Is(Some(true), "", 0, 0)),
+    (On("", 0), Insert('x', 1), Is(Some(true), "x", 1, 1)),
+    (On("ab", 1), Insert('é', 3), Is(Some(false), "aéééb", 7, 1)),
+    (On("ab", 2), Insert('日', 1), Is(Some(true), "ab日", 5, 1)),
     (
-        "日e\u{301}x",
-        3,
-        &[Edit::TransposeChars],
-        Some(true),
-        "e\u{301}日x",
-        6,
-        1,
+        On("ab", 0),
+        Insert('\n', 2),
+        Is(Some(false), "\n\nab", 2, 1),
+    ),
+    // calls that change nothing, or put nothing in: none of them is an error
+    (On("ab", 1), Text(Update(0), ""), Is(None, "", 0, 1)),
+    (On("", 0), Text(Update(0), ""), Is(None, "", 0, 0)),
+    (On("ab", 1), Text(Replace(1, 2), ""), Is(None, "a", 1, 1)),
+    (On("ab", 1), Text(Yank(0), "x"), Is(Some(false), "ab", 1, 0)),
+    (On("ab", 2), Text(Yank(0), "x"), Is(Some(true), "ab", 2, 0)),
+    (
+        On("ab", 1),
+        Text(YankPop(0), "x"),
+        Is(Some(false), "axb", 2, 1),
+    ),
+    (On("ab", 1), Text(YankPop(1), ""), Is(None, "b", 0, 1)),
+    (On("ab", 1), Delete(0), Is(Some(false), "ab", 1, 0)),
+    (On("", 0), Delete(9), Is(Some(false), "", 0, 0)),
+    (On("", 0), TransposeChars, Is(Some(false), "", 0, 0)),
+    (On("", 0), TransposeWords(1), Is(Some(false), "", 0, 0)),
+    (On("", 0), EditWord(Uppercase), Is(Some(false), "", 0, 0)),
+    (
+        On("--", 1),
+        EditWord(Lowercase),
+        Is(Some(false), "--", 1, 0),
+    ),
+    // exchanges
+    (On("abc", 1), TransposeChars, Is(Some(true), "bac", 2, 1)),
+    (On("abc", 3), TransposeChars, Is(Some(true), "acb", 3, 1)),
+    (On("abc", 0), TransposeChars, Is(Some(false), "abc", 0, 0)),
+    (On("a", 1), TransposeChars, Is(Some(false), "a", 1, 0)),
+    (
+        On("日e\u{301}x", 3),
+        TransposeChars,
+        Is(Some(true), "e\u{301}日x", 6, 1),
     ),
     (
-        WORDS,
-        5,
-        &[Edit::TransposeWords(1)],
-        Some(true),
-        "bar foo baz",
-        7,
-        1,
+        On(WORDS, 5),
+        TransposeWords(1),
+        Is(Some(true), "bar foo baz", 7, 1),
     ),
     (
-        WORDS,
-        5,
-        &[Edit::TransposeWords(2)],
-        Some(true),
-        "baz bar foo",
-        11,
-        1,
+        On(WORDS, 5),
+        TransposeWords(2),
+        Is(Some(true), "baz bar foo", 11, 1),
     ),
     (
-        WORDS,
-        3,
-        &[Edit::TransposeWords(1)],
-        Some(true),
-        "bar foo baz",
-        7,
-        1,
+        On(WORDS, 3),
+        TransposeWords(1),
+        Is(Some(true), "bar foo baz", 7, 1),
     ),
     (
-        WORDS,
-        0,
-        &[Edit::TransposeWords(1)],
-        Some(false),
-        WORDS,
-        3,
-        0,
+        On(WORDS, 0),
+        TransposeWords(1),
+        Is(Some(false), WORDS, 3, 0),
     ),
+    // letters of a word
+    (
+        On("foo bar", 3),
+        EditWord(Uppercase),
+        Is(Some(true), "foo BAR", 7, 1),
+    ),
+    (
+        On("FOO-BAR", 0),
+        EditWord(Lowercase),
+        Is(Some(true), "foo-BAR", 3, 1),
+    ),
+    (
+        On("- éfOO x", 0),
+        EditWord(Capitalize),
+        Is(Some(true), "- éfoo x", 7, 1),
+    ),
+    (
+        On("- xfOO", 1),
+        EditWord(Capitalize),
+        Is(Some(true), "- Xfoo", 6, 1),
+    ),
+    (
+        On(" - ", 0),
+        EditWord(Uppercase),
+        Is(Some(false), " - ", 0, 0),
+    ),
+    // texts that are put in
+    (
+        On("aéb", 1),
+        Text(InsertText(1), "xy"),
+        Is(None, "axyéb", 1, 1),
+    ),
+    (On("axyéb", 1), Text(Yank(3), ""), Is(None, "axyéb", 1, 0)),
+    (
+        On("axyéb", 1),
+        Text(Yank(2), "-"),
+        Is(Some(false), "a--xyéb", 3, 1),
+    ),
+    (
+        On("a--xyéb", 3),
+        Text(YankPop(4), "q"),
+        Is(None, "a--xyéb", 3, 0),
+    ),
+    (
+        On("a--xyéb", 3),
+        Text(YankPop(2), "q"),
+        Is(Some(false), "aqxyéb", 2, 2),
+    ),
+    (On("aqxyéb", 2), Text(Update(2), "éz"), Is(None, "éz", 2, 2)),
+    (On("éz", 2), Text(YankPop(1), "q"), Is(None, "éz", 2, 0)),
+    (On("éz", 2), Delete(1), Is(Some(true), "é", 2, 1)),
+    (On("é", 2), Delete(1), Is(Some(false), "é", 2, 0)),
+    (
+        On("é", 2),
+        Text(Replace(0, 2), "uvw"),
+        Is(None, "uvw", 3, 1),
+    ),
+    // the greatest count
+    (On("", 0), Insert('x', 65535), Any),
+    (Then, Undo(1), Is(Some(true), "", 0, 0)),
+    (On("é", 0), Insert('日', 65535), Any),
+    (Then, Undo(1), Is(Some(true), "é", 0, 0)),
+    (On("", 0), Text(Yank(65535), "ab"), Any),
+    (Then, Undo(1), Is(Some(true), "", 0, 0)),
+    // clusters that go, with no text given
+    (On("éz", 2), Discard(1), Is(Some(true), "é", 2, 1)),
+    (On("éz", 0), Discard(9), Is(Some(true), "", 0, 1)),
+    (On("éz", 3), Discard(1), Is(Some(false), "éz", 3, 0)),
+    (On("éz", 0), Discard(0), Is(Some(false), "éz", 0, 0)),
+    (On(FAMILY, 1), Discard(1), Is(Some(true), "ab", 1, 1)),
 ];
-
-#[test]
-fn exchanges(rt: HostRuntime) -> Result<(), Fail> {
-    for case in EXCHANGES {
-        edits(&rt, rt.alloc(), case)?;
-    }
-    Ok(())
-}
-
-const UPPER: &[Edit] = &[Edit::EditWord(WordAction::Uppercase)];
-
-const LOWER: &[Edit] = &[Edit::EditWord(WordAction::Lowercase)];
-
-const CAPITAL: &[Edit] = &[Edit::EditWord(WordAction::Capitalize)];
-
-const LETTERS: &[Case] = &[
-    ("foo bar", 3, UPPER, Some(true), "foo BAR", 7, 1),
-    ("FOO-BAR", 0, LOWER, Some(true), "foo-BAR", 3, 1),
-    ("- éfOO x", 0, CAPITAL, Some(true), "- éfoo x", 7, 1),
-    ("- xfOO", 1, CAPITAL, Some(true), "- Xfoo", 6, 1),
-    (" - ", 0, UPPER, Some(false), " - ", 0, 0),
-];
-
-#[test]
-fn letters_of_a_word(rt: HostRuntime) -> Result<(), Fail> {
-    for case in LETTERS {
-        edits(&rt, rt.alloc(), case)?;
-    }
-    Ok(())
-}
-
-const PUTS: &[Case] = &[
-    ("aéb", 1, &[Edit::InsertText(1, "xy")], None, "axyéb", 1, 1),
-    ("axyéb", 1, &[Edit::Yank("", 3)], None, "axyéb", 1, 0),
-    (
-        "axyéb",
-        1,
-        &[Edit::Yank("-", 2)],
-        Some(false),
-        "a--xyéb",
-        3,
-        1,
-    ),
-    (
-        "a--xyéb",
-        3,
-        &[Edit::YankPop(4, "q")],
-        None,
-        "a--xyéb",
-        3,
-        0,
-    ),
-    (
-        "a--xyéb",
-        3,
-        &[Edit::YankPop(2, "q")],
-        Some(false),
-        "aqxyéb",
-        2,
-        2,
-    ),
-    ("aqxyéb", 2, &[Edit::Update("éz", 2)], None, "éz", 2, 2),
-    ("éz", 2, &[Edit::YankPop(1, "q")], None, "éz", 2, 0),
-    ("éz", 2, &[Edit::Delete(1)], Some(true), "é", 2, 1),
-    ("é", 2, &[Edit::Delete(1)], Some(false), "é", 2, 0),
-    ("é", 2, &[Edit::Replace(0, 2, "uvw")], None, "uvw", 3, 1),
-];
-
-#[test]
-fn puts_texts_in(rt: HostRuntime) -> Result<(), Fail> {
-    for case in PUTS {
-        edits(&rt, rt.alloc(), case)?;
-    }
-    Ok(())
-}
-
-const GREATEST: &[Case] = &[
-    (
-        "",
-        0,
-        &[Edit::Insert('x', 65535), Edit::Undo(1)],
-        Some(true),
-        "",
-        0,
-        0,
-    ),
-    (
-        "é",
-        0,
-        &[Edit::Insert('日', 65535), Edit::Undo(1)],
-        Some(true),
-        "é",
-        0,
-        0,
-    ),
-    (
-        "",
-        0,
-        &[Edit::Yank("ab", 65535), Edit::Undo(1)],
-        Some(true),
-        "",
-        0,
-        0,
-    ),
-];
-
-#[test]
-fn the_greatest_count(rt: HostRuntime) -> Result<(), Fail> {
-    for case in GREATEST {
-        edits(&rt, rt.alloc(), case)?;
-    }
-    Ok(())
-}

@@ -1,406 +1,292 @@
-//! Indents and dedents.
+//! Indents and dedents. Where there is a second row, all of the first is taken back.
 
-use super::edits::Edit::{self, *};
-use super::edits::{Case, after, edited, edits};
+use super::edits::Edit::*;
+use super::edits::Line::*;
+use super::edits::Row;
+use super::edits::Wanted::*;
 use line_buffer::At::*;
 use line_buffer::Movement::*;
 use line_buffer::Word::*;
-use std::alloc::Global;
-use std::process::Abort;
-use std::test::Fail;
-
-/// The case, and that all of it can be taken back.
-fn shifts(rt: &impl Abort, alloc: Global, case: &Case) -> Result<(), Fail> {
-    let (text, pos, steps, answer, left, cursor, entries) = case;
-    let (mut line, mut changes, last) = after(rt, alloc, text, *pos, steps)?;
-    let found = (last, line.as_str(), line.pos(), changes.len());
-    assert_eq!(rt; found, (*answer, *left, *cursor, *entries));
-    let undone = edited(rt, &mut line, &mut changes, &Edit::Undo(9))?;
-    assert_eq!(rt; (line.as_str(), undone), (*text, Some(*entries > 0)));
-    Ok(())
-}
-
-const ONE_LINE: &[Case] = &[
-    ("ab", 0, &[Indent(WholeLine, 2)], Some(true), "  ab", 2, 1),
-    ("ab", 1, &[Indent(WholeLine, 2)], Some(true), "  ab", 3, 1),
-    ("ab", 2, &[Indent(WholeLine, 2)], Some(true), "  ab", 4, 1),
-    ("ab", 1, &[Indent(WholeLine, 0)], Some(true), "ab", 1, 0),
-    ("", 0, &[Indent(WholeBuffer, 3)], Some(true), "   ", 3, 1),
-    (
-        "ab\ncd",
-        1,
-        &[Indent(ForwardChar(9), 2)],
-        Some(true),
-        "  ab\ncd",
-        3,
-        1,
-    ),
-    (
-        "ab\ncd",
-        3,
-        &[Indent(BackwardChar(2), 2)],
-        Some(true),
-        "ab\n  cd",
-        5,
-        1,
-    ),
-    (
-        "ab\ncd",
-        5,
-        &[Indent(ViFirstPrint, 2)],
-        Some(true),
-        "ab\n  cd",
-        7,
-        1,
-    ),
-    (
-        "ab\ncd",
-        0,
-        &[Indent(EndOfLine, 2)],
-        Some(true),
-        "  ab\ncd",
-        2,
-        1,
-    ),
-    (
-        "ab\ncd",
-        5,
-        &[Indent(BeginningOfLine, 1)],
-        Some(true),
-        "ab\n cd",
-        6,
-        1,
-    ),
-    (
-        "ab\ncd",
-        5,
-        &[Indent(EndOfBuffer, 2)],
-        Some(true),
-        "ab\n  cd",
-        7,
-        1,
-    ),
-    (
-        "ab\ncd",
-        0,
-        &[Indent(BeginningOfBuffer, 2)],
-        Some(true),
-        "  ab\ncd",
-        2,
-        1,
-    ),
-    (
-        "a\nb\nc",
-        0,
-        &[Indent(LineUp(1), 1)],
-        Some(true),
-        " a\nb\nc",
-        1,
-        1,
-    ),
-    (
-        "a\nb\nc",
-        4,
-        &[Indent(LineDown(1), 1)],
-        Some(true),
-        "a\nb\n c",
-        5,
-        1,
-    ),
-];
-
-#[test]
-fn of_the_cursors_line(rt: HostRuntime) -> Result<(), Fail> {
-    for case in ONE_LINE {
-        shifts(&rt, rt.alloc(), case)?;
-    }
-    Ok(())
-}
-
-const EACH_LINE: &[Case] = &[
-    (
-        "a\n\nbc",
-        4,
-        &[Indent(WholeBuffer, 2)],
-        Some(true),
-        "  a\n  \n  bc",
-        10,
-        3,
-    ),
-    (
-        "a\n\nbc",
-        2,
-        &[Indent(WholeBuffer, 1)],
-        Some(true),
-        " a\n \n bc",
-        4,
-        3,
-    ),
-    (
-        "ab\n",
-        3,
-        &[Indent(WholeBuffer, 2)],
-        Some(true),
-        "  ab\n",
-        5,
-        1,
-    ),
-    (
-        "日\né",
-        4,
-        &[Indent(WholeBuffer, 1)],
-        Some(true),
-        " 日\n é",
-        6,
-        2,
-    ),
-    (
-        "a\nb\nc",
-        0,
-        &[Indent(LineDown(1), 1)],
-        Some(true),
-        " a\n b\nc",
-        1,
-        2,
-    ),
-    (
-        "a\nb\nc",
-        2,
-        &[Indent(LineDown(1), 1)],
-        Some(true),
-        "a\n b\n c",
-        3,
-        2,
-    ),
-    (
-        "a\nb\nc",
-        4,
-        &[Indent(LineUp(1), 1)],
-        Some(true),
-        "a\n b\n c",
-        6,
-        2,
-    ),
-    (
-        "ab\ncd",
-        0,
-        &[Indent(ForwardWord(2, AfterEnd, Emacs), 2)],
-        Some(true),
-        "  ab\n  cd",
-        2,
-        2,
-    ),
-    (
-        "ab\ncd",
-        0,
-        &[Indent(ForwardWord(1, Start, Vi), 2)],
-        Some(true),
-        "  ab\ncd",
-        2,
-        1,
-    ),
-    (
-        "ab\ncd",
-        3,
-        &[Indent(BackwardWord(1, Emacs), 2)],
-        Some(true),
-        "  ab\ncd",
-        5,
-        1,
-    ),
-    (
-        "ab\ncd",
-        5,
-        &[Indent(BackwardWord(2, Emacs), 2)],
-        Some(true),
-        "  ab\n  cd",
-        9,
-        2,
-    ),
-    (
-        "ab\ncd",
-        1,
-        &[Indent(EndOfBuffer, 2)],
-        Some(true),
-        "  ab\n  cd",
-        3,
-        2,
-    ),
-    (
-        "ab\ncd",
-        3,
-        &[Indent(BeginningOfBuffer, 2)],
-        Some(true),
-        "  ab\ncd",
-        5,
-        1,
-    ),
-    (
-        "ab\ncd",
-        4,
-        &[Indent(BeginningOfBuffer, 2)],
-        Some(true),
-        "  ab\n  cd",
-        8,
-        2,
-    ),
-    (
-        "ab\ncd",
-        4,
-        &[Indent(WholeBuffer, 0)],
-        Some(true),
-        "ab\ncd",
-        4,
-        0,
-    ),
-];
-
-#[test]
-fn of_each_line_of_a_range(rt: HostRuntime) -> Result<(), Fail> {
-    for case in EACH_LINE {
-        shifts(&rt, rt.alloc(), case)?;
-    }
-    Ok(())
-}
-
-const DEDENTS: &[Case] = &[
-    ("   ab", 4, &[Dedent(WholeLine, 2)], Some(true), " ab", 2, 1),
-    ("  ab", 3, &[Dedent(WholeLine, 5)], Some(true), "ab", 1, 1),
-    (
-        "  ab",
-        3,
-        &[Dedent(WholeLine, usize::MAX)],
-        Some(true),
-        "ab",
-        1,
-        1,
-    ),
-    ("ab", 1, &[Dedent(WholeLine, 5)], Some(true), "ab", 1, 0),
-    ("  ab", 3, &[Dedent(WholeLine, 0)], Some(true), "  ab", 3, 0),
-    ("", 0, &[Dedent(WholeBuffer, 4)], Some(true), "", 0, 0),
-    (
-        "\u{3000}\t ab",
-        4,
-        &[Dedent(WholeLine, 2)],
-        Some(true),
-        " ab",
-        0,
-        1,
-    ),
-    (
-        "\u{a0}\u{3000}é",
-        5,
-        &[Dedent(WholeLine, 2)],
-        Some(true),
-        "é",
-        0,
-        1,
-    ),
-    (
-        "\u{200b}a",
-        3,
-        &[Dedent(WholeLine, 1)],
-        Some(true),
-        "\u{200b}a",
-        3,
-        0,
-    ),
-    (
-        "    ab",
-        2,
-        &[Dedent(WholeLine, 3)],
-        Some(true),
-        " ab",
-        0,
-        1,
-    ),
-    (
-        "x\n    ab",
-        4,
-        &[Dedent(WholeLine, 3)],
-        Some(true),
-        "x\n ab",
-        2,
-        1,
-    ),
-    ("  \n", 2, &[Dedent(WholeBuffer, 9)], Some(true), "\n", 0, 1),
-    (
-        "  \n  \nab",
-        0,
-        &[Dedent(WholeBuffer, 9)],
-        Some(true),
-        "\n\nab",
-        0,
-        2,
-    ),
-    (
-        " a\n  b\nc",
-        6,
-        &[Dedent(WholeBuffer, 1)],
-        Some(true),
-        "a\n b\nc",
-        4,
-        2,
-    ),
-    (
-        "  a\n  b",
-        6,
-        &[Dedent(LineUp(1), 2)],
-        Some(true),
-        "a\nb",
-        2,
-        2,
-    ),
-    (
-        "  a\n  b",
-        4,
-        &[Dedent(BeginningOfBuffer, 2)],
-        Some(true),
-        "a\n  b",
-        2,
-        1,
-    ),
-];
-
-#[test]
-fn dedents(rt: HostRuntime) -> Result<(), Fail> {
-    for case in DEDENTS {
-        shifts(&rt, rt.alloc(), case)?;
-    }
-    Ok(())
-}
 
 const TEXT: &str = "a\n\n b";
 
-const ALL: Edit = Indent(WholeBuffer, 2);
-
-const BACK: &[Case] = &[
-    (TEXT, 4, &[ALL], Some(true), "  a\n  \n   b", 10, 3),
-    (TEXT, 4, &[ALL, Undo(1)], Some(true), "  a\n  \n b", 7, 2),
+pub(super) const ROWS: &[Row] = &[
+    // of the cursor's line
     (
-        TEXT,
-        4,
-        &[ALL, Undo(1), Undo(1)],
-        Some(true),
-        "  a\n\n b",
-        4,
-        1,
+        On("ab", 0),
+        Indent(WholeLine, 2),
+        Is(Some(true), "  ab", 2, 1),
     ),
+    (Then, Undo(9), Back(true, "ab")),
     (
-        TEXT,
-        4,
-        &[ALL, Undo(1), Undo(1), Undo(1)],
-        Some(true),
-        TEXT,
-        0,
-        0,
+        On("ab", 1),
+        Indent(WholeLine, 2),
+        Is(Some(true), "  ab", 3, 1),
     ),
+    (Then, Undo(9), Back(true, "ab")),
+    (
+        On("ab", 2),
+        Indent(WholeLine, 2),
+        Is(Some(true), "  ab", 4, 1),
+    ),
+    (Then, Undo(9), Back(true, "ab")),
+    (
+        On("ab", 1),
+        Indent(WholeLine, 0),
+        Is(Some(true), "ab", 1, 0),
+    ),
+    (Then, Undo(9), Back(false, "ab")),
+    (
+        On("", 0),
+        Indent(WholeBuffer, 3),
+        Is(Some(true), "   ", 3, 1),
+    ),
+    (Then, Undo(9), Back(true, "")),
+    (
+        On("ab\ncd", 1),
+        Indent(ForwardChar(9), 2),
+        Is(Some(true), "  ab\ncd", 3, 1),
+    ),
+    (Then, Undo(9), Back(true, "ab\ncd")),
+    (
+        On("ab\ncd", 3),
+        Indent(BackwardChar(2), 2),
+        Is(Some(true), "ab\n  cd", 5, 1),
+    ),
+    (Then, Undo(9), Back(true, "ab\ncd")),
+    (
+        On("ab\ncd", 5),
+        Indent(ViFirstPrint, 2),
+        Is(Some(true), "ab\n  cd", 7, 1),
+    ),
+    (Then, Undo(9), Back(true, "ab\ncd")),
+    (
+        On("ab\ncd", 0),
+        Indent(EndOfLine, 2),
+        Is(Some(true), "  ab\ncd", 2, 1),
+    ),
+    (Then, Undo(9), Back(true, "ab\ncd")),
+    (
+        On("ab\ncd", 5),
+        Indent(BeginningOfLine, 1),
+        Is(Some(true), "ab\n cd", 6, 1),
+    ),
+    (Then, Undo(9), Back(true, "ab\ncd")),
+    (
+        On("ab\ncd", 5),
+        Indent(EndOfBuffer, 2),
+        Is(Some(true), "ab\n  cd", 7, 1),
+    ),
+    (Then, Undo(9), Back(true, "ab\ncd")),
+    (
+        On("ab\ncd", 0),
+        Indent(BeginningOfBuffer, 2),
+        Is(Some(true), "  ab\ncd", 2, 1),
+    ),
+    (Then, Undo(9), Back(true, "ab\ncd")),
+    (
+        On("a\nb\nc", 0),
+        Indent(LineUp(1), 1),
+        Is(Some(true), " a\nb\nc", 1, 1),
+    ),
+    (Then, Undo(9), Back(true, "a\nb\nc")),
+    (
+        On("a\nb\nc", 4),
+        Indent(LineDown(1), 1),
+        Is(Some(true), "a\nb\n c", 5, 1),
+    ),
+    (Then, Undo(9), Back(true, "a\nb\nc")),
+    // of each line of a range
+    (
+        On("a\n\nbc", 4),
+        Indent(WholeBuffer, 2),
+        Is(Some(true), "  a\n  \n  bc", 10, 3),
+    ),
+    (Then, Undo(9), Back(true, "a\n\nbc")),
+    (
+        On("a\n\nbc", 2),
+        Indent(WholeBuffer, 1),
+        Is(Some(true), " a\n \n bc", 4, 3),
+    ),
+    (Then, Undo(9), Back(true, "a\n\nbc")),
+    (
+        On("ab\n", 3),
+        Indent(WholeBuffer, 2),
+        Is(Some(true), "  ab\n", 5, 1),
+    ),
+    (Then, Undo(9), Back(true, "ab\n")),
+    (
+        On("日\né", 4),
+        Indent(WholeBuffer, 1),
+        Is(Some(true), " 日\n é", 6, 2),
+    ),
+    (Then, Undo(9), Back(true, "日\né")),
+    (
+        On("a\nb\nc", 0),
+        Indent(LineDown(1), 1),
+        Is(Some(true), " a\n b\nc", 1, 2),
+    ),
+    (Then, Undo(9), Back(true, "a\nb\nc")),
+    (
+        On("a\nb\nc", 2),
+        Indent(LineDown(1), 1),
+        Is(Some(true), "a\n b\n c", 3, 2),
+    ),
+    (Then, Undo(9), Back(true, "a\nb\nc")),
+    (
+        On("a\nb\nc", 4),
+        Indent(LineUp(1), 1),
+        Is(Some(true), "a\n b\n c", 6, 2),
+    ),
+    (Then, Undo(9), Back(true, "a\nb\nc")),
+    (
+        On("ab\ncd", 0),
+        Indent(ForwardWord(2, AfterEnd, Emacs), 2),
+        Is(Some(true), "  ab\n  cd", 2, 2),
+    ),
+    (Then, Undo(9), Back(true, "ab\ncd")),
+    (
+        On("ab\ncd", 0),
+        Indent(ForwardWord(1, Start, Vi), 2),
+        Is(Some(true), "  ab\ncd", 2, 1),
+    ),
+    (Then, Undo(9), Back(true, "ab\ncd")),
+    (
+        On("ab\ncd", 3),
+        Indent(BackwardWord(1, Emacs), 2),
+        Is(Some(true), "  ab\ncd", 5, 1),
+    ),
+    (Then, Undo(9), Back(true, "ab\ncd")),
+    (
+        On("ab\ncd", 5),
+        Indent(BackwardWord(2, Emacs), 2),
+        Is(Some(true), "  ab\n  cd", 9, 2),
+    ),
+    (Then, Undo(9), Back(true, "ab\ncd")),
+    (
+        On("ab\ncd", 1),
+        Indent(EndOfBuffer, 2),
+        Is(Some(true), "  ab\n  cd", 3, 2),
+    ),
+    (Then, Undo(9), Back(true, "ab\ncd")),
+    (
+        On("ab\ncd", 3),
+        Indent(BeginningOfBuffer, 2),
+        Is(Some(true), "  ab\ncd", 5, 1),
+    ),
+    (Then, Undo(9), Back(true, "ab\ncd")),
+    (
+        On("ab\ncd", 4),
+        Indent(BeginningOfBuffer, 2),
+        Is(Some(true), "  ab\n  cd", 8, 2),
+    ),
+    (Then, Undo(9), Back(true, "ab\ncd")),
+    (
+        On("ab\ncd", 4),
+        Indent(WholeBuffer, 0),
+        Is(Some(true), "ab\ncd", 4, 0),
+    ),
+    (Then, Undo(9), Back(false, "ab\ncd")),
+    // dedents
+    (
+        On("   ab", 4),
+        Dedent(WholeLine, 2),
+        Is(Some(true), " ab", 2, 1),
+    ),
+    (Then, Undo(9), Back(true, "   ab")),
+    (
+        On("  ab", 3),
+        Dedent(WholeLine, 5),
+        Is(Some(true), "ab", 1, 1),
+    ),
+    (Then, Undo(9), Back(true, "  ab")),
+    (
+        On("  ab", 3),
+        Dedent(WholeLine, usize::MAX),
+        Is(Some(true), "ab", 1, 1),
+    ),
+    (Then, Undo(9), Back(true, "  ab")),
+    (
+        On("ab", 1),
+        Dedent(WholeLine, 5),
+        Is(Some(true), "ab", 1, 0),
+    ),
+    (Then, Undo(9), Back(false, "ab")),
+    (
+        On("  ab", 3),
+        Dedent(WholeLine, 0),
+        Is(Some(true), "  ab", 3, 0),
+    ),
+    (Then, Undo(9), Back(false, "  ab")),
+    (On("", 0), Dedent(WholeBuffer, 4), Is(Some(true), "", 0, 0)),
+    (Then, Undo(9), Back(false, "")),
+    (
+        On("\u{3000}\t ab", 4),
+        Dedent(WholeLine, 2),
+        Is(Some(true), " ab", 0, 1),
+    ),
+    (Then, Undo(9), Back(true, "\u{3000}\t ab")),
+    (
+        On("\u{a0}\u{3000}é", 5),
+        Dedent(WholeLine, 2),
+        Is(Some(true), "é", 0, 1),
+    ),
+    (Then, Undo(9), Back(true, "\u{a0}\u{3000}é")),
+    (
+        On("\u{200b}a", 3),
+        Dedent(WholeLine, 1),
+        Is(Some(true), "\u{200b}a", 3, 0),
+    ),
+    (Then, Undo(9), Back(false, "\u{200b}a")),
+    (
+        On("    ab", 2),
+        Dedent(WholeLine, 3),
+        Is(Some(true), " ab", 0, 1),
+    ),
+    (Then, Undo(9), Back(true, "    ab")),
+    (
+        On("x\n    ab", 4),
+        Dedent(WholeLine, 3),
+        Is(Some(true), "x\n ab", 2, 1),
+    ),
+    (Then, Undo(9), Back(true, "x\n    ab")),
+    (
+        On("  \n", 2),
+        Dedent(WholeBuffer, 9),
+        Is(Some(true), "\n", 0, 1),
+    ),
+    (Then, Undo(9), Back(true, "  \n")),
+    (
+        On("  \n  \nab", 0),
+        Dedent(WholeBuffer, 9),
+        Is(Some(true), "\n\nab", 0, 2),
+    ),
+    (Then, Undo(9), Back(true, "  \n  \nab")),
+    (
+        On(" a\n  b\nc", 6),
+        Dedent(WholeBuffer, 1),
+        Is(Some(true), "a\n b\nc", 4, 2),
+    ),
+    (Then, Undo(9), Back(true, " a\n  b\nc")),
+    (
+        On("  a\n  b", 6),
+        Dedent(LineUp(1), 2),
+        Is(Some(true), "a\nb", 2, 2),
+    ),
+    (Then, Undo(9), Back(true, "  a\n  b")),
+    (
+        On("  a\n  b", 4),
+        Dedent(BeginningOfBuffer, 2),
+        Is(Some(true), "a\n  b", 2, 1),
+    ),
+    (Then, Undo(9), Back(true, "  a\n  b")),
+    // each line is taken back by itself
+    (
+        On(TEXT, 4),
+        Indent(WholeBuffer, 2),
+        Is(Some(true), "  a\n  \n   b", 10, 3),
+    ),
+    (Then, Undo(1), Is(Some(true), "  a\n  \n b", 7, 2)),
+    (Then, Undo(1), Is(Some(true), "  a\n\n b", 4, 1)),
+    (Then, Undo(1), Is(Some(true), TEXT, 0, 0)),
 ];
-
-#[test]
-fn each_line_is_taken_back_by_itself(rt: HostRuntime) -> Result<(), Fail> {
-    for case in BACK {
-        edits(&rt, rt.alloc(), case)?;
-    }
-    Ok(())
-}

@@ -1,12 +1,66 @@
 //! Kills by movements.
+ghost use Rattle.line_buffer.specs.Undo.{Tells};
 
-use super::{FAMILY, line_at};
+use super::{FAMILY, line_at, text_of};
 use line_buffer::Direction::{self, *};
 use line_buffer::Movement::{self, *};
-use line_buffer::{Changeset, CharSearch as Search, KillRing, LineBuffer, RepeatCount};
+use line_buffer::{Changeset, CharSearch as Search, KillRing};
 use std::alloc::Global;
 use std::process::Abort;
 use std::test::Fail;
+
+/// Where what text went on which side.
+type Gone<'a> = Option<(usize, &'a str, Direction)>;
+
+/// A kill by the movement gives what went, leaves the text, the cursor and the ring so, and can be taken back.
+fn kills(
+    rt: &impl Abort,
+    alloc: Global,
+    mvt: &Movement,
+    gone: &Gone,
+    (text, pos, after): (&str, usize, &str),
+    (cursor, kept): (usize, Option<&str>),
+) -> Result<(), Fail> {
+    let mut line = line_at(rt, alloc, text, pos)?;
+    let mut changes = Changeset::new(alloc);
+    let mut ring = KillRing::new(alloc, 2);
+    let killed = line.kill(mvt, &mut changes, &mut ring)?;
+    is_killed(rt, &killed, gone);
+    let left = (line.as_str(), line.pos(), ring.yank(), changes.len());
+    assert_eq!(rt; left, (after, cursor, kept, gone.is_some() as usize));
+    let undone = changes.undo(&mut line, 1)?;
+    assert_eq!(rt; (undone, line.as_str()), (gone.is_some(), text));
+    Ok(())
+}
+
+/// What a kill gives is what went.
+fn is_killed(rt: &impl Abort, killed: &Option<(usize, String, Direction)>, gone: &Gone) {
+    match (killed, gone) {
+        (Some((place, text, side)), Some((at, went, from))) => {
+            assert_eq!(rt; (*place, text.as_str(), *side), (*at, *went, *from));
+        }
+        (None, None) => {}
+        _ => assert_eq!(rt; killed.is_some(), gone.is_some()),
+    }
+}
+
+/// A cut leaves the line and the ring as a kill does.
+fn cuts(
+    rt: &impl Abort,
+    alloc: Global,
+    mvt: &Movement,
+    (text, pos, after): (&str, usize, &str),
+    (cursor, kept): (usize, Option<&str>),
+) -> Result<(), Fail> {
+    let mut ring = KillRing::new(alloc, 2);
+    let mut line = line_at(rt, alloc, text, pos)?;
+    line.cut(mvt, &mut Changeset::new(alloc), &mut ring)?;
+    assert_eq!(rt;
+        (line.as_str(), line.pos(), ring.yank()),
+        (after, cursor, kept)
+    );
+    Ok(())
+}
 
 /// A text, the cursor, a movement; the text afterwards, and where what text went on which side.
 type Case = (
@@ -16,62 +70,6 @@ type Case = (
     &'static str,
     Option<(usize, &'static str, Direction)>,
 );
-
-/// What a kill gives is what went.
-fn went(
-    rt: &impl Abort,
-    killed: &Option<(usize, String, Direction)>,
-    gone: &Option<(usize, &'static str, Direction)>,
-) {
-    match (killed, gone) {
-        (Some((place, text, side)), Some((at, went, from))) => {
-            assert_eq!(rt; (*place, text.as_str(), *side), (*at, *went, *from));
-        }
-        (None, None) => {}
-        _ => panic!(rt; "{killed:?} for {gone:?}"),
-    }
-}
-
-fn kills(rt: &impl Abort, alloc: Global, case: &Case) -> Result<(), Fail> {
-    let (text, pos, mvt, after, gone) = case;
-    let (place, entries) = match gone {
-        Some((place, _, _)) => (*place, 1),
-        None => (*pos, 0),
-    };
-    let mut line = line_at(rt, alloc, text, *pos)?;
-    let mut changes = Changeset::new(alloc);
-    let killed = line.kill(mvt, &mut changes, &mut KillRing::new(alloc, 2))?;
-    went(rt, &killed, gone);
-    let left = (line.as_str(), line.pos(), changes.len());
-    assert_eq!(rt; left, (*after, place, entries));
-    Ok(())
-}
-
-/// A cut leaves the line and the ring as a kill does.
-fn cuts(rt: &impl Abort, alloc: Global, case: &Case) -> Result<(), Fail> {
-    let (text, pos, mvt, after, _) = case;
-    let mut ring = KillRing::new(alloc, 2);
-    let mut line = line_at(rt, alloc, text, *pos)?;
-    line.cut(mvt, &mut Changeset::new(alloc), &mut ring)?;
-    assert_eq!(rt; line.as_str(), *after);
-    is_as_killed(rt, alloc, case, &line, ring.yank())
-}
-
-/// The cursor and the ring's text are those that a kill leaves.
-fn is_as_killed(
-    rt: &impl Abort,
-    alloc: Global,
-    case: &Case,
-    cut: &LineBuffer,
-    kept: Option<&str>,
-) -> Result<(), Fail> {
-    let (text, pos, mvt, _, _) = case;
-    let mut ring = KillRing::new(alloc, 2);
-    let mut line = line_at(rt, alloc, text, *pos)?;
-    let _ = line.kill(mvt, &mut Changeset::new(alloc), &mut ring)?;
-    assert_eq!(rt; (cut.pos(), kept), (line.pos(), ring.yank()));
-    Ok(())
-}
 
 const KILLS: &[Case] = &[
     ("abc", 1, ForwardChar(1), "ac", Some((1, "b", Forward))),
@@ -155,48 +153,40 @@ const KILLS: &[Case] = &[
     ("axb", 1, ViCharSearch(1, Search::Forward('x')), "axb", None),
 ];
 
+/// What goes by characters is not put into the ring.
 #[test]
 fn by_movements(rt: HostRuntime) -> Result<(), Fail> {
-    for case in KILLS {
-        kills(&rt, rt.alloc(), case)?;
+    for (text, pos, mvt, after, gone) in KILLS {
+        let left = match (mvt, gone) {
+            (_, None) => (*pos, None),
+            (ForwardChar(_) | BackwardChar(_), Some((place, _, _))) => (*place, None),
+            (_, Some((place, text, _))) => (*place, Some(*text)),
+        };
+        kills(&rt, rt.alloc(), mvt, gone, (text, *pos, after), left)?;
+        cuts(&rt, rt.alloc(), mvt, (text, *pos, after), left)?;
     }
     Ok(())
 }
 
-#[test]
-fn without_the_text(rt: HostRuntime) -> Result<(), Fail> {
-    for case in KILLS {
-        cuts(&rt, rt.alloc(), case)?;
-    }
-    Ok(())
-}
-
-/// A text, the cursor, how many clusters go, whether there were some, and the text afterwards.
-type Discard = (&'static str, usize, RepeatCount, bool, &'static str);
-
-fn discards(rt: &impl Abort, alloc: Global, case: &Discard) -> Result<(), Fail> {
-    let (text, pos, n, some, after) = *case;
-    let mut line = line_at(rt, alloc, text, pos)?;
-    let mut changes = Changeset::new(alloc);
-    let done = line.discard(n, &mut changes)?;
-    let left = (done, line.as_str(), line.pos(), changes.len());
-    let wanted = (some, after, pos, some as usize);
-    assert_eq!(rt; left, wanted, "{n} from {pos} in {text:?}");
-    Ok(())
-}
-
-const DISCARDS: &[Discard] = &[
-    ("éz", 2, 1, true, "é"),
-    ("éz", 0, 9, true, ""),
-    ("éz", 3, 1, false, "éz"),
-    ("éz", 0, 0, false, "éz"),
-    (FAMILY, 1, 1, true, "ab"),
+/// A movement in a word of 6,000 bytes, with the cursor behind its second character; where what goes by it begins, and
+/// how many characters that is.
+const LARGE: &[(Movement, usize, usize)] = &[
+    (WholeBuffer, 0, 3_000),
+    (EndOfLine, 4, 2_998),
+    (WholeLine, 0, 3_000),
+    (EndOfBuffer, 4, 2_998),
 ];
 
 #[test]
-fn of_clusters(rt: HostRuntime) -> Result<(), Fail> {
-    for case in DISCARDS {
-        discards(&rt, rt.alloc(), case)?;
+fn of_large_texts(rt: HostRuntime) -> Result<(), Fail> {
+    let word = text_of(rt.alloc(), "é", 3_000)?;
+    for (mvt, place, count) in LARGE {
+        let after = text_of(rt.alloc(), "é", place / 2)?;
+        let gone = text_of(rt.alloc(), "é", *count)?;
+        let went = Some((*place, gone.as_str(), Forward));
+        let texts = (word.as_str(), 4, after.as_str());
+        let left = (*place, Some(gone.as_str()));
+        kills(&rt, rt.alloc(), mvt, &went, texts, left)?;
     }
     Ok(())
 }

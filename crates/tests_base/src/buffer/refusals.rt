@@ -1,13 +1,19 @@
 //! What each call leaves where a growth is refused. Run with any one allocation refused, each test passes: it looks at
 //! what is left, or the call was not reached.
 
-use super::edits::{Edit, edited};
+use super::edits::Call::*;
+use super::edits::Edit::{self, *};
+use super::edits::edited;
 use super::texts::{Taking, taken};
-use line_buffer::{Changeset, KillRing, LineBuffer, Mode, Movement, OutOfMemory, WordAction};
+use line_buffer::Mode::Append;
+use line_buffer::Movement::{EndOfLine, WholeBuffer};
+use line_buffer::WordAction::Uppercase;
+use line_buffer::{Changeset, KillRing, LineBuffer, OutOfMemory};
 use std::alloc::Global;
 use std::process::Abort;
 use std::test::Fail;
 
+/// The cursor stands behind its first two characters.
 const TEXT: &str = "aé b日";
 
 /// The list is empty with no open group, and the cursor stands on a boundary.
@@ -17,85 +23,71 @@ fn settled(rt: &impl Abort, line: &LineBuffer, changes: &mut Changeset) -> Resul
     Ok(())
 }
 
-/// A line with its cursor behind its first two characters; none where there is no memory for it.
-fn opened(rt: &impl Abort, alloc: Global) -> Option<LineBuffer> {
-    assert!(rt; TEXT.is_char_boundary(3));
-    LineBuffer::init(alloc, TEXT, 3).ok()
-}
-
-/// Calls, the last answer, and the text that they leave with ample memory.
-type Case = (&'static [Edit], Option<bool>, &'static str);
+/// Calls; the last answer, and the text that they leave with ample memory. Where there is none of these, there is never
+/// memory enough, and the line stays as it was.
+type Case = (&'static [Edit], Option<(Option<bool>, &'static str)>);
 
 fn edits(rt: &impl Abort, alloc: Global, case: &Case) -> Result<(), Fail> {
-    let (steps, wanted, after) = case;
-    let Some(mut line) = opened(rt, alloc) else {
+    let (steps, wanted) = case;
+    assert!(rt; TEXT.is_char_boundary(3));
+    let Ok(mut line) = LineBuffer::init(alloc, TEXT, 3) else {
         return Ok(());
     };
     let mut changes = Changeset::new(alloc);
     let mut last = None;
     for step in *steps {
-        match edited(rt, &mut line, &mut changes, step) {
+        match edited(rt, alloc, &mut line, &mut changes, step) {
             Ok(answer) => last = answer,
-            Err(OutOfMemory) => return settled(rt, &line, &mut changes),
+            Err(OutOfMemory) => {
+                let found = (line.as_str(), line.pos());
+                assert!(rt; wanted.is_some() || found == (TEXT, 3));
+                return settled(rt, &line, &mut changes);
+            }
         }
     }
-    assert_eq!(rt; (last, line.as_str()), (*wanted, *after));
+    assert_eq!(rt; Some((last, line.as_str())), *wanted);
     Ok(())
 }
 
-const INDENT: Edit = Edit::Indent(Movement::WholeBuffer, 4);
+const INDENT: Edit = Indent(WholeBuffer, 4);
 
-const DEDENT: Edit = Edit::Dedent(Movement::WholeBuffer, 4);
+const DEDENT: Edit = Dedent(WholeBuffer, 4);
 
 const EDITS: &[Case] = &[
     (
-        &[Edit::Begin, Edit::Insert('本', 9)],
-        Some(false),
-        "aé本本本本本本本本本 b日",
+        &[Begin, Insert('本', 9)],
+        Some((Some(false), "aé本本本本本本本本本 b日")),
     ),
-    (&[Edit::Begin, Edit::InsertText(8, "日本")], None, "aé b日日本"),
+    (&[Begin, Text(InsertText(8), "日本")], Some((None, "aé b日日本"))),
     (
-        &[Edit::Begin, Edit::Yank("日本", 3)],
-        Some(false),
-        "aé日本日本日本 b日",
+        &[Begin, Text(Yank(3), "日本")],
+        Some((Some(false), "aé日本日本日本 b日")),
     ),
     (
-        &[Edit::Begin, Edit::YankPop(2, "日本日本")],
-        Some(false),
-        "a日本日本 b日",
+        &[Begin, Text(YankPop(2), "日本日本")],
+        Some((Some(false), "a日本日本 b日")),
     ),
-    (&[Edit::Begin, Edit::Update("日本日本", 6)], None, "日本日本"),
+    (&[Begin, Text(Update(6), "日本日本")], Some((None, "日本日本"))),
     (
-        &[Edit::Begin, Edit::Replace(1, 3, "日本日本")],
-        None,
-        "a日本日本 b日",
+        &[Begin, Text(Replace(1, 3), "日本日本")],
+        Some((None, "a日本日本 b日")),
     ),
-    (&[Edit::Begin, Edit::Delete(2)], Some(true), "aé日"),
-    (&[Edit::Begin, Edit::TransposeChars], Some(true), "a éb日"),
-    (&[Edit::Begin, Edit::TransposeWords(1)], Some(true), "b日 aé"),
+    (&[Begin, Delete(2)], Some((Some(true), "aé日"))),
+    (&[Begin, TransposeChars], Some((Some(true), "a éb日"))),
+    (&[Begin, TransposeWords(1)], Some((Some(true), "b日 aé"))),
+    (&[Begin, EditWord(Uppercase)], Some((Some(true), "aé B日"))),
+    (&[Begin, INDENT], Some((Some(true), "    aé b日"))),
+    (&[Begin, INDENT, DEDENT], Some((Some(true), "aé b日"))),
     (
-        &[Edit::Begin, Edit::EditWord(WordAction::Uppercase)],
-        Some(true),
-        "aé B日",
-    ),
-    (&[Edit::Begin, INDENT], Some(true), "    aé b日"),
-    (&[Edit::Begin, INDENT, DEDENT], Some(true), "aé b日"),
-    (
-        &[Edit::Insert('日', 2), Edit::TransposeChars, Edit::Undo(2)],
-        Some(true),
-        "aé b日",
+        &[Insert('日', 2), TransposeChars, Undo(2)],
+        Some((Some(true), "aé b日")),
     ),
     (
-        &[
-            Edit::Begin,
-            Edit::Insert('-', 1),
-            Edit::Begin,
-            Edit::Insert('-', 1),
-            Edit::End,
-        ],
-        Some(true),
-        "aé-- b日",
+        &[Begin, Insert('-', 1), Begin, Insert('-', 1), End],
+        Some((Some(true), "aé-- b日")),
     ),
+    // more spaces than memory holds
+    (&[Begin, Indent(WholeBuffer, usize::MAX)], None),
 ];
 
 #[test]
@@ -109,17 +101,18 @@ fn of_edits(rt: HostRuntime) -> Result<(), Fail> {
 /// A call, the text that it gives with ample memory, and whether it changes the line.
 type TakingCase = (Taking, &'static str, bool);
 
+/// Where a call that changes nothing is refused, the line is as it was before.
 fn takes(rt: &impl Abort, alloc: Global, case: &TakingCase) -> Result<(), Fail> {
     let (step, wanted, changing) = case;
-    let Some(mut line) = opened(rt, alloc) else {
+    assert!(rt; TEXT.is_char_boundary(3));
+    let Ok(mut line) = LineBuffer::init(alloc, TEXT, 3) else {
         return Ok(());
     };
     let mut changes = Changeset::new(alloc);
     if line.insert('日', 1, &mut changes).is_err() {
         return Ok(());
     }
-    let mut ring = KillRing::new(alloc, 1);
-    let outcome = taken(&mut line, &mut changes, &mut ring, step);
+    let outcome = taken(alloc, &mut line, &mut changes, step);
     match &outcome {
         Ok(text) => assert!(rt; is_text(text, wanted)),
         Err(OutOfMemory) if *changing => settled(rt, &line, &mut changes)?,
@@ -141,10 +134,10 @@ fn is_text(found: &Option<String>, wanted: &str) -> bool {
 }
 
 const TAKINGS: &[TakingCase] = &[
-    (Taking::Copy(Movement::WholeBuffer), "aé日 b日", false),
+    (Taking::Copy(WholeBuffer), "aé日 b日", false),
     (Taking::LastInsert, "日", false),
     (Taking::Delete(2), " b", true),
-    (Taking::Kill(Movement::EndOfLine), " b日", true),
+    (Taking::Kill(EndOfLine), " b日", true),
 ];
 
 #[test]
@@ -155,50 +148,28 @@ fn of_texts(rt: HostRuntime) -> Result<(), Fail> {
     Ok(())
 }
 
-/// A ring that refused a kill holds no more texts than its size, 2: every other yank-pop gives the same.
-fn kills(rt: &impl Abort, alloc: Global, texts: &[&str]) {
-    let mut ring = KillRing::new(alloc, 2);
-    for text in texts {
-        let outcome = ring.kill(text, Mode::Append);
-        ring.reset();
-        if outcome.is_ok() {
-            assert_eq!(rt; ring.yank(), Some(*text));
-        }
-    }
-    let _ = ring.yank();
-    let mut sizes = [0; 4];
-    for size in &mut sizes {
-        if let Some((yanked, _)) = ring.yank_pop() {
-            *size = yanked;
-        }
-    }
-    assert_eq!(rt; (sizes[0], sizes[1]), (sizes[2], sizes[3]));
-}
+/// Three kills into a ring of two texts.
+const KILLS: &[[&str; 3]] = &[["a", "bc", "def"], ["a", "bcdefghijklmnopqrstuvwxyz", "b"]];
 
-const KILLS: &[&[&str]] = &[
-    &["a", "bc", "def"],
-    &["a", "bcdefghijklmnopqrstuvwxyz", "b"],
-];
-
+/// A ring that refused a kill holds no more texts than its size: every other yank-pop gives the same.
 #[test]
 fn of_kills(rt: HostRuntime) {
     for texts in KILLS {
-        kills(&rt, rt.alloc(), texts);
+        let mut ring = KillRing::new(rt.alloc(), 2);
+        for text in texts {
+            let outcome = ring.kill(text, Append);
+            ring.reset();
+            if outcome.is_ok() {
+                assert_eq!(&rt; ring.yank(), Some(*text));
+            }
+        }
+        let _ = ring.yank();
+        let mut sizes = [0; 4];
+        for size in &mut sizes {
+            if let Some((yanked, _)) = ring.yank_pop() {
+                *size = yanked;
+            }
+        }
+        assert_eq!(&rt; (sizes[0], sizes[1]), (sizes[2], sizes[3]));
     }
-}
-
-/// More spaces than memory holds: the list is empty with no open group, and the line is as it was.
-#[test]
-fn of_more_spaces_than_memory_holds(rt: HostRuntime) -> Result<(), Fail> {
-    let Some(mut line) = opened(&rt, rt.alloc()) else {
-        return Ok(());
-    };
-    let mut changes = Changeset::new(rt.alloc());
-    if changes.begin().is_err() {
-        return Ok(());
-    }
-    let outcome = line.indent(&Movement::WholeBuffer, usize::MAX, false, &mut changes);
-    assert!(rt; outcome.is_err());
-    assert_eq!(rt; (line.as_str(), line.pos()), (TEXT, 3));
-    settled(&rt, &line, &mut changes)
 }

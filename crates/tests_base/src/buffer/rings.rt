@@ -1,154 +1,193 @@
-//! The kill ring.
+//! The kill ring: calls on a ring, one after another, and what they give.
 
-use line_buffer::{KillRing, Mode};
+use self::Act::*;
+use super::text_of;
+use line_buffer::KillRing;
+use line_buffer::Mode::{self, *};
 use std::alloc::Global;
 use std::process::Abort;
 use std::test::Fail;
 
 /// A call on the ring.
 enum Act {
+    /// A new ring of this size.
+    Ring(usize),
     Kill(&'static str, Mode),
+    /// A kill of 80,000 bytes.
+    Much(Mode),
+    /// So many kills of a text, each for itself.
+    Apart(usize, &'static str),
+    /// Kills that join: a text, a dash behind it and a plus before both.
+    Joined(&'static str),
     Reset,
-    Yank,
-    YankPop,
+    /// A yank gives this text.
+    Yank(&'static str),
+    /// A yank gives a text of this length.
+    YankLength(usize),
+    /// A yank-pop gives this text, with the length of the one before it.
+    Pop(usize, &'static str),
+    /// So many yank-pops give the text of one byte, with the length of one like it.
+    Pops(usize),
+    /// A yank-pop gives nothing.
+    NoPop,
 }
 
-fn acted(ring: &mut KillRing, act: &Act) -> Result<(), Fail> {
+fn acted(rt: &impl Abort, alloc: Global, ring: &mut KillRing, act: &Act) -> Result<(), Fail> {
     match act {
-        Act::Kill(text, mode) => ring.kill(text, *mode)?,
-        Act::Reset => ring.reset(),
-        Act::Yank => {
-            let _ = ring.yank();
+        Ring(size) => *ring = KillRing::new(alloc, *size),
+        Kill(text, mode) => ring.kill(text, *mode)?,
+        Much(mode) => {
+            let text = text_of(alloc, "日 ", 20_000)?;
+            ring.kill(text.as_str(), *mode)?;
         }
-        Act::YankPop => {
-            let _ = ring.yank_pop();
+        Apart(count, text) => {
+            for _ in 0..*count {
+                ring.kill(text, Append)?;
+                ring.reset();
+            }
         }
+        Joined(text) => {
+            ring.kill(text, Append)?;
+            ring.kill("-", Append)?;
+            ring.kill("+", Prepend)?;
+            ring.reset();
+        }
+        Reset => ring.reset(),
+        _ => gives(rt, ring, act),
     }
     Ok(())
 }
 
-/// A size and calls; then the text that a yank gives and those that further yank-pops give.
-type Case = (usize, &'static [Act], &'static [&'static str]);
-
-/// A yank gives the first text, and each yank-pop then the next one, with the length of the one before it.
-fn gives(rt: &impl Abort, ring: &mut KillRing, texts: &[&'static str]) {
-    let mut before = None;
-    for text in texts {
-        match before {
-            None => assert_eq!(rt; ring.yank(), Some(*text)),
-            Some(len) => assert_eq!(rt; ring.yank_pop(), Some((len, *text))),
+fn gives(rt: &impl Abort, ring: &mut KillRing, act: &Act) {
+    match act {
+        Yank(text) => assert_eq!(rt; ring.yank(), Some(*text)),
+        YankLength(len) => assert_eq!(rt; ring.yank().map(|yanked| yanked.len()), Some(*len)),
+        Pop(len, text) => assert_eq!(rt; ring.yank_pop(), Some((*len, *text))),
+        Pops(count) => {
+            for _ in 0..*count {
+                assert_eq!(rt; ring.yank_pop(), Some((1, "x")));
+            }
         }
-        before = Some(text.len());
+        NoPop => assert_eq!(rt; ring.yank_pop(), None),
+        _ => {}
     }
 }
 
-fn turns(rt: &impl Abort, alloc: Global, case: &Case) -> Result<(), Fail> {
-    let (size, acts, texts) = case;
-    let mut ring = KillRing::new(alloc, *size);
-    for act in *acts {
-        acted(&mut ring, act)?;
-    }
-    assert_eq!(rt; ring.yank_pop(), None, "of size {size}");
-    gives(rt, &mut ring, texts);
-    Ok(())
-}
-
-const NINE_KILLS: &[Act] = &[
-    Act::Kill("a", Mode::Append),
-    Act::Kill("-", Mode::Append),
-    Act::Kill("+", Mode::Prepend),
-    Act::Reset,
-    Act::Kill("b", Mode::Append),
-    Act::Kill("-", Mode::Append),
-    Act::Kill("+", Mode::Prepend),
-    Act::Reset,
-    Act::Kill("c", Mode::Append),
-    Act::Kill("-", Mode::Append),
-    Act::Kill("+", Mode::Prepend),
-    Act::Reset,
-];
-
-const THREE_KILLS: &[Act] = &[
-    Act::Kill("a", Mode::Append),
-    Act::Reset,
-    Act::Kill("bc", Mode::Append),
-    Act::Reset,
-    Act::Kill("def", Mode::Append),
-    Act::Reset,
-];
-
-const KILL_AFTER_YANKS: &[Act] = &[
-    Act::Kill("a", Mode::Append),
-    Act::Reset,
-    Act::Kill("bc", Mode::Append),
-    Act::Reset,
-    Act::Kill("def", Mode::Append),
-    Act::Reset,
-    Act::Yank,
-    Act::YankPop,
-    Act::YankPop,
-    Act::YankPop,
-    Act::Kill("g", Mode::Prepend),
-];
-
-const RINGS: &[Case] = &[
-    (3, &[], &[]),
-    (0, NINE_KILLS, &[]),
-    (1, NINE_KILLS, &["+c-", "+c-"]),
-    (2, NINE_KILLS, &["+c-", "+b-", "+c-"]),
-    (60, NINE_KILLS, &["+c-", "+b-", "+a-", "+c-"]),
-    (3, THREE_KILLS, &["def", "bc", "a", "def"]),
-    (3, KILL_AFTER_YANKS, &["g", "def", "bc", "g"]),
+const ACTS: &[Act] = &[
+    Ring(3),
+    NoPop,
+    // kills past the size
+    Ring(0),
+    Joined("a"),
+    Joined("b"),
+    Joined("c"),
+    NoPop,
+    Ring(1),
+    Joined("a"),
+    Joined("b"),
+    Joined("c"),
+    NoPop,
+    Yank("+c-"),
+    Pop(3, "+c-"),
+    Ring(2),
+    Joined("a"),
+    Joined("b"),
+    Joined("c"),
+    NoPop,
+    Yank("+c-"),
+    Pop(3, "+b-"),
+    Pop(3, "+c-"),
+    Ring(60),
+    Joined("a"),
+    Joined("b"),
+    Joined("c"),
+    NoPop,
+    Yank("+c-"),
+    Pop(3, "+b-"),
+    Pop(3, "+a-"),
+    Pop(3, "+c-"),
+    // texts of three lengths
+    Ring(3),
+    Apart(1, "a"),
+    Apart(1, "bc"),
+    Apart(1, "def"),
+    NoPop,
+    Yank("def"),
+    Pop(3, "bc"),
+    Pop(2, "a"),
+    Pop(1, "def"),
+    // a kill after yanks
+    Ring(3),
+    Apart(1, "a"),
+    Apart(1, "bc"),
+    Apart(1, "def"),
+    Yank("def"),
+    Pop(3, "bc"),
+    Pop(2, "a"),
+    Pop(1, "def"),
+    Kill("g", Prepend),
+    NoPop,
+    Yank("g"),
+    Pop(1, "def"),
+    Pop(3, "bc"),
+    Pop(2, "g"),
+    // a full ring, of 59 kills, and of as many as its size, one more and two more
+    Ring(60),
+    Apart(58, "x"),
+    Kill("yz", Append),
+    Yank("yz"),
+    Pop(2, "x"),
+    Pops(57),
+    Pop(1, "yz"),
+    Ring(60),
+    Apart(59, "x"),
+    Kill("yz", Append),
+    Yank("yz"),
+    Pop(2, "x"),
+    Pops(58),
+    Pop(1, "yz"),
+    Ring(60),
+    Apart(60, "x"),
+    Kill("yz", Append),
+    Yank("yz"),
+    Pop(2, "x"),
+    Pops(58),
+    Pop(1, "yz"),
+    Ring(60),
+    Apart(61, "x"),
+    Kill("yz", Append),
+    Yank("yz"),
+    Pop(2, "x"),
+    Pops(58),
+    Pop(1, "yz"),
+    Ring(3_000),
+    Apart(3_000, "x"),
+    Kill("yz", Append),
+    Yank("yz"),
+    Pop(2, "x"),
+    Pops(2_998),
+    Pop(1, "yz"),
+    // three kills of 80,000 bytes each, one after another or each for itself
+    Ring(2),
+    Much(Append),
+    Much(Append),
+    Much(Prepend),
+    YankLength(240_000),
+    Ring(2),
+    Much(Append),
+    Reset,
+    Much(Append),
+    Reset,
+    Much(Prepend),
+    Reset,
+    YankLength(80_000),
 ];
 
 #[test]
 fn yanks_turn_the_ring_back(rt: HostRuntime) -> Result<(), Fail> {
-    for case in RINGS {
-        turns(&rt, rt.alloc(), case)?;
-    }
-    Ok(())
-}
-
-/// How many kills of a text of its own into a ring of so many slots; how many yank-pops then give a text of one
-/// byte, one after another, until the last kill's comes again.
-const FULL: &[(usize, usize, usize)] = &[
-    (60, 59, 58),
-    (60, 60, 59),
-    (60, 61, 59),
-    (60, 62, 59),
-    (3_000, 3_001, 2_999),
-];
-
-/// So many texts, each in a slot of its own, and a last one.
-fn filled(ring: &mut KillRing, kills: usize) -> Result<(), Fail> {
-    for _ in 1..kills {
-        ring.kill("x", Mode::Append)?;
-        ring.reset();
-    }
-    Ok(ring.kill("yz", Mode::Append)?)
-}
-
-fn pops(rt: &impl Abort, ring: &mut KillRing, len: usize, text: &str) {
-    assert_eq!(rt; ring.yank_pop(), Some((len, text)));
-}
-
-fn fills(rt: &impl Abort, alloc: Global, case: &(usize, usize, usize)) -> Result<(), Fail> {
-    let (size, kills, others) = *case;
-    let mut ring = KillRing::new(alloc, size);
-    filled(&mut ring, kills)?;
-    assert_eq!(rt; ring.yank(), Some("yz"));
-    pops(rt, &mut ring, 2, "x");
-    for _ in 1..others {
-        pops(rt, &mut ring, 1, "x");
-    }
-    pops(rt, &mut ring, 1, "yz");
-    Ok(())
-}
-
-#[test]
-fn kills_past_the_size(rt: HostRuntime) -> Result<(), Fail> {
-    for case in FULL {
-        fills(&rt, rt.alloc(), case)?;
+    let mut ring = KillRing::new(rt.alloc(), 0);
+    for act in ACTS {
+        acted(&rt, rt.alloc(), &mut ring, act)?;
     }
     Ok(())
 }

@@ -1,7 +1,15 @@
 //! Texts that are taken from the line, copied, or come in last.
 
-use super::edits::{Edit, after};
-use line_buffer::{At, Changeset, KillRing, LineBuffer, Movement, OutOfMemory, RepeatCount, Word};
+use self::Taking::*;
+use super::edits::Call::Replace;
+use super::edits::Edit::{self, Indent, Text};
+use super::edits::edited;
+use super::large::WORD;
+use super::{line_at, text_of};
+use line_buffer::At::*;
+use line_buffer::Movement::{self, *};
+use line_buffer::Word::*;
+use line_buffer::{Changeset, KillRing, LineBuffer, OutOfMemory, RepeatCount};
 use std::alloc::Global;
 use std::process::Abort;
 use std::test::Fail;
@@ -16,120 +24,98 @@ pub(super) enum Taking {
 
 /// Makes the call.
 pub(super) fn taken(
+    alloc: Global,
     line: &mut LineBuffer,
     changes: &mut Changeset,
-    ring: &mut KillRing,
     step: &Taking,
 ) -> Result<Option<String>, OutOfMemory> {
     match step {
-        Taking::Copy(mvt) => line.copy(mvt),
-        Taking::Delete(n) => line.delete(*n, changes),
-        Taking::Kill(mvt) => match line.kill(mvt, changes, ring)? {
+        Copy(mvt) => line.copy(mvt),
+        Delete(n) => line.delete(*n, changes),
+        Kill(mvt) => match line.kill(mvt, changes, &mut KillRing::new(alloc, 1))? {
             Some((_, text, _)) => Ok(Some(text)),
             None => Ok(None),
         },
-        Taking::LastInsert => changes.last_insert(),
+        LastInsert => changes.last_insert(),
     }
 }
 
-/// A text, the cursor, edits, a call, and the text that it gives.
+/// A text, the cursor, an edit, a call, and what it gives: a text, so many times.
 type Case = (
     &'static str,
     usize,
-    &'static [Edit],
+    Option<Edit>,
     Taking,
-    Option<&'static str>,
+    Option<(&'static str, usize)>,
 );
 
 fn takes(rt: &impl Abort, alloc: Global, case: &Case) -> Result<(), Fail> {
-    let (text, pos, steps, step, wanted) = case;
-    let (mut line, mut changes, _) = after(rt, alloc, text, *pos, steps)?;
-    let mut ring = KillRing::new(alloc, 1);
-    let given = taken(&mut line, &mut changes, &mut ring, step)?;
-    let given = match &given {
-        Some(text) => Some(text.as_str()),
-        None => None,
-    };
-    assert_eq!(rt; given, *wanted, "from {pos} in {text:?}");
+    let (text, pos, edit, step, wanted) = case;
+    let mut line = line_at(rt, alloc, text, *pos)?;
+    let mut changes = Changeset::new(alloc);
+    if let Some(edit) = edit {
+        let _ = edited(rt, alloc, &mut line, &mut changes, edit)?;
+    }
+    let given = taken(alloc, &mut line, &mut changes, step)?;
+    match (given, wanted) {
+        (Some(given), Some((part, times))) => {
+            let whole = text_of(alloc, part, *times)?;
+            assert_eq!(rt; given.as_str(), whole.as_str(), "from {pos} in {text:?}");
+        }
+        (given, wanted) => assert!(rt;
+            given.is_none() && wanted.is_none(),
+            "from {pos} in {text:?}"
+        ),
+    }
     Ok(())
 }
 
 const LINES: &str = "abc\nde\nf日hij";
 
-const COPIES: &[Case] = &[
+const TAKINGS: &[Case] = &[
+    (LINES, 5, None, Copy(LineUp(1)), Some(("abc\nde\n", 1))),
+    (LINES, 5, None, Copy(LineUp(0)), Some(("de\n", 1))),
+    (LINES, 5, None, Copy(LineDown(0)), Some(("de\n", 1))),
+    (LINES, 5, None, Copy(LineDown(7)), Some(("de\nf日hij", 1))),
+    (LINES, 5, None, Copy(BackwardWord(1, Emacs)), Some(("d", 1))),
     (
         LINES,
         5,
-        &[],
-        Taking::Copy(Movement::LineUp(1)),
-        Some("abc\nde\n"),
+        None,
+        Copy(ForwardWord(1, Start, Vi)),
+        Some(("e\n", 1)),
     ),
-    (
-        LINES,
-        5,
-        &[],
-        Taking::Copy(Movement::LineUp(0)),
-        Some("de\n"),
-    ),
-    (
-        LINES,
-        5,
-        &[],
-        Taking::Copy(Movement::LineDown(0)),
-        Some("de\n"),
-    ),
-    (
-        LINES,
-        5,
-        &[],
-        Taking::Copy(Movement::LineDown(7)),
-        Some("de\nf日hij"),
-    ),
-    (
-        LINES,
-        5,
-        &[],
-        Taking::Copy(Movement::BackwardWord(1, Word::Emacs)),
-        Some("d"),
-    ),
-    (
-        LINES,
-        5,
-        &[],
-        Taking::Copy(Movement::ForwardWord(1, At::Start, Word::Vi)),
-        Some("e\n"),
-    ),
-    (LINES, 5, &[], Taking::Copy(Movement::ForwardChar(0)), None),
-];
-
-#[test]
-fn copies(rt: HostRuntime) -> Result<(), Fail> {
-    for case in COPIES {
-        takes(&rt, rt.alloc(), case)?;
-    }
-    Ok(())
-}
-
-const INDENT: Edit = Edit::Indent(Movement::WholeBuffer, 2);
-
-const GIVEN: &[Case] = &[
-    ("éz", 2, &[], Taking::Delete(1), Some("z")),
-    ("éz", 3, &[], Taking::Delete(1), None),
-    ("éz", 0, &[], Taking::Kill(Movement::WholeLine), Some("éz")),
+    (LINES, 5, None, Copy(ForwardChar(0)), None),
+    ("éz", 2, None, Delete(1), Some(("z", 1))),
+    ("éz", 3, None, Delete(1), None),
+    ("éz", 0, None, Kill(WholeLine), Some(("éz", 1))),
     (
         "é",
         2,
-        &[Edit::Replace(0, 2, "uvw")],
-        Taking::LastInsert,
-        Some("uvw"),
+        Some(Text(Replace(0, 2), "uvw")),
+        LastInsert,
+        Some(("uvw", 1)),
     ),
-    ("a\n\n b", 4, &[INDENT], Taking::LastInsert, Some("  ")),
-    ("", 0, &[], Taking::LastInsert, None),
+    (
+        "a\n\n b",
+        4,
+        Some(Indent(WholeBuffer, 2)),
+        LastInsert,
+        Some(("  ", 1)),
+    ),
+    ("", 0, None, LastInsert, None),
+    // of a word of 6,000 bytes
+    ("", 0, Some(WORD), Copy(WholeBuffer), Some(("é", 3_000))),
+    ("", 0, Some(WORD), Copy(EndOfLine), Some(("é", 2_998))),
+    ("", 0, Some(WORD), Copy(WholeLine), Some(("é", 3_000))),
+    ("", 0, Some(WORD), Copy(EndOfBuffer), Some(("é", 2_998))),
+    ("", 0, Some(WORD), LastInsert, Some(("é", 3_000))),
+    ("", 0, Some(WORD), Delete(2_500), Some(("é", 2_500))),
 ];
 
 #[test]
-fn gives(rt: HostRuntime) -> Result<(), Fail> {
-    for case in GIVEN {
+fn are_given(rt: HostRuntime) -> Result<(), Fail> {
+    for case in TAKINGS {
         takes(&rt, rt.alloc(), case)?;
     }
     Ok(())

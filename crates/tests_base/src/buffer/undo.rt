@@ -1,278 +1,71 @@
 //! Changes that join, groups of changes, and changes taken back.
 
-use super::edits::{Case, Edit, edits};
-use std::test::Fail;
+use super::edits::Call::*;
+use super::edits::Edit::*;
+use super::edits::Line::*;
+use super::edits::Row;
+use super::edits::Wanted::*;
 
-const JOINED: &[Case] = &[
-    (
-        "",
-        0,
-        &[Edit::Insert('a', 1), Edit::Insert('b', 1)],
-        Some(true),
-        "ab",
-        2,
-        1,
-    ),
-    (
-        "b",
-        1,
-        &[Edit::Insert('a', 1), Edit::Go(0), Edit::Insert('c', 1)],
-        Some(false),
-        "cba",
-        1,
-        2,
-    ),
-    (
-        "",
-        0,
-        &[Edit::Insert('a', 1), Edit::InsertText(1, "d")],
-        None,
-        "ad",
-        1,
-        2,
-    ),
-    ("", 0, &[Edit::InsertText(0, "")], None, "", 0, 0),
-    (
-        "efg",
-        0,
-        &[Edit::Delete(1), Edit::Delete(1)],
-        Some(true),
-        "g",
-        0,
-        1,
-    ),
-    (
-        "gfe",
-        2,
-        &[Edit::Delete(1), Edit::Go(1), Edit::Delete(1)],
-        Some(true),
-        "g",
-        1,
-        1,
-    ),
-    (
-        "a-",
-        0,
-        &[Edit::Delete(1), Edit::Delete(1)],
-        Some(true),
-        "",
-        0,
-        2,
-    ),
-    (
-        "ahi",
-        0,
-        &[Edit::Delete(1), Edit::Delete(2)],
-        Some(true),
-        "",
-        0,
-        2,
-    ),
-    ("a", 1, &[Edit::Delete(1)], Some(false), "a", 1, 0),
-    (
-        "j",
-        0,
-        &[Edit::Replace(0, 0, ""), Edit::Replace(0, 1, "kl")],
-        None,
-        "kl",
-        2,
-        1,
-    ),
-    (
-        "jm",
-        0,
-        &[Edit::Replace(0, 1, "kl"), Edit::Replace(2, 3, "n")],
-        None,
-        "kln",
-        3,
-        1,
-    ),
-    (
-        "jm",
-        0,
-        &[Edit::Replace(0, 1, "kl"), Edit::Replace(1, 2, "n")],
-        None,
-        "knm",
-        2,
-        2,
-    ),
+pub(super) const ROWS: &[Row] = &[
+    // changes that join, and those that do not
+    (On("", 0), Insert('a', 1), Any),
+    (Then, Insert('b', 1), Is(Some(true), "ab", 2, 1)),
+    (On("b", 1), Insert('a', 1), Any),
+    (Then, Go(0), Any),
+    (Then, Insert('c', 1), Is(Some(false), "cba", 1, 2)),
+    (On("", 0), Insert('a', 1), Any),
+    (Then, Text(InsertText(1), "d"), Is(None, "ad", 1, 2)),
+    (On("", 0), Text(InsertText(0), ""), Is(None, "", 0, 0)),
+    (On("efg", 0), Delete(1), Any),
+    (Then, Delete(1), Is(Some(true), "g", 0, 1)),
+    (On("gfe", 2), Delete(1), Any),
+    (Then, Go(1), Any),
+    (Then, Delete(1), Is(Some(true), "g", 1, 1)),
+    (On("a-", 0), Delete(1), Any),
+    (Then, Delete(1), Is(Some(true), "", 0, 2)),
+    (On("ahi", 0), Delete(1), Any),
+    (Then, Delete(2), Is(Some(true), "", 0, 2)),
+    (On("a", 1), Delete(1), Is(Some(false), "a", 1, 0)),
+    (On("j", 0), Text(Replace(0, 0), ""), Any),
+    (Then, Text(Replace(0, 1), "kl"), Is(None, "kl", 2, 1)),
+    (On("jm", 0), Text(Replace(0, 1), "kl"), Any),
+    (Then, Text(Replace(2, 3), "n"), Is(None, "kln", 3, 1)),
+    (On("jm", 0), Text(Replace(0, 1), "kl"), Any),
+    (Then, Text(Replace(1, 2), "n"), Is(None, "knm", 2, 2)),
+    // groups that close together
+    (On("", 0), End, Is(Some(false), "", 0, 0)),
+    (On("", 0), Begin, Any),
+    (Then, Begin, Any),
+    (Then, End, Is(Some(false), "", 0, 0)),
+    (On("", 0), Begin, Any),
+    (Then, Insert('a', 1), Any),
+    (Then, Begin, Any),
+    (Then, End, Is(Some(true), "a", 1, 3)),
+    (Then, End, Is(Some(false), "a", 1, 3)),
+    // steps that are taken back
+    (On("", 0), Undo(9), Is(Some(false), "", 0, 0)),
+    (On("", 0), Insert('a', 1), Any),
+    (Then, Insert('b', 1), Any),
+    (Then, Undo(0), Is(Some(true), "", 0, 0)),
+    (On("", 0), Insert('-', 1), Any),
+    (Then, Group, Any),
+    (Then, Undo(1), Is(Some(true), "-", 1, 1)),
+    (Then, Undo(1), Is(Some(true), "", 0, 0)),
+    (On("", 0), Insert('-', 1), Any),
+    (Then, Group, Any),
+    (Then, Undo(2), Is(Some(true), "", 0, 0)),
+    (On("", 0), Group, Any),
+    (Then, Begin, Any),
+    (Then, Undo(2), Is(Some(false), "a", 1, 2)),
+    (On("", 0), Group, Any),
+    (Then, Begin, Any),
+    (Then, Undo(1), Is(Some(false), "a", 1, 3)),
+    (Then, Undo(1), Is(Some(true), "", 0, 0)),
+    (On("", 0), Insert('a', 2), Any),
+    (Then, Text(Replace(0, 1), "x"), Any),
+    (Then, Text(Replace(1, 2), "yz"), Is(None, "xyz", 3, 2)),
+    (Then, Undo(1), Is(Some(true), "aa", 2, 1)),
+    (On("aaa", 0), Delete(1), Any),
+    (Then, Delete(1), Is(Some(true), "a", 0, 1)),
+    (Then, Undo(1), Is(Some(true), "aaa", 2, 0)),
 ];
-
-#[test]
-fn joins(rt: HostRuntime) -> Result<(), Fail> {
-    for case in JOINED {
-        edits(&rt, rt.alloc(), case)?;
-    }
-    Ok(())
-}
-
-const GROUP: &[Edit] = &[Edit::Begin, Edit::Insert('a', 1), Edit::Begin, Edit::End];
-
-const GROUPS: &[Case] = &[
-    ("", 0, &[Edit::End], Some(false), "", 0, 0),
-    (
-        "",
-        0,
-        &[Edit::Begin, Edit::Begin, Edit::End],
-        Some(false),
-        "",
-        0,
-        0,
-    ),
-    ("", 0, GROUP, Some(true), "a", 1, 3),
-    (
-        "",
-        0,
-        &[
-            Edit::Begin,
-            Edit::Insert('a', 1),
-            Edit::Begin,
-            Edit::End,
-            Edit::End,
-        ],
-        Some(false),
-        "a",
-        1,
-        3,
-    ),
-];
-
-#[test]
-fn groups_close_together(rt: HostRuntime) -> Result<(), Fail> {
-    for case in GROUPS {
-        edits(&rt, rt.alloc(), case)?;
-    }
-    Ok(())
-}
-
-const A: Edit = Edit::Insert('a', 1);
-
-const DASH: Edit = Edit::Insert('-', 1);
-
-const JOINED_DELETES: &[Edit] = &[Edit::Delete(1), Edit::Delete(1), Edit::Undo(1)];
-
-const STEPS: &[Case] = &[
-    ("", 0, &[Edit::Undo(9)], Some(false), "", 0, 0),
-    (
-        "",
-        0,
-        &[A, Edit::Insert('b', 1), Edit::Undo(0)],
-        Some(true),
-        "",
-        0,
-        0,
-    ),
-    (
-        "",
-        0,
-        &[DASH, Edit::Begin, A, Edit::End, Edit::Undo(1)],
-        Some(true),
-        "-",
-        1,
-        1,
-    ),
-    (
-        "",
-        0,
-        &[DASH, Edit::Begin, A, Edit::End, Edit::Undo(2)],
-        Some(true),
-        "",
-        0,
-        0,
-    ),
-    (
-        "",
-        0,
-        &[
-            DASH,
-            Edit::Begin,
-            A,
-            Edit::End,
-            Edit::Undo(1),
-            Edit::Undo(1),
-        ],
-        Some(true),
-        "",
-        0,
-        0,
-    ),
-    (
-        "",
-        0,
-        &[Edit::Begin, A, Edit::End, Edit::Begin, Edit::Undo(2)],
-        Some(false),
-        "a",
-        1,
-        2,
-    ),
-    (
-        "",
-        0,
-        &[Edit::Begin, A, Edit::End, Edit::Begin, Edit::Undo(1)],
-        Some(false),
-        "a",
-        1,
-        3,
-    ),
-    (
-        "",
-        0,
-        &[
-            Edit::Begin,
-            A,
-            Edit::End,
-            Edit::Begin,
-            Edit::Undo(1),
-            Edit::Undo(1),
-        ],
-        Some(true),
-        "",
-        0,
-        0,
-    ),
-    (
-        "",
-        0,
-        &[
-            Edit::Insert('a', 2),
-            Edit::Replace(0, 1, "x"),
-            Edit::Replace(1, 2, "yz"),
-        ],
-        None,
-        "xyz",
-        3,
-        2,
-    ),
-    (
-        "",
-        0,
-        &[
-            Edit::Insert('a', 2),
-            Edit::Replace(0, 1, "x"),
-            Edit::Replace(1, 2, "yz"),
-            Edit::Undo(1),
-        ],
-        Some(true),
-        "aa",
-        2,
-        1,
-    ),
-    (
-        "aaa",
-        0,
-        &[Edit::Delete(1), Edit::Delete(1)],
-        Some(true),
-        "a",
-        0,
-        1,
-    ),
-    ("aaa", 0, JOINED_DELETES, Some(true), "aaa", 2, 0),
-];
-
-#[test]
-fn steps(rt: HostRuntime) -> Result<(), Fail> {
-    for case in STEPS {
-        edits(&rt, rt.alloc(), case)?;
-    }
-    Ok(())
-}

@@ -10,7 +10,6 @@ use std::result;
 use std::test::Fail;
 
 /// The one setting that is not the default.
-#[derive(Clone, Copy, Debug)]
 enum Changed {
     Nothing,
     MaxHistorySize,
@@ -57,7 +56,7 @@ const ALL: &[Changed] = &[
     Changed::Signals,
 ];
 
-fn built(changed: Changed) -> Result<Builder> {
+fn built(changed: &Changed) -> Result<Builder> {
     let mut builder = Config::builder(GraphemeClusterMode::Unicode);
     Ok(match changed {
         Changed::Nothing => builder,
@@ -87,7 +86,8 @@ fn built(changed: Changed) -> Result<Builder> {
 }
 
 /// Two configurations are equal where they differ in the same setting alone.
-fn compares(rt: &impl Abort, one: Changed, other: Changed, same: bool) -> Result<()> {
+fn compares(rt: &impl Abort, one: &Changed, other: &Changed, places: (usize, usize)) -> Result<()> {
+    let same = places.0 == places.1;
     let first = built(one)?.build();
     let second = built(other)?.build();
     let found = (first == second, first != second);
@@ -95,68 +95,30 @@ fn compares(rt: &impl Abort, one: Changed, other: Changed, same: bool) -> Result
     assert_eq!(rt;
         (found, settings_found),
         ((same, !same), same),
-        "{one:?} {other:?}"
+        "{places:?}"
     );
     Ok(())
 }
 
-#[test]
-fn no_two_are_equal(rt: HostRuntime) -> Result<()> {
-    for (index, one) in ALL.iter().enumerate() {
-        for (place, other) in ALL.iter().enumerate() {
-            compares(&rt, *one, *other, index == place)?;
-        }
-    }
-    Ok(())
-}
-
-/// The clone of a configuration has what was set, and leaves its source as it was.
-fn copies(rt: &impl Abort, changed: Changed) -> result::Result<(), Fail> {
-    let wanted = settings(&built(changed)?.build());
-    let config = built(changed)?.build();
-    let copy = config.clone()?;
-    let found = (settings(&copy), settings(&config));
-    assert_eq!(rt; found, (wanted, wanted), "{changed:?}");
-    Ok(())
-}
-
-/// So has the clone of a builder.
-fn builds_a_copy(rt: &impl Abort, changed: Changed) -> result::Result<(), Fail> {
+/// The clone of a configuration, and that of a builder, has what was set, and leaves its source as it was.
+fn copies(rt: &impl Abort, changed: &Changed, place: usize) -> result::Result<(), Fail> {
     let wanted = settings(&built(changed)?.build());
     let builder = built(changed)?;
-    let copy = builder.clone()?;
-    let found = (settings(&copy.build()), settings(&builder.build()));
-    assert_eq!(rt; found, (wanted, wanted), "{changed:?}");
-    Ok(())
-}
-
-#[test]
-fn keep_what_was_set(rt: HostRuntime) -> result::Result<(), Fail> {
-    for changed in ALL {
-        copies(&rt, *changed)?;
-        builds_a_copy(&rt, *changed)?;
-    }
-    Ok(())
-}
-
-/// What `Debug` shows: the settings, of a builder too.
-#[test]
-fn show_what_was_set(rt: HostRuntime) -> result::Result<(), Fail> {
-    let builder = built(Changed::MaxHistorySize)?;
-    let shown = format!(in rt.alloc(); "{builder:?}")?;
-    assert!(rt; shown.as_str().starts_with("Builder"));
+    let copy = builder.clone()?.build();
     let config = builder.build();
-    let inside = format!(in rt.alloc(); "{config:?}")?;
-    assert!(rt; inside.as_str().starts_with("Config") && shown.as_str().contains(inside.as_str()));
-    for piece in [
-        "max_history_size: 7",
-        "history_duplicates: IgnoreConsecutive",
-        "keyseq_timeout: None",
-        "edit_mode: Emacs",
-        "tab_stop: 8",
-        "enable_signals: false",
-    ] {
-        assert!(rt; inside.as_str().contains(piece), "{piece}");
+    let clone = config.clone()?;
+    let found = (settings(&copy), settings(&config), settings(&clone));
+    assert_eq!(rt; found, (wanted, wanted, wanted), "{place}");
+    Ok(())
+}
+
+#[test]
+fn no_two_are_equal(rt: HostRuntime) -> result::Result<(), Fail> {
+    for (index, one) in ALL.iter().enumerate() {
+        copies(&rt, one, index)?;
+        for (place, other) in ALL.iter().enumerate() {
+            compares(&rt, one, other, (index, place))?;
+        }
     }
     Ok(())
 }

@@ -1,0 +1,120 @@
+//! Where the clusters of a text part, which characters join no other, which texts are printable ASCII, and widths.
+
+use self::Asked::*;
+use line_buffer::GraphemeClusterMode::*;
+use line_buffer::{
+    Layout, Unit, first_parting, is_plain_text, is_printable, is_printable_text, last_parting,
+    lone_width,
+};
+
+/// What is asked of a text, with the answer.
+enum Asked {
+    /// Where its first part ends.
+    First(usize),
+    /// Where the last part before a place begins.
+    Last(usize, usize),
+    /// Whether it is printable ASCII, and whether newlines aside it is.
+    Printable(bool, bool),
+    /// Its width by clusters, by characters and by pieces between joiners.
+    Widths(Unit, Unit, Unit),
+}
+
+const TEXTS: &[(&str, Asked)] = &[
+    ("", First(0)),
+    ("a", First(1)),
+    ("ab", First(2)),
+    ("a\n\nb", First(4)),
+    ("abc世", First(2)),
+    ("a\nb世", First(2)),
+    ("a世b", First(5)),
+    ("世a", First(4)),
+    ("世ab", First(4)),
+    ("世本abc", First(7)),
+    ("a\u{301}bc", First(4)),
+    ("\u{301}ab", First(3)),
+    ("a\r\nb", First(3)),
+    ("", Last(0, 0)),
+    ("abc", Last(0, 0)),
+    ("abc", Last(1, 0)),
+    ("abc", Last(3, 2)),
+    ("ab世", Last(5, 1)),
+    ("世ab", Last(4, 0)),
+    ("世ab", Last(5, 4)),
+    ("ab\u{301}cd", Last(4, 1)),
+    ("ab\u{301}cd", Last(5, 1)),
+    ("ab\u{301}cd", Last(6, 5)),
+    ("a\nb世", Last(6, 2)),
+    ("", Printable(true, true)),
+    (" ~", Printable(true, true)),
+    ("a\nb", Printable(false, true)),
+    ("\n", Printable(false, true)),
+    ("a\tb", Printable(false, false)),
+    ("\u{7f}", Printable(false, false)),
+    ("\u{1f}a", Printable(false, false)),
+    ("aé", Printable(false, false)),
+    ("世", Printable(false, false)),
+    ("", Widths(0, 0, 0)),
+    ("abc", Widths(3, 3, 3)),
+    ("e\u{301}", Widths(1, 1, 1)),
+    ("日本", Widths(4, 4, 4)),
+    ("👨\u{200d}👩\u{200d}👧", Widths(2, 6, 6)),
+    ("a\u{200d}b", Widths(2, 2, 2)),
+    ("🇩🇪", Widths(2, 2, 2)),
+    ("❤\u{fe0f}", Widths(2, 1, 2)),
+];
+
+/// A character, its columns if it is known to join no other, and whether it is printable ASCII.
+const CHARACTERS: &[(char, Option<usize>, bool)] = &[
+    (' ', Some(1), true),
+    ('~', Some(1), true),
+    ('é', Some(1), false),
+    ('ß', Some(1), false),
+    ('Я', Some(1), false),
+    ('世', Some(2), false),
+    ('か', Some(2), false),
+    ('。', Some(2), false),
+    ('👍', Some(2), false),
+    ('\n', None, false),
+    ('\t', None, false),
+    ('\u{7f}', None, false),
+    ('\u{ad}', None, false),
+    ('\u{301}', None, false),
+    ('\u{200d}', None, false),
+    ('क', None, false),
+    ('가', None, false),
+    ('\u{1f1e6}', None, false),
+    ('\u{1f3fb}', None, false),
+];
+
+#[test]
+fn of_texts_and_characters(rt: HostRuntime) {
+    for (text, asked) in TEXTS {
+        match asked {
+            First(place) => assert_eq!(&rt; first_parting(text), *place, "{text:?}"),
+            Last(end, place) => {
+                assert!(&rt; text.is_char_boundary(*end), "{end} in {text:?}");
+                assert_eq!(&rt;
+                    last_parting(text, *end),
+                    *place,
+                    "before {end} in {text:?}"
+                );
+            }
+            Printable(printable, plain) => {
+                let found = (is_printable_text(text), is_plain_text(text));
+                assert_eq!(&rt; found, (*printable, *plain), "{text:?}");
+            }
+            Widths(whole, characters, pieces) => {
+                let found = (Unicode.width(text), WcWidth.width(text), NoZwj.width(text));
+                assert_eq!(&rt; found, (*whole, *characters, *pieces), "{text:?}");
+                assert_eq!(&rt; Layout::new(NoZwj).width(text), *pieces, "{text:?}");
+            }
+        }
+    }
+    for (c, width, printable) in CHARACTERS {
+        assert_eq!(&rt;
+            (lone_width(*c), is_printable(*c)),
+            (*width, *printable),
+            "{c:?}"
+        );
+    }
+}
