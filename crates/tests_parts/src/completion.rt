@@ -1,117 +1,152 @@
-//! Completion: words and their escapes, what candidates begin with in common, pairs, and completers in boxes.
-
-ghost use Rattle.std.specs.Prelude.{true, IsCharBoundary};
+//! Completion: words and their escapes, what candidates begin with in common, pairs, and completers.
 
 mod faults;
-mod refusals;
-mod words;
 
-use line_buffer::{Changeset, LineBuffer};
+use crate::ready::{Asked, Case};
+pub(super) use faults::{Which, holds};
 use line_config::Result;
-use line_parts::{Candidate, Completer, Context, MemHistory, Pair, longest_common_prefix};
+use line_parts::{Candidate, Pair, Quote, longest_common_prefix, unescape};
 use std::alloc::Global;
-use std::process::Abort;
-use std::result;
-use std::test::Fail;
+use std::borrow::CowStr;
 
-/// What texts begin with in common: it is borrowed from the first of them.
-fn begin_with(rt: &impl Abort, texts: &[&str], wanted: Option<&str>) -> result::Result<(), Fail> {
-    assert_eq!(rt; longest_common_prefix(texts), wanted, "{texts:?}");
-    Ok(())
+/// Whether words break at a character in these tests.
+pub(super) fn breaks(c: char) -> bool {
+    matches!(c, ' ' | '\\' | '"' | '\'' | 'é')
 }
 
-#[test]
-fn prefixes_are_of_whole_characters(rt: HostRuntime) -> result::Result<(), Fail> {
-    let cases: [(&[&str], Option<&str>); 13] = [
-        (&[], None),
-        (&["ab"], Some("ab")),
-        (&[""], Some("")),
-        (&["User", "Users"], Some("User")),
-        (&["User", "Users", ""], None),
-        (&["a", "a"], Some("a")),
-        (&["b", "a"], None),
-        (&["abc", "abd", "ab", "abcd"], Some("ab")),
-        (&["fée", "fête"], Some("f")),
-        // Both are two bytes, of which the first is the same.
-        (&["é", "è"], None),
-        // The second characters share two of their three bytes.
-        (&["日本", "日月"], Some("日")),
-        (&["e\u{301}", "e"], Some("e")),
-        (&["日", "日"], Some("日")),
-    ];
-    for (texts, wanted) in cases {
-        begin_with(&rt, texts, wanted)?;
+/// Whether the text without its escapes is this one, and is borrowed where it is to be.
+pub(super) fn unescapes(
+    alloc: Global,
+    text: &str,
+    esc_char: Option<char>,
+    (wanted, same): (&str, bool),
+) -> Result<bool> {
+    let unescaped = unescape(alloc, text, esc_char)?;
+    Ok(unescaped.as_str() == wanted && matches!(unescaped, CowStr::Borrowed(_)) == same)
+}
+
+/// Whether the first of the texts between the strokes, so many of them, begin so in common: it is borrowed from the first.
+pub(super) fn begin_alike(
+    alloc: Global,
+    texts: &str,
+    count: usize,
+    wanted: Option<&str>,
+) -> Result<bool> {
+    let mut candidates = Vec::new(alloc);
+    for text in texts.split('|').take(count) {
+        candidates.push(text)?;
     }
-    Ok(())
+    Ok(longest_common_prefix(candidates.as_slice()) == wanted)
 }
 
-fn pair(alloc: Global, display: &str, replacement: &str) -> Result<Pair> {
-    Ok(Pair {
+/// Whether the copy of a pair is that pair, and its replacement begins with that of another pair as it is to.
+pub(super) fn are_paired(
+    alloc: Global,
+    (display, replacement): (&str, &str),
+    other: &str,
+    common: &str,
+) -> Result<bool> {
+    let first = Pair {
         display: String::from_str(alloc, display)?,
         replacement: String::from_str(alloc, replacement)?,
-    })
-}
-
-#[test]
-fn pairs_complete_by_their_replacements(rt: HostRuntime) -> result::Result<(), Fail> {
-    let alloc = rt.alloc();
-    let first = pair(alloc, "one", "ab")?;
+    };
     let copy = first.clone()?;
-    assert_eq!(rt; (copy.display(), copy.replacement()), ("one", "ab"));
-    let pairs = vec![in alloc; first, pair(alloc, "other", "ac")?]?;
-    assert_eq!(rt; longest_common_prefix(pairs.as_slice()), Some("a"));
-    Ok(())
+    let second = Pair {
+        display: String::from_str(alloc, "other")?,
+        replacement: String::from_str(alloc, other)?,
+    };
+    let pairs = vec![in alloc; first, second]?;
+    Ok(
+        (copy.display(), copy.replacement()) == (display, replacement)
+            && longest_common_prefix(pairs.as_slice()) == Some(common),
+    )
 }
 
-/// Offers nothing, and puts an elected text into the line.
-#[derive(Drop)]
-pub(super) struct Plain;
-
-impl Completer for Plain {
-    type Candidate = &'static str;
-
-    ghost sure = { λ _. true };
-}
-
-/// Completes `ls u` and then takes the text `usr` at the start of a line: what is offered, and how many changes there are.
-fn completes<C: Completer>(
-    completer: &C,
-    alloc: Global,
-    line: &mut LineBuffer,
-) -> Result<(usize, usize, usize)>
-    requires { IsCharBoundary line.old.text 0 }
-{
-    let history = MemHistory::new(alloc);
-    let mut changes = Changeset::new(alloc);
-    let (start, candidates) = completer.complete(alloc, "ls u", 4, &Context::new(&history))?;
-    completer.update(line, 0, "usr", &mut changes)?;
-    Ok((start, candidates.len(), changes.len()))
-}
-
-#[test]
-fn completers_offer_nothing(rt: HostRuntime) -> Result<()> {
-    let alloc = rt.alloc();
-    let mut line = LineBuffer::init(alloc, "us -l", 2)?;
-    assert_eq!(rt; completes(&(), alloc, &mut line)?, (0, 0, 0));
-    assert_eq!(rt; (line.as_str(), line.pos()), ("us -l", 2));
-    assert_eq!(rt; completes(&Plain, alloc, &mut line)?, (0, 0, 1));
-    assert_eq!(rt; (line.as_str(), line.pos()), ("usr -l", 3));
-    Ok(())
-}
-
-#[test]
-fn boxed_completers_are_asked(rt: HostRuntime) -> Result<()> {
-    let alloc = rt.alloc();
-    let mut line = LineBuffer::init(alloc, "us -l", 2)?;
-    assert_eq!(rt;
-        completes(&Box::new(alloc, ())?, alloc, &mut line)?,
-        (0, 0, 0)
-    );
-    assert_eq!(rt; (line.as_str(), line.pos()), ("us -l", 2));
-    assert_eq!(rt;
-        completes(&Box::new(alloc, Plain)?, alloc, &mut line)?,
-        (0, 0, 1)
-    );
-    assert_eq!(rt; (line.as_str(), line.pos()), ("usr -l", 3));
-    Ok(())
-}
+pub(super) const CASES: &[Case] = &[
+    (
+        r"ls /User\ Information",
+        Asked::Word(21, Some('\\'), 3, r"/User\ Information"),
+    ),
+    (
+        "ls '/usr/local/b",
+        Asked::Word(16, Some('\\'), 4, "/usr/local/b"),
+    ),
+    ("", Asked::Word(0, Some('\\'), 0, "")),
+    ("abc", Asked::Word(3, Some('\\'), 0, "abc")),
+    (" abc", Asked::Word(4, Some('\\'), 1, "abc")),
+    ("a ", Asked::Word(2, Some('\\'), 2, "")),
+    (" ", Asked::Word(1, Some('\\'), 1, "")),
+    // The cursor stands before the end.
+    ("a b c", Asked::Word(3, Some('\\'), 2, "b")),
+    ("a b c", Asked::Word(2, Some('\\'), 2, "")),
+    ("a b c", Asked::Word(0, Some('\\'), 0, "")),
+    // An escape at the start, in the middle, before another word, and at the end.
+    (r"\ a", Asked::Word(3, Some('\\'), 0, r"\ a")),
+    (r"a b\ c", Asked::Word(6, Some('\\'), 2, r"b\ c")),
+    (r"a\ b c", Asked::Word(6, Some('\\'), 5, "c")),
+    (r"a\", Asked::Word(2, Some('\\'), 2, "")),
+    (r"a\ ", Asked::Word(3, Some('\\'), 0, r"a\ ")),
+    // Runs of two, three and four escapes before a blank.
+    (r"a\\ b", Asked::Word(5, Some('\\'), 2, r"\ b")),
+    (r"\\\ b", Asked::Word(5, Some('\\'), 0, r"\\\ b")),
+    (r"a\\\\ b", Asked::Word(7, Some('\\'), 2, r"\\\ b")),
+    // A quote behind an escape, and one that is not.
+    (r#"a\"b"#, Asked::Word(4, Some('\\'), 0, r#"a\"b"#)),
+    (r#"a"b"#, Asked::Word(3, Some('\\'), 2, "b")),
+    // No escape character, and one that breaks no words.
+    (r"a\ b", Asked::Word(4, None, 3, "b")),
+    ("a^ b", Asked::Word(4, Some('^'), 0, "a^ b")),
+    ("a^^ b", Asked::Word(5, Some('^'), 0, "a^^ b")),
+    // Characters of several bytes.
+    ("日é本", Asked::Word(8, Some('^'), 5, "本")),
+    ("日^é本", Asked::Word(9, Some('^'), 0, "日^é本")),
+    // Escapes stand before breaks.
+    ("", Asked::Escaped(Some('\\'), Quote::None, "")),
+    ("ab", Asked::Escaped(Some('\\'), Quote::None, "ab")),
+    ("a b", Asked::Escaped(Some('\\'), Quote::None, r"a\ b")),
+    ("a b", Asked::Escaped(Some('\\'), Quote::Double, r"a\ b")),
+    ("a b", Asked::Escaped(Some('\\'), Quote::Single, "a b")),
+    ("a b", Asked::Escaped(None, Quote::None, "a b")),
+    ("  ", Asked::Escaped(Some('\\'), Quote::None, r"\ \ ")),
+    // The escape character is a break character itself.
+    (r"\", Asked::Escaped(Some('\\'), Quote::None, r"\\")),
+    (r"a\ b", Asked::Escaped(Some('\\'), Quote::None, r"a\\\ b")),
+    // One that is not.
+    ("a^ b", Asked::Escaped(Some('^'), Quote::None, "a^^ b")),
+    // Characters of several bytes.
+    ("日é", Asked::Escaped(Some('\\'), Quote::None, r"日\é")),
+    ("é b", Asked::Escaped(Some('日'), Quote::Double, "日é日 b")),
+    // Escapes are left out.
+    ("", Asked::Unescaped(Some('\\'), "", true)),
+    ("a b", Asked::Unescaped(Some('\\'), "a b", true)),
+    (r"a\ b", Asked::Unescaped(None, r"a\ b", true)),
+    (r"a\ b", Asked::Unescaped(Some('\\'), "a b", false)),
+    (r"\a\b", Asked::Unescaped(Some('\\'), "ab", false)),
+    // Runs of one to four escapes.
+    (r"\", Asked::Unescaped(Some('\\'), "", false)),
+    (r"\\", Asked::Unescaped(Some('\\'), r"\", false)),
+    (r"a\\\", Asked::Unescaped(Some('\\'), r"a\", false)),
+    (r"\\\\", Asked::Unescaped(Some('\\'), r"\\", false)),
+    (r"a\", Asked::Unescaped(Some('\\'), "a", false)),
+    // Characters of several bytes.
+    (r"\é日", Asked::Unescaped(Some('\\'), "é日", false)),
+    ("日日a日", Asked::Unescaped(Some('日'), "日a", false)),
+    // What texts begin with in common is of whole characters.
+    ("", Asked::Alike(0, None)),
+    ("ab", Asked::Alike(1, Some("ab"))),
+    ("", Asked::Alike(1, Some(""))),
+    ("User|Users", Asked::Alike(2, Some("User"))),
+    ("User|Users|", Asked::Alike(3, None)),
+    ("a|a", Asked::Alike(2, Some("a"))),
+    ("b|a", Asked::Alike(2, None)),
+    ("abc|abd|ab|abcd", Asked::Alike(4, Some("ab"))),
+    ("fée|fête", Asked::Alike(2, Some("f"))),
+    // Both are two bytes, of which the first is the same.
+    ("é|è", Asked::Alike(2, None)),
+    // The second characters share two of their three bytes.
+    ("日本|日月", Asked::Alike(2, Some("日"))),
+    ("e\u{301}|e", Asked::Alike(2, Some("e"))),
+    ("日|日", Asked::Alike(2, Some("日"))),
+    // Pairs complete by their replacements.
+    ("one", Asked::Paired("ab", "ac", "a")),
+];

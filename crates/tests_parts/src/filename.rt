@@ -1,397 +1,404 @@
 //! Completion of the names of files and folders, over folders that are listed from memory.
-ghost use Rattle.std.specs.Prelude.{◌≡◌, map, not, IfOk};
+ghost use Rattle.std.specs.Prelude.{◌≡◌, map, false, Some, None, if◌then◌else◌, bytes_eq, string_bytes};
+ghost use Rattle.std.specs.Prelude.{IfOk, IsCharBoundary};
 ghost use Rattle.line_config.specs.Error.{MemoryOnly};
 ghost use Rattle.line_parts.specs.Completed.{listed_of};
-ghost use Rattle.tests_parts.specs.Folder.{listed_in, listed_pair};
 
 mod faults;
-mod large;
 
-use line_config::{ReadlineError, Result};
-use line_parts::{Completer, Context, Entry, FilenameCompleter, Lister, MemHistory, Pair};
+use crate::ready::{Asked, Case};
+use Way::{Boxed, ByTrait, Sorted, Unsorted};
+use line_config::Result;
+use line_parts::{Completer, Context, Entry, FilenameCompleter, Lister, Pair};
 use std::alloc::Global;
-use std::io::ErrorKind;
-use std::process::Abort;
 use std::result;
 use std::test::Fail;
+use tests_parties::countdown::Countdown;
+use tests_parties::fault::{Fault, GONE};
+use tests_parties::shelf::{Failing, Shelf};
 
-/// A name, and whether it is a folder's.
-type Name = (&'static str, bool);
-
-/// The one folder that can be listed, with the names in it, in a lister that may fail.
-#[derive(Drop)]
-struct Folder {
-    path: &'static str,
-    names: &'static [Name],
-    fails: bool,
+/// Which calls of a lister fail.
+#[derive(Clone, Copy, Debug)]
+enum Broken {
+    /// The one of this number, from 1 on; none where that is 0.
+    Call(u64),
+    /// Those for this folder.
+    At(&'static str),
+    /// Those for other folders.
+    ButAt(&'static str),
 }
 
-/// The names as entries.
-fn entries(alloc: Global, names: &[Name]) -> Result<Vec<Entry>>
-    ensures entries { IfOk result (λ v. map listed_of v.items ≡ map listed_pair names.now) }
+/// The one folder that can be listed, with the names in it, in a lister of which some calls fail.
+#[derive(Drop)]
+struct Folder {
+    path: String,
+    entries: Vec<Entry>,
+    broken: Broken,
+    countdown: Countdown,
+    fault: Fault,
+}
+
+/// The same names.
+fn copied(alloc: Global, entries: &[Entry]) -> Result<Vec<Entry>>
+    ensures entries { IfOk result (λ v. map listed_of v.items ≡ map listed_of entries.now) }
     ensures memory { MemoryOnly result }
 {
-    let mut entries = Vec::new(alloc);
-    for (name, folder) in names {
-        entries.push(Entry {
-            name: String::from_str(alloc, name)?,
-            folder: *folder,
+    let mut copies = Vec::new(alloc);
+    for entry in entries {
+        copies.push(Entry {
+            name: entry.name.clone()?,
+            folder: entry.folder,
         })?;
     }
-    Ok(entries)
+    Ok(copies)
 }
 
 impl Lister for Folder {
-    ghost sure = { λ folder. not folder.fails };
+    ghost sure = { λ _. false };
 
-    ghost listing = { λ folder dir. listed_in folder.path.now folder.names.now dir };
+    ghost listing = { λ folder dir. if bytes_eq dir (string_bytes folder.path)
+        then Some (map listed_of folder.entries.items) else None };
 
     fn list(&self, alloc: Global, dir: &str) -> Result<Option<Vec<Entry>>> {
-        if self.fails {
-            return Err(ReadlineError::from(ErrorKind::NotFound));
+        self.countdown.call()?;
+        let broken = match self.broken {
+            Broken::Call(_) => false,
+            Broken::At(path) => dir == path,
+            Broken::ButAt(path) => dir != path,
+        };
+        if broken {
+            return self.fault.answer();
         }
-        if dir != self.path {
+        if dir != self.path.as_str() {
             return Ok(None);
         }
-        Ok(Some(entries(alloc, self.names)?))
+        Ok(Some(copied(alloc, self.entries.as_slice())?))
     }
 }
 
-/// What is shown and put in for a name.
-type Offer = (&'static str, &'static str);
+/// The folder of this path; a comma stands between its names, and a slash behind those of folders.
+fn folder_of(
+    alloc: Global,
+    (path, names): (&str, &str),
+    broken: Broken,
+    fault: Fault,
+) -> Result<Folder> {
+    let mut entries = Vec::new(alloc);
+    for name in names.split(',') {
+        entries.push(Entry {
+            name: String::from_str(alloc, name.strip_suffix('/').unwrap_or(name))?,
+            folder: name.ends_with('/'),
+        })?;
+    }
+    let failing = match broken {
+        Broken::Call(number) => number,
+        _ => 0,
+    };
+    Ok(Folder {
+        path: String::from_str(alloc, path)?,
+        entries,
+        broken,
+        countdown: Countdown::with(failing, fault),
+        fault,
+    })
+}
 
-/// A line, its cursor, the folder that can be listed, the names in it, where the path begins, and what completes it.
-type Case = (
-    &'static str,
-    usize,
-    &'static str,
-    &'static [Name],
-    usize,
-    &'static [Offer],
-);
+/// By which call names are asked for.
+#[derive(Clone, Copy, Debug)]
+enum Way {
+    Sorted,
+    Unsorted,
+    ByTrait,
+    Boxed,
+}
+
+/// What completes a line, beside a history of which each call fails.
+fn found(
+    alloc: Global,
+    way: Way,
+    lister: Folder,
+    line: &str,
+    pos: usize,
+) -> Result<(usize, Vec<Pair>)>
+    requires { IsCharBoundary line.now pos }
+{
+    let completer = FilenameCompleter::new(lister);
+    let mut history = Shelf::new(alloc, 0);
+    history.fail_in(Failing::All, GONE);
+    let ctx = Context::new(&history);
+    match way {
+        Sorted => completer.complete_path(alloc, line, pos),
+        Unsorted => completer.complete_path_unsorted(alloc, line, pos),
+        ByTrait => completer.complete(alloc, line, pos, &ctx),
+        Boxed => Box::new(alloc, completer)?.complete(alloc, line, pos, &ctx),
+    }
+}
+
+/// Where the path begins, and what completes it: an arrow stands between what is shown and what is put in, and a comma
+/// between candidates.
+type Offered<'t> = (usize, &'t str);
+
+fn is_offered(alloc: Global, found: &(usize, Vec<Pair>), wanted: Offered<'_>) -> Result<bool> {
+    let (start, pairs) = found;
+    let mut text = String::new(alloc);
+    for pair in pairs {
+        if !text.is_empty() {
+            text.push_str(", ")?;
+        }
+        text.push_str(pair.display.as_str())?;
+        text.push_str(" → ")?;
+        text.push_str(pair.replacement.as_str())?;
+    }
+    Ok((*start, text.as_str()) == wanted)
+}
+
+/// Whether the names of a folder complete a line so, in their order or in that of the lister.
+pub(super) fn completes(
+    alloc: Global,
+    sorted: bool,
+    (line, pos): (&str, usize),
+    folder: (&str, &str),
+    wanted: Offered<'_>,
+) -> Result<bool> {
+    if !line.is_char_boundary(pos) {
+        return Ok(false);
+    }
+    let ways: &[Way] = if sorted {
+        &[Sorted, ByTrait, Boxed]
+    } else {
+        &[Unsorted]
+    };
+    for way in ways {
+        let lister = folder_of(alloc, folder, Broken::Call(0), GONE)?;
+        if !is_offered(alloc, &found(alloc, *way, lister, line, pos)?, wanted)? {
+            return Ok(false);
+        }
+    }
+    Ok(true)
+}
 
 /// The names of most cases.
-const NAMES: &[Name] = &[
-    ("Users", true),
-    ("User Information", true),
-    ("lib.rs", false),
-    ("é$a\"b", false),
-];
+pub(super) const NAMES: &str = "Users/,User Information/,lib.rs,é$a\"b";
 
 /// A name with each character at which words break.
 const BREAK_NAME: &str = " \t\n\"\\'`@$><=;|&{(\0x";
 
-const CASES: &[Case] = &[
+pub(super) const CASES: &[Case] = &[
     // The names that start so, escaped, and a slash behind a folder.
     (
         "ls User",
-        7,
-        "",
-        NAMES,
-        3,
-        &[
-            ("User Information", "User\\ Information/"),
-            ("Users", "Users/"),
-        ],
+        Asked::Path(
+            7,
+            "",
+            NAMES,
+            3,
+            "User Information → User\\ Information/, Users → Users/",
+        ),
     ),
     (
         "ls Us",
-        5,
-        "",
-        &[("User Information", true)],
-        3,
-        &[("User Information", "User\\ Information/")],
+        Asked::Path(
+            5,
+            "",
+            "User Information/",
+            3,
+            "User Information → User\\ Information/",
+        ),
     ),
     (
         "ls User\\ ",
-        9,
-        "",
-        NAMES,
-        3,
-        &[("User Information", "User\\ Information/")],
+        Asked::Path(9, "", NAMES, 3, "User Information → User\\ Information/"),
     ),
     // The folder cannot be listed, or has no such name.
-    ("ls x", 4, "other/", NAMES, 3, &[]),
-    ("ls x", 4, "", NAMES, 3, &[]),
+    ("ls x", Asked::Path(4, "other/", NAMES, 3, "")),
+    ("ls x", Asked::Path(4, "", NAMES, 3, "")),
     // All names, in the order of their bytes, and those that are equal as they came.
     (
         "",
-        0,
-        "",
-        &[("b", false), ("a", true), ("a", false), ("B", false)],
-        0,
-        &[("B", "B"), ("a", "a/"), ("a", "a"), ("b", "b")],
+        Asked::Path(0, "", "b,a/,a,B", 0, "B → B, a → a/, a → a, b → b"),
     ),
     // The text of the folder stands before the name, as it was typed but for its escapes.
     (
         "ls src/li",
-        9,
-        "src/",
-        NAMES,
-        3,
-        &[("lib.rs", "src/lib.rs")],
+        Asked::Path(9, "src/", NAMES, 3, "lib.rs → src/lib.rs"),
     ),
-    ("ls ~/li", 7, "~/", NAMES, 3, &[("lib.rs", "~/lib.rs")]),
+    (
+        "ls ~/li",
+        Asked::Path(7, "~/", NAMES, 3, "lib.rs → ~/lib.rs"),
+    ),
     (
         "ls a\\ b/li",
-        10,
-        "a b/",
-        NAMES,
-        3,
-        &[("lib.rs", "a\\ b/lib.rs")],
+        Asked::Path(10, "a b/", NAMES, 3, "lib.rs → a\\ b/lib.rs"),
     ),
-    ("ls /", 4, "/", &[("x", false)], 3, &[("x", "/x")]),
+    ("ls /", Asked::Path(4, "/", "x", 3, "x → /x")),
     // In double quotes other characters are escaped, and in single ones none is.
     (
         "ls \"User ",
-        9,
-        "",
-        NAMES,
-        4,
-        &[("User Information", "User Information/")],
+        Asked::Path(9, "", NAMES, 4, "User Information → User Information/"),
     ),
-    ("ls \"é", 6, "", NAMES, 4, &[("é$a\"b", "é\\$a\\\"b")]),
-    ("ls 'é", 6, "", NAMES, 4, &[("é$a\"b", "é$a\"b")]),
-    ("ls 'User\\ ", 10, "", NAMES, 4, &[]),
-    ("ls é", 5, "", NAMES, 3, &[("é$a\"b", "é\\$a\\\"b")]),
+    (
+        "ls \"é",
+        Asked::Path(6, "", NAMES, 4, "é$a\"b → é\\$a\\\"b"),
+    ),
+    ("ls 'é", Asked::Path(6, "", NAMES, 4, "é$a\"b → é$a\"b")),
+    ("ls 'User\\ ", Asked::Path(10, "", NAMES, 4, "")),
+    ("ls é", Asked::Path(5, "", NAMES, 3, "é$a\"b → é\\$a\\\"b")),
     // A quote that is closed, one that is escaped, and one inside the other.
-    ("'a' Users", 9, "", NAMES, 4, &[("Users", "Users/")]),
-    ("\"'\" Users", 9, "", NAMES, 4, &[("Users", "Users/")]),
-    ("\\\"Users", 7, "", NAMES, 0, &[]),
-    ("'\" Users", 8, "", NAMES, 1, &[]),
-    ("\"a\\\" Us", 7, "", NAMES, 1, &[]),
+    ("'a' Users", Asked::Path(9, "", NAMES, 4, "Users → Users/")),
+    (
+        "\"'\" Users",
+        Asked::Path(9, "", NAMES, 4, "Users → Users/"),
+    ),
+    ("\\\"Users", Asked::Path(7, "", NAMES, 0, "")),
+    ("'\" Users", Asked::Path(8, "", NAMES, 1, "")),
+    ("\"a\\\" Us", Asked::Path(7, "", NAMES, 1, "")),
     // Each character at which words break is escaped.
     (
         "",
-        0,
-        "",
-        &[(BREAK_NAME, false)],
-        0,
-        &[(
+        Asked::Path(
+            0,
+            "",
             BREAK_NAME,
-            "\\ \\\t\\\n\\\"\\\\\\'\\`\\@\\$\\>\\<\\=\\;\\|\\&\\{\\(\\\0x",
-        )],
+            0,
+            " \t\n\"\\'`@$><=;|&{(\0x → \\ \\\t\\\n\\\"\\\\\\'\\`\\@\\$\\>\\<\\=\\;\\|\\&\\{\\(\\\0x",
+        ),
     ),
     (
         "\"",
-        1,
-        "",
-        &[(BREAK_NAME, false)],
-        1,
-        &[(BREAK_NAME, " \t\n\\\"\\\\'\\`@\\$><=;|&{(\0x")],
+        Asked::Path(
+            1,
+            "",
+            BREAK_NAME,
+            1,
+            " \t\n\"\\'`@$><=;|&{(\0x →  \t\n\\\"\\\\'\\`@\\$><=;|&{(\0x",
+        ),
     ),
     // Single quotes know no escape, so these are closed; an escaped backslash does not escape the quote behind it.
     (
         "'a\\' Us",
-        7,
-        "",
-        NAMES,
-        5,
-        &[
-            ("User Information", "User\\ Information/"),
-            ("Users", "Users/"),
-        ],
+        Asked::Path(
+            7,
+            "",
+            NAMES,
+            5,
+            "User Information → User\\ Information/, Users → Users/",
+        ),
     ),
     (
         "\"a\\\\\" Us",
-        8,
-        "",
-        NAMES,
-        6,
-        &[
-            ("User Information", "User\\ Information/"),
-            ("Users", "Users/"),
-        ],
+        Asked::Path(
+            8,
+            "",
+            NAMES,
+            6,
+            "User Information → User\\ Information/, Users → Users/",
+        ),
     ),
     (
         "\\\\\"Us",
-        5,
-        "",
-        NAMES,
-        3,
-        &[
-            ("User Information", "User Information/"),
-            ("Users", "Users/"),
-        ],
+        Asked::Path(
+            5,
+            "",
+            NAMES,
+            3,
+            "User Information → User Information/, Users → Users/",
+        ),
     ),
     // A quote inside a word stands open too.
-    ("a\"li", 4, "", NAMES, 2, &[("lib.rs", "lib.rs")]),
+    ("a\"li", Asked::Path(4, "", NAMES, 2, "lib.rs → lib.rs")),
     // In single quotes nothing is escaped, and a folder has its slash.
     (
         "ls 'Us",
-        6,
-        "",
-        NAMES,
-        4,
-        &[
-            ("User Information", "User Information/"),
-            ("Users", "Users/"),
-        ],
+        Asked::Path(
+            6,
+            "",
+            NAMES,
+            4,
+            "User Information → User Information/, Users → Users/",
+        ),
     ),
     // The folder is asked for without its escapes, and the candidate has those that its quotes need.
     (
         "\"a\\$b/l",
-        7,
-        "a$b/",
-        NAMES,
-        1,
-        &[("lib.rs", "a\\$b/lib.rs")],
+        Asked::Path(7, "a$b/", NAMES, 1, "lib.rs → a\\$b/lib.rs"),
     ),
     (
         "\"a\\ b/l",
-        7,
-        "a b/",
-        NAMES,
-        1,
-        &[("lib.rs", "a b/lib.rs")],
+        Asked::Path(7, "a b/", NAMES, 1, "lib.rs → a b/lib.rs"),
     ),
     // The folder is cut off behind the last slash.
     (
         "ls a/b/li",
-        9,
-        "a/b/",
-        NAMES,
-        3,
-        &[("lib.rs", "a/b/lib.rs")],
+        Asked::Path(9, "a/b/", NAMES, 3, "lib.rs → a/b/lib.rs"),
     ),
     // A folder that cannot be listed, in quotes.
-    ("ls \"x", 5, "other/", NAMES, 4, &[]),
+    ("ls \"x", Asked::Path(5, "other/", NAMES, 4, "")),
     // Going back, the blank is passed together with the backslash before it, whatever stands before that.
-    (
-        "ls a\\\\ b",
-        8,
-        "",
-        &[(" bc", false)],
-        5,
-        &[(" bc", "\\ bc")],
-    ),
+    ("ls a\\\\ b", Asked::Path(8, "", " bc", 5, " bc → \\ bc")),
     // What stands behind the cursor does not matter. A lone backslash at the end breaks the word, and goes in double quotes.
-    ("ls lib \"x", 6, "", NAMES, 3, &[("lib.rs", "lib.rs")]),
+    (
+        "ls lib \"x",
+        Asked::Path(6, "", NAMES, 3, "lib.rs → lib.rs"),
+    ),
     (
         "ls lib\\",
-        7,
-        "",
-        NAMES,
-        7,
-        &[
-            ("User Information", "User\\ Information/"),
-            ("Users", "Users/"),
-            ("lib.rs", "lib.rs"),
-            ("é$a\"b", "é\\$a\\\"b"),
-        ],
+        Asked::Path(
+            7,
+            "",
+            NAMES,
+            7,
+            "User Information → User\\ Information/, Users → Users/, lib.rs → lib.rs, é$a\"b → é\\$a\\\"b",
+        ),
     ),
-    ("ls \"lib\\", 8, "", NAMES, 4, &[("lib.rs", "lib.rs")]),
+    (
+        "ls \"lib\\",
+        Asked::Path(8, "", NAMES, 4, "lib.rs → lib.rs"),
+    ),
+    ("ls li", Asked::Path(5, "", NAMES, 3, "lib.rs → lib.rs")),
+    // Names in the order of the lister.
+    (
+        "Use",
+        Asked::Listed(
+            3,
+            "",
+            NAMES,
+            0,
+            "Users → Users/, User Information → User\\ Information/",
+        ),
+    ),
 ];
 
-fn has_offers(rt: &impl Abort, pairs: &[Pair], wanted: &[Offer], line: &str) {
-    assert_eq!(rt; pairs.len(), wanted.len(), "{line:?}");
-    for (pair, (display, replacement)) in pairs.iter().zip(wanted) {
-        let found = (pair.display.as_str(), pair.replacement.as_str());
-        assert_eq!(rt; found, (*display, *replacement), "{line:?}");
+/// Folders with the names of numbers, from the last of so many to 0.
+fn numbered(alloc: Global, count: usize) -> Result<Folder> {
+    let mut folder = folder_of(alloc, ("", ""), Broken::Call(0), GONE)?;
+    folder.entries.clear();
+    for number in (0..count).rev() {
+        folder.entries.push(Entry {
+            name: format!(in alloc; "n {number}")?,
+            folder: true,
+        })?;
     }
+    Ok(folder)
 }
 
-fn completes(rt: &impl Abort, alloc: Global, case: &Case) -> result::Result<(), Fail> {
-    let (line, pos, path, names, start, wanted) = case;
-    let completer = FilenameCompleter::new(Folder {
-        path: *path,
-        names: *names,
-        fails: false,
-    });
-    assert!(rt; line.is_char_boundary(*pos));
-    let found = completer.complete_path(alloc, line, *pos)?;
-    assert_eq!(rt; found.0, *start, "{line:?}");
-    has_offers(rt, found.1.as_slice(), wanted, line);
-    let history = MemHistory::new(alloc);
-    let found = completer.complete(alloc, line, *pos, &Context::new(&history))?;
-    assert_eq!(rt; found.0, *start, "{line:?}");
-    has_offers(rt, found.1.as_slice(), wanted, line);
-    Ok(())
-}
-
+/// Of the numbers below 3,000 there are 1,111 that begin with 1: 1, 10, 100, 1000 and so on. In their order the last is 999.
 #[test]
-fn names_complete_a_path(rt: HostRuntime) -> result::Result<(), Fail> {
-    for case in CASES {
-        completes(&rt, rt.alloc(), case)?;
-    }
-    Ok(())
-}
-
-#[test]
-fn names_stay_in_the_order_of_the_lister(rt: HostRuntime) -> result::Result<(), Fail> {
-    let completer = FilenameCompleter::new(Folder {
-        path: "",
-        names: NAMES,
-        fails: false,
-    });
-    let (start, pairs) = completer.complete_path_unsorted(rt.alloc(), "Use", 3)?;
-    assert_eq!(rt; start, 0);
-    let wanted = [
-        ("Users", "Users/"),
-        ("User Information", "User\\ Information/"),
-    ];
-    has_offers(&rt, pairs.as_slice(), &wanted, "Use");
-    Ok(())
-}
-
-#[test]
-fn a_listers_failure_is_passed_on(rt: HostRuntime) {
-    let completer = FilenameCompleter::new(Folder {
-        path: "",
-        names: NAMES,
-        fails: true,
-    });
-    let history = MemHistory::new(rt.alloc());
-    let found = completer.complete_path(rt.alloc(), "ls Us", 5);
-    assert!(rt; fails(&found));
-    let found = completer.complete_path_unsorted(rt.alloc(), "ls Us", 5);
-    assert!(rt; fails(&found));
-    let found = completer.complete(rt.alloc(), "ls Us", 5, &Context::new(&history));
-    assert!(rt; fails(&found));
-}
-
-/// Whether the lister's failure was answered.
-fn fails(found: &Result<(usize, Vec<Pair>)>) -> bool {
-    match found {
-        Err(ReadlineError::Io(error)) => error.kind() == ErrorKind::NotFound,
-        _ => false,
-    }
-}
-
-#[test]
-fn a_boxed_completer_is_asked(rt: HostRuntime) -> result::Result<(), Fail> {
-    let completer = FilenameCompleter::new(Folder {
-        path: "",
-        names: NAMES,
-        fails: false,
-    });
-    let boxed = Box::new(rt.alloc(), completer)?;
-    let history = MemHistory::new(rt.alloc());
-    let (start, pairs) = boxed.complete(rt.alloc(), "ls li", 5, &Context::new(&history))?;
-    assert_eq!(rt; start, 3);
-    has_offers(&rt, pairs.as_slice(), &[("lib.rs", "lib.rs")], "ls li");
-    Ok(())
-}
-
-/// Run with any one allocation refused, this test passes: the answer is the right one, or there is none.
-#[test]
-fn a_refused_allocation_has_no_answer(rt: HostRuntime) -> result::Result<(), Fail> {
-    let completer = FilenameCompleter::new(Folder {
-        path: "a b/",
-        names: NAMES,
-        fails: false,
-    });
-    match completer.complete_path(rt.alloc(), "ls \"a\\ b/User", 13) {
-        Ok((start, pairs)) => {
-            assert_eq!(rt; start, 4);
-            let wanted = [
-                ("User Information", "a b/User Information/"),
-                ("Users", "a b/Users/"),
-            ];
-            has_offers(&rt, pairs.as_slice(), &wanted, "a b/User");
+fn of_many_names(rt: HostRuntime) -> result::Result<(), Fail> {
+    let alloc = rt.alloc();
+    for (line, way, count, last) in [
+        ("", Sorted, 3_000, Some(("n 999", "n\\ 999/"))),
+        ("", Unsorted, 3_000, None),
+        ("n\\ 1", Sorted, 1_111, None),
+        ("n\\ 1", Unsorted, 1_111, None),
+        ("x", Sorted, 0, None),
+        ("x", Unsorted, 0, None),
+    ] {
+        assert!(rt; line.is_char_boundary(line.len()));
+        let (_, pairs) = found(alloc, way, numbered(alloc, 3_000)?, line, line.len())?;
+        assert_eq!(rt; pairs.len(), count, "{line:?} {way:?}");
+        if let (Some(pair), Some(wanted)) = (pairs.last(), last) {
+            assert_eq!(rt; (pair.display.as_str(), pair.replacement.as_str()), wanted);
         }
-        Err(ReadlineError::Memory) => {}
-        Err(_) => return Err(Fail::from("no other error")),
     }
     Ok(())
 }

@@ -1,7 +1,5 @@
 //! Histories: their lines, what a search finds in them, and the text in which they are kept.
 
-mod faults;
-mod large;
 mod lists;
 mod refusals;
 mod round_trips;
@@ -9,11 +7,149 @@ mod searches;
 mod streams;
 mod texts;
 
+use Lines::*;
+use line_config::{ReadlineError, Result};
 use line_parts::{Escapes, FileHistory, History, SearchDirection};
+use std::alloc::Global;
 use std::borrow::CowStr;
-use std::io::Write;
+use std::io::{ErrorKind, Write};
 use std::process::Abort;
+use std::result;
 use std::test::Fail;
+use tests_parties::fault::Fault;
+
+/// Lines that a table names.
+#[derive(Clone, Copy)]
+enum Lines {
+    /// These, with a bar behind each, which the last need not have.
+    These(&'static str),
+    /// The lines `n0.`, `n1.` and so on, from one number up to another.
+    Numbered(usize, usize),
+    /// Short lines, from one number up to another: 1 to 7 have one character, those up to 56 two, those up to 399 three.
+    Short(usize, usize),
+    /// A short line without a carriage return at its end. None is left of that character alone.
+    Cut(usize),
+    /// A text of these pieces, each so many times, with a bar behind each line.
+    Pieces(&'static [(&'static str, usize)]),
+}
+
+/// The characters that a text of a history writes in ways of their own.
+const CHARACTERS: [char; 7] = ['a', '\\', '\n', '\r', 'n', 'r', '#'];
+
+/// Puts a short line behind a text.
+fn push_short(text: &mut String, number: usize) -> Result<()> {
+    let mut rest = number;
+    for _ in 0..3 {
+        if rest > 0 {
+            rest -= 1;
+            text.push(CHARACTERS[rest % 7])?;
+            rest /= 7;
+        }
+    }
+    Ok(())
+}
+
+/// The lines, each with a bar behind it.
+fn lines_of(alloc: Global, lines: Lines) -> Result<String> {
+    let mut text = String::new(alloc);
+    match lines {
+        These(lines) => text.push_str(lines)?,
+        Numbered(first, last) => {
+            for number in first..last {
+                text.push_str(format!(in alloc; "n{number}.|")?.as_str())?;
+            }
+        }
+        Short(first, last) => {
+            for number in first..last {
+                push_short(&mut text, number)?;
+                text.push('|')?;
+            }
+        }
+        Cut(number) => {
+            push_short(&mut text, number)?;
+            if text.as_str().ends_with('\r') {
+                let _ = text.pop();
+            }
+        }
+        Pieces(pieces) => {
+            for (piece, count) in pieces {
+                text.push_str(piece.repeat(alloc, *count)?.as_str())?;
+            }
+        }
+    }
+    Ok(text)
+}
+
+/// Adds a line, owned or not.
+fn added<H: History>(alloc: Global, history: &mut H, line: &str, owned: bool) -> Result<bool> {
+    if owned {
+        history.add_owned(String::from_str(alloc, line)?)
+    } else {
+        history.add(line)
+    }
+}
+
+/// Each of these lines is taken, every other one owned.
+fn fills<H: History>(
+    rt: &impl Abort,
+    alloc: Global,
+    history: &mut H,
+    lines: &str,
+) -> result::Result<(), Fail> {
+    let mut owned = false;
+    for line in lines.split_terminator('|') {
+        assert!(rt; added(alloc, history, line, owned)?, "{line:?}");
+        owned = !owned;
+    }
+    Ok(())
+}
+
+/// What a history gives by index: each of these lines, and none from their number on.
+fn gives<H: History>(rt: &impl Abort, history: &H, lines: &str) -> result::Result<(), Fail> {
+    for dir in [SearchDirection::Forward, SearchDirection::Reverse] {
+        let mut count: usize = 0;
+        for line in lines.split_terminator('|') {
+            let Some(found) = history.get(count, dir)? else {
+                return Err(Fail::from("a line at each index"));
+            };
+            assert!(rt; matches!(found.entry, CowStr::Borrowed(_)));
+            assert_eq!(rt;
+                (found.entry.as_str(), found.idx, found.pos),
+                (line, count, 0)
+            );
+            count = count.saturating_add(1);
+        }
+        assert_eq!(rt; (history.len(), history.is_empty()), (count, count == 0));
+        for index in [count, count.saturating_add(1_000), usize::MAX] {
+            assert!(rt; history.get(index, dir)?.is_none());
+        }
+    }
+    Ok(())
+}
+
+/// The answer, and None where the error is of this kind, and has this text if one is told. There is no other error: the
+/// want of memory is none of input or output.
+fn answer_of<T>(
+    rt: &impl Abort,
+    alloc: Global,
+    outcome: Result<T>,
+    kind: ErrorKind,
+    text: &'static str,
+) -> result::Result<Option<T>, Fail> {
+    let failed: Result<()> = match outcome {
+        Ok(answer) => return Ok(Some(answer)),
+        Err(error) => Err(error),
+    };
+    let known = if kind == ErrorKind::OutOfMemory {
+        matches!(&failed, Err(ReadlineError::Memory))
+    } else if text.is_empty() {
+        matches!(&failed, Err(ReadlineError::Io(cause)) if cause.kind() == kind)
+    } else {
+        Fault { kind, text }.is_answer(alloc, &failed)?
+    };
+    assert!(rt; known, "{kind:?} {failed:?}");
+    Ok(None)
+}
 
 /// Saves with these escapes.
 fn save<T: Write>(
@@ -21,33 +157,27 @@ fn save<T: Write>(
     escapes: Escapes,
     out: &mut T,
     append: bool,
-) -> line_config::Result<()> {
+) -> Result<()> {
     match escapes {
         Escapes::V2 => history.save_to(out, append),
         Escapes::V3 => history.save_v3_to(out, append),
     }
 }
 
-/// What a history gives by index: each of these lines, and none from their number on.
-fn gives<H: History>(rt: &impl Abort, history: &H, lines: &[&str]) -> Result<(), Fail> {
-    assert_eq!(rt;
-        (history.len(), history.is_empty()),
-        (lines.len(), lines.is_empty())
-    );
-    for dir in [SearchDirection::Forward, SearchDirection::Reverse] {
-        for (index, line) in lines.iter().enumerate() {
-            let Some(found) = history.get(index, dir)? else {
-                return Err(Fail::from("a line at each index"));
-            };
-            assert!(rt; matches!(found.entry, CowStr::Borrowed(_)));
-            assert_eq!(rt;
-                (found.entry.as_str(), found.idx, found.pos),
-                (*line, index, 0)
-            );
-        }
-        for index in [lines.len(), 1000, usize::MAX] {
-            assert!(rt; history.get(index, dir)?.is_none());
-        }
+/// Whether a save finds the memory that it needs. It then writes this text: appended, the lines that are new.
+fn is_saved(
+    rt: &impl Abort,
+    alloc: Global,
+    history: &mut FileHistory,
+    escapes: Escapes,
+    append: bool,
+    text: &[u8],
+) -> result::Result<bool, Fail> {
+    let mut out = Vec::new(alloc);
+    let outcome = save(history, escapes, &mut out, append);
+    let answer = answer_of(rt, alloc, outcome, ErrorKind::OutOfMemory, "")?;
+    if answer.is_some() {
+        assert_eq!(rt; out.as_slice(), text);
     }
-    Ok(())
+    Ok(answer.is_some())
 }

@@ -16,4 +16,6 @@ mod large;
 #[cfg(test)]
 mod parties;
 #[cfg(test)]
+mod ready;
+#[cfg(test)]
 mod values;

@@ -1,6 +1,6 @@
 //! Types that are compared, copied and shown: no two values of a list are equal, and `Debug` names each.
 
-use line_config::ReadlineError;
+use line_config::Result;
 use line_parts::{CmdKind, Escapes, Quote, SearchDirection, SearchResult};
 use std::alloc::Global;
 use std::borrow::CowStr;
@@ -9,28 +9,22 @@ use std::process::Abort;
 use std::result;
 use std::test::Fail;
 
-/// Values of the list are equal where they stand at one place, a copy included.
-fn are_distinct<T: Copy + PartialEq>(rt: &impl Abort, values: &[T]) {
-    for (index, one) in values.iter().enumerate() {
-        for (place, other) in values.iter().enumerate() {
-            let copy = *other;
-            assert_eq!(rt; *one == copy, index == place, "{index} {place}");
-            assert_eq!(rt; *one != copy, index != place, "{index} {place}");
-        }
-    }
-}
-
-/// Each value is shown by its name.
-fn are_shown<T: Debug>(
+/// Each value is shown by its name, and equals what stands at its own place alone, a copy included.
+fn are_told_apart<T: Copy + PartialEq + Debug>(
     rt: &impl Abort,
     alloc: Global,
     values: &[T],
     names: &[&str],
 ) -> result::Result<(), Fail> {
     assert_eq!(rt; values.len(), names.len());
-    for (value, name) in values.iter().zip(names) {
-        let shown = format!(in alloc; "{value:?}")?;
+    for (index, (one, name)) in values.iter().zip(names).enumerate() {
+        let shown = format!(in alloc; "{one:?}")?;
         assert_eq!(rt; shown.as_str(), *name);
+        for (place, other) in values.iter().enumerate() {
+            let copy = *other;
+            let found = (*one == copy, *one != copy);
+            assert_eq!(rt; found, (index == place, index != place), "{index} {place}");
+        }
     }
     Ok(())
 }
@@ -44,36 +38,26 @@ const QUOTES: &[Quote] = &[Quote::Double, Quote::Single, Quote::None];
 const ESCAPES: &[Escapes] = &[Escapes::V2, Escapes::V3];
 
 #[test]
-fn no_two_are_equal(rt: HostRuntime) {
-    are_distinct(&rt, KINDS);
-    are_distinct(&rt, DIRECTIONS);
-    are_distinct(&rt, QUOTES);
-    are_distinct(&rt, ESCAPES);
-}
-
-#[test]
 fn debug_names_each(rt: HostRuntime) -> result::Result<(), Fail> {
     let alloc = rt.alloc();
-    are_shown(&rt, alloc, KINDS, &["MoveCursor", "Other", "ForcedRefresh"])?;
-    are_shown(&rt, alloc, DIRECTIONS, &["Forward", "Reverse"])?;
-    are_shown(&rt, alloc, QUOTES, &["Double", "Single", "None"])?;
-    are_shown(&rt, alloc, ESCAPES, &["V2", "V3"])
+    are_told_apart(&rt, alloc, KINDS, &["MoveCursor", "Other", "ForcedRefresh"])?;
+    are_told_apart(&rt, alloc, DIRECTIONS, &["Forward", "Reverse"])?;
+    are_told_apart(&rt, alloc, QUOTES, &["Double", "Single", "None"])?;
+    are_told_apart(&rt, alloc, ESCAPES, &["V2", "V3"])
 }
 
 /// A line, its index, and the place in it.
 type Found = (&'static str, usize, usize);
 
-fn borrowed(found: &Found) -> SearchResult<'static> {
-    SearchResult {
-        entry: CowStr::Borrowed(found.0),
-        idx: found.1,
-        pos: found.2,
-    }
-}
-
-fn owned(alloc: Global, found: &Found) -> result::Result<SearchResult<'static>, ReadlineError> {
+/// The result of a search, which borrows its line or owns it.
+fn result_of(alloc: Global, found: &Found, owned: bool) -> Result<SearchResult<'static>> {
+    let entry = if owned {
+        CowStr::Owned(String::from_str(alloc, found.0)?)
+    } else {
+        CowStr::Borrowed(found.0)
+    };
     Ok(SearchResult {
-        entry: CowStr::Owned(String::from_str(alloc, found.0)?),
+        entry,
         idx: found.1,
         pos: found.2,
     })
@@ -91,25 +75,22 @@ const RESULTS: &[Found] = &[
 /// A result equals one of the same values alone, also where one of them owns its line; so does its copy.
 #[test]
 fn no_two_results_are_equal(rt: HostRuntime) -> result::Result<(), Fail> {
+    let alloc = rt.alloc();
     for (index, one) in RESULTS.iter().enumerate() {
         for (place, other) in RESULTS.iter().enumerate() {
-            let copy = owned(rt.alloc(), one)?.clone()?;
-            assert_eq!(rt; borrowed(one) == borrowed(other), index == place);
-            assert_eq!(rt; borrowed(one) != borrowed(other), index != place);
-            assert_eq!(rt; copy == borrowed(other), index == place);
-            assert_eq!(rt;
-                borrowed(one).clone()? == owned(rt.alloc(), other)?,
-                index == place
+            let borrowed = result_of(alloc, other, false)?;
+            let found = (
+                result_of(alloc, one, false)? == borrowed,
+                result_of(alloc, one, false)? != borrowed,
+                result_of(alloc, one, true)?.clone()? == borrowed,
+                result_of(alloc, one, false)?.clone()? == result_of(alloc, other, true)?,
             );
+            let same = index == place;
+            assert_eq!(rt; found, (same, !same, same, same), "{index} {place}");
         }
     }
-    Ok(())
-}
-
-#[test]
-fn debug_shows_a_result(rt: HostRuntime) -> result::Result<(), Fail> {
-    let found = borrowed(&("ab", 7, 3));
-    let shown = format!(in rt.alloc(); "{found:?}")?;
+    let found = result_of(alloc, &("ab", 7, 3), false)?;
+    let shown = format!(in alloc; "{found:?}")?;
     assert_eq!(rt;
         shown.as_str(),
         "SearchResult { entry: \"ab\", idx: 7, pos: 3 }"

@@ -1,19 +1,27 @@
 //! Errors of a completer in a box, and completers beside a history that fails.
 
-ghost use Rattle.std.specs.Prelude.{false};
+ghost use Rattle.std.specs.Prelude.{true, false};
 
-use super::Plain;
 use line_buffer::{Changeset, LineBuffer};
 use line_config::Result;
 use line_parts::{Completer, Context, History};
 use std::alloc::Global;
-use std::process::Abort;
 use std::result;
 use std::test::Fail;
 use tests_parties::fault::{FAULTS, Fault, GONE};
 use tests_parties::shelf::{Failing, Shelf};
 
-/// Offers nothing, and puts an elected text into the line; each of the two may fail.
+/// Offers nothing, and puts an elected text into the line.
+#[derive(Drop)]
+struct Plain;
+
+impl Completer for Plain {
+    type Candidate = &'static str;
+
+    ghost sure = { λ _. true };
+}
+
+/// The same; each of the two may fail.
 #[derive(Drop)]
 struct Stubborn {
     completes: Option<Fault>,
@@ -54,78 +62,109 @@ impl Completer for Stubborn {
     }
 }
 
-/// The outcome is the fault, where there is one, and else Ok.
-fn is_outcome<T>(
-    rt: &impl Abort,
-    alloc: Global,
-    outcome: &Result<T>,
-    fault: Option<Fault>,
-) -> result::Result<(), Fail> {
+/// Whether the outcome is the fault, where there is one, and else Ok.
+fn is_outcome<T>(alloc: Global, outcome: &Result<T>, fault: Option<Fault>) -> Result<bool> {
     match fault {
-        Some(fault) => assert!(rt; fault.is_answer(alloc, outcome)?, "{fault:?}"),
-        None => assert!(rt; outcome.is_ok()),
+        Some(fault) => fault.is_answer(alloc, outcome),
+        None => Ok(outcome.is_ok()),
     }
-    Ok(())
 }
 
-/// Completes the start of a line, and puts a text there; each of the two fails by its fault, if it has one. An update that
-/// fails leaves the line as it was.
-fn asks<C: Completer>(
-    rt: &impl Abort,
+/// Whether a completer offers nothing, beside a history of which each call fails, or fails itself where it is to.
+fn offers_nothing<C: Completer>(
     alloc: Global,
     completer: &C,
-    faults: (Option<Fault>, Option<Fault>),
-) -> result::Result<(), Fail> {
-    let history = Shelf::new(alloc, 0);
-    let found = completer.complete(alloc, "us -l", 2, &Context::new(&history));
-    is_outcome(rt, alloc, &found, faults.0)?;
-    let mut line = LineBuffer::init(alloc, "us -l", 2)?;
-    let mut changes = Changeset::new(alloc);
-    let outcome = completer.update(&mut line, 0, "usr", &mut changes);
-    is_outcome(rt, alloc, &outcome, faults.1)?;
-    let wanted = match faults.1 {
-        Some(_) => ("us -l", 2, 0),
-        None => ("usr -l", 3, 1),
+    (line, pos): (&str, usize),
+    fault: Option<Fault>,
+) -> Result<bool> {
+    if !line.is_char_boundary(pos) {
+        return Ok(false);
+    }
+    let mut history = Shelf::new(alloc, 0);
+    history.fail_in(Failing::All, GONE);
+    let outcome = completer.complete(alloc, line, pos, &Context::new(&history));
+    let found = match &outcome {
+        Ok((start, candidates)) => (*start, candidates.len()),
+        Err(_) => (0, 0),
     };
-    assert_eq!(rt; (line.as_str(), line.pos(), changes.len()), wanted);
-    Ok(())
+    Ok(found == (0, 0) && is_outcome(alloc, &outcome, fault)?)
 }
 
-/// Each of the two calls fails or not, in a box and in two.
-fn fails(rt: &impl Abort, alloc: Global, fault: Fault) -> result::Result<(), Fail> {
-    for completes in [None, Some(fault)] {
-        for updates in [None, Some(fault)] {
+/// A line and its cursor, a text that is elected to stand at its start, and the line, its cursor and how many changes
+/// there are then.
+pub(crate) type Put<'t> = (&'t str, usize, &'t str, (&'t str, usize, usize));
+
+/// Whether the line is completed and then takes the text, or each of the two fails by its fault, if it has one. An update
+/// that fails leaves the line as it was.
+fn asks<C: Completer>(
+    alloc: Global,
+    completer: &C,
+    put: Put<'_>,
+    faults: (Option<Fault>, Option<Fault>),
+) -> Result<bool> {
+    let (text, pos, elected, wanted) = put;
+    if !text.is_char_boundary(0) || !text.is_char_boundary(pos) {
+        return Ok(false);
+    }
+    let mut line = LineBuffer::init(alloc, text, pos)?;
+    let mut changes = Changeset::new(alloc);
+    let outcome = completer.update(&mut line, 0, elected, &mut changes);
+    Ok(
+        is_outcome(alloc, &outcome, faults.1)?
+            && (line.as_str(), line.pos(), changes.len()) == wanted
+            && offers_nothing(alloc, completer, (text, pos), faults.0)?
+            && offers_nothing(alloc, completer, ("ls u", 4), faults.0)?,
+    )
+}
+
+/// A completer.
+#[derive(Clone, Copy)]
+pub(crate) enum Which {
+    /// That offers nothing and puts nothing into the line, alone and in a box.
+    Unit,
+    /// One that puts an elected text into the line, alone and in a box.
+    Plain,
+    /// One that may fail to complete and to update, in a box and in two.
+    Stubborn(Option<Fault>, Option<Fault>),
+}
+
+/// Whether this completer does so.
+pub(crate) fn holds(alloc: Global, which: Which, put: Put<'_>) -> Result<bool> {
+    let sure = (None, None);
+    match which {
+        Which::Unit => {
+            Ok(asks(alloc, &(), put, sure)? && asks(alloc, &Box::new(alloc, ())?, put, sure)?)
+        }
+        Which::Plain => {
+            Ok(asks(alloc, &Plain, put, sure)? && asks(alloc, &Box::new(alloc, Plain)?, put, sure)?)
+        }
+        Which::Stubborn(completes, updates) => {
             let faults = (completes, updates);
             let boxed = Box::new(alloc, Stubborn { completes, updates })?;
-            asks(rt, alloc, &boxed, faults)?;
-            asks(rt, alloc, &Box::new(alloc, boxed)?, faults)?;
+            Ok(
+                asks(alloc, &boxed, put, faults)?
+                    && asks(alloc, &Box::new(alloc, boxed)?, put, faults)?,
+            )
         }
     }
-    Ok(())
 }
 
 #[test]
 fn of_a_completer_in_a_box(rt: HostRuntime) -> result::Result<(), Fail> {
+    let put = ("us -l", 2, "usr", ("usr -l", 3, 1));
+    let unput = ("us -l", 2, "usr", ("us -l", 2, 0));
     for fault in FAULTS {
-        fails(&rt, rt.alloc(), *fault)?;
+        let fault = Some(*fault);
+        for (which, put) in [
+            (Which::Unit, unput),
+            (Which::Plain, put),
+            (Which::Stubborn(None, None), put),
+            (Which::Stubborn(fault, None), put),
+            (Which::Stubborn(None, fault), unput),
+            (Which::Stubborn(fault, fault), unput),
+        ] {
+            assert!(rt; holds(rt.alloc(), which, put)?, "{fault:?} {put:?}");
+        }
     }
-    Ok(())
-}
-
-/// How many candidates a completer offers beside a history of which each call fails, and from where on.
-fn offers<C: Completer>(completer: &C, alloc: Global) -> Result<(usize, usize)> {
-    let mut history = Shelf::new(alloc, 0);
-    history.fail_in(Failing::All, GONE);
-    let (start, candidates) = completer.complete(alloc, "us -l", 2, &Context::new(&history))?;
-    Ok((start, candidates.len()))
-}
-
-#[test]
-fn of_a_history_that_is_not_asked(rt: HostRuntime) -> result::Result<(), Fail> {
-    let alloc = rt.alloc();
-    assert_eq!(rt; offers(&(), alloc)?, (0, 0));
-    assert_eq!(rt; offers(&Plain, alloc)?, (0, 0));
-    assert_eq!(rt; offers(&Box::new(alloc, ())?, alloc)?, (0, 0));
-    assert_eq!(rt; offers(&Box::new(alloc, Plain)?, alloc)?, (0, 0));
     Ok(())
 }

@@ -1,27 +1,47 @@
 //! Which lines a history takes and keeps.
 
-use super::gives;
+use super::Lines::Numbered;
+use super::texts::{HEADERS, READ, SAVED};
+use super::{Lines, added, answer_of, fills, gives, is_saved, lines_of};
+use Escapes::{V2, V3};
+use Step::*;
 use line_buffer::GraphemeClusterMode;
 use line_config::{Config, Configurer};
-use line_parts::{DefaultHistory, FileHistory, History, MemHistory};
+use line_parts::{DefaultHistory, Escapes, FileHistory, History, MemHistory};
 use std::alloc::Global;
 use std::collections::vec_deque::Iter;
+use std::io::ErrorKind;
 use std::process::Abort;
 use std::test::Fail;
 
-/// A call of a history; where a line is added, with the answer.
-#[derive(Debug)]
-enum Step {
+/// A call of a history. A case ends with the lines that are left; the next one has a history made by `new`.
+pub(super) enum Step {
+    /// A history is made with these settings: how many lines are kept, whether a line that equals the newest is left
+    /// out, and whether one that begins with white space is.
+    With(usize, bool, bool),
+    /// A line is added, with the answer.
     Add(&'static str, bool),
     AddOwned(&'static str, bool),
+    /// Each of these lines is taken.
+    Many(Lines),
     Limit(usize),
     IgnoreDups(bool),
     IgnoreSpace(bool),
     Clear,
+    /// What a save writes.
+    Save(&'static [u8]),
+    Append(&'static [u8]),
+    SaveV3(&'static [u8]),
+    AppendV3(&'static [u8]),
+    /// What a load of a text answers, None where a line is not UTF-8.
+    Load(&'static [u8], Option<bool>),
+    /// These lines are there, by index, and the case goes on.
+    Has(Lines),
+    /// These lines are left, with a bar between two of them.
+    Gives(&'static str),
 }
 
-use Step::*;
-
+/// A call of any history.
 fn stepped<H: History>(
     rt: &impl Abort,
     alloc: Global,
@@ -29,25 +49,45 @@ fn stepped<H: History>(
     step: &Step,
 ) -> Result<(), Fail> {
     match step {
-        Add(line, taken) => assert_eq!(rt; history.add(line)?, *taken, "{line:?}"),
-        AddOwned(line, taken) => {
-            let owned = String::from_str(alloc, line)?;
-            assert_eq!(rt; history.add_owned(owned)?, *taken, "{line:?}");
+        Add(line, taken) => {
+            assert_eq!(rt; added(alloc, history, line, false)?, *taken, "{line:?}");
         }
+        AddOwned(line, taken) => {
+            assert_eq!(rt; added(alloc, history, line, true)?, *taken, "{line:?}");
+        }
+        Many(lines) => fills(rt, alloc, history, lines_of(alloc, *lines)?.as_str())?,
         Limit(len) => history.set_max_len(*len)?,
         IgnoreDups(yes) => history.ignore_dups(*yes)?,
         IgnoreSpace(yes) => history.ignore_space(*yes),
         Clear => history.clear()?,
+        Has(lines) => gives(rt, history, lines_of(alloc, *lines)?.as_str())?,
+        _ => return Err(Fail::from("a call of any history")),
     }
     Ok(())
 }
 
-/// How a history is made: by `new`, or with these settings: how many lines are kept, whether a line that equals the
-/// newest is left out, and whether one that begins with white space is.
-#[derive(Clone, Copy)]
-enum Made {
-    New,
-    With(usize, bool, bool),
+/// A call of a history that can be saved.
+fn file_stepped(
+    rt: &impl Abort,
+    alloc: Global,
+    history: &mut FileHistory,
+    step: &Step,
+) -> Result<(), Fail> {
+    let (escapes, append, text) = match step {
+        Save(text) => (V2, false, text),
+        Append(text) => (V2, true, text),
+        SaveV3(text) => (V3, false, text),
+        AppendV3(text) => (V3, true, text),
+        Load(text, wanted) => {
+            let outcome = history.load_from(*text);
+            let answer = answer_of(rt, alloc, outcome, ErrorKind::InvalidData, "")?;
+            assert_eq!(rt; answer, *wanted, "{text:?}");
+            return Ok(());
+        }
+        _ => return stepped(rt, alloc, history, step),
+    };
+    assert!(rt; is_saved(rt, alloc, history, escapes, append, text)?);
+    Ok(())
 }
 
 fn config_of(max_len: usize, ignore_dups: bool, ignore_space: bool) -> Result<Config, Fail> {
@@ -58,283 +98,220 @@ fn config_of(max_len: usize, ignore_dups: bool, ignore_space: bool) -> Result<Co
     Ok(config)
 }
 
-fn mem_history(alloc: Global, made: Made) -> Result<MemHistory, Fail> {
-    Ok(match made {
-        Made::New => MemHistory::new(alloc),
-        Made::With(max_len, dups, space) => {
-            MemHistory::with_config(alloc, &config_of(max_len, dups, space)?)
-        }
-    })
-}
-
-fn file_history(alloc: Global, made: Made) -> Result<FileHistory, Fail> {
-    Ok(match made {
-        Made::New => FileHistory::new(alloc),
-        Made::With(max_len, dups, space) => {
-            FileHistory::with_config(alloc, &config_of(max_len, dups, space)?)
-        }
-    })
-}
-
-/// The lines that come from the front, and from the back.
-fn comes(rt: &impl Abort, mut front: Iter<'_, String>, mut back: Iter<'_, String>, lines: &[&str]) {
-    for line in lines {
-        assert!(rt;
-            matches!(front.next(), Some(entry) if entry.as_str() == *line),
-            "{line}"
-        );
+/// The lines that come from the front, from the back, and from both ends at once.
+fn come(
+    rt: &impl Abort,
+    mut front: Iter<'_, String>,
+    mut back: Iter<'_, String>,
+    mut both: Iter<'_, String>,
+    lines: &str,
+) {
+    for line in lines.split_terminator('|') {
+        assert!(rt; matches!(front.next(), Some(entry) if entry.as_str() == line));
     }
     assert!(rt; front.next().is_none());
-    for line in lines.iter().rev() {
-        assert!(rt;
-            matches!(back.next_back(), Some(entry) if entry.as_str() == *line),
-            "{line}"
-        );
+    for line in lines.rsplit_terminator('|') {
+        assert!(rt; matches!(back.next_back(), Some(entry) if entry.as_str() == line));
     }
-    assert!(rt; back.next().is_none());
+    assert!(rt; back.next_back().is_none());
+    let mut wanted = lines.split_terminator('|');
+    while let Some(line) = wanted.next() {
+        assert!(rt; matches!(both.next(), Some(entry) if entry.as_str() == line));
+        if let Some(line) = wanted.next_back() {
+            assert!(rt; matches!(both.next_back(), Some(entry) if entry.as_str() == line));
+        }
+    }
+    assert!(rt; both.next().is_none());
 }
 
-/// A history, calls, and the lines that they leave.
-type Case = (Made, &'static [Step], &'static [&'static str]);
-
-fn in_memory(rt: &impl Abort, alloc: Global, case: &Case) -> Result<(), Fail> {
-    let (made, steps, lines) = case;
-    let mut history = mem_history(alloc, *made)?;
-    for step in *steps {
-        stepped(rt, alloc, &mut history, step)?;
-    }
-    gives(rt, &history, lines)?;
-    comes(rt, (&history).into_iter(), (&history).into_iter(), lines);
-    for (index, line) in lines.iter().enumerate() {
+fn mem_gives(rt: &impl Abort, history: &MemHistory, lines: &str) -> Result<(), Fail> {
+    gives(rt, history, lines)?;
+    come(
+        rt,
+        history.into_iter(),
+        history.into_iter(),
+        history.into_iter(),
+        lines,
+    );
+    for (index, line) in history.into_iter().enumerate() {
         assert!(rt; index < history.len());
-        assert_eq!(rt; history.entry(index), *line);
+        assert_eq!(rt; history.entry(index), line.as_str());
     }
     Ok(())
 }
 
-fn in_a_file(rt: &impl Abort, alloc: Global, case: &Case) -> Result<(), Fail> {
-    let (made, steps, lines) = case;
-    let mut history = file_history(alloc, *made)?;
-    for step in *steps {
-        stepped(rt, alloc, &mut history, step)?;
-    }
-    gives(rt, &history, lines)?;
-    comes(rt, history.iter(), (&history).into_iter(), lines);
-    for (index, line) in lines.iter().enumerate() {
+fn file_gives(rt: &impl Abort, history: &FileHistory, lines: &str) -> Result<(), Fail> {
+    gives(rt, history, lines)?;
+    come(
+        rt,
+        history.iter(),
+        history.into_iter(),
+        history.iter(),
+        lines,
+    );
+    for (index, line) in history.iter().enumerate() {
         assert!(rt; index < history.len());
-        assert_eq!(rt; history.entry(index), *line);
+        assert_eq!(rt; history.entry(index), line.as_str());
     }
     Ok(())
 }
 
-const LISTS: &[Case] = &[
-    (Made::New, &[], &[]),
-    (
-        Made::New,
-        &[
-            Add("a", true),
-            Add("a", false),
-            Add("b", true),
-            Add("a", true),
-        ],
-        &["a", "b", "a"],
+const LISTS: &[Step] = &[
+    Gives(""),
+    Add("a", true),
+    Add("a", false),
+    Add("b", true),
+    Add("a", true),
+    Gives("a|b|a"),
+    AddOwned("a", true),
+    AddOwned("a", false),
+    AddOwned("b", true),
+    AddOwned("", false),
+    Add("b", false),
+    Gives("a|b"),
+    Add("", false),
+    Add(" ", true),
+    Add(" a", true),
+    Add("é\n日", true),
+    Gives(" | a|é\n日"),
+    Limit(2),
+    Add("a", true),
+    Add("b", true),
+    Add("b", false),
+    Add("c", true),
+    Gives("b|c"),
+    Limit(1),
+    Add("a", true),
+    Add("a", false),
+    AddOwned("b", true),
+    Gives("b"),
+    Limit(0),
+    Add("a", false),
+    AddOwned("a", false),
+    Add("", false),
+    Gives(""),
+    Add("a", true),
+    Add("b", true),
+    Add("c", true),
+    Limit(2),
+    Gives("b|c"),
+    Add("a", true),
+    Add("b", true),
+    Add("c", true),
+    Limit(1),
+    Limit(3),
+    Add("d", true),
+    Add("e", true),
+    Add("f", true),
+    Gives("d|e|f"),
+    Add("a", true),
+    Add("b", true),
+    Limit(0),
+    Limit(2),
+    Add("b", true),
+    Gives("b"),
+    Add("a", true),
+    Limit(usize::MAX),
+    Add("b", true),
+    Gives("a|b"),
+    IgnoreDups(false),
+    Add("a", true),
+    Add("a", true),
+    IgnoreDups(true),
+    Add("a", false),
+    Gives("a|a"),
+    IgnoreSpace(true),
+    Add(" a", false),
+    AddOwned("\ta", false),
+    Add("\na", false),
+    Add("\u{a0}a", false),
+    Add("\u{3000}", false),
+    Add("\u{200b}a", true),
+    Add("a ", true),
+    IgnoreSpace(false),
+    Add(" a", true),
+    Gives("\u{200b}a|a | a"),
+    Add("a", true),
+    Add("b", true),
+    Clear,
+    Gives(""),
+    Clear,
+    Add("a", true),
+    Clear,
+    Add("a", true),
+    Gives("a"),
+    Limit(2),
+    IgnoreDups(false),
+    IgnoreSpace(true),
+    Clear,
+    Add("a", true),
+    Add("b", true),
+    Add("b", true),
+    Add(" b", false),
+    Gives("b|b"),
+    With(2, false, true),
+    Add("a", true),
+    Add("a", true),
+    Add(" b", false),
+    Add("c", true),
+    Gives("a|c"),
+    With(3, true, false),
+    Add("a", true),
+    Add("a", false),
+    Add(" b", true),
+    Gives("a| b"),
+    With(0, false, false),
+    Add("a", false),
+    Gives(""),
+    // of 101 lines the first is dropped
+    Many(Numbered(0, 101)),
+    Gives(
+        "n1.|n2.|n3.|n4.|n5.|n6.|n7.|n8.|n9.|n10.|n11.|n12.|n13.|n14.|n15.|n16.|n17.|n18.|n19.|n20.|n21.|n22.|n23.|n24.|n25.|n26.|n27.|n28.|n29.|n30.|n31.|n32.|n33.|n34.|n35.|n36.|n37.|n38.|n39.|n40.|n41.|n42.|n43.|n44.|n45.|n46.|n47.|n48.|n49.|n50.|n51.|n52.|n53.|n54.|n55.|n56.|n57.|n58.|n59.|n60.|n61.|n62.|n63.|n64.|n65.|n66.|n67.|n68.|n69.|n70.|n71.|n72.|n73.|n74.|n75.|n76.|n77.|n78.|n79.|n80.|n81.|n82.|n83.|n84.|n85.|n86.|n87.|n88.|n89.|n90.|n91.|n92.|n93.|n94.|n95.|n96.|n97.|n98.|n99.|n100.",
     ),
-    (
-        Made::New,
-        &[
-            AddOwned("a", true),
-            AddOwned("a", false),
-            AddOwned("b", true),
-            AddOwned("", false),
-            Add("b", false),
-        ],
-        &["a", "b"],
-    ),
-    (
-        Made::New,
-        &[
-            Add("", false),
-            Add(" ", true),
-            Add(" a", true),
-            Add("é\n日", true),
-        ],
-        &[" ", " a", "é\n日"],
-    ),
-    (
-        Made::New,
-        &[
-            Limit(2),
-            Add("a", true),
-            Add("b", true),
-            Add("b", false),
-            Add("c", true),
-        ],
-        &["b", "c"],
-    ),
-    (
-        Made::New,
-        &[
-            Limit(1),
-            Add("a", true),
-            Add("a", false),
-            AddOwned("b", true),
-        ],
-        &["b"],
-    ),
-    (
-        Made::New,
-        &[
-            Limit(0),
-            Add("a", false),
-            AddOwned("a", false),
-            Add("", false),
-        ],
-        &[],
-    ),
-    (
-        Made::New,
-        &[Add("a", true), Add("b", true), Add("c", true), Limit(2)],
-        &["b", "c"],
-    ),
-    (
-        Made::New,
-        &[
-            Add("a", true),
-            Add("b", true),
-            Add("c", true),
-            Limit(1),
-            Limit(3),
-            Add("d", true),
-            Add("e", true),
-            Add("f", true),
-        ],
-        &["d", "e", "f"],
-    ),
-    (
-        Made::New,
-        &[
-            Add("a", true),
-            Add("b", true),
-            Limit(0),
-            Limit(2),
-            Add("b", true),
-        ],
-        &["b"],
-    ),
-    (
-        Made::New,
-        &[Add("a", true), Limit(usize::MAX), Add("b", true)],
-        &["a", "b"],
-    ),
-    (
-        Made::New,
-        &[
-            IgnoreDups(false),
-            Add("a", true),
-            Add("a", true),
-            IgnoreDups(true),
-            Add("a", false),
-        ],
-        &["a", "a"],
-    ),
-    (
-        Made::New,
-        &[
-            IgnoreSpace(true),
-            Add(" a", false),
-            AddOwned("\ta", false),
-            Add("\na", false),
-            Add("\u{a0}a", false),
-            Add("\u{3000}", false),
-            Add("\u{200b}a", true),
-            Add("a ", true),
-            IgnoreSpace(false),
-            Add(" a", true),
-        ],
-        &["\u{200b}a", "a ", " a"],
-    ),
-    (Made::New, &[Add("a", true), Add("b", true), Clear], &[]),
-    (
-        Made::New,
-        &[Clear, Add("a", true), Clear, Add("a", true)],
-        &["a"],
-    ),
-    (
-        Made::New,
-        &[
-            Limit(2),
-            IgnoreDups(false),
-            IgnoreSpace(true),
-            Clear,
-            Add("a", true),
-            Add("b", true),
-            Add("b", true),
-            Add(" b", false),
-        ],
-        &["b", "b"],
-    ),
-    (
-        Made::With(2, false, true),
-        &[
-            Add("a", true),
-            Add("a", true),
-            Add(" b", false),
-            Add("c", true),
-        ],
-        &["a", "c"],
-    ),
-    (
-        Made::With(3, true, false),
-        &[Add("a", true), Add("a", false), Add(" b", true)],
-        &["a", " b"],
-    ),
-    (Made::With(0, false, false), &[Add("a", false)], &[]),
+    // the oldest of many lines are dropped, and then all of them
+    Limit(10_000),
+    Many(Numbered(0, 5_000)),
+    Has(Numbered(0, 5_000)),
+    Limit(3_000),
+    Has(Numbered(2_000, 5_000)),
+    Clear,
+    Gives(""),
 ];
 
 #[test]
 fn in_memory_alone(rt: HostRuntime) -> Result<(), Fail> {
-    for case in LISTS {
-        in_memory(&rt, rt.alloc(), case)?;
+    let mut history = MemHistory::new(rt.alloc());
+    for step in LISTS {
+        match step {
+            With(max_len, dups, space) => {
+                let config = config_of(*max_len, *dups, *space)?;
+                history = MemHistory::with_config(rt.alloc(), &config);
+            }
+            Gives(lines) => {
+                mem_gives(&rt, &history, lines)?;
+                history = MemHistory::new(rt.alloc());
+            }
+            _ => stepped(&rt, rt.alloc(), &mut history, step)?,
+        }
     }
     Ok(())
 }
 
 #[test]
 fn that_can_be_saved(rt: HostRuntime) -> Result<(), Fail> {
-    for case in LISTS {
-        in_a_file(&rt, rt.alloc(), case)?;
-    }
-    Ok(())
-}
-
-/// Of 101 lines the first is dropped.
-#[test]
-fn at_most_a_hundred(rt: HostRuntime) -> Result<(), Fail> {
     let mut history: DefaultHistory = FileHistory::new(rt.alloc());
-    for number in 0..=100 {
-        let line = format!(in rt.alloc(); "{number}")?;
-        assert!(rt; history.add(line.as_str())?);
-    }
-    assert!(rt; history.len() == 100);
-    assert_eq!(rt; (history.entry(0), history.entry(99)), ("1", "100"));
-    Ok(())
-}
-
-/// Walked from both ends at once, each line comes once.
-#[test]
-fn walked_from_both_ends(rt: HostRuntime) -> Result<(), Fail> {
-    let mut history = FileHistory::new(rt.alloc());
-    for line in ["a", "b", "c", "d"] {
-        assert!(rt; history.add(line)?);
-    }
-    let mut shown = String::new(rt.alloc());
-    let mut lines = history.iter();
-    while let Some(line) = lines.next() {
-        shown.push_str(line.as_str())?;
-        if let Some(line) = lines.next_back() {
-            shown.push_str(line.as_str())?;
+    for step in LISTS.iter().chain(SAVED).chain(HEADERS).chain(READ) {
+        match step {
+            With(max_len, dups, space) => {
+                let config = config_of(*max_len, *dups, *space)?;
+                history = FileHistory::with_config(rt.alloc(), &config);
+            }
+            Gives(lines) => {
+                file_gives(&rt, &history, lines)?;
+                history = FileHistory::new(rt.alloc());
+            }
+            _ => file_stepped(&rt, rt.alloc(), &mut history, step)?,
         }
     }
-    assert_eq!(rt; shown.as_str(), "adbc");
     Ok(())
 }

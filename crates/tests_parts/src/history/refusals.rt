@@ -1,10 +1,11 @@
 //! What each call leaves where an allocation is refused. Run with any one allocation refused, each test passes: it
 //! looks at what is left, or the call was not reached.
 
-use super::streams::Trickle;
-use super::{gives, save};
+use super::streams::{BROKEN, Stream};
+use super::{added, answer_of, gives, is_saved};
+use ErrorKind::OutOfMemory;
 use Escapes::{V2, V3};
-use line_config::{ReadlineError, Result};
+use line_config::ReadlineError;
 use line_parts::{Escapes, FileHistory, History, MemHistory, SearchResult};
 use std::alloc::Global;
 use std::borrow::CowStr;
@@ -13,108 +14,55 @@ use std::process::Abort;
 use std::result;
 use std::test::Fail;
 
-/// The answer, and None where an allocation was refused. There is no other error.
-fn answer_of<T>(outcome: Result<T>) -> result::Result<Option<T>, Fail> {
-    match outcome {
-        Ok(answer) => Ok(Some(answer)),
-        Err(ReadlineError::Memory) => Ok(None),
-        Err(_) => Err(Fail::from("no other error")),
-    }
-}
-
 /// Lines that are all taken, and for which a list grows more than once.
-const LINES: &[&str] = &[
-    "a",
-    "b\n\\\rb",
-    "0123456789\n0123456789\n0123456789\n0123456789",
-    "c",
-    "d",
-    "e",
-];
+const LINES: &str = "a|b\n\\\rb|0123456789\n0123456789\n0123456789\n0123456789|c|d|e";
 
-/// What is left of the lines where they are added one after another, of which one may be refused.
-#[derive(Clone, Copy)]
-struct Kept {
-    lines: [&'static str; 6],
-    count: usize,
-}
-
-impl Kept {
-    fn add(&mut self, line: &'static str) {
-        let count = self.count;
-        if let Some(slot) = self.lines.get_mut(count) {
-            *slot = line;
-            self.count = count.saturating_add(1);
-        }
-    }
-
-    fn are_in<H: History>(&self, rt: &impl Abort, history: &H) -> result::Result<(), Fail> {
-        let Some(lines) = self.lines.get(..self.count) else {
-            return Err(Fail::from("no more lines than there are"));
-        };
-        gives(rt, history, lines)
-    }
-}
-
-fn added<H: History>(alloc: Global, history: &mut H, line: &str, owned: bool) -> Result<bool> {
-    if owned {
-        history.add_owned(String::from_str(alloc, line)?)
-    } else {
-        history.add(line)
-    }
-}
-
-/// A refused line leaves the list as it was.
+/// A refused line leaves the list as it was: it does not drop the oldest of a full history, which keeps one line.
 fn adds<H: History>(
     rt: &impl Abort,
     alloc: Global,
     history: &mut H,
     owned: bool,
+    full: bool,
 ) -> result::Result<(), Fail> {
-    let mut kept = Kept {
-        lines: [""; 6],
-        count: 0,
+    let Ok(mut kept) = String::with_capacity(alloc, 100) else {
+        return Ok(());
     };
-    for line in LINES {
-        if let Some(taken) = answer_of(added(alloc, history, line, owned))? {
+    if full {
+        history.set_max_len(1)?;
+    }
+    for line in LINES.split_terminator('|') {
+        let outcome = added(alloc, history, line, owned);
+        if let Some(taken) = answer_of(rt, alloc, outcome, OutOfMemory, "")? {
             assert!(rt; taken);
-            kept.add(line);
+            if full {
+                kept.clear();
+            }
+            kept.push_str(line)?;
+            kept.push('|')?;
         }
-        kept.are_in(rt, history)?;
+        gives(rt, history, kept.as_str())?;
     }
     Ok(())
 }
 
 #[test]
-fn of_lines_in_memory(rt: HostRuntime) -> result::Result<(), Fail> {
-    adds(&rt, rt.alloc(), &mut MemHistory::new(rt.alloc()), false)
-}
-
-#[test]
-fn of_lines_that_can_be_saved(rt: HostRuntime) -> result::Result<(), Fail> {
-    adds(&rt, rt.alloc(), &mut FileHistory::new(rt.alloc()), false)
-}
-
-#[test]
-fn of_owned_lines(rt: HostRuntime) -> result::Result<(), Fail> {
-    adds(&rt, rt.alloc(), &mut MemHistory::new(rt.alloc()), true)?;
-    adds(&rt, rt.alloc(), &mut FileHistory::new(rt.alloc()), true)
-}
-
-/// A refused line does not drop the oldest of a full history.
-#[test]
-fn of_a_line_for_a_full_history(rt: HostRuntime) -> result::Result<(), Fail> {
-    let mut history = FileHistory::new(rt.alloc());
-    history.set_max_len(1)?;
-    let mut newest = None;
-    for line in LINES {
-        if answer_of(history.add(line))?.is_some() {
-            newest = Some(*line);
-        }
-        match newest {
-            Some(line) => gives(&rt, &history, &[line])?,
-            None => gives(&rt, &history, &[])?,
-        }
+fn of_lines(rt: HostRuntime) -> result::Result<(), Fail> {
+    for (owned, full) in [(false, false), (true, false), (false, true)] {
+        adds(
+            &rt,
+            rt.alloc(),
+            &mut MemHistory::new(rt.alloc()),
+            owned,
+            full,
+        )?;
+        adds(
+            &rt,
+            rt.alloc(),
+            &mut FileHistory::new(rt.alloc()),
+            owned,
+            full,
+        )?;
     }
     Ok(())
 }
@@ -124,122 +72,63 @@ struct Written {
     escapes: Escapes,
     /// The text of all.
     saved: &'static [u8],
-    /// What is appended of as many of them as were read.
-    appended: [&'static [u8]; 5],
+    /// As many of the lines as were read, and what is appended of them.
+    left: &'static [(&'static str, &'static [u8])],
 }
 
 const WRITTEN: &[Written] = &[
     Written {
         escapes: V2,
         saved: b"#V2\na\nb\\n\\\\\rb\n0123456789\\n0123456789\\n0123456789\\n0123456789\nc\n",
-        appended: [
-            b"",
-            b"a\n",
-            b"a\nb\\n\\\\\rb\n",
-            b"a\nb\\n\\\\\rb\n0123456789\\n0123456789\\n0123456789\\n0123456789\n",
-            b"a\nb\\n\\\\\rb\n0123456789\\n0123456789\\n0123456789\\n0123456789\nc\n",
+        left: &[
+            ("", b""),
+            ("a", b"a\n"),
+            ("a|b\n\\\rb", b"a\nb\\n\\\\\rb\n"),
+            (
+                "a|b\n\\\rb|0123456789\n0123456789\n0123456789\n0123456789",
+                b"a\nb\\n\\\\\rb\n0123456789\\n0123456789\\n0123456789\\n0123456789\n",
+            ),
+            (
+                FOUR,
+                b"a\nb\\n\\\\\rb\n0123456789\\n0123456789\\n0123456789\\n0123456789\nc\n",
+            ),
         ],
     },
     Written {
         escapes: V3,
         saved: b"#V3\na\nb\\n\\\\\\rb\n0123456789\\n0123456789\\n0123456789\\n0123456789\nc\n",
-        appended: [
-            b"",
-            b"a\n",
-            b"a\nb\\n\\\\\\rb\n",
-            b"a\nb\\n\\\\\\rb\n0123456789\\n0123456789\\n0123456789\\n0123456789\n",
-            b"a\nb\\n\\\\\\rb\n0123456789\\n0123456789\\n0123456789\\n0123456789\nc\n",
+        left: &[
+            ("", b""),
+            ("a", b"a\n"),
+            ("a|b\n\\\rb", b"a\nb\\n\\\\\\rb\n"),
+            (
+                "a|b\n\\\rb|0123456789\n0123456789\n0123456789\n0123456789",
+                b"a\nb\\n\\\\\\rb\n0123456789\\n0123456789\\n0123456789\\n0123456789\n",
+            ),
+            (
+                FOUR,
+                b"a\nb\\n\\\\\\rb\n0123456789\\n0123456789\\n0123456789\\n0123456789\nc\n",
+            ),
         ],
     },
 ];
 
-/// Where the new lines are appended, this is written.
-fn appends(
-    rt: &impl Abort,
-    alloc: Global,
-    history: &mut FileHistory,
-    escapes: Escapes,
-    wanted: &[u8],
-) -> result::Result<(), Fail> {
-    let mut out = Vec::new(alloc);
-    if answer_of(save(history, escapes, &mut out, true))?.is_some() {
-        assert_eq!(rt; out.as_slice(), wanted);
-    }
-    Ok(())
-}
+/// The four lines.
+const FOUR: &str = "a|b\n\\\rb|0123456789\n0123456789\n0123456789\n0123456789|c";
 
 /// The lines before the refusal are there, and are new.
 fn reads(rt: &impl Abort, alloc: Global, written: &Written) -> result::Result<(), Fail> {
     let mut history = FileHistory::new(alloc);
-    let answer = answer_of(history.load_from(written.saved))?;
+    let answer = answer_of(rt, alloc, history.load_from(written.saved), OutOfMemory, "")?;
     let count = history.len();
     assert_eq!(rt; answer, if count == 4 { Some(true) } else { None });
-    let Some(lines) = LINES.get(..count) else {
+    let Some((lines, appended)) = written.left.get(count) else {
         return Err(Fail::from("no more lines than there are"));
     };
     gives(rt, &history, lines)?;
-    let new = if answer.is_some() { 0 } else { count };
-    let Some(wanted) = written.appended.get(new) else {
-        return Err(Fail::from("no more lines than there are"));
-    };
-    appends(rt, alloc, &mut history, written.escapes, *wanted)
-}
-
-#[test]
-fn of_a_text_that_is_read(rt: HostRuntime) -> result::Result<(), Fail> {
-    for written in WRITTEN {
-        reads(&rt, rt.alloc(), written)?;
-    }
+    let left = if answer.is_some() { b"" } else { *appended };
+    let _ = is_saved(rt, alloc, &mut history, written.escapes, true, left)?;
     Ok(())
-}
-
-/// Whether a text was read up to the place where its reader fails, and was not refused before.
-fn is_broken(outcome: &Result<bool>) -> result::Result<bool, Fail> {
-    match outcome {
-        Err(ReadlineError::Memory) => Ok(false),
-        Err(ReadlineError::Io(cause)) if cause.kind() == ErrorKind::BrokenPipe => Ok(true),
-        _ => Err(Fail::from("no answer, and no other error")),
-    }
-}
-
-/// The line before the fault is there, and is new; none may be where memory ran out.
-#[test]
-fn of_a_text_that_breaks_off(rt: HostRuntime) -> result::Result<(), Fail> {
-    let mut history = FileHistory::new(rt.alloc());
-    let outcome = history.load_from(Trickle::new(b"#V2\na\nb", 7, false));
-    if !is_broken(&outcome)? && history.is_empty() {
-        return Ok(());
-    }
-    gives(&rt, &history, &["a"])?;
-    appends(&rt, rt.alloc(), &mut history, V2, b"a\n")
-}
-
-/// A history of the first four lines; none where there is no memory for it.
-fn four_lines(alloc: Global) -> result::Result<Option<FileHistory>, Fail> {
-    let mut history = FileHistory::new(alloc);
-    for line in &LINES[..4] {
-        if answer_of(history.add(line))?.is_none() {
-            return Ok(None);
-        }
-    }
-    Ok(Some(history))
-}
-
-/// Whether a save succeeds, which then writes this.
-fn is_saved(
-    rt: &impl Abort,
-    alloc: Global,
-    history: &mut FileHistory,
-    escapes: Escapes,
-    append: bool,
-    whole: &[u8],
-) -> result::Result<bool, Fail> {
-    let mut out = Vec::new(alloc);
-    let answer = answer_of(save(history, escapes, &mut out, append))?;
-    if answer.is_some() {
-        assert_eq!(rt; out.as_slice(), whole);
-    }
-    Ok(answer.is_some())
 }
 
 /// The lines are there, and are new where the save was refused.
@@ -249,20 +138,27 @@ fn saves(
     written: &Written,
     append: bool,
 ) -> result::Result<(), Fail> {
-    let Some(mut history) = four_lines(alloc)? else {
-        return Ok(());
+    let mut history = FileHistory::new(alloc);
+    for line in FOUR.split_terminator('|') {
+        if answer_of(rt, alloc, history.add(line), OutOfMemory, "")?.is_none() {
+            return Ok(());
+        }
+    }
+    let Some((_, all)) = written.left.last() else {
+        return Err(Fail::from("the text of all"));
     };
-    let all = written.appended[4];
-    let whole = if append { all } else { written.saved };
+    let whole = if append { *all } else { written.saved };
     let saved = is_saved(rt, alloc, &mut history, written.escapes, append, whole)?;
-    gives(rt, &history, &LINES[..4])?;
-    let left = if saved { b"" } else { all };
-    appends(rt, alloc, &mut history, written.escapes, left)
+    gives(rt, &history, FOUR)?;
+    let left = if saved { b"" } else { *all };
+    let _ = is_saved(rt, alloc, &mut history, written.escapes, true, left)?;
+    Ok(())
 }
 
 #[test]
-fn of_a_text_that_is_written(rt: HostRuntime) -> result::Result<(), Fail> {
+fn of_texts(rt: HostRuntime) -> result::Result<(), Fail> {
     for written in WRITTEN {
+        reads(&rt, rt.alloc(), written)?;
         for append in [false, true] {
             saves(&rt, rt.alloc(), written, append)?;
         }
@@ -270,20 +166,52 @@ fn of_a_text_that_is_written(rt: HostRuntime) -> result::Result<(), Fail> {
     Ok(())
 }
 
-/// A line that the result owns is copied.
+/// The line before the fault is there, and is new; none may be where memory ran out.
 #[test]
-fn of_a_copied_result(rt: HostRuntime) -> result::Result<(), Fail> {
-    let Ok(line) = String::from_str(rt.alloc(), "日") else {
-        return Ok(());
+fn of_a_text_that_breaks_off(rt: HostRuntime) -> result::Result<(), Fail> {
+    let mut history = FileHistory::new(rt.alloc());
+    let outcome = history.load_from(Stream::new(rt.alloc(), b"#V2\na\nb", 7, &BROKEN));
+    if matches!(&outcome, Err(ReadlineError::Memory)) {
+        if history.is_empty() {
+            return Ok(());
+        }
+    } else {
+        assert!(rt; answer_of(&rt, rt.alloc(), outcome, BROKEN.0, BROKEN.1)?.is_none());
+    }
+    gives(&rt, &history, "a")?;
+    let _ = is_saved(&rt, rt.alloc(), &mut history, V2, true, b"a\n")?;
+    Ok(())
+}
+
+/// A line of so many characters that a result owns is copied. Returns how many of the two copies were refused.
+fn copies(rt: &impl Abort, alloc: Global, count: usize) -> result::Result<usize, Fail> {
+    let (Ok(line), Ok(text)) = ("日".repeat(alloc, count), "日".repeat(alloc, count)) else {
+        return Ok(1);
     };
     let found = SearchResult {
         entry: CowStr::Owned(line),
         idx: 7,
         pos: 3,
     };
-    if let Some(copy) = answer_of(found.clone())? {
-        assert!(rt; copy == found);
+    let copy = answer_of(rt, alloc, found.clone(), OutOfMemory, "")?;
+    assert_eq!(rt;
+        (found.entry.as_str(), found.idx, found.pos),
+        (text.as_str(), 7, 3)
+    );
+    let Some(copy) = copy else {
+        return Ok(1);
+    };
+    assert!(rt; copy == found);
+    Ok(0)
+}
+
+/// Each length stands twice, so that one of them is copied.
+#[test]
+fn of_a_copied_result(rt: HostRuntime) -> result::Result<(), Fail> {
+    let mut refused: usize = 0;
+    for count in [0, 1, 400, 5_000, 0, 1, 400, 5_000] {
+        refused = refused.saturating_add(copies(&rt, rt.alloc(), count)?);
     }
-    assert_eq!(rt; (found.entry.as_str(), found.idx, found.pos), ("日", 7, 3));
+    assert!(rt; refused <= 1);
     Ok(())
 }

@@ -1,180 +1,288 @@
-//! Short lines of the characters that a text of a history writes in ways of their own, saved and loaded.
+//! Lines that are saved and loaded: short ones of the characters that a text writes in ways of their own, long ones, and
+//! many.
 
-use super::{gives, save};
+use super::Lines::{Cut, Numbered, Pieces, Short, These};
+use super::{Lines, fills, gives, lines_of, save};
 use Escapes::{V2, V3};
-use line_config::Result;
 use line_parts::{Escapes, FileHistory, History};
 use std::alloc::Global;
 use std::process::Abort;
 use std::result;
 use std::test::Fail;
 
-const CHARACTERS: [char; 7] = ['a', '\\', '\n', '\r', 'n', 'r', '#'];
+/// The escapes, the lines that are saved and the ones appended, how many lines are kept of what is loaded, the length of
+/// the text where it is told, and the lines that are loaded: these and those. None are saved where the text has no header.
+type Trip = (
+    Escapes,
+    Option<Lines>,
+    Option<Lines>,
+    usize,
+    Option<usize>,
+    Lines,
+    Lines,
+);
 
-/// Each line with each of the characters behind it.
-fn longer(alloc: Global, lines: &[String]) -> Result<Vec<String>> {
-    let mut longer = Vec::new(alloc);
-    for line in lines {
-        for c in CHARACTERS {
-            longer.push(with_behind(line, c)?)?;
+/// The text of a history of the lines.
+fn text_of(rt: &impl Abort, alloc: Global, trip: &Trip) -> result::Result<Vec<u8>, Fail> {
+    let (escapes, saved, appended, _, length, _, _) = *trip;
+    let mut history = FileHistory::new(alloc);
+    history.set_max_len(10_000)?;
+    let mut text = Vec::new(alloc);
+    for (lines, append) in [(saved, false), (appended, true)] {
+        if let Some(lines) = lines {
+            fills(rt, alloc, &mut history, lines_of(alloc, lines)?.as_str())?;
+            save(&mut history, escapes, &mut text, append)?;
         }
     }
-    Ok(longer)
-}
-
-fn with_behind(line: &String, c: char) -> Result<String> {
-    let mut more = line.clone()?;
-    more.push(c)?;
-    Ok(more)
-}
-
-/// Each line of so many of the characters.
-fn lines_of(alloc: Global, count: usize) -> Result<Vec<String>> {
-    let mut lines = Vec::new(alloc);
-    lines.push(String::new(alloc))?;
-    for _ in 0..count {
-        lines = longer(alloc, lines.as_slice())?;
+    if let Some(length) = length {
+        assert_eq!(rt; text.len(), length);
     }
-    Ok(lines)
-}
-
-/// The text of a history of one line.
-fn text_of(alloc: Global, escapes: Escapes, line: &str) -> Result<Vec<u8>> {
-    let mut history = FileHistory::new(alloc);
-    let _ = history.add(line)?;
-    let mut text = Vec::new(alloc);
-    save(&mut history, escapes, &mut text, false)?;
     Ok(text)
 }
 
-/// All lines of a text are taken: this one, if it is not empty.
-fn loads(rt: &impl Abort, alloc: Global, text: &[u8], wanted: &str) -> result::Result<(), Fail> {
+/// The lines are loaded from their text.
+fn come_back(rt: &impl Abort, alloc: Global, trip: &Trip) -> result::Result<(), Fail> {
+    let (_, saved, _, limit, _, first, second) = *trip;
+    let text = text_of(rt, alloc, trip)?;
     let mut copy = FileHistory::new(alloc);
-    assert!(rt; copy.load_from(text)?, "{wanted:?}");
-    if wanted.is_empty() {
-        return gives(rt, &copy, &[]);
-    }
-    gives(rt, &copy, &[wanted])
+    copy.set_max_len(limit)?;
+    assert_eq!(rt; copy.load_from(text.as_slice())?, saved.is_some());
+    let mut lines = lines_of(alloc, first)?;
+    lines.push_str(lines_of(alloc, second)?.as_str())?;
+    gives(rt, &copy, lines.as_str())
 }
 
-/// A line that is saved alone is loaded as this one, if it is not empty.
-fn is_loaded_as(
-    rt: &impl Abort,
-    alloc: Global,
-    escapes: Escapes,
-    line: &str,
-    wanted: &str,
-) -> result::Result<(), Fail> {
-    let text = text_of(alloc, escapes, line)?;
-    loads(rt, alloc, text.as_slice(), wanted)
-}
-
-/// Without an escape for it, the carriage return at a line's end is lost.
-fn is_loaded(rt: &impl Abort, alloc: Global, line: &str) -> result::Result<(), Fail> {
-    let kept = match line.strip_suffix('\r') {
-        Some(kept) => kept,
-        None => line,
-    };
-    is_loaded_as(rt, alloc, V2, line, kept)?;
-    is_loaded_as(rt, alloc, V3, line, line)
-}
-
-/// The lines of so many characters are loaded, each alone.
-fn are_loaded(rt: &impl Abort, alloc: Global, count: usize) -> result::Result<(), Fail> {
-    let lines = lines_of(alloc, count)?;
-    for line in &lines {
-        is_loaded(rt, alloc, line.as_str())?;
-    }
-    Ok(())
-}
-
+/// Each line of up to three of the characters, alone. Without an escape for it, the carriage return at its end is lost.
 #[test]
 fn of_short_lines(rt: HostRuntime) -> result::Result<(), Fail> {
-    for count in 1..=3 {
-        are_loaded(&rt, rt.alloc(), count)?;
+    for number in 1..400 {
+        let line = Short(number, number.saturating_add(1));
+        for (escapes, loaded) in [(V2, Cut(number)), (V3, line)] {
+            let trip = (escapes, Some(line), None, 100, None, loaded, NONE);
+            come_back(&rt, rt.alloc(), &trip)?;
+        }
     }
     Ok(())
 }
 
-/// A history that keeps many lines.
-fn roomy(alloc: Global) -> Result<FileHistory> {
-    let mut history = FileHistory::new(alloc);
-    history.set_max_len(1_000)?;
-    Ok(history)
-}
+const NONE: Lines = These("");
 
-/// The lines are taken, all of them, and saved or appended.
-fn puts(
-    rt: &impl Abort,
-    history: &mut FileHistory,
-    lines: &[String],
-    text: &mut Vec<u8>,
-    append: bool,
-) -> result::Result<(), Fail> {
-    for line in lines {
-        assert!(rt; history.add(line.as_str())?, "{line:?}");
-    }
-    history.save_v3_to(text, append)?;
-    Ok(())
-}
+/// Ten lines of 1,000 bytes each, and one of 20,000.
+const BROAD: Lines = Pieces(&[
+    ("0\n", 500),
+    ("|", 1),
+    ("1\n", 500),
+    ("|", 1),
+    ("2\n", 500),
+    ("|", 1),
+    ("3\n", 500),
+    ("|", 1),
+    ("4\n", 500),
+    ("|", 1),
+    ("5\n", 500),
+    ("|", 1),
+    ("6\n", 500),
+    ("|", 1),
+    ("7\n", 500),
+    ("|", 1),
+    ("8\n", 500),
+    ("|", 1),
+    ("9\n", 500),
+    ("|", 1),
+    ("x\n", 10_000),
+    ("|", 1),
+]);
 
-/// The text of lines that are saved and of others that are appended.
-fn text_of_both(
-    rt: &impl Abort,
-    alloc: Global,
-    saved: &[String],
-    appended: &[String],
-) -> result::Result<Vec<u8>, Fail> {
-    let mut history = roomy(alloc)?;
-    let mut text = Vec::new(alloc);
-    puts(rt, &mut history, saved, &mut text, false)?;
-    puts(rt, &mut history, appended, &mut text, true)?;
-    Ok(text)
-}
+/// The same with a carriage return in place of the newline.
+const BROAD_V3: Lines = Pieces(&[
+    ("0\r", 500),
+    ("|", 1),
+    ("1\r", 500),
+    ("|", 1),
+    ("2\r", 500),
+    ("|", 1),
+    ("3\r", 500),
+    ("|", 1),
+    ("4\r", 500),
+    ("|", 1),
+    ("5\r", 500),
+    ("|", 1),
+    ("6\r", 500),
+    ("|", 1),
+    ("7\r", 500),
+    ("|", 1),
+    ("8\r", 500),
+    ("|", 1),
+    ("9\r", 500),
+    ("|", 1),
+    ("x\r", 10_000),
+    ("|", 1),
+]);
 
-/// All lines of a text are taken: these, one after another.
-fn loads_both(
-    rt: &impl Abort,
-    alloc: Global,
-    text: &[u8],
-    saved: &[String],
-    appended: &[String],
-) -> result::Result<(), Fail> {
-    let mut copy = roomy(alloc)?;
-    assert!(rt; copy.load_from(text)?);
-    assert_eq!(rt; copy.len(), saved.len().saturating_add(appended.len()));
-    for (found, wanted) in copy.iter().zip(saved.iter().chain(appended)) {
-        assert!(rt; found == wanted);
-    }
-    Ok(())
-}
+/// A short line, and one of 8,000 bytes.
+const LONG: Lines = Pieces(&[("a|", 1), ("é", 4_000)]);
 
-/// Lines that are saved and others that are appended are loaded together.
-fn come_back(
-    rt: &impl Abort,
-    alloc: Global,
-    saved: &[String],
-    appended: &[String],
-) -> result::Result<(), Fail> {
-    let text = text_of_both(rt, alloc, saved, appended)?;
-    loads_both(rt, alloc, text.as_slice(), saved, appended)
-}
+const MANY: Lines = Numbered(0, 5_000);
 
-/// The same of lines of so many characters and of so many others.
-fn all_come_back(
-    rt: &impl Abort,
-    alloc: Global,
-    saved: usize,
-    appended: usize,
-) -> result::Result<(), Fail> {
-    let saved = lines_of(alloc, saved)?;
-    let appended = lines_of(alloc, appended)?;
-    come_back(rt, alloc, saved.as_slice(), appended.as_slice())
-}
+/// The digits of the numbers below 5,000.
+const DIGITS: usize = 10 + 2 * 90 + 3 * 900 + 4 * 4_000;
+
+const TRIPS: &[Trip] = &[
+    // short lines that are saved, and others that are appended
+    (
+        V3,
+        Some(Short(1, 8)),
+        Some(Short(57, 400)),
+        1_000,
+        None,
+        Short(1, 8),
+        Short(57, 400),
+    ),
+    (
+        V3,
+        Some(Short(8, 57)),
+        Some(Short(1, 8)),
+        1_000,
+        None,
+        Short(8, 57),
+        Short(1, 8),
+    ),
+    (V3, Some(NONE), Some(NONE), 1_000, None, NONE, NONE),
+    // texts longer than what is read or written at once, with half of their characters escaped
+    (
+        V2,
+        Some(BROAD),
+        None,
+        100,
+        Some(4 + 10 * 1_501 + 30_001),
+        BROAD,
+        NONE,
+    ),
+    (
+        V3,
+        Some(BROAD_V3),
+        None,
+        100,
+        Some(4 + 10 * 1_501 + 30_001),
+        BROAD_V3,
+        NONE,
+    ),
+    (V2, Some(LONG), None, 100, Some(4 + 2 + 8_001), LONG, NONE),
+    // many lines, saved or appended, of which the last are kept; each has three bytes beside its number
+    (
+        V2,
+        Some(MANY),
+        None,
+        100,
+        Some(4 + 3 * 5_000 + DIGITS),
+        Numbered(4_900, 5_000),
+        NONE,
+    ),
+    (
+        V2,
+        Some(MANY),
+        None,
+        4_000,
+        Some(4 + 3 * 5_000 + DIGITS),
+        Numbered(1_000, 5_000),
+        NONE,
+    ),
+    (
+        V2,
+        Some(MANY),
+        None,
+        10_000,
+        Some(4 + 3 * 5_000 + DIGITS),
+        Numbered(0, 5_000),
+        NONE,
+    ),
+    (
+        V2,
+        None,
+        Some(MANY),
+        100,
+        Some(3 * 5_000 + DIGITS),
+        Numbered(4_900, 5_000),
+        NONE,
+    ),
+    (
+        V2,
+        None,
+        Some(MANY),
+        4_000,
+        Some(3 * 5_000 + DIGITS),
+        Numbered(1_000, 5_000),
+        NONE,
+    ),
+    (
+        V2,
+        None,
+        Some(MANY),
+        10_000,
+        Some(3 * 5_000 + DIGITS),
+        Numbered(0, 5_000),
+        NONE,
+    ),
+    (
+        V3,
+        Some(MANY),
+        None,
+        100,
+        Some(4 + 3 * 5_000 + DIGITS),
+        Numbered(4_900, 5_000),
+        NONE,
+    ),
+    (
+        V3,
+        Some(MANY),
+        None,
+        4_000,
+        Some(4 + 3 * 5_000 + DIGITS),
+        Numbered(1_000, 5_000),
+        NONE,
+    ),
+    (
+        V3,
+        Some(MANY),
+        None,
+        10_000,
+        Some(4 + 3 * 5_000 + DIGITS),
+        Numbered(0, 5_000),
+        NONE,
+    ),
+    (
+        V3,
+        None,
+        Some(MANY),
+        100,
+        Some(3 * 5_000 + DIGITS),
+        Numbered(4_900, 5_000),
+        NONE,
+    ),
+    (
+        V3,
+        None,
+        Some(MANY),
+        4_000,
+        Some(3 * 5_000 + DIGITS),
+        Numbered(1_000, 5_000),
+        NONE,
+    ),
+    (
+        V3,
+        None,
+        Some(MANY),
+        10_000,
+        Some(3 * 5_000 + DIGITS),
+        Numbered(0, 5_000),
+        NONE,
+    ),
+];
 
 #[test]
-fn of_short_lines_in_one_text(rt: HostRuntime) -> result::Result<(), Fail> {
-    all_come_back(&rt, rt.alloc(), 1, 3)?;
-    all_come_back(&rt, rt.alloc(), 2, 1)?;
-    come_back(&rt, rt.alloc(), &[], &[])
+fn of_lines_in_one_text(rt: HostRuntime) -> result::Result<(), Fail> {
+    for trip in TRIPS {
+        come_back(&rt, rt.alloc(), trip)?;
+    }
+    Ok(())
 }

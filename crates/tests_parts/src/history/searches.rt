@@ -1,5 +1,8 @@
 //! What a search finds: the nearest line on its side, and the place in it.
 
+use super::Lines::{Numbered, Pieces, These};
+use super::{Lines, fills, gives, lines_of};
+use Place::{Anywhere, Start};
 use SearchDirection::{Forward, Reverse};
 use line_parts::{FileHistory, History, MemHistory, SearchDirection, SearchResult};
 use std::alloc::Global;
@@ -8,383 +11,283 @@ use std::process::Abort;
 use std::test::Fail;
 
 /// Where a term has to stand: anywhere in a line, or at its start.
-#[derive(Clone, Copy, Debug)]
+#[derive(Clone, Copy)]
 enum Place {
     Anywhere,
     Start,
 }
 
-use Place::{Anywhere, Start};
-
-fn found<'a, H: History>(
-    history: &'a H,
-    place: Place,
-    term: &str,
-    start: usize,
-    dir: SearchDirection,
-) -> Result<Option<SearchResult<'a>>, Fail> {
-    Ok(match place {
-        Anywhere => history.search(term, start, dir)?,
-        Start => history.starts_with(term, start, dir)?,
-    })
-}
-
-/// The index and the place of what was found, where it is borrowed, is the line at its index, and equals its clone.
-fn place_in(
+/// What is found is at this place: the index of a line and the byte offset in it, or a dash for nothing. It is borrowed,
+/// is the line at its index, and equals its clone.
+fn is_at<H: History>(
     rt: &impl Abort,
-    lines: &[&str],
+    alloc: Global,
+    history: &H,
     found: &Option<SearchResult<'_>>,
-) -> Result<Option<(usize, usize)>, Fail> {
+    at: &str,
+) -> Result<(), Fail> {
     let Some(found) = found else {
-        return Ok(None);
+        assert!(rt; at == "-", "{at}");
+        return Ok(());
     };
+    let shown = format!(in alloc; "{}:{}", found.idx, found.pos)?;
+    assert_eq!(rt; shown.as_str(), at);
     assert!(rt; matches!(found.entry, CowStr::Borrowed(_)));
-    assert_eq!(rt; Some(found.entry.as_str()), lines.get(found.idx).copied());
     let copy = found.clone()?;
     assert!(rt; copy == *found && matches!(copy.entry, CowStr::Borrowed(_)));
-    Ok(Some((found.idx, found.pos)))
+    let Some(line) = history.get(found.idx, Forward)? else {
+        return Err(Fail::from("a line at each index"));
+    };
+    assert!(rt; line.entry.as_str() == found.entry.as_str(), "{at}");
+    Ok(())
 }
 
-/// The index of a line and the byte offset in it, if one is found.
-type At = Option<(usize, usize)>;
+/// Lines, where a term has to stand, the term and how often it is repeated, the direction, the indices at which a search
+/// begins, and what is found from each of them.
+type Case = (
+    Lines,
+    Place,
+    &'static str,
+    usize,
+    SearchDirection,
+    &'static [usize],
+    &'static str,
+);
 
-/// Where a term has to stand, the term, the direction, and what is found from each index on, the number of lines and
-/// the greatest index included.
-type Case = (Place, &'static str, SearchDirection, [At; 7]);
-
+/// A history that is filled with the lines gives them, and they are found.
 fn finds<H: History>(
     rt: &impl Abort,
-    history: &H,
-    lines: &[&str],
+    alloc: Global,
+    history: &mut H,
     case: &Case,
 ) -> Result<(), Fail> {
-    let (place, term, dir, wanted) = case;
-    let starts = [0, 1, 2, 3, 4, 5, usize::MAX];
-    for (start, at) in starts.iter().zip(wanted) {
-        let result = found(history, *place, term, *start, *dir)?;
-        assert_eq!(rt;
-            place_in(rt, lines, &result)?,
-            *at,
-            "{place:?} {term:?} {start} {dir:?}"
-        );
-    }
-    Ok(())
-}
-
-fn filled<H: History>(rt: &impl Abort, history: &mut H, lines: &[&str]) -> Result<(), Fail> {
-    for line in lines {
-        assert!(rt; history.add(line)?);
-    }
-    Ok(())
-}
-
-fn both_find(rt: &impl Abort, alloc: Global, lines: &[&str], cases: &[Case]) -> Result<(), Fail> {
-    let mut mem = MemHistory::new(alloc);
-    let mut file = FileHistory::new(alloc);
-    filled(rt, &mut mem, lines)?;
-    filled(rt, &mut file, lines)?;
-    for case in cases {
-        finds(rt, &mem, lines, case)?;
-        finds(rt, &file, lines, case)?;
+    let (lines, place, term, count, dir, starts, wanted) = *case;
+    history.set_max_len(10_000)?;
+    let lines = lines_of(alloc, lines)?;
+    fills(rt, alloc, history, lines.as_str())?;
+    gives(rt, history, lines.as_str())?;
+    let term = term.repeat(alloc, count)?;
+    let history = &*history;
+    let mut places = wanted.split(' ');
+    for start in starts {
+        let Some(at) = places.next() else {
+            return Err(Fail::from("a place for each index"));
+        };
+        let found = match place {
+            Anywhere => history.search(term.as_str(), *start, dir)?,
+            Start => history.starts_with(term.as_str(), *start, dir)?,
+        };
+        is_at(rt, alloc, history, &found, at)?;
     }
     Ok(())
 }
 
 /// Five lines: each character but `日` takes one byte, which takes three.
-const LINES: &[&str] = &["abab", "b日b", "xaab", "日", "ab"];
+const FIVE: Lines = These("abab|b日b|xaab|日|ab");
 
-const NONE: [At; 7] = [None, None, None, None, None, None, None];
+/// Three lines with a common beginning.
+const NUMBERED: Lines = These("line1|line2|line3");
+
+const NO_LINES: Lines = These("");
+
+const MANY: Lines = Numbered(0, 5_000);
+
+/// A short line, and one of 8,000 bytes.
+const LONG: Lines = Pieces(&[("a|", 1), ("é", 4_000)]);
+
+/// Each index of at most five lines, their number, and the greatest index.
+const EACH: &[usize] = &[0, 1, 2, 3, 4, 5, usize::MAX];
+
+const FIRST: &[usize] = &[0];
+
+const SECOND: &[usize] = &[1];
+
+const MIDDLE: &[usize] = &[2_500];
+
+const LAST: &[usize] = &[4_999];
 
 const SEARCHES: &[Case] = &[
     (
+        FIVE,
         Anywhere,
         "ab",
+        1,
         Forward,
-        [
-            Some((0, 0)),
-            Some((2, 2)),
-            Some((2, 2)),
-            Some((4, 0)),
-            Some((4, 0)),
-            None,
-            None,
-        ],
+        EACH,
+        "0:0 2:2 2:2 4:0 4:0 - -",
     ),
     (
+        FIVE,
         Anywhere,
         "ab",
+        1,
         Reverse,
-        [
-            Some((0, 0)),
-            Some((0, 0)),
-            Some((2, 2)),
-            Some((2, 2)),
-            Some((4, 0)),
-            None,
-            None,
-        ],
+        EACH,
+        "0:0 0:0 2:2 2:2 4:0 - -",
     ),
     (
+        FIVE,
         Anywhere,
         "b",
+        1,
         Forward,
-        [
-            Some((0, 1)),
-            Some((1, 0)),
-            Some((2, 3)),
-            Some((4, 1)),
-            Some((4, 1)),
-            None,
-            None,
-        ],
+        EACH,
+        "0:1 1:0 2:3 4:1 4:1 - -",
     ),
     (
+        FIVE,
         Anywhere,
         "b",
+        1,
         Reverse,
-        [
-            Some((0, 1)),
-            Some((1, 0)),
-            Some((2, 3)),
-            Some((2, 3)),
-            Some((4, 1)),
-            None,
-            None,
-        ],
+        EACH,
+        "0:1 1:0 2:3 2:3 4:1 - -",
     ),
     (
+        FIVE,
         Anywhere,
         "aab",
+        1,
         Forward,
-        [
-            Some((2, 1)),
-            Some((2, 1)),
-            Some((2, 1)),
-            None,
-            None,
-            None,
-            None,
-        ],
+        EACH,
+        "2:1 2:1 2:1 - - - -",
     ),
     (
+        FIVE,
         Anywhere,
         "aab",
+        1,
         Reverse,
-        [
-            None,
-            None,
-            Some((2, 1)),
-            Some((2, 1)),
-            Some((2, 1)),
-            None,
-            None,
-        ],
+        EACH,
+        "- - 2:1 2:1 2:1 - -",
     ),
     (
+        FIVE,
         Anywhere,
         "日",
+        1,
         Forward,
-        [
-            Some((1, 1)),
-            Some((1, 1)),
-            Some((3, 0)),
-            Some((3, 0)),
-            None,
-            None,
-            None,
-        ],
+        EACH,
+        "1:1 1:1 3:0 3:0 - - -",
     ),
     (
+        FIVE,
         Anywhere,
         "日",
+        1,
         Reverse,
-        [
-            None,
-            Some((1, 1)),
-            Some((1, 1)),
-            Some((3, 0)),
-            Some((3, 0)),
-            None,
-            None,
-        ],
+        EACH,
+        "- 1:1 1:1 3:0 3:0 - -",
     ),
     (
+        FIVE,
         Anywhere,
         "日b",
+        1,
         Reverse,
-        [
-            None,
-            Some((1, 1)),
-            Some((1, 1)),
-            Some((1, 1)),
-            Some((1, 1)),
-            None,
-            None,
-        ],
+        EACH,
+        "- 1:1 1:1 1:1 1:1 - -",
     ),
-    (Anywhere, "ababa", Forward, NONE),
-    (Anywhere, "ababa", Reverse, NONE),
-    (Anywhere, "", Forward, NONE),
-    (Anywhere, "", Reverse, NONE),
+    (FIVE, Anywhere, "ababa", 1, Forward, EACH, "- - - - - - -"),
+    (FIVE, Anywhere, "ababa", 1, Reverse, EACH, "- - - - - - -"),
+    (FIVE, Anywhere, "", 1, Forward, EACH, "- - - - - - -"),
+    (FIVE, Anywhere, "", 1, Reverse, EACH, "- - - - - - -"),
     (
+        FIVE,
         Start,
         "ab",
+        1,
         Forward,
-        [
-            Some((0, 2)),
-            Some((4, 2)),
-            Some((4, 2)),
-            Some((4, 2)),
-            Some((4, 2)),
-            None,
-            None,
-        ],
+        EACH,
+        "0:2 4:2 4:2 4:2 4:2 - -",
     ),
     (
+        FIVE,
         Start,
         "ab",
+        1,
         Reverse,
-        [
-            Some((0, 2)),
-            Some((0, 2)),
-            Some((0, 2)),
-            Some((0, 2)),
-            Some((4, 2)),
-            None,
-            None,
-        ],
+        EACH,
+        "0:2 0:2 0:2 0:2 4:2 - -",
     ),
+    (FIVE, Start, "b", 1, Forward, EACH, "1:1 1:1 - - - - -"),
+    (FIVE, Start, "b日", 1, Reverse, EACH, "- 1:4 1:4 1:4 1:4 - -"),
+    (FIVE, Start, "日", 1, Forward, EACH, "3:3 3:3 3:3 3:3 - - -"),
     (
-        Start,
-        "b",
-        Forward,
-        [Some((1, 1)), Some((1, 1)), None, None, None, None, None],
-    ),
-    (
-        Start,
-        "b日",
-        Reverse,
-        [
-            None,
-            Some((1, 4)),
-            Some((1, 4)),
-            Some((1, 4)),
-            Some((1, 4)),
-            None,
-            None,
-        ],
-    ),
-    (
-        Start,
-        "日",
-        Forward,
-        [
-            Some((3, 3)),
-            Some((3, 3)),
-            Some((3, 3)),
-            Some((3, 3)),
-            None,
-            None,
-            None,
-        ],
-    ),
-    (
+        FIVE,
         Start,
         "abab",
+        1,
         Reverse,
-        [
-            Some((0, 4)),
-            Some((0, 4)),
-            Some((0, 4)),
-            Some((0, 4)),
-            Some((0, 4)),
-            None,
-            None,
-        ],
+        EACH,
+        "0:4 0:4 0:4 0:4 0:4 - -",
     ),
-    (Start, "aab", Forward, NONE),
-    (Start, "aab", Reverse, NONE),
-    (Start, "ababa", Forward, NONE),
-    (Start, "", Forward, NONE),
-    (Start, "", Reverse, NONE),
-];
-
-/// Three lines with a common beginning.
-const NUMBERED: &[&str] = &["line1", "line2", "line3"];
-
-const IN_NUMBERED: &[Case] = &[
+    (FIVE, Start, "aab", 1, Forward, EACH, "- - - - - - -"),
+    (FIVE, Start, "aab", 1, Reverse, EACH, "- - - - - - -"),
+    (FIVE, Start, "ababa", 1, Forward, EACH, "- - - - - - -"),
+    (FIVE, Start, "", 1, Forward, EACH, "- - - - - - -"),
+    (FIVE, Start, "", 1, Reverse, EACH, "- - - - - - -"),
     (
+        NUMBERED,
         Anywhere,
         "line3",
+        1,
         Forward,
-        [
-            Some((2, 0)),
-            Some((2, 0)),
-            Some((2, 0)),
-            None,
-            None,
-            None,
-            None,
-        ],
+        EACH,
+        "2:0 2:0 2:0 - - - -",
     ),
     (
+        NUMBERED,
         Anywhere,
         "line1",
+        1,
         Reverse,
-        [
-            Some((0, 0)),
-            Some((0, 0)),
-            Some((0, 0)),
-            None,
-            None,
-            None,
-            None,
-        ],
+        EACH,
+        "0:0 0:0 0:0 - - - -",
     ),
     (
+        NUMBERED,
         Anywhere,
         "line",
+        1,
         Forward,
-        [
-            Some((0, 0)),
-            Some((1, 0)),
-            Some((2, 0)),
-            None,
-            None,
-            None,
-            None,
-        ],
+        EACH,
+        "0:0 1:0 2:0 - - - -",
     ),
     (
+        NUMBERED,
         Start,
         "line",
+        1,
         Reverse,
-        [
-            Some((0, 4)),
-            Some((1, 4)),
-            Some((2, 4)),
-            None,
-            None,
-            None,
-            None,
-        ],
+        EACH,
+        "0:4 1:4 2:4 - - - -",
     ),
+    (NO_LINES, Anywhere, "a", 1, Forward, EACH, "- - - - - - -"),
+    (NO_LINES, Anywhere, "a", 1, Reverse, EACH, "- - - - - - -"),
+    (NO_LINES, Start, "a", 1, Forward, EACH, "- - - - - - -"),
+    (NO_LINES, Start, "", 1, Reverse, EACH, "- - - - - - -"),
+    (MANY, Anywhere, "n4999.", 1, Forward, FIRST, "4999:0"),
+    (MANY, Start, "n4999.", 1, Forward, FIRST, "4999:6"),
+    (MANY, Anywhere, "n0.", 1, Reverse, LAST, "0:0"),
+    (MANY, Start, "n0.", 1, Reverse, LAST, "0:3"),
+    (MANY, Anywhere, "99.", 1, Forward, FIRST, "99:1"),
+    (MANY, Start, "99.", 1, Forward, FIRST, "-"),
+    (MANY, Anywhere, "n", 1, Reverse, MIDDLE, "2500:0"),
+    (MANY, Start, "n", 1, Reverse, MIDDLE, "2500:1"),
+    (MANY, Anywhere, "x", 1, Forward, FIRST, "-"),
+    (MANY, Start, "x", 1, Forward, FIRST, "-"),
+    (MANY, Anywhere, "x", 1, Reverse, LAST, "-"),
+    (MANY, Start, "x", 1, Reverse, LAST, "-"),
+    (LONG, Anywhere, "é", 3_000, Reverse, SECOND, "1:0"),
+    (LONG, Start, "é", 3_000, Forward, FIRST, "1:6000"),
 ];
 
 #[test]
 fn find_the_nearest_line(rt: HostRuntime) -> Result<(), Fail> {
-    both_find(&rt, rt.alloc(), LINES, SEARCHES)?;
-    both_find(&rt, rt.alloc(), NUMBERED, IN_NUMBERED)
-}
-
-const IN_NONE: &[Case] = &[
-    (Anywhere, "a", Forward, NONE),
-    (Anywhere, "a", Reverse, NONE),
-    (Start, "a", Forward, NONE),
-    (Start, "", Reverse, NONE),
-];
-
-#[test]
-fn find_nothing_in_an_empty_history(rt: HostRuntime) -> Result<(), Fail> {
-    both_find(&rt, rt.alloc(), &[], IN_NONE)
+    for case in SEARCHES {
+        finds(&rt, rt.alloc(), &mut MemHistory::new(rt.alloc()), case)?;
+        finds(&rt, rt.alloc(), &mut FileHistory::new(rt.alloc()), case)?;
+    }
+    Ok(())
 }

@@ -1,47 +1,79 @@
-//! Readers and writers that give and take little at once, that are interrupted, and that fail.
+//! Streams that give and take little at once, that are interrupted, and that fail at each byte, once or from there on: the
+//! error stays what it was, the call is not made again, and the history keeps what is said of a load or a save that failed.
 
-use super::save;
+use super::Lines::Pieces;
+use super::{Lines, answer_of, fills, gives, is_saved, lines_of, save};
 use Escapes::{V2, V3};
-use line_config::{ReadlineError, Result};
+use How::{Always, Full, Interrupted, Once};
 use line_parts::{Escapes, FileHistory, History};
 use std::alloc::Global;
-use std::io::{ErrorKind, Read, Write};
+use std::io::{Error, ErrorKind, Read, Write};
 use std::process::Abort;
 use std::test::Fail;
 use std::{io, result};
 
-/// A reader that gives one byte a call. It may be interrupted before each, and fails from one of them on.
+/// How a stream fails that gives one byte a call.
+#[derive(Clone, Copy)]
+pub(super) enum How {
+    /// Once, by an error with a text. It takes all bytes before that place at once.
+    Once,
+    /// From a place on, by an error of a kind alone. It takes one byte a call.
+    Always,
+    /// The same, interrupted before each byte.
+    Interrupted,
+    /// From a place on it takes nothing; before it, one byte a call.
+    Full,
+}
+
+/// The kind of an error, its text, and how a stream fails by it.
+pub(super) type Manner = (ErrorKind, &'static str, How);
+
+/// A stream that gives a text or takes one, and fails before the byte at a place, or at a flush there. Where it fails once,
+/// a second try would succeed.
 #[derive(Drop)]
-pub(super) struct Trickle {
+pub(super) struct Stream {
     text: &'static [u8],
     at: usize,
-    failing: usize,
-    interrupts: bool,
+    taken: Vec<u8>,
+    place: usize,
+    manner: Manner,
     interrupted: bool,
 }
 
-impl Trickle {
-    pub(super) fn new(text: &'static [u8], failing: usize, interrupts: bool) -> Trickle {
-        Trickle {
+impl Stream {
+    pub(super) fn new(alloc: Global, text: &'static [u8], place: usize, manner: &Manner) -> Stream {
+        Stream {
             text,
             at: 0,
-            failing,
-            interrupts,
+            taken: Vec::new(alloc),
+            place,
+            manner: *manner,
             interrupted: false,
         }
     }
-}
 
-impl Read for Trickle {
-    fn read(&mut self, buf: &mut [u8]) -> io::Result<usize> {
-        if self.interrupts && !self.interrupted {
+    /// The error where it fails behind so many bytes, or is interrupted.
+    fn broken(&mut self, done: usize) -> io::Result<()> {
+        let (kind, text, how) = self.manner;
+        if matches!(how, Interrupted) && !self.interrupted {
             self.interrupted = true;
-            return Err(io::Error::from(ErrorKind::Interrupted));
+            return Err(Error::from(ErrorKind::Interrupted));
         }
         self.interrupted = false;
-        if self.failing <= self.at {
-            return Err(io::Error::from(ErrorKind::BrokenPipe));
+        if done < self.place {
+            return Ok(());
         }
+        if matches!(how, Once) {
+            self.place = WHOLE;
+            return Err(Error::new(kind, text));
+        }
+        Err(Error::from(kind))
+    }
+}
+
+impl Read for Stream {
+    fn read(&mut self, buf: &mut [u8]) -> io::Result<usize> {
+        self.broken(self.at)?;
         let Some(byte) = self.text.get(self.at) else {
             return Ok(0);
         };
@@ -54,356 +86,349 @@ impl Read for Trickle {
     }
 }
 
-/// A writer that takes one byte a call. It may be interrupted before each, and fails from one of them on, or at a flush.
-#[derive(Drop)]
-struct Narrow {
-    taken: Vec<u8>,
-    failing: usize,
-    flushes: bool,
-    interrupts: bool,
-    interrupted: bool,
-}
-
-impl Narrow {
-    fn new(alloc: Global, failing: usize, flushes: bool, interrupts: bool) -> Narrow {
-        Narrow {
-            taken: Vec::new(alloc),
-            failing,
-            flushes,
-            interrupts,
-            interrupted: false,
-        }
-    }
-}
-
-impl Write for Narrow {
+impl Write for Stream {
     fn write(&mut self, buf: &[u8]) -> io::Result<usize> {
-        if self.interrupts && !self.interrupted {
-            self.interrupted = true;
-            return Err(io::Error::from(ErrorKind::Interrupted));
-        }
-        self.interrupted = false;
-        if self.failing <= self.taken.len() {
-            return Err(io::Error::from(ErrorKind::BrokenPipe));
-        }
-        let Some(byte) = buf.first() else {
+        let done = self.taken.len();
+        let left = self.place.saturating_sub(done);
+        let room = match self.manner.2 {
+            Full if left == 0 => return Ok(0),
+            Once if left > 0 => left.min(buf.len()),
+            _ => 1,
+        };
+        self.broken(done)?;
+        let Some(bytes) = buf.get(..room) else {
             return Ok(0);
         };
-        self.taken.push(*byte)?;
-        Ok(1)
+        self.taken.extend_from_slice(bytes)?;
+        Ok(bytes.len())
     }
 
+    /// A flush is not interrupted, and fails where all bytes before the place were taken.
     fn flush(&mut self) -> io::Result<()> {
-        if self.flushes {
-            Ok(())
-        } else {
-            Err(io::Error::from(ErrorKind::BrokenPipe))
-        }
+        let done = self.taken.len();
+        self.interrupted = true;
+        self.broken(done)
     }
 }
 
-/// The answer, and None where the stream failed.
-fn answer_of<T>(outcome: Result<T>) -> result::Result<Option<T>, Fail> {
-    match outcome {
-        Ok(answer) => Ok(Some(answer)),
-        Err(ReadlineError::Io(cause)) if cause.kind() == ErrorKind::BrokenPipe => Ok(None),
-        Err(_) => Err(Fail::from("no other error")),
-    }
-}
+/// No place of a text.
+const WHOLE: usize = usize::MAX;
 
-/// The new lines are those that this text has.
-fn appends(
+/// A stream that breaks off.
+pub(super) const BROKEN: Manner = (ErrorKind::BrokenPipe, "", Always);
+
+/// One that fails once.
+const GONE: Manner = (ErrorKind::PermissionDenied, "the disk is gone", Once);
+
+/// Each kind that a stream can answer, but for `Interrupted`, after which it is asked again, and three faults of their own.
+/// What a stream tells of memory is the want of it.
+const MANNERS: &[Manner] = &[
+    BROKEN,
+    (ErrorKind::BrokenPipe, "", Interrupted),
+    (ErrorKind::WriteZero, "", Full),
+    (ErrorKind::Other, "a party failed", Once),
+    GONE,
+    (ErrorKind::UnexpectedEof, "the answer broke off", Once),
+    (ErrorKind::OutOfMemory, "a buffer is full", Once),
+    (ErrorKind::NotFound, "the stream broke", Once),
+    (ErrorKind::PermissionDenied, "the stream broke", Once),
+    (ErrorKind::ConnectionRefused, "the stream broke", Once),
+    (ErrorKind::ConnectionReset, "the stream broke", Once),
+    (ErrorKind::HostUnreachable, "the stream broke", Once),
+    (ErrorKind::NetworkUnreachable, "the stream broke", Once),
+    (ErrorKind::ConnectionAborted, "the stream broke", Once),
+    (ErrorKind::NotConnected, "the stream broke", Once),
+    (ErrorKind::AddrInUse, "the stream broke", Once),
+    (ErrorKind::AddrNotAvailable, "the stream broke", Once),
+    (ErrorKind::NetworkDown, "the stream broke", Once),
+    (ErrorKind::BrokenPipe, "the stream broke", Once),
+    (ErrorKind::AlreadyExists, "the stream broke", Once),
+    (ErrorKind::WouldBlock, "the stream broke", Once),
+    (ErrorKind::NotADirectory, "the stream broke", Once),
+    (ErrorKind::IsADirectory, "the stream broke", Once),
+    (ErrorKind::DirectoryNotEmpty, "the stream broke", Once),
+    (ErrorKind::ReadOnlyFilesystem, "the stream broke", Once),
+    (ErrorKind::StaleNetworkFileHandle, "the stream broke", Once),
+    (ErrorKind::InvalidInput, "the stream broke", Once),
+    (ErrorKind::InvalidData, "the stream broke", Once),
+    (ErrorKind::TimedOut, "the stream broke", Once),
+    (ErrorKind::WriteZero, "the stream broke", Once),
+    (ErrorKind::StorageFull, "the stream broke", Once),
+    (ErrorKind::NotSeekable, "the stream broke", Once),
+    (ErrorKind::QuotaExceeded, "the stream broke", Once),
+    (ErrorKind::FileTooLarge, "the stream broke", Once),
+    (ErrorKind::ResourceBusy, "the stream broke", Once),
+    (ErrorKind::ExecutableFileBusy, "the stream broke", Once),
+    (ErrorKind::Deadlock, "the stream broke", Once),
+    (ErrorKind::CrossesDevices, "the stream broke", Once),
+    (ErrorKind::TooManyLinks, "the stream broke", Once),
+    (ErrorKind::InvalidFilename, "the stream broke", Once),
+    (ErrorKind::ArgumentListTooLong, "the stream broke", Once),
+    (ErrorKind::Unsupported, "the stream broke", Once),
+    (ErrorKind::UnexpectedEof, "the stream broke", Once),
+    (ErrorKind::Other, "the stream broke", Once),
+];
+
+/// A history of settled lines, and of others that are new.
+fn history_of(
     rt: &impl Abort,
     alloc: Global,
-    history: &mut FileHistory,
-    escapes: Escapes,
-    text: &[u8],
-) -> result::Result<(), Fail> {
-    let mut out = Vec::new(alloc);
-    save(history, escapes, &mut out, true)?;
-    assert_eq!(rt; out.as_slice(), text);
-    Ok(())
+    settled: &str,
+    new: &str,
+) -> result::Result<FileHistory, Fail> {
+    let mut history = FileHistory::new(alloc);
+    if !settled.is_empty() {
+        fills(rt, alloc, &mut history, settled)?;
+        history.save_to(&mut Vec::new(alloc), false)?;
+    }
+    fills(rt, alloc, &mut history, new)?;
+    Ok(history)
 }
 
-/// A text, how many bytes of it come before its reader fails, the answer, None where it fails, and what is appended of
-/// the lines that are there, with a carriage return escaped.
-type Case = (&'static [u8], usize, Option<bool>, &'static [u8]);
+/// A text, the first place and the last one at which its reader fails, the answer, None where it fails, the lines that are
+/// then there, and what is appended of those that are new, with a carriage return escaped.
+type Load = (
+    &'static [u8],
+    usize,
+    usize,
+    Option<bool>,
+    &'static str,
+    &'static [u8],
+);
 
-/// Reads a text byte by byte, with interruptions or none.
+/// A load leaves the lines that came before the place where its reader fails: in an empty history, or behind a settled line
+/// where it fails once.
 fn reads(
     rt: &impl Abort,
     alloc: Global,
-    case: &Case,
-    interrupts: bool,
+    load: &Load,
+    place: usize,
+    manner: &Manner,
 ) -> result::Result<(), Fail> {
-    let (text, failing, wanted, appended) = case;
-    let mut history = FileHistory::new(alloc);
-    let reader = Trickle::new(*text, *failing, interrupts);
-    assert_eq!(rt; answer_of(history.load_from(reader))?, *wanted, "{failing}");
-    appends(rt, alloc, &mut history, V3, *appended)
+    let (text, _, _, wanted, lines, appended) = *load;
+    let (kind, words, how) = *manner;
+    let settled = if matches!(how, Once) { "x|" } else { "" };
+    let mut history = history_of(rt, alloc, settled, "")?;
+    let outcome = history.load_from(Stream::new(alloc, text, place, manner));
+    let answer = answer_of(rt, alloc, outcome, kind, words)?;
+    assert_eq!(rt; answer, wanted, "{place} {kind:?}");
+    gives(
+        rt,
+        &history,
+        format!(in alloc; "{settled}{lines}")?.as_str(),
+    )?;
+    assert!(rt; is_saved(rt, alloc, &mut history, V3, true, appended)?);
+    Ok(())
 }
 
-const WHOLE: usize = usize::MAX;
-
-/// A text with a header: two lines, an empty one, and a last one without a line feed.
 const HEADED: &[u8] = b"#V2\nab\n\ncd\ne";
 
-/// The same with a carriage return in its first line.
+const HEADED_LINES: &[u8] = b"#V2\na\\nb\n\ncd\ne";
+
 const HEADED_V3: &[u8] = b"#V3\na\\r\n\ncd\ne";
 
-/// A text without a header.
+const HEADED_RETURN: &[u8] = b"#V3\na\\rb\n\ncd\ne";
+
 const PLAIN: &[u8] = b"a\r\nb";
 
-const READS: &[Case] = &[
-    (b"", 0, None, b""),
-    (b"", WHOLE, Some(false), b""),
-    (HEADED, 0, None, b""),
-    (HEADED, 1, None, b""),
-    (HEADED, 2, None, b""),
-    (HEADED, 3, None, b""),
-    (HEADED, 4, None, b""),
-    (HEADED, 5, None, b""),
-    (HEADED, 6, None, b""),
-    (HEADED, 7, None, b"ab\n"),
-    (HEADED, 8, None, b"ab\n"),
-    (HEADED, 9, None, b"ab\n"),
-    (HEADED, 10, None, b"ab\n"),
-    (HEADED, 11, None, b"ab\ncd\n"),
-    (HEADED, 12, None, b"ab\ncd\n"),
-    (HEADED, WHOLE, Some(true), b""),
-    (b"#V2\na\nb", 7, None, b"a\n"),
-    (HEADED_V3, 0, None, b""),
-    (HEADED_V3, 1, None, b""),
-    (HEADED_V3, 2, None, b""),
-    (HEADED_V3, 3, None, b""),
-    (HEADED_V3, 4, None, b""),
-    (HEADED_V3, 5, None, b""),
-    (HEADED_V3, 6, None, b""),
-    (HEADED_V3, 7, None, b""),
-    (HEADED_V3, 8, None, b"a\\r\n"),
-    (HEADED_V3, 9, None, b"a\\r\n"),
-    (HEADED_V3, 10, None, b"a\\r\n"),
-    (HEADED_V3, 11, None, b"a\\r\n"),
-    (HEADED_V3, 12, None, b"a\\r\ncd\n"),
-    (HEADED_V3, 13, None, b"a\\r\ncd\n"),
-    (HEADED_V3, WHOLE, Some(true), b""),
-    (PLAIN, 0, None, b""),
-    (PLAIN, 1, None, b""),
-    (PLAIN, 2, None, b""),
-    (PLAIN, 3, None, b"a\n"),
-    (PLAIN, 4, None, b"a\n"),
-    (PLAIN, WHOLE, Some(false), b""),
+const LOADS: &[Load] = &[
+    (b"", 0, 0, None, "", b""),
+    (b"", WHOLE, WHOLE, Some(false), "", b""),
+    // two lines behind a header, an empty one, and a last one without a line feed
+    (HEADED, 0, 6, None, "", b""),
+    (HEADED, 7, 10, None, "ab|", b"ab\n"),
+    (HEADED, 11, 12, None, "ab|cd|", b"ab\ncd\n"),
+    (HEADED, WHOLE, WHOLE, Some(true), "ab|cd|e|", b""),
+    (b"#V2\na\nb", 7, 7, None, "a|", b"a\n"),
+    // the same with a newline in the first line
+    (HEADED_LINES, 0, 8, None, "", b""),
+    (HEADED_LINES, 9, 12, None, "a\nb|", b"a\\nb\n"),
+    (HEADED_LINES, 13, 14, None, "a\nb|cd|", b"a\\nb\ncd\n"),
+    // with a carriage return at its end
+    (HEADED_V3, 0, 7, None, "", b""),
+    (HEADED_V3, 8, 11, None, "a\r|", b"a\\r\n"),
+    (HEADED_V3, 12, 13, None, "a\r|cd|", b"a\\r\ncd\n"),
+    (HEADED_V3, WHOLE, WHOLE, Some(true), "a\r|cd|e|", b""),
+    // and within it
+    (HEADED_RETURN, 0, 8, None, "", b""),
+    (HEADED_RETURN, 9, 12, None, "a\rb|", b"a\\rb\n"),
+    (HEADED_RETURN, 13, 14, None, "a\rb|cd|", b"a\\rb\ncd\n"),
+    // without a header
+    (PLAIN, 0, 2, None, "", b""),
+    (PLAIN, 3, 4, None, "a|", b"a\n"),
+    (PLAIN, WHOLE, WHOLE, Some(false), "a|b|", b""),
 ];
 
 #[test]
-fn that_are_read_byte_by_byte(rt: HostRuntime) -> result::Result<(), Fail> {
-    for case in READS {
-        for interrupts in [false, true] {
-            reads(&rt, rt.alloc(), case, interrupts)?;
+fn that_are_read(rt: HostRuntime) -> result::Result<(), Fail> {
+    for load in LOADS {
+        for place in load.1..=load.2 {
+            for manner in MANNERS {
+                reads(&rt, rt.alloc(), load, place, manner)?;
+            }
         }
     }
     Ok(())
 }
 
-/// How two new lines are written.
-struct Written {
-    escapes: Escapes,
-    /// Saved.
-    saved: &'static [u8],
-    /// Appended.
-    appended: &'static [u8],
-}
+/// The settled lines and the new ones, the escapes, whether the new ones are appended, what is written, and what is
+/// appended of the new ones.
+type Save<'a> = (&'a str, &'a str, Escapes, bool, &'a [u8], &'a [u8]);
 
-impl Written {
-    fn whole(&self, append: bool) -> &'static [u8] {
-        if append { self.appended } else { self.saved }
-    }
-}
-
-const WRITTEN: &[Written] = &[
-    Written {
-        escapes: V2,
-        saved: b"#V2\na\\nb\rc\nd\n",
-        appended: b"a\\nb\rc\nd\n",
-    },
-    Written {
-        escapes: V3,
-        saved: b"#V3\na\\nb\\rc\nd\n",
-        appended: b"a\\nb\\rc\nd\n",
-    },
-];
-
-fn two_lines(rt: &impl Abort, alloc: Global) -> result::Result<FileHistory, Fail> {
-    let mut history = FileHistory::new(alloc);
-    assert!(rt; history.add("a\nb\rc")? && history.add("d")?);
-    Ok(history)
-}
-
-/// A save to a writer that fails behind so many bytes writes those. Returns whether it wrote all.
-fn is_saved(
+/// Whether a save writes all. It answers the fault of its writer, which took all before the place where it fails.
+fn is_whole(
     rt: &impl Abort,
+    alloc: Global,
     history: &mut FileHistory,
-    written: &Written,
-    append: bool,
-    mut out: Narrow,
+    case: &Save<'_>,
+    place: usize,
+    manner: &Manner,
 ) -> result::Result<bool, Fail> {
-    let whole = written.whole(append);
-    let failing = out.failing;
-    let answer = answer_of(save(history, written.escapes, &mut out, append))?;
-    assert_eq!(rt; answer.is_some(), failing >= whole.len(), "{failing}");
-    assert_eq!(rt;
-        Some(out.taken.as_slice()),
-        whole.get(..failing),
-        "{failing}"
-    );
+    let (_, _, escapes, append, whole, _) = *case;
+    let (kind, text, _) = *manner;
+    let mut out = Stream::new(alloc, b"", place, manner);
+    let outcome = save(history, escapes, &mut out, append);
+    let answer = answer_of(rt, alloc, outcome, kind, text)?;
+    assert_eq!(rt; answer.is_some(), place > whole.len(), "{place} {kind:?}");
+    let wanted = whole.get(..place.min(whole.len()));
+    assert_eq!(rt; Some(out.taken.as_slice()), wanted, "{place} {kind:?}");
     Ok(answer.is_some())
 }
 
-/// A save of two new lines that fails leaves both of them new.
-fn fails(
+/// After a save that fails all lines are there, and the new ones are new.
+fn writes(
     rt: &impl Abort,
     alloc: Global,
-    written: &Written,
-    append: bool,
-    failing: usize,
-    interrupts: bool,
+    case: &Save<'_>,
+    place: usize,
+    manner: &Manner,
 ) -> result::Result<(), Fail> {
-    let mut history = two_lines(rt, alloc)?;
-    let out = Narrow::new(alloc, failing, true, interrupts);
-    let left = if is_saved(rt, &mut history, written, append, out)? {
-        b""
-    } else {
-        written.appended
-    };
-    appends(rt, alloc, &mut history, written.escapes, left)
-}
-
-/// The writer fails behind each number of bytes.
-fn fail_everywhere(
-    rt: &impl Abort,
-    alloc: Global,
-    written: &Written,
-    append: bool,
-) -> result::Result<(), Fail> {
-    for failing in 0..=written.whole(append).len() {
-        for interrupts in [false, true] {
-            fails(rt, alloc, written, append, failing, interrupts)?;
-        }
-    }
+    let (settled, new, escapes, _, _, appended) = *case;
+    let mut history = history_of(rt, alloc, settled, new)?;
+    let done = is_whole(rt, alloc, &mut history, case, place, manner)?;
+    gives(rt, &history, format!(in alloc; "{settled}{new}")?.as_str())?;
+    let left = if done { b"" } else { appended };
+    assert!(rt; is_saved(rt, alloc, &mut history, escapes, true, left)?);
     Ok(())
 }
 
-#[test]
-fn that_are_written_byte_by_byte(rt: HostRuntime) -> result::Result<(), Fail> {
-    for written in WRITTEN {
-        for append in [false, true] {
-            fail_everywhere(&rt, rt.alloc(), written, append)?;
-        }
-    }
-    Ok(())
-}
-
-/// Where the flush fails the lines stay new.
-fn stay_new(rt: &impl Abort, alloc: Global, written: &Written) -> result::Result<(), Fail> {
-    let mut history = two_lines(rt, alloc)?;
-    let mut out = Narrow::new(alloc, WHOLE, false, false);
-    let answer = answer_of(save(&mut history, written.escapes, &mut out, false))?;
-    assert_eq!(rt; answer, None);
-    appends(rt, alloc, &mut history, written.escapes, written.appended)
-}
-
-/// Where nothing more is taken the lines stay new.
-fn stay_new_in_front_of(
-    rt: &impl Abort,
-    alloc: Global,
-    written: &Written,
-) -> result::Result<(), Fail> {
-    let mut history = two_lines(rt, alloc)?;
-    let mut full: [u8; 2] = [0; 2];
-    let outcome = save(
-        &mut history,
-        written.escapes,
-        &mut full.as_mut_slice(),
+const SAVES: &[Save<'static>] = &[
+    (
+        "x|",
+        "a\nb\rc|",
+        V2,
+        false,
+        b"#V2\nx\na\\nb\rc\n",
+        b"a\\nb\rc\n",
+    ),
+    ("x|", "a\nb\rc|", V2, true, b"a\\nb\rc\n", b"a\\nb\rc\n"),
+    (
+        "x|",
+        "a\nb\rc|",
+        V3,
+        false,
+        b"#V3\nx\na\\nb\\rc\n",
+        b"a\\nb\\rc\n",
+    ),
+    ("x|", "a\nb\rc|", V3, true, b"a\\nb\\rc\n", b"a\\nb\\rc\n"),
+    (
+        "",
+        "a\nb\rc|d|",
+        V2,
+        false,
+        b"#V2\na\\nb\rc\nd\n",
+        b"a\\nb\rc\nd\n",
+    ),
+    (
+        "",
+        "a\nb\rc|d|",
+        V2,
         true,
-    );
-    assert!(rt;
-        matches!(outcome, Err(ReadlineError::Io(cause)) if cause.kind() == ErrorKind::WriteZero)
-    );
-    appends(rt, alloc, &mut history, written.escapes, written.appended)
-}
+        b"a\\nb\rc\nd\n",
+        b"a\\nb\rc\nd\n",
+    ),
+    (
+        "",
+        "a\nb\rc|d|",
+        V3,
+        false,
+        b"#V3\na\\nb\\rc\nd\n",
+        b"a\\nb\\rc\nd\n",
+    ),
+    (
+        "",
+        "a\nb\rc|d|",
+        V3,
+        true,
+        b"a\\nb\\rc\nd\n",
+        b"a\\nb\\rc\nd\n",
+    ),
+    // where no line is new, an appended save still flushes
+    ("x|", "", V2, true, b"", b""),
+    ("x|", "", V3, true, b"", b""),
+];
 
+/// The writer fails at each byte, at the flush behind the last one, and not at all.
 #[test]
-fn that_fail_at_the_end_or_take_nothing(rt: HostRuntime) -> result::Result<(), Fail> {
-    for written in WRITTEN {
-        stay_new(&rt, rt.alloc(), written)?;
-        stay_new_in_front_of(&rt, rt.alloc(), written)?;
+fn that_are_written(rt: HostRuntime) -> result::Result<(), Fail> {
+    for case in SAVES {
+        for place in 0..case.4.len().saturating_add(2) {
+            for manner in MANNERS {
+                writes(&rt, rt.alloc(), case, place, manner)?;
+            }
+        }
     }
     Ok(())
 }
 
-/// A line of so many bytes: a digit over and over, and behind each a line end.
-fn long_line(alloc: Global, digit: char, end: char, count: usize) -> Result<String> {
-    let mut line = String::new(alloc);
-    for _ in 0..count {
-        line.push(digit)?;
-        line.push(end)?;
-    }
-    Ok(line)
-}
+/// Two lines of 9,000 bytes.
+const MUCH: Lines = Pieces(&[("a", 9_000), ("|", 1), ("b", 9_000), ("|", 1)]);
 
-/// Ten lines of 1,000 bytes each, and one of 20,000, half of them escaped.
-fn long_lines(rt: &impl Abort, alloc: Global, end: char) -> result::Result<FileHistory, Fail> {
-    let mut history = FileHistory::new(alloc);
-    for digit in '0'..='9' {
-        assert!(rt; history.add_owned(long_line(alloc, digit, end, 500)?)?);
-    }
-    assert!(rt; history.add_owned(long_line(alloc, 'x', end, 10_000)?)?);
-    Ok(history)
-}
+const TEXT: Lines = Pieces(&[
+    ("#V2\na", 1),
+    ("a", 8_999),
+    ("\n", 1),
+    ("b", 9_000),
+    ("\n", 1),
+]);
 
-/// They are written.
-fn long_text(
+const TEXT_V3: Lines = Pieces(&[
+    ("#V3\na", 1),
+    ("a", 8_999),
+    ("\n", 1),
+    ("b", 9_000),
+    ("\n", 1),
+]);
+
+/// Two long lines are written one after the other.
+fn writes_much(
     rt: &impl Abort,
     alloc: Global,
     escapes: Escapes,
-    history: &mut FileHistory,
-) -> result::Result<Vec<u8>, Fail> {
-    let mut text = Vec::new(alloc);
-    save(history, escapes, &mut text, false)?;
-    assert_eq!(rt; text.len(), 4 + 10 * 1501 + 30_001);
-    Ok(text)
+    append: bool,
+    place: usize,
+) -> result::Result<(), Fail> {
+    let lines = lines_of(alloc, MUCH)?;
+    let text = match escapes {
+        V2 => lines_of(alloc, TEXT)?,
+        V3 => lines_of(alloc, TEXT_V3)?,
+    };
+    let Some(appended) = text.as_bytes().get(4..) else {
+        return Err(Fail::from("a header"));
+    };
+    let whole = if append { appended } else { text.as_bytes() };
+    let case = ("", lines.as_str(), escapes, append, whole, appended);
+    writes(rt, alloc, &case, place, &GONE)
 }
 
-/// A text is read as the lines of this history.
-fn loads(
-    rt: &impl Abort,
-    alloc: Global,
-    text: &[u8],
-    history: &FileHistory,
-) -> result::Result<(), Fail> {
-    let mut copy = FileHistory::new(alloc);
-    assert!(rt; copy.load_from(text)?);
-    assert_eq!(rt; copy.len(), history.len());
-    for (found, wanted) in copy.iter().zip(history.iter()) {
-        assert!(rt; found == wanted);
+#[test]
+fn that_are_written_at_length(rt: HostRuntime) -> result::Result<(), Fail> {
+    for place in [0, 1, 8_191, 8_192, 8_193, 9_001, 9_500, 18_001] {
+        for escapes in [V2, V3] {
+            for append in [false, true] {
+                writes_much(&rt, rt.alloc(), escapes, append, place)?;
+            }
+        }
     }
     Ok(())
-}
-
-fn hold_much(
-    rt: &impl Abort,
-    alloc: Global,
-    escapes: Escapes,
-    end: char,
-) -> result::Result<(), Fail> {
-    let mut history = long_lines(rt, alloc, end)?;
-    let text = long_text(rt, alloc, escapes, &mut history)?;
-    loads(rt, alloc, text.as_slice(), &history)
-}
-
-/// Texts longer than what is read or written at once.
-#[test]
-fn that_hold_several_buffers(rt: HostRuntime) -> result::Result<(), Fail> {
-    hold_much(&rt, rt.alloc(), V2, '\n')?;
-    hold_much(&rt, rt.alloc(), V3, '\r')
 }

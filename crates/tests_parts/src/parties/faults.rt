@@ -1,132 +1,195 @@
 //! Errors of a helper or a history, handed on by the parties that an editor asks.
 
-use super::{is_hinted, is_said};
-use Asked::{Hint, Verdict};
+use crate::ready::{is_hint, said};
 use line_buffer::LineBuffer;
 use line_config::Result;
 use line_parts::{Context, Helper, History, Parties};
 use std::alloc::Global;
-use std::process::Abort;
 use std::result;
 use std::test::Fail;
-use tests_parties::advisor::{Advisor, Verdict as Verdicts};
+use tests_parties::advisor::{Advisor, Verdict};
 use tests_parties::fault::{FAULTS, Fault, GONE};
 use tests_parties::shelf::{Failing, Shelf};
 
-/// What is asked of the parties.
+/// The right answer of the parties: a hint, if there is one, or the name and message of a verdict.
 #[derive(Clone, Copy, Debug)]
-enum Asked {
-    Hint,
-    Verdict,
+pub(crate) enum Answer {
+    Hint(Option<&'static str>),
+    Verdict(&'static str, &'static str),
 }
 
-/// Whether the answer is the wanted one: the text of the hint, or the message of an invalid line.
+/// Whether the parties answer so for a line with the cursor at its end.
 fn answers<H: Helper, S: History>(
     parties: &Parties<'_, H, S>,
     alloc: Global,
-    asked: Asked,
-    wanted: &str,
+    text: &str,
+    wanted: Answer,
 ) -> Result<bool> {
-    let line = LineBuffer::init(alloc, "ab", 2)?;
-    Ok(match asked {
-        Hint => is_hinted(&parties.hint(alloc, &line)?, wanted),
-        Verdict => is_said(&parties.validate(alloc, &line)?, "invalid", wanted),
+    if !text.is_char_boundary(text.len()) {
+        return Ok(false);
+    }
+    let line = LineBuffer::init(alloc, text, text.len())?;
+    Ok(match wanted {
+        Answer::Hint(hint) => is_hint(&parties.hint(alloc, &line)?, hint),
+        Answer::Verdict(name, message) => {
+            said(&parties.validate(alloc, &line)?) == (name, message)
+        }
     })
 }
 
-/// A history of which each call fails.
-fn broken_shelf(alloc: Global) -> Shelf {
+/// Whether there is no hint and the line is valid; the history, of which each call fails, is not asked.
+pub(super) fn asks_nothing(alloc: Global, helper: Option<&mut ()>, text: &str) -> Result<bool> {
     let mut history = Shelf::new(alloc, 0);
     history.fail_in(Failing::All, GONE);
-    history
+    let parties = Parties::new(helper, Context::new(&history));
+    Ok(
+        answers(&parties, alloc, text, Answer::Hint(None))?
+            && answers(&parties, alloc, text, Answer::Verdict("valid", ""))?,
+    )
 }
 
-/// The number of the helper's answer that fails, what is asked, the right answer, and whether the fault comes instead.
-type Case = (u64, Asked, &'static str, bool);
+/// The hint and the verdict of a helper, the number of its answer that fails, the right answer, and whether the fault
+/// comes instead.
+type Case = ((Option<&'static str>, Verdict), u64, Answer, bool);
 
-/// The helper asks no history, so it does not matter that this one fails.
-fn fails(rt: &impl Abort, alloc: Global, case: &Case, fault: Fault) -> result::Result<(), Fail> {
-    let (failing, asked, wanted, faulty) = *case;
-    let mut advisor = Advisor::new(Some("!"), (true, false, Some("no")), None);
+/// Whether the answer comes, or the fault where it is to, and then the answer. The helper asks no history, so it does not
+/// matter that this one fails.
+pub(crate) fn helped(alloc: Global, case: &Case, text: &str, fault: Fault) -> Result<bool> {
+    let ((hint, verdict), failing, wanted, faulty) = *case;
+    let mut advisor = Advisor::new(hint, verdict, None);
     advisor.fail_by(failing, fault);
-    let history = broken_shelf(alloc);
+    let mut history = Shelf::new(alloc, 0);
+    history.fail_in(Failing::All, GONE);
     let parties = Parties::new(Some(&mut advisor), Context::new(&history));
-    let outcome = answers(&parties, alloc, asked, wanted);
+    let outcome = answers(&parties, alloc, text, wanted);
     if faulty {
-        assert!(rt; fault.is_answer(alloc, &outcome)?, "{case:?} {fault:?}");
-        assert!(rt;
-            answers(&parties, alloc, asked, wanted)?,
-            "{case:?} {fault:?}"
-        );
+        Ok(fault.is_answer(alloc, &outcome)? && answers(&parties, alloc, text, wanted)?)
     } else {
-        assert!(rt; outcome?, "{case:?} {fault:?}");
+        outcome
     }
-    Ok(())
 }
 
-/// An answer is asked for once, so a second one that fails does not matter.
+/// A hint, and a line that is invalid.
+const NO: (Option<&str>, Verdict) = (Some("!"), (true, false, Some("no")));
+
 const CASES: &[Case] = &[
-    (0, Hint, "!", false),
-    (1, Hint, "!", true),
-    (2, Hint, "!", false),
-    (0, Verdict, "no", false),
-    (1, Verdict, "no", true),
-    (2, Verdict, "no", false),
+    // An answer is asked for once, so a second one that fails does not matter.
+    (NO, 0, Answer::Hint(Some("!")), false),
+    (NO, 1, Answer::Hint(Some("!")), true),
+    (NO, 2, Answer::Hint(Some("!")), false),
+    (NO, 0, Answer::Verdict("invalid", "no"), false),
+    (NO, 1, Answer::Verdict("invalid", "no"), true),
+    (NO, 2, Answer::Verdict("invalid", "no"), false),
+    // Each verdict is an answer, and so are a hint that displays nothing and none.
+    ((None, (false, false, None)), 0, Answer::Hint(None), false),
+    (
+        (None, (false, false, None)),
+        0,
+        Answer::Verdict("incomplete", ""),
+        false,
+    ),
+    (
+        (Some(""), (false, false, None)),
+        0,
+        Answer::Hint(None),
+        false,
+    ),
+    (
+        (Some(""), (false, false, None)),
+        0,
+        Answer::Verdict("incomplete", ""),
+        false,
+    ),
+    ((None, (true, false, None)), 0, Answer::Hint(None), false),
+    (
+        (None, (true, false, None)),
+        0,
+        Answer::Verdict("invalid", ""),
+        false,
+    ),
+    (
+        (Some(""), (true, false, None)),
+        0,
+        Answer::Hint(None),
+        false,
+    ),
+    (
+        (Some(""), (true, false, None)),
+        0,
+        Answer::Verdict("invalid", ""),
+        false,
+    ),
+    (
+        (None, (true, false, Some("no"))),
+        0,
+        Answer::Hint(None),
+        false,
+    ),
+    (
+        (None, (true, false, Some("no"))),
+        0,
+        Answer::Verdict("invalid", "no"),
+        false,
+    ),
+    (
+        (Some(""), (true, false, Some("no"))),
+        0,
+        Answer::Hint(None),
+        false,
+    ),
+    (
+        (Some(""), (true, false, Some("no"))),
+        0,
+        Answer::Verdict("invalid", "no"),
+        false,
+    ),
+    ((None, (true, true, None)), 0, Answer::Hint(None), false),
+    (
+        (None, (true, true, None)),
+        0,
+        Answer::Verdict("valid", ""),
+        false,
+    ),
+    ((Some(""), (true, true, None)), 0, Answer::Hint(None), false),
+    (
+        (Some(""), (true, true, None)),
+        0,
+        Answer::Verdict("valid", ""),
+        false,
+    ),
+    (
+        (None, (true, true, Some("yes"))),
+        0,
+        Answer::Hint(None),
+        false,
+    ),
+    (
+        (None, (true, true, Some("yes"))),
+        0,
+        Answer::Verdict("valid", "yes"),
+        false,
+    ),
+    (
+        (Some(""), (true, true, Some("yes"))),
+        0,
+        Answer::Hint(None),
+        false,
+    ),
+    (
+        (Some(""), (true, true, Some("yes"))),
+        0,
+        Answer::Verdict("valid", "yes"),
+        false,
+    ),
 ];
 
 #[test]
 fn of_a_helper(rt: HostRuntime) -> result::Result<(), Fail> {
     for case in CASES {
         for fault in FAULTS {
-            fails(&rt, rt.alloc(), case, *fault)?;
-        }
-    }
-    Ok(())
-}
-
-/// The history is not asked.
-fn asks_nothing(
-    rt: &impl Abort,
-    alloc: Global,
-    helper: Option<&mut ()>,
-) -> result::Result<(), Fail> {
-    let history = broken_shelf(alloc);
-    let line = LineBuffer::init(alloc, "ab", 2)?;
-    let parties = Parties::new(helper, Context::new(&history));
-    assert!(rt; parties.hint(alloc, &line)?.is_none());
-    assert!(rt; is_said(&parties.validate(alloc, &line)?, "valid", ""));
-    Ok(())
-}
-
-#[test]
-fn of_a_history_that_is_not_asked(rt: HostRuntime) -> result::Result<(), Fail> {
-    asks_nothing(&rt, rt.alloc(), None)?;
-    asks_nothing(&rt, rt.alloc(), Some(&mut ()))
-}
-
-/// The verdict that the helper gives, and its name and message.
-const VERDICTS: &[(Verdicts, &str, &str)] = &[
-    ((false, false, None), "incomplete", ""),
-    ((true, false, None), "invalid", ""),
-    ((true, false, Some("no")), "invalid", "no"),
-    ((true, true, None), "valid", ""),
-    ((true, true, Some("yes")), "valid", "yes"),
-];
-
-/// Each verdict is an answer, and so are a hint that displays nothing and none.
-#[test]
-fn of_no_party(rt: HostRuntime) -> result::Result<(), Fail> {
-    let alloc = rt.alloc();
-    let history = Shelf::new(alloc, 0);
-    let line = LineBuffer::init(alloc, "ab", 2)?;
-    for (verdict, name, message) in VERDICTS {
-        for hint in [None, Some("")] {
-            let mut advisor = Advisor::new(hint, *verdict, None);
-            let parties = Parties::new(Some(&mut advisor), Context::new(&history));
-            assert!(rt; parties.hint(alloc, &line)?.is_none());
             assert!(rt;
-                is_said(&parties.validate(alloc, &line)?, *name, *message),
-                "{name}"
+                helped(rt.alloc(), case, "ab", *fault)?,
+                "{case:?} {fault:?}"
             );
         }
     }
