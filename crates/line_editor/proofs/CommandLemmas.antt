@@ -666,6 +666,13 @@ module _ {X : Type 0} (e : Ghosts X) (old new : X) (input : Input) (indent : ℕ
       → Executes e (Ok Proceed) old input indent kills command new kills'
   proceeds_ok x left drawing steps draws done = does_ok x (asked_by drawing) left drawing steps draws done.does done.kills_left
 
+  -- one with the kill ring that went wrong
+  proceeds_wrong : {T : Type 0} (f : ReadlineError) (left : Editor) (drawing : Drawing) (most : ℕ)
+      → asked_of (e.display old) (e.environment old) (editor_of e old kills) command ≡ asked_by drawing
+      → DoesWithKills e {T = T} (Err f) old kills new kills' left drawing most
+      → Executes e (Err f) old input indent kills command new kills'
+  proceeds_wrong {T = T} f left drawing most asks done = executed_wrong {T = T} f (rw asks done.does.fails) done.does.frame
+
   -- an edit that proceeds
   pub edits_ok : {T : Type 0} (x : T) (asks : Asks) → only_edits command ≡ true → kills' ≡ kills
       → DoesAsking e asks (Ok x) old new (edited_by (ruler_of (e.display old) indent) (e.environment old) input (e.draft old) command)
@@ -687,3 +694,12 @@ module _ {X : Type 0} (e : Ghosts X) (old new : X) (input : Input) (indent : ℕ
       (fails_more e (Err f) (edited_asked (e.display old) (e.environment old) (e.draft old) command) (asked_of (e.display old) (e.environment old) (editor_of e old kills) command) old new
       (λ sure. ap (λ a. is_sure (e.sure old) a) (sym (edit_asks (e.display old) (e.environment old) (editor_of e old kills) command only)) ∙ sure) does.fails)
       does.frame
+
+-- such a command by its name in the code
+pub goes_wrong_by : {X T : Type 0} (e : Ghosts X) (old new : X) (input : Input) (indent : ℕ) (kills kills' : Ring) (cmd named : Cmd) (result : Result Status ReadlineError) (g f : ReadlineError)
+    (left : Editor) (drawing : Drawing) (most : ℕ) → cmd ≡ named → result ≡ Err g → g ≡ f
+    → DoesWithKills e {T = T} (Err f) old kills new kills' left drawing most
+    → asked_of (e.display old) (e.environment old) (editor_of e old kills) (command_of named) ≡ asked_by drawing
+    → Executes e result old input indent kills (command_of cmd) new kills'
+goes_wrong_by e old new input indent kills kills' cmd named result g f left drawing most is came gives done asks =
+    rw (is, came, gives) (proceeds_wrong e old new input indent kills kills' (command_of named) f left drawing most asks done)
