@@ -1,8 +1,13 @@
-//! Whole scripts, and what is printed of them.
+//! Scripts that keys alone can't say: bad ones, statuses, streams that fail, and want of memory.
 
-mod vi;
+mod names;
+mod script;
 
 use super::*;
+use line_buffer::Position;
+use line_script::report::{Ending, Outcome, Report};
+use std::alloc::Global;
+use std::io::{Read, Write};
 use std::process::Abort;
 use std::result::Result;
 use std::test::Fail;
@@ -10,15 +15,18 @@ use std::test::Fail;
 /// A script, what is printed, and the status.
 type Case = (&'static str, &'static str, u8);
 
+/// Plays a script, at once and byte by byte: each prints the same and ends with the same status.
 fn prints(rt: &impl Abort, alloc: Global, case: Case) -> Result<(), Fail> {
     let (script, printed, status) = case;
     let mut out = Vec::new(alloc);
     let ended = play(alloc, script.as_bytes(), &mut out);
     let shown = str::from_utf8(&out)?;
     assert_eq!(rt; (shown, ended), (printed, status), "{script}");
+    prints_by_bytes(rt, alloc, case);
     Ok(())
 }
 
+/// Each outcome, bad lines, and what stands behind a submit, which has to be good too.
 const SCRIPTS: &[Case] = &[
     (
         "type ab\nkey Left\ntype c\nkey Enter\n",
@@ -31,114 +39,22 @@ const SCRIPTS: &[Case] = &[
         1,
     ),
     (
-        "type ab\nkey C-a\nkey C-d\nkey Enter\n",
-        "outcome submitted\nline b\ncursor 0\nplace 0\nat 0 2\nredraws 2\n",
-        0,
-    ),
-    (
         "type ab\nkey C-a\nkey C-c\n",
         "outcome interrupted\nline ab\ncursor 0\nplace 0\nat 0 4\nredraws 1\n",
         2,
     ),
+    (
+        "key PasteStart\nkey C-d\n",
+        "outcome fault\nline \ncursor 0\nplace 0\nat 0 2\nredraws 1\n",
+        3,
+    ),
     ("type a\nkey Left\nkey Foo\n", "bad script line 3\n", 4),
-    (
-        "key C-d\n",
-        "outcome eof\nline \ncursor 0\nplace 0\nat 0 2\nredraws 1\n",
-        1,
-    ),
-    (
-        "key PasteStart\n",
-        "outcome eof\nline \ncursor 0\nplace 0\nat 0 2\nredraws 1\n",
-        1,
-    ),
-    (
-        "history a\n",
-        "outcome eof\nline \ncursor 0\nplace 1\nat 0 2\nredraws 1\n",
-        1,
-    ),
-    (
-        "history a\nhistory b\nhistory b\nhistory \ntype x\nkey Enter\n",
-        "outcome submitted\nline x\ncursor 1\nplace 2\nat 0 3\nredraws 1\n",
-        0,
-    ),
     ("type a\nhistory a\n", "bad script line 2\n", 4),
-    // a text that is loaded, with its own escapes behind those of the script
-    (
-        "load #V3\\nab\\\\\\\\cd\nkey Up\nkey Enter\n",
-        "outcome submitted\nline ab\\\\cd\ncursor 5\nplace 0\nat 0 7\nredraws 2\n",
-        0,
-    ),
     ("load x\\q\n", "bad script line 1\n", 4),
-    // what stands behind a submit is not read by the editor, but has to be good
-    (
-        "type a\nkey Enter\ntype b\nkey PasteStart\nkey C-c",
-        "outcome submitted\nline a\ncursor 1\nplace 0\nat 0 3\nredraws 1\n",
-        0,
-    ),
     ("type a\n\nkey Enter\nkey\n", "bad script line 4\n", 4),
-    // an open bracket asks for another line, and one at fault stays with its message
     (
-        "brackets\ntype (\nkey Enter\ntype )\nkey Enter\n",
-        "outcome submitted\nline (\\n)\ncursor 3\nplace 0\nat 1 1\nredraws 2\n",
-        0,
-    ),
-    (
-        "brackets\ntype ]\nkey Enter\n",
-        "outcome eof\nline ]\ncursor 1\nplace 0\nat 0 3\nredraws 2\n",
-        1,
-    ),
-    (
-        "type ]\nkey Enter\n",
-        "outcome submitted\nline ]\ncursor 1\nplace 0\nat 0 3\nredraws 1\n",
-        0,
-    ),
-    // the next character takes the message away by a full redraw
-    (
-        "brackets\ntype ]\nkey Enter\ntype xy\n",
-        "outcome eof\nline ]xy\ncursor 3\nplace 0\nat 0 5\nredraws 3\n",
-        1,
-    ),
-    // a setting given twice: what is on stays on, and the later prompt and columns count
-    (
-        "brackets\nbrackets\ntype ]\nkey Enter\n",
-        "outcome eof\nline ]\ncursor 1\nplace 0\nat 0 3\nredraws 2\n",
-        1,
-    ),
-    (
-        "hints\nhistory ab\nhints\ntype a\nkey Right\n",
-        "outcome eof\nline ab\ncursor 2\nplace 1\nat 0 4\nredraws 3\n",
-        1,
-    ),
-    (
-        "prompt abcdef\ncolumns 10\ncolumns 12\nprompt abc\ntype 123456789\n",
-        "outcome eof\nline 123456789\ncursor 9\nplace 0\nat 1 0\nredraws 2\n",
-        1,
-    ),
-    (
-        "prompt abc\ncolumns 12\ncolumns 10\nprompt \ntype 123456789\n",
-        "outcome eof\nline 123456789\ncursor 9\nplace 0\nat 0 9\nredraws 1\n",
-        1,
-    ),
-    // a hint is shown behind the line, and is no part of it; moves keep it, and Right at the end takes it
-    (
-        "hints\nhistory git status\ntype gi\nkey C-a\nkey C-e\n",
-        "outcome eof\nline gi\ncursor 2\nplace 1\nat 0 4\nredraws 3\n",
-        1,
-    ),
-    (
-        "hints\nhistory git status\ntype gi\nkey C-a\nkey C-e\nkey Right\n",
-        "outcome eof\nline git status\ncursor 10\nplace 1\nat 0 12\nredraws 4\n",
-        1,
-    ),
-    // 77 and 78 characters behind a prompt of two columns, on 80 columns
-    (
-        "type 12345678901234567890123456789012345678901234567890123456789012345678901234567\n",
-        "outcome eof\nline 12345678901234567890123456789012345678901234567890123456789012345678901234567\ncursor 77\nplace 0\nat 0 79\nredraws 1\n",
-        1,
-    ),
-    (
-        "type 123456789012345678901234567890123456789012345678901234567890123456789012345678\n",
-        "outcome eof\nline 123456789012345678901234567890123456789012345678901234567890123456789012345678\ncursor 78\nplace 0\nat 1 0\nredraws 2\n",
+        "paste a\\nb\n",
+        "outcome eof\nline a\\nb\ncursor 3\nplace 0\nat 1 1\nredraws 2\n",
         1,
     ),
 ];
@@ -146,50 +62,6 @@ const SCRIPTS: &[Case] = &[
 #[test]
 fn prints_what_became_of_the_line(rt: HostRuntime) -> Result<(), Fail> {
     for case in SCRIPTS {
-        prints(&rt, rt.alloc(), *case)?;
-    }
-    Ok(())
-}
-
-/// A key where a pasted text is read, and the other way round: a fault of the reader. The state is printed as it
-/// stands.
-const FAULTS: &[Case] = &[
-    (
-        "key PasteStart\nkey C-d\n",
-        "outcome fault\nline \ncursor 0\nplace 0\nat 0 2\nredraws 1\n",
-        3,
-    ),
-    (
-        "type ab\nkey PasteStart\nkey Enter\n",
-        "outcome fault\nline ab\ncursor 2\nplace 0\nat 0 4\nredraws 1\n",
-        3,
-    ),
-    (
-        "history x\nhistory a\\\\b\\nc\nkey Up\nkey Left\nkey PasteStart\ntype q\nkey C-c\n",
-        "outcome fault\nline a\\\\b\\nc\ncursor 4\nplace 1\nat 1 0\nredraws 2\n",
-        3,
-    ),
-    (
-        "key PasteStart\ntype a\n",
-        "outcome fault\nline \ncursor 0\nplace 0\nat 0 2\nredraws 1\n",
-        3,
-    ),
-    // the mark is the second key of C-X or C-], and the text is read where a key is
-    (
-        "key C-x\npaste x\n",
-        "outcome fault\nline \ncursor 0\nplace 0\nat 0 2\nredraws 1\n",
-        3,
-    ),
-    (
-        "type a\nkey C-]\npaste x\nkey Enter\n",
-        "outcome fault\nline a\ncursor 1\nplace 0\nat 0 3\nredraws 1\n",
-        3,
-    ),
-];
-
-#[test]
-fn prints_the_state_after_a_fault(rt: HostRuntime) -> Result<(), Fail> {
-    for case in FAULTS {
         prints(&rt, rt.alloc(), *case)?;
     }
     Ok(())
@@ -376,13 +248,6 @@ fn prints_by_bytes(rt: &impl Abort, alloc: Global, case: Case) {
     );
 }
 
-#[test]
-fn prints_the_same_byte_by_byte(rt: HostRuntime) {
-    for case in SCRIPTS {
-        prints_by_bytes(&rt, rt.alloc(), *case);
-    }
-}
-
 /// How each of the six lines begins.
 const HEADS: &[&str] = &["outcome ", "line ", "cursor ", "place ", "at ", "redraws "];
 
@@ -443,180 +308,6 @@ fn prints_a_beginning_without_memory(rt: HostRuntime) {
     }
 }
 
-/// Rows of counts, columns, pasted texts and the table of Emacs.
-const ROWS: &[Case] = &[
-    (
-        "type xxxxxxxxxxxxxxxxxxxxxxxxxxxxxx\nkey C-a\nkey M--\ntype 23\nkey Left\nkey Enter\n",
-        "outcome submitted\nline xxxxxxxxxxxxxxxxxxxxxxxxxxxxxx\ncursor 23\nplace 0\nat 0 25\nredraws 5\n",
-        0,
-    ),
-    (
-        "columns 10\ntype abcdefg\n",
-        "outcome eof\nline abcdefg\ncursor 7\nplace 0\nat 0 9\nredraws 1\n",
-        1,
-    ),
-    (
-        "columns 10\ntype abcdefgh\n",
-        "outcome eof\nline abcdefgh\ncursor 8\nplace 0\nat 1 0\nredraws 2\n",
-        1,
-    ),
-    (
-        "columns 10\ntype abcdefgh\nkey Backspace\n",
-        "outcome eof\nline abcdefg\ncursor 7\nplace 0\nat 0 9\nredraws 3\n",
-        1,
-    ),
-    (
-        "columns 10\ntype abcdefghi\nkey C-u\n",
-        "outcome eof\nline \ncursor 0\nplace 0\nat 0 2\nredraws 3\n",
-        1,
-    ),
-    (
-        "columns 10\ntype abcd\nkey M-Backspace\n",
-        "outcome eof\nline \ncursor 0\nplace 0\nat 0 2\nredraws 1\n",
-        1,
-    ),
-    (
-        "columns 10\ntype abcde\nkey C-a\nkey C-k\n",
-        "outcome eof\nline \ncursor 0\nplace 0\nat 0 2\nredraws 1\n",
-        1,
-    ),
-    (
-        "columns 10\ntype abcdefghij\nkey C-a\nkey C-k\n",
-        "outcome eof\nline \ncursor 0\nplace 0\nat 0 2\nredraws 3\n",
-        1,
-    ),
-    (
-        "type ab\\n\nkey Backspace\n",
-        "outcome eof\nline ab\ncursor 2\nplace 0\nat 0 4\nredraws 3\n",
-        1,
-    ),
-    (
-        "type a\\nb\nkey Backspace\n",
-        "outcome eof\nline a\\n\ncursor 2\nplace 0\nat 1 0\nredraws 2\n",
-        1,
-    ),
-    (
-        "columns 10\ntype abcdefgh\\nx\n",
-        "outcome eof\nline abcdefgh\\nx\ncursor 10\nplace 0\nat 1 1\nredraws 3\n",
-        1,
-    ),
-    (
-        "type é\n",
-        "outcome eof\nline é\ncursor 3\nplace 0\nat 0 3\nredraws 2\n",
-        1,
-    ),
-    (
-        "type 日\ntype a\n",
-        "outcome eof\nline 日a\ncursor 4\nplace 0\nat 0 5\nredraws 3\n",
-        1,
-    ),
-    (
-        "key M-5\n",
-        "outcome eof\nline \ncursor 0\nplace 0\nat 0 9\nredraws 2\n",
-        1,
-    ),
-    (
-        "key M-5\npaste ab\n",
-        "outcome eof\nline ab\ncursor 2\nplace 0\nat 0 4\nredraws 4\n",
-        1,
-    ),
-    (
-        "key M-3\ntype x\n",
-        "outcome eof\nline xxx\ncursor 3\nplace 0\nat 0 5\nredraws 4\n",
-        1,
-    ),
-    (
-        "type abc\nkey M-9\ntype 999999\nkey Left\n",
-        "outcome eof\nline abc\ncursor 0\nplace 0\nat 0 2\nredraws 9\n",
-        1,
-    ),
-    (
-        "type abc\nkey M-9\nkey C-_\nkey M-9\nkey C-_\n",
-        "outcome eof\nline \ncursor 0\nplace 0\nat 0 2\nredraws 6\n",
-        1,
-    ),
-    (
-        "paste a\\nb\n",
-        "outcome eof\nline a\\nb\ncursor 3\nplace 0\nat 1 1\nredraws 2\n",
-        1,
-    ),
-    // one character that is pasted is drawn in full, as a longer text is
-    (
-        "paste a\n",
-        "outcome eof\nline a\ncursor 1\nplace 0\nat 0 3\nredraws 2\n",
-        1,
-    ),
-    (
-        "type one two\nkey C-w\nkey C-a\nkey C-k\nkey C-y\nkey M-y\n",
-        "outcome eof\nline two\ncursor 3\nplace 0\nat 0 5\nredraws 3\n",
-        1,
-    ),
-    (
-        "type ab\nkey C-t\n",
-        "outcome eof\nline ba\ncursor 2\nplace 0\nat 0 4\nredraws 2\n",
-        1,
-    ),
-    (
-        "type ab cd\nkey C-a\nkey M-u\n",
-        "outcome eof\nline AB cd\ncursor 2\nplace 0\nat 0 4\nredraws 2\n",
-        1,
-    ),
-    (
-        "type abc\\nd\nkey Up\n",
-        "outcome eof\nline abc\\nd\ncursor 0\nplace 0\nat 0 2\nredraws 2\n",
-        1,
-    ),
-    (
-        "type abcabc\nkey C-a\nkey C-]\ntype c\n",
-        "outcome eof\nline abcabc\ncursor 1\nplace 0\nat 0 3\nredraws 1\n",
-        1,
-    ),
-    (
-        "type abc\nkey M-0\nkey Left\n",
-        "outcome eof\nline abc\ncursor 2\nplace 0\nat 0 4\nredraws 3\n",
-        1,
-    ),
-    (
-        "type abc\nkey M--\ntype 0\nkey Left\n",
-        "outcome eof\nline abc\ncursor 2\nplace 0\nat 0 4\nredraws 4\n",
-        1,
-    ),
-    (
-        "prompt 0123456789\ncolumns 10\ntype a\n",
-        "outcome eof\nline a\ncursor 1\nplace 0\nat 1 1\nredraws 1\n",
-        1,
-    ),
-    (
-        "hints\nhistory git status\ntype git\nkey Right\nkey Enter\n",
-        "outcome submitted\nline git status\ncursor 10\nplace 1\nat 0 12\nredraws 5\n",
-        0,
-    ),
-    // a kill takes the hint away by a full redraw
-    (
-        "hints\nhistory ab\ntype a\nkey C-a\nkey C-k\n",
-        "outcome eof\nline \ncursor 0\nplace 1\nat 0 2\nredraws 3\n",
-        1,
-    ),
-    (
-        "history rustc\nhistory cargo\ntype a\nkey M-<\nkey M->\nkey Enter\n",
-        "outcome submitted\nline a\ncursor 1\nplace 2\nat 0 3\nredraws 3\n",
-        0,
-    ),
-    (
-        "history line1\nhistory line2\nkey Up\nkey Up\nkey Down\nkey Enter\n",
-        "outcome submitted\nline line2\ncursor 5\nplace 1\nat 0 7\nredraws 4\n",
-        0,
-    ),
-];
-
-#[test]
-fn edits_by_the_table_of_emacs(rt: HostRuntime) -> Result<(), Fail> {
-    for case in ROWS {
-        prints(&rt, rt.alloc(), *case)?;
-    }
-    Ok(())
-}
-
 /// A script and what is printed where nothing fails, with the status.
 const WHOLE: &[Case] = &[
     (
@@ -659,27 +350,85 @@ fn faults(
     );
 }
 
+/// Which writes fail, from one on or that one alone, and whether a flush does.
+const STREAMS: &[(bool, bool)] = &[(false, true), (true, true), (false, false)];
+
 #[test]
-fn ends_with_the_fault_of_a_write(rt: HostRuntime) {
-    for case in WHOLE {
-        for failing in 0..=case.1.len() {
-            faults(&rt, rt.alloc(), *case, failing, false, true);
+fn ends_with_the_fault_of_its_output(rt: HostRuntime) {
+    for (goes_on, flushes) in STREAMS {
+        for (script, whole, status) in WHOLE {
+            for failing in 0..=whole.len() {
+                faults(
+                    &rt,
+                    rt.alloc(),
+                    (script, whole, *status),
+                    failing,
+                    *goes_on,
+                    *flushes,
+                );
+            }
         }
     }
 }
 
-#[test]
-fn ends_with_the_fault_of_one_write(rt: HostRuntime) {
-    for case in WHOLE {
-        for failing in 0..=case.1.len() {
-            faults(&rt, rt.alloc(), *case, failing, true, true);
-        }
-    }
+fn names_outcome(rt: &impl Abort, alloc: Global, case: (Outcome, &str)) -> Result<(), Fail> {
+    let (outcome, name) = case;
+    let shown = format!(in alloc; "{outcome}")?;
+    assert_eq!(rt; shown.as_str(), name);
+    Ok(())
 }
 
+const OUTCOMES: &[(Outcome, &str)] = &[
+    (Outcome::Submitted, "submitted"),
+    (Outcome::Eof, "eof"),
+    (Outcome::Interrupted, "interrupted"),
+    (Outcome::Fault, "fault"),
+];
+
 #[test]
-fn ends_with_the_fault_of_a_flush(rt: HostRuntime) {
-    for case in WHOLE {
-        faults(&rt, rt.alloc(), *case, case.1.len(), false, false);
+fn names_each_outcome(rt: HostRuntime) -> Result<(), Fail> {
+    for case in OUTCOMES {
+        names_outcome(&rt, rt.alloc(), *case)?;
     }
+    Ok(())
+}
+
+fn writes(rt: &impl Abort, alloc: Global, case: (&str, &str)) -> Result<(), Fail> {
+    let (line, printed) = case;
+    let report = Report {
+        outcome: Outcome::Eof,
+        line,
+        cursor: 3,
+        place: 7,
+        at: Position { row: 2, col: 5 },
+        redraws: 9,
+    };
+    let mut out = Vec::new(alloc);
+    report.write_to(&mut out)?;
+    assert_eq!(rt; out.as_slice(), printed.as_bytes(), "{line:?}");
+    Ok(())
+}
+
+const LINES: &[(&str, &str)] = &[
+    (
+        "",
+        "outcome eof\nline \ncursor 3\nplace 7\nat 2 5\nredraws 9\n",
+    ),
+    (
+        "a\\\n世",
+        "outcome eof\nline a\\\\\\n世\ncursor 3\nplace 7\nat 2 5\nredraws 9\n",
+    ),
+    // other control characters stand as they are
+    (
+        "\r\t\u{1}\\n\0",
+        "outcome eof\nline \r\t\u{1}\\\\n\0\ncursor 3\nplace 7\nat 2 5\nredraws 9\n",
+    ),
+];
+
+#[test]
+fn escapes_the_line(rt: HostRuntime) -> Result<(), Fail> {
+    for case in LINES {
+        writes(&rt, rt.alloc(), *case)?;
+    }
+    Ok(())
 }

@@ -14,16 +14,16 @@ use std::alloc::Global;
 
 /// Hints from the history and checks the brackets of a line, each where it is switched on.
 #[derive(Clone, Copy)]
-pub(crate) struct ScriptHelper {
+pub struct ScriptHelper {
     /// Whether there are hints.
-    pub(crate) hints: bool,
+    pub hints: bool,
     /// Whether brackets are checked.
-    pub(crate) brackets: bool,
+    pub brackets: bool,
 }
 
 impl ScriptHelper {
     /// A helper with both switches off.
-    pub(crate) fn new() -> ScriptHelper
+    pub fn new() -> ScriptHelper
         ensures { result ≡ record { hints = false; brackets = false } }
     {
         ScriptHelper {

@@ -2,10 +2,10 @@
 use Rattle.std.specs.Prelude.{ℕ, Result, Ok, Err}
 use Rattle.line_config.specs.declared.error.ReadlineError.{ReadlineError}
 use Rattle.line_config.specs.declared.error.ReadlineError.TheVariants as errors
-use Rattle.replay.specs.declared.report.Ending.{Ending}
-use Rattle.replay.specs.declared.report.Ending.TheVariants.{Ran, BadScript}
-use Rattle.replay.specs.declared.report.Outcome.{Outcome}
-use Rattle.replay.specs.declared.report.Outcome.TheVariants.{Submitted, Eof, Interrupted, Fault}
+use Rattle.line_script.specs.declared.report.Ending.{Ending}
+use Rattle.line_script.specs.declared.report.Ending.TheVariants.{Ran, BadScript}
+use Rattle.line_script.specs.declared.report.Outcome.{Outcome}
+use Rattle.line_script.specs.declared.report.Outcome.TheVariants.{Submitted, Eof, Interrupted, Fault}
 
 -- the end of a run that gave this answer
 abbrev pub outcome_of : Result (Unit {0}) ReadlineError → Outcome

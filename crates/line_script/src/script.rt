@@ -1,14 +1,12 @@
 //! The script: lines of text that stand for settings and for what a person types.
 ghost use Rattle.std.specs.Prelude.{◌≡◌, ◌<◌, IfSome};
 
-mod names;
-
 use crate::helper::ScriptHelper;
+use crate::names::key_named;
 use line_buffer::Unit;
 use line_config::{EditMode, ReadlineError};
 use line_parts::{Escapes, FileHistory, History, unescape_line};
 use line_screen::KeyQueue;
-use names::key_named;
 use std::alloc::Global;
 use std::io;
 use std::io::Read;
@@ -20,23 +18,23 @@ const PROMPT: &str = "> ";
 const COLUMNS: Unit = 80;
 
 /// The reader of what a script types.
-pub(crate) type Script = KeyQueue;
+pub type Script = KeyQueue;
 
 /// What the lines of a script give.
 #[derive(Drop)]
-pub(crate) struct Parsed {
+pub struct Parsed {
     /// The history that the settings fill.
-    pub(crate) history: FileHistory,
+    pub history: FileHistory,
     /// The helper that the settings switch on.
-    pub(crate) helper: ScriptHelper,
+    pub helper: ScriptHelper,
     /// The prompt.
-    pub(crate) prompt: String,
+    pub prompt: String,
     /// The columns of the screen, at least one.
-    pub(crate) columns: Unit,
+    pub columns: Unit,
     /// The style of editing.
-    pub(crate) edit_mode: EditMode,
+    pub edit_mode: EditMode,
     /// What the editor reads.
-    pub(crate) items: Script,
+    pub items: Script,
     /// Whether a line of items came, behind which no setting may stand.
     has_item_lines: bool,
     ghost some_columns: { 0 < columns },
@@ -44,7 +42,11 @@ pub(crate) struct Parsed {
 
 impl Parsed {
     /// What no line gives: the defaults of the settings, and no items.
-    fn new(alloc: Global) -> Result<Parsed, ReadlineError> {
+    ///
+    /// # Errors
+    ///
+    /// `Memory` where an allocation failed.
+    pub fn new(alloc: Global) -> Result<Parsed, ReadlineError> {
         Ok(Parsed {
             history: FileHistory::new(alloc),
             helper: ScriptHelper::new(),
@@ -55,11 +57,47 @@ impl Parsed {
             has_item_lines: false,
         })
     }
+
+    /// Adds what one line gives. Returns false, and adds nothing, where the line is of no known form, or is a setting
+    /// behind items.
+    ///
+    /// # Errors
+    ///
+    /// `Memory` where an allocation failed.
+    pub fn push_line(&mut self, alloc: Global, line: &str) -> Result<bool, ReadlineError> {
+        if let Some((kind, text)) = line.split_once(' ')
+            && matches!(kind, "type" | "key" | "paste")
+        {
+            self.has_item_lines = true;
+            return match kind {
+                "type" => push_typed(alloc, text, &mut self.items),
+                "key" => push_key(text, &mut self.items),
+                _ => push_pasted(alloc, text, &mut self.items),
+            };
+        }
+        if self.has_item_lines {
+            return Ok(false);
+        }
+        self.push_setting(alloc, line)
+    }
+
+    /// Adds what a setting gives. False where there is no such setting.
+    fn push_setting(&mut self, alloc: Global, line: &str) -> Result<bool, ReadlineError> {
+        match line.split_once(' ') {
+            None => Ok(switch_on(line, &mut self.helper)),
+            Some(("history", text)) => push_history(alloc, text, &mut self.history),
+            Some(("load", text)) => load_history(alloc, text, &mut self.history),
+            Some(("prompt", text)) => set_prompt(alloc, text, &mut self.prompt),
+            Some(("columns", digits)) => Ok(set_columns(digits, self)),
+            Some(("mode", name)) => Ok(set_edit_mode(name, &mut self.edit_mode)),
+            _ => Ok(false),
+        }
+    }
 }
 
 /// Why there is no script.
 #[derive(Debug, Drop)]
-pub(crate) enum ScriptError {
+pub enum ScriptError {
     /// The first line that is of no known form, by its number from 1.
     BadLine(usize),
     /// The input could not be read, or there was no memory for the script.
@@ -68,7 +106,7 @@ pub(crate) enum ScriptError {
 
 impl From<io::Error> for ScriptError {
     ghost use Rattle.line_config.specs.declared.error.ReadlineError.TheVariants.{Io};
-    ghost use Rattle.replay.specs.declared.script.ScriptError.TheVariants.{Fault};
+    ghost use Rattle.line_script.specs.declared.script.ScriptError.TheVariants.{Fault};
 
     ghost from_gives = { λ error e. e ≡ Fault (Io error) };
 
@@ -78,7 +116,7 @@ impl From<io::Error> for ScriptError {
 }
 
 impl From<ReadlineError> for ScriptError {
-    ghost use Rattle.replay.specs.declared.script.ScriptError.TheVariants.{Fault};
+    ghost use Rattle.line_script.specs.declared.script.ScriptError.TheVariants.{Fault};
 
     ghost from_gives = { λ error e. e ≡ Fault error };
 
@@ -88,10 +126,7 @@ impl From<ReadlineError> for ScriptError {
 }
 
 /// Reads a whole script, to the end of the input.
-pub(crate) fn read_script<R: Read + Drop>(
-    alloc: Global,
-    mut input: R,
-) -> Result<Parsed, ScriptError> {
+pub fn read_script<R: Read + Drop>(alloc: Global, mut input: R) -> Result<Parsed, ScriptError> {
     let mut bytes = Vec::new(alloc);
     input.read_to_end(&mut bytes)?;
     parse_script(alloc, &bytes)
@@ -103,7 +138,7 @@ fn parse_script(alloc: Global, script: &[u8]) -> Result<Parsed, ScriptError> {
     for (index, bytes) in script.split(|byte| *byte == b'\n').enumerate() {
         let is_known = match str::from_utf8(bytes) {
             Ok("") => true,
-            Ok(line) => push_line(alloc, line, &mut parsed)?,
+            Ok(line) => parsed.push_line(alloc, line)?,
             Err(_) => false,
         };
         if !is_known {
@@ -111,39 +146,6 @@ fn parse_script(alloc: Global, script: &[u8]) -> Result<Parsed, ScriptError> {
         }
     }
     Ok(parsed)
-}
-
-/// Adds what one line gives. False where the line is of no known form, or a setting behind items.
-fn push_line(alloc: Global, line: &str, parsed: &mut Parsed) -> Result<bool, ReadlineError> {
-    match line.split_once(' ') {
-        None if !parsed.has_item_lines => Ok(switch_on(line, &mut parsed.helper)),
-        Some(("history", text)) if !parsed.has_item_lines => {
-            push_history(alloc, text, &mut parsed.history)
-        }
-        Some(("load", text)) if !parsed.has_item_lines => {
-            load_history(alloc, text, &mut parsed.history)
-        }
-        Some(("prompt", text)) if !parsed.has_item_lines => {
-            set_prompt(alloc, text, &mut parsed.prompt)
-        }
-        Some(("columns", digits)) if !parsed.has_item_lines => Ok(set_columns(digits, parsed)),
-        Some(("mode", name)) if !parsed.has_item_lines => {
-            Ok(set_edit_mode(name, &mut parsed.edit_mode))
-        }
-        Some(("type", text)) => {
-            parsed.has_item_lines = true;
-            push_typed(alloc, text, &mut parsed.items)
-        }
-        Some(("key", name)) => {
-            parsed.has_item_lines = true;
-            push_key(name, &mut parsed.items)
-        }
-        Some(("paste", text)) => {
-            parsed.has_item_lines = true;
-            push_pasted(alloc, text, &mut parsed.items)
-        }
-        _ => Ok(false),
-    }
 }
 
 /// Switches on what the setting of this name asks for. False where there is no such setting.
@@ -250,8 +252,12 @@ fn push_key(name: &str, items: &mut Script) -> Result<bool, ReadlineError> {
     Ok(true)
 }
 
-/// The text that an escaped one stands for. None where an escape is bad.
-fn unescape(alloc: Global, text: &str) -> Result<Option<String>, ReadlineError> {
+/// Returns the text that an escaped one stands for: `\n` is a newline and `\\` a backslash. None where an escape is bad.
+///
+/// # Errors
+///
+/// `Memory` where an allocation failed.
+pub fn unescape(alloc: Global, text: &str) -> Result<Option<String>, ReadlineError> {
     let mut plain = Vec::new(alloc);
     if unescape_line(text.as_bytes(), Escapes::V2, &mut plain)? {
         Ok(String::from_utf8(plain).ok())
@@ -259,6 +265,3 @@ fn unescape(alloc: Global, text: &str) -> Result<Option<String>, ReadlineError> 
         Ok(None)
     }
 }
-
-#[cfg(test)]
-mod tests;

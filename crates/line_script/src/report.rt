@@ -1,6 +1,6 @@
 //! What is printed of a run.
 ghost use Rattle.std.specs.Prelude.{◌≡◌, ◌≤◌};
-ghost use Rattle.replay.specs.Outcome.{outcome_of, status_of};
+ghost use Rattle.line_script.specs.Outcome.{outcome_of, status_of};
 
 use line_buffer::Position;
 use line_config::{ReadlineError, Result};
@@ -12,7 +12,7 @@ use std::{fmt, io};
 
 /// How a run ended.
 #[derive(Clone, Copy, Debug, PartialEq, Eq)]
-pub(crate) enum Outcome {
+pub enum Outcome {
     /// The line was submitted.
     Submitted,
     /// The input ended.
@@ -25,7 +25,7 @@ pub(crate) enum Outcome {
 
 impl Outcome {
     /// How a run ended that gave this answer.
-    pub(crate) fn of(answer: Result<()>) -> Outcome
+    pub fn of(answer: Result<()>) -> Outcome
         ensures { result ≡ outcome_of answer }
     {
         match answer {
@@ -50,7 +50,7 @@ impl Display for Outcome {
 
 /// What the program did.
 #[derive(Clone, Copy)]
-pub(crate) enum Ending {
+pub enum Ending {
     /// It ran the script, which ended so.
     Ran(Outcome),
     /// It named the script's first bad line.
@@ -58,7 +58,7 @@ pub(crate) enum Ending {
 }
 
 /// The status that the program ends with. An error is a fault of memory, or of one of the program's own streams.
-pub(crate) fn exit_status(answer: Result<Ending>) -> u8
+pub fn exit_status(answer: Result<Ending>) -> u8
     ensures value { result ≡ status_of answer }
     ensures bound { result ≤ 4 }
 {
@@ -73,24 +73,24 @@ pub(crate) fn exit_status(answer: Result<Ending>) -> u8
 
 /// What became of the line.
 #[derive(Clone, Copy, Debug)]
-pub(crate) struct Report<'a> {
+pub struct Report<'a> {
     /// How the run ended.
-    pub(crate) outcome: Outcome,
+    pub outcome: Outcome,
     /// The line's text.
-    pub(crate) line: &'a str,
+    pub line: &'a str,
     /// The cursor's place in it, in bytes.
-    pub(crate) cursor: usize,
+    pub cursor: usize,
     /// The place in the history.
-    pub(crate) place: usize,
+    pub place: usize,
     /// Where the cursor was drawn.
-    pub(crate) at: Position,
+    pub at: Position,
     /// How many full redraws there were.
-    pub(crate) redraws: u64,
+    pub redraws: u64,
 }
 
 impl Report<'_> {
     /// Writes the report, a line for each part of it.
-    pub(crate) fn write_to<O: Write>(&self, out: &mut O) -> io::Result<()> {
+    pub fn write_to<O: Write>(&self, out: &mut O) -> io::Result<()> {
         writeln!(out, "outcome {}", self.outcome)?;
         out.write_all(b"line ")?;
         write_escaped(self.line, out)?;
@@ -103,7 +103,7 @@ impl Report<'_> {
 }
 
 /// Writes the text with its backslashes and newlines escaped, and what stands between them as it is.
-fn write_escaped<O: Write>(text: &str, out: &mut O) -> io::Result<()> {
+pub fn write_escaped<O: Write>(text: &str, out: &mut O) -> io::Result<()> {
     let mut rest = text.as_bytes();
     while let Some(at) = memchr2(b'\\', b'\n', rest) {
         let (run, behind) = rest.split_at(at);
@@ -115,75 +115,4 @@ fn write_escaped<O: Write>(text: &str, out: &mut O) -> io::Result<()> {
         rest = &behind[1..];
     }
     out.write_all(rest)
-}
-
-#[cfg(test)]
-mod tests {
-    use super::*;
-    use std::alloc::Global;
-    use std::process::Abort;
-    use std::result::Result;
-    use std::test::Fail;
-
-    fn names(rt: &impl Abort, alloc: Global, case: (Outcome, &str)) -> Result<(), Fail> {
-        let (outcome, name) = case;
-        let shown = format!(in alloc; "{outcome}")?;
-        assert_eq!(rt; shown.as_str(), name);
-        Ok(())
-    }
-
-    const OUTCOMES: &[(Outcome, &str)] = &[
-        (Outcome::Submitted, "submitted"),
-        (Outcome::Eof, "eof"),
-        (Outcome::Interrupted, "interrupted"),
-        (Outcome::Fault, "fault"),
-    ];
-
-    #[test]
-    fn names_each_outcome(rt: HostRuntime) -> Result<(), Fail> {
-        for case in OUTCOMES {
-            names(&rt, rt.alloc(), *case)?;
-        }
-        Ok(())
-    }
-
-    fn writes(rt: &impl Abort, alloc: Global, case: (&str, &str)) -> Result<(), Fail> {
-        let (line, printed) = case;
-        let report = Report {
-            outcome: Outcome::Eof,
-            line,
-            cursor: 3,
-            place: 7,
-            at: Position { row: 2, col: 5 },
-            redraws: 9,
-        };
-        let mut out = Vec::new(alloc);
-        report.write_to(&mut out)?;
-        assert_eq!(rt; out.as_slice(), printed.as_bytes(), "{line:?}");
-        Ok(())
-    }
-
-    const LINES: &[(&str, &str)] = &[
-        (
-            "",
-            "outcome eof\nline \ncursor 3\nplace 7\nat 2 5\nredraws 9\n",
-        ),
-        (
-            "a\\\n世",
-            "outcome eof\nline a\\\\\\n世\ncursor 3\nplace 7\nat 2 5\nredraws 9\n",
-        ),
-        // other control characters stand as they are
-        (
-            "\r\t\u{1}\\n\0",
-            "outcome eof\nline \r\t\u{1}\\\\n\0\ncursor 3\nplace 7\nat 2 5\nredraws 9\n",
-        ),
-    ];
-
-    #[test]
-    fn escapes_the_line(rt: HostRuntime) -> Result<(), Fail> {
-        for case in LINES {
-            writes(&rt, rt.alloc(), *case)?;
-        }
-        Ok(())
-    }
 }

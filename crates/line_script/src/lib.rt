@@ -1,0 +1,93 @@
+//! Scripts of keys: how one is read, runs through the line editor, and what is printed of the line.
+#![tactic(auto)]
+
+ghost use Rattle.std.specs.Prelude.{◌≤◌};
+
+pub mod helper;
+pub mod names;
+pub mod report;
+pub mod script;
+
+pub use helper::ScriptHelper;
+use line_buffer::{GraphemeClusterMode, KillRing};
+use line_config::{Config, Result};
+use line_editor::Bindings;
+use line_editor::edit::State;
+use line_editor::input_state::InputState;
+use line_editor::run::run;
+use line_keys::refresher::Refresher;
+use line_parts::Context;
+use line_screen::Plain;
+pub use names::key_named;
+pub use report::{Ending, Outcome, Report, exit_status};
+pub use script::{Parsed, Script, ScriptError, read_script};
+use std::alloc::Global;
+use std::io::{Read, Write};
+
+/// The slots of the kill ring where nobody asks for others.
+pub const KILL_RING_SIZE: usize = 60;
+
+/// Runs a script and prints what became of the line, in six lines, or the script's first bad line, in one.
+///
+/// Returns the status to end with: 0 where the line was submitted, 1 where the input ended, 2 where the line was
+/// interrupted, 3 after a fault of the editor, of memory or of a stream, and 4 where the script has a bad line.
+pub fn play<R: Read + Drop, O: Write>(alloc: Global, input: R, out: &mut O) -> u8
+    ensures { result ≤ 4 }
+{
+    exit_status(play_script(alloc, input, out))
+}
+
+/// The same, and the answer is what was done. An error is a fault of memory, or of one of the two streams.
+fn play_script<R: Read + Drop, O: Write>(alloc: Global, input: R, out: &mut O) -> Result<Ending> {
+    let parsed = match read_script(alloc, input) {
+        Ok(parsed) => parsed,
+        Err(ScriptError::BadLine(line)) => {
+            writeln!(out, "bad script line {line}")?;
+            out.flush()?;
+            return Ok(Ending::BadScript);
+        }
+        Err(ScriptError::Fault(error)) => return Err(error),
+    };
+    let outcome = edit(alloc, parsed, &Bindings::new(alloc), KILL_RING_SIZE, out)?;
+    out.flush()?;
+    Ok(Ending::Ran(outcome))
+}
+
+/// Edits a line as a script says, with these bindings and a kill ring of so many slots, and prints what became of it.
+///
+/// Returns how the run ended.
+///
+/// # Errors
+///
+/// `Memory` where an allocation failed before the run or while it was printed, and `Io` where `out` can't be written.
+/// What was printed then is a beginning of the six lines.
+pub fn edit<O: Write>(
+    alloc: Global,
+    parsed: Parsed,
+    bindings: &Bindings,
+    kill_ring_size: usize,
+    out: &mut O,
+) -> Result<Outcome> {
+    let mut screen = Plain::new(alloc, parsed.columns);
+    let mut helper = parsed.helper;
+    let mut script = parsed.items;
+    let prompt = parsed.prompt.as_str();
+    let config = Config::builder(GraphemeClusterMode::Unicode)
+        .edit_mode(parsed.edit_mode)
+        .build();
+    let mut input = InputState::new(&config, bindings);
+    let mut kill_ring = KillRing::new(alloc, kill_ring_size);
+    let context = Context::new(&parsed.history);
+    let mut state = State::new(alloc, &mut screen, &prompt, Some(&mut helper), context)?;
+    let answer = run(&mut state, &mut input, &mut script, &mut kill_ring, &config);
+    let report = Report {
+        outcome: Outcome::of(answer),
+        line: state.line(),
+        cursor: state.pos(),
+        place: state.place(),
+        at: state.layout().cursor,
+        redraws: state.out().redraws(),
+    };
+    report.write_to(out)?;
+    Ok(report.outcome)
+}

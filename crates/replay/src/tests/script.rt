@@ -1,0 +1,354 @@
+//! Scripts, line by line.
+
+use line_keys::keys::{KeyCode, KeyEvent, Modifiers};
+use line_keys::raw_reader::RawReader;
+use line_parts::History;
+use line_script::{Parsed, ScriptError, read_script};
+use std::alloc::Global;
+use std::io::Write;
+use std::process::Abort;
+use std::result::Result;
+use std::test::Fail;
+
+/// Writes down what a script gives, a line for each kind.
+fn shown(alloc: Global, parsed: &mut Parsed) -> line_config::Result<Vec<u8>> {
+    let mut out = Vec::new(alloc);
+    writeln!(out, "style {:?}", parsed.edit_mode)?;
+    writeln!(out, "prompt {:?} columns {}", parsed.prompt, parsed.columns)?;
+    let helper = parsed.helper;
+    writeln!(out, "hints {} brackets {}", helper.hints, helper.brackets)?;
+    shows_history(alloc, &mut out, parsed)?;
+    out.write_all(b"items")?;
+    while !parsed.items.is_empty() {
+        shows_item(&mut out, parsed)?;
+    }
+    Ok(out)
+}
+
+/// Writes down the lines of the history.
+fn shows_history(alloc: Global, out: &mut Vec<u8>, parsed: &Parsed) -> line_config::Result<()> {
+    let mut lines = Vec::new(alloc);
+    for line in parsed.history.iter() {
+        lines.push(line.as_str())?;
+    }
+    writeln!(out, "history {lines:?}")?;
+    Ok(())
+}
+
+/// Writes down the next item: a typed character alone, a key, or a key and the pasted text behind it.
+fn shows_item(out: &mut Vec<u8>, parsed: &mut Parsed) -> line_config::Result<()> {
+    match parsed.items.next_key(false)? {
+        KeyEvent(KeyCode::Char(c), Modifiers::NONE) => write!(out, " {c:?}")?,
+        key @ KeyEvent(KeyCode::BracketedPasteStart, _) => {
+            write!(
+                out,
+                " {key:?} pasted {:?}",
+                parsed.items.read_pasted_text()?
+            )?;
+        }
+        key => write!(out, " {key:?}")?,
+    }
+    Ok(())
+}
+
+fn gives(rt: &impl Abort, alloc: Global, script: &str, wanted: &str) -> Result<(), Fail> {
+    let Ok(mut parsed) = read_script(alloc, script.as_bytes()) else {
+        return Err(Fail::from("a good script"));
+    };
+    let bytes = shown(alloc, &mut parsed)?;
+    let text = str::from_utf8(&bytes)?;
+    assert!(rt;
+        text.split('\n').any(|line| line == wanted),
+        "{wanted} not {text} of {script}"
+    );
+    Ok(())
+}
+
+/// A script, and one of the lines that say what it gives.
+const GOOD: &[(&str, &str)] = &[
+    ("", "items"),
+    ("\n\n", "items"),
+    ("type ", "items"),
+    ("type aB", "items 'a' 'B'"),
+    ("type aB\n", "items 'a' 'B'"),
+    ("type  é", "items ' ' 'é'"),
+    (r"type C-a\n\\", "items 'C' '-' 'a' '\\n' '\\\\'"),
+    (r"type \\n", "items '\\\\' 'n'"),
+    ("type a\r\n", "items 'a' '\\r'"),
+    ("type \t\u{3}", "items '\\t' '\\u{3}'"),
+    ("type type a", "items 't' 'y' 'p' 'e' ' ' 'a'"),
+    ("key  \n", "items ' '"),
+    ("key \r\n", "items KeyEvent(Enter, Modifiers(0))"),
+    ("key é", "items 'é'"),
+    ("key a\n\n\n", "items 'a'"),
+    (
+        "\nkey C-a\n\ntype x\nkey Enter",
+        "items KeyEvent(Char('A'), Modifiers(8)) 'x' KeyEvent(Enter, Modifiers(0))",
+    ),
+    ("type a", "history []"),
+    ("history a", "history [\"a\"]"),
+    (
+        "history a\n\nhistory b\nhistory a\ntype x",
+        "history [\"a\", \"b\", \"a\"]",
+    ),
+    ("history \nhistory a\nhistory a\n", "history [\"a\"]"),
+    ("history  a \nhistory é\r\n", "history [\" a \", \"é\\r\"]"),
+    (r"history a\nb\\n", "history [\"a\\nb\\\\n\"]"),
+    ("load ", "history []"),
+    ("load a", "history [\"a\"]"),
+    (r"load a\n\na\nb", "history [\"a\", \"b\"]"),
+    ("load  a \r\n", "history [\" a \\r\"]"),
+    (r"load #V2\nb\\nc\n", "history [\"b\\nc\"]"),
+    (r"load #V2\nb\\rc", "history [\"b\\\\rc\"]"),
+    (r"load #V3\nb\\rc\\r", "history [\"b\\rc\\r\"]"),
+    (r"load #V3\nb\\tc", "history [\"b\\\\tc\"]"),
+    ("load #V3\r\n", "history [\"#V3\\r\"]"),
+    ("load #V3\nload b\\\\rc", "history [\"b\\\\rc\"]"),
+    (
+        "history a\nload #V3\\nb\\nc\n\nhistory c\nhistory d\nload d\\na\n",
+        "history [\"a\", \"b\", \"c\", \"d\", \"a\"]",
+    ),
+    ("", "hints false brackets false"),
+    ("history hints\ntype brackets", "hints false brackets false"),
+    ("hints", "hints true brackets false"),
+    ("brackets\n", "hints false brackets true"),
+    ("hints\nhints", "hints true brackets false"),
+    ("brackets\nbrackets", "hints false brackets true"),
+    (
+        "brackets\nhints\nbrackets\nhints\n",
+        "hints true brackets true",
+    ),
+    (
+        "\nhints\n\nhistory a\nbrackets\nhints\ntype (",
+        "hints true brackets true",
+    ),
+    ("", "prompt \"> \" columns 80"),
+    ("prompt ", "prompt \"\" columns 80"),
+    ("prompt  a \ntype prompt b", "prompt \" a \" columns 80"),
+    (r"prompt a\nb\\", "prompt \"a\\nb\\\\\" columns 80"),
+    ("prompt a\r\n", "prompt \"a\\r\" columns 80"),
+    ("prompt columns 70", "prompt \"columns 70\" columns 80"),
+    (
+        "prompt a\nprompt b\ncolumns 70\n\ncolumns 10",
+        "prompt \"b\" columns 10",
+    ),
+    (
+        "columns 10\nprompt b\ncolumns 70\nprompt ",
+        "prompt \"\" columns 70",
+    ),
+    ("columns 0080", "prompt \"> \" columns 80"),
+    (
+        "columns 000000000000000000000000000080",
+        "prompt \"> \" columns 80",
+    ),
+    ("columns 10", "prompt \"> \" columns 10"),
+    ("columns 1000", "prompt \"> \" columns 1000"),
+    ("", "style Emacs"),
+    ("mode emacs", "style Emacs"),
+    ("mode vi", "style Vi"),
+    ("mode vi\ntype a", "style Vi"),
+    ("\nhints\nmode vi\ncolumns 70\n", "style Vi"),
+    ("mode emacs\nmode vi", "style Vi"),
+    ("mode vi\nmode emacs\n", "style Emacs"),
+    ("mode vi\nmode vi\n", "style Vi"),
+    ("mode vi\n\nmode emacs\nhistory a\nmode vi\n", "style Vi"),
+    (
+        "prompt mode vi\nhistory mode vi\ntype mode vi",
+        "style Emacs",
+    ),
+    ("mode vi\ntype \\nmode emacs\npaste mode emacs", "style Vi"),
+    (
+        "paste ",
+        "items KeyEvent(BracketedPasteStart, Modifiers(0)) pasted \"\"",
+    ),
+    (
+        "paste a",
+        "items KeyEvent(BracketedPasteStart, Modifiers(0)) pasted \"a\"",
+    ),
+    (
+        r"paste a\nb\\",
+        "items KeyEvent(BracketedPasteStart, Modifiers(0)) pasted \"a\\nb\\\\\"",
+    ),
+    (
+        "paste  é\n",
+        "items KeyEvent(BracketedPasteStart, Modifiers(0)) pasted \" é\"",
+    ),
+    (
+        "paste a\r\n",
+        "items KeyEvent(BracketedPasteStart, Modifiers(0)) pasted \"a\\r\"",
+    ),
+    (
+        r"paste a\\nb",
+        "items KeyEvent(BracketedPasteStart, Modifiers(0)) pasted \"a\\\\nb\"",
+    ),
+];
+
+#[test]
+fn gives_what_good_lines_say(rt: HostRuntime) -> Result<(), Fail> {
+    for (script, wanted) in GOOD {
+        gives(&rt, rt.alloc(), script, wanted)?;
+    }
+    Ok(())
+}
+
+/// So many lines, the numbers from 1 on, and how many of them are kept and the oldest: the history keeps 100.
+const LIMITED: &[(usize, usize, &str)] = &[(100, 100, "1"), (101, 100, "2"), (250, 100, "151")];
+
+fn limits(rt: &impl Abort, alloc: Global, case: (usize, usize, &str)) -> Result<(), Fail> {
+    let (lines, kept, oldest) = case;
+    let mut script = Vec::new(alloc);
+    for number in 1..=lines {
+        writeln!(script, "history {number}")?;
+    }
+    let Ok(parsed) = read_script(alloc, script.as_slice()) else {
+        return Err(Fail::from("a good script"));
+    };
+    assert_eq!(rt; parsed.history.len(), kept, "{lines}");
+    let first = parsed.history.iter().next();
+    assert!(rt;
+        matches!(first, Some(entry) if entry.as_str() == oldest),
+        "{lines}"
+    );
+    Ok(())
+}
+
+#[test]
+fn keeps_a_hundred_lines(rt: HostRuntime) -> Result<(), Fail> {
+    for case in LIMITED {
+        limits(&rt, rt.alloc(), *case)?;
+    }
+    Ok(())
+}
+
+fn refuses(rt: &impl Abort, alloc: Global, case: (&[u8], usize)) {
+    let (script, line) = case;
+    let bad = match read_script(alloc, script) {
+        Err(ScriptError::BadLine(number)) => Some(number),
+        _ => None,
+    };
+    assert_eq!(rt; bad, Some(line), "{script:?}");
+}
+
+const BAD: &[(&[u8], usize)] = &[
+    (b"key Foo", 1),
+    (b"type a\nkey Left\nkey Foo\ntype b\n", 3),
+    (b"\n\nkey\n", 3),
+    (b"key ", 1),
+    (b"type", 1),
+    (b"type\ta", 1),
+    (b" type a", 1),
+    (b"Type a", 1),
+    (b"types a", 1),
+    (b"\r\n", 1),
+    (b" ", 1),
+    (b" \ntype a", 1),
+    (b"\n\n\ntype a\n\nfoo bar\n\nfoo", 6),
+    (b"# a", 1),
+    (b"\xef\xbb\xbftype a", 1),
+    (b"key Enter\r\n", 1),
+    (b"type \\t", 1),
+    (b"type a\\", 1),
+    (b"type \\\\\\", 1),
+    (b"type \xff", 1),
+    (b"type a\n\xc3\n", 2),
+    (b"key Foo\n\xff", 1),
+    (b"\n\xff\nkey Foo", 2),
+    (b"mode", 1),
+    (b"mode ", 1),
+    (b"mode  ", 1),
+    (b"mode  vi", 1),
+    (b"mode vi ", 1),
+    (b"mode  emacs", 1),
+    (b"mode emacs ", 1),
+    (b"mode VI", 1),
+    (b"mode Vi", 1),
+    (b"mode Emacs", 1),
+    (b"mode EMACS", 1),
+    (b"mode v", 1),
+    (b"mode vim", 1),
+    (b"mode vi emacs", 1),
+    (b"mode emacs vi", 1),
+    (b"mode v\\i", 1),
+    (b"mode\tvi", 1),
+    (b"mode vi\r\n", 1),
+    (b"Mode vi", 1),
+    (b" mode vi", 1),
+    (b"modes vi", 1),
+    (b"mode=vi", 1),
+    (b"vi", 1),
+    (b"emacs", 1),
+    (b"mode vi\nmode emacs\nmode vi \n", 3),
+    (b"mode vi\nmode\nmode emacs", 2),
+    (b"type a\nmode vi", 2),
+    (b"mode vi\n\ntype \nmode vi", 4),
+    (b"mode emacs\nkey Enter\nmode emacs\nkey Foo", 3),
+    (b"paste a\nmode vi", 2),
+    (b"history", 1),
+    (b"history\ta", 1),
+    (b"history a\nhistory \\q", 2),
+    (b"history a\\", 1),
+    (b"history a\n history a", 2),
+    (b"type a\nhistory a", 2),
+    (b"history a\ntype \n\nhistory b", 4),
+    (b"key Enter\nhistory a\nkey Foo", 2),
+    (b"load", 1),
+    (b"load\ta", 1),
+    (b"load\r\n", 1),
+    (b"Load a", 1),
+    (b"loads a", 1),
+    (b" load a", 1),
+    (b"load x\\q", 1),
+    (b"load #V3\\na\\r", 1),
+    (b"load a\nload a\\", 2),
+    (b"load \xff", 1),
+    (b"type a\nload a", 2),
+    (b"load a\nkey Enter\nload b", 3),
+    (b"hints ", 1),
+    (b"hints x", 1),
+    (b"Hints", 1),
+    (b"hint", 1),
+    (b"hints\r\n", 1),
+    (b"brackets ", 1),
+    (b"brackets ()", 1),
+    (b"hints brackets", 1),
+    (b"bracket", 1),
+    (b"columns", 1),
+    (b"columns ", 1),
+    (b"columns 0", 1),
+    (b"columns 000", 1),
+    (b"columns 9", 1),
+    (b"columns 1001", 1),
+    (b"columns 65536", 1),
+    (b"columns 65616", 1),
+    (b"columns 4294967376", 1),
+    (b"columns 18446744073709551696", 1),
+    (b"columns \xd9\xa3\xd9\xa0", 1),
+    (b"type a\ncolumns 9", 2),
+    (b"columns +80", 1),
+    (b"columns -1", 1),
+    (b"columns 8 0", 1),
+    (b"columns 80 ", 1),
+    (b"columns  80", 1),
+    (b"columns 80\ncolumns 9", 2),
+    (b"columns 80\r\n", 1),
+    (b"columns ten", 1),
+    (b"type a\ncolumns 80", 2),
+    (b"prompt", 1),
+    (b"prompt \\t", 1),
+    (b"prompt a\\", 1),
+    (b"paste a\nprompt $", 2),
+    (b"paste \nhistory a", 2),
+    (b"type a\nprompt \\t", 2),
+    (b"paste", 1),
+    (b"paste \\t", 1),
+    (b"key a\npaste a\\\nkey Foo", 2),
+    (b"hints\n\ntype a\nhints", 4),
+    (b"key Enter\nbrackets\nkey Foo", 2),
+];
+
+#[test]
+fn names_the_first_bad_line(rt: HostRuntime) {
+    for case in BAD {
+        refuses(&rt, rt.alloc(), *case);
+    }
+}
