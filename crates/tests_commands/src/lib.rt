@@ -1,4 +1,4 @@
-//! The tests of commands, as tables of cases.
+//! The tests of commands and of the state's calls that rows of text can't say.
 #![tactic(auto)]
 
 #[cfg(test)]

@@ -2,16 +2,20 @@
 #![tactic(auto)]
 
 #[cfg(test)]
+mod bench;
+#[cfg(test)]
 mod counted;
 #[cfg(test)]
 mod cuts;
 #[cfg(test)]
-mod desk;
+mod every;
 #[cfg(test)]
 mod handler;
 #[cfg(test)]
 mod mended;
 #[cfg(test)]
-mod odd;
+mod random;
 #[cfg(test)]
 mod ranges;
+#[cfg(test)]
+mod tasks;

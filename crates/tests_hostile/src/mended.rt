@@ -1,17 +1,14 @@
 //! Each call of each party fails once, and each run answers that party's own error. The history stays, and once the party
 //! fails no more, what is left is drawn as an editor that is made of it draws it.
 
-use crate::desk::{config, ended, halves, keys};
+use crate::bench::{self, Desk, Mode, PLAIN, ended, keys, marked};
 use crate::handler::Handler;
-use line_buffer::{KillRing, Position, Unit};
-use line_config::{EditMode, ReadlineError, Result};
-use line_editor::Bindings;
+use line_buffer::{KillRing, Unit};
+use line_config::{ReadlineError, Result};
 use line_editor::binding::{Event, EventHandler};
-use line_editor::edit::State;
-use line_editor::input_state::InputState;
 use line_editor::run::run;
+use line_editor::{Bindings, InputState, State, Turned};
 use line_keys::refresher::Refresher;
-use line_parts::history::SearchDirection;
 use line_parts::{Context, History};
 use std::alloc::Global;
 use std::io::ErrorKind;
@@ -23,7 +20,7 @@ use tests_parties::shelf::Shelf;
 use tests_stand_ins::recorder::{self, Recorder};
 use tests_stand_ins::typist::{self, Typist};
 
-type Editor<'out, 'prompt> = State<'out, 'prompt, Recorder, Guide, &'static str, Shelf>;
+type Editor<'out, 'prompt> = bench::Editor<'out, 'prompt, Recorder>;
 
 /// Who is asked in a run: the handlers are one of each key and one of a sequence.
 #[derive(Clone, Copy, Debug, PartialEq, Eq)]
@@ -51,29 +48,16 @@ impl Party {
     }
 }
 
-/// The call that fails: whose it is, and its number among that one's calls, from 1 on. None does where that is 0.
-#[derive(Clone, Copy, Debug)]
-struct Failing(Party, u64);
-
-impl Failing {
-    /// Which call of this party fails.
-    fn of(self, party: Party) -> u64 {
-        if self.0 == party { self.1 } else { 0 }
-    }
-}
-
-/// A run: the style, the history's lines, whether there are hints, and what is typed; how it ends where nothing fails; the
-/// line that is left then with a bar at its cursor, the place in the history, where the cursor is drawn, and how often all
-/// was drawn; and how many calls each party gets.
+/// A run: the desk with the style, the history's lines and whether there are hints, and what is typed; how it ends where nothing
+/// fails; the line that is left then with a bar at its cursor, the place in the history, where the cursor is drawn, and how often
+/// all was drawn; and how many calls each party gets.
 ///
 /// The reader is asked for each key, and once more where the input ends. The screen draws all, or writes a character or moves
 /// the cursor. The helper is asked for a hint where the text changes or all is drawn, and for a verdict by Enter. The handler of
 /// each key is asked for no key of a count, and for no further key behind an operator or of a sequence.
 #[derive(Clone, Copy)]
 struct Scene {
-    style: EditMode,
-    entries: &'static [&'static str],
-    hints: bool,
+    desk: Desk,
     typed: &'static str,
     end: &'static str,
     left: &'static str,
@@ -83,10 +67,16 @@ struct Scene {
     calls: &'static [(Party, u64)],
 }
 
+const VI: Desk = Desk {
+    mode: Mode::Insert,
+    ..PLAIN
+};
+
 const OUT_AND_BACK: Scene = Scene {
-    style: EditMode::Emacs,
-    entries: &["rustc", "cargo"],
-    hints: false,
+    desk: Desk {
+        entries: &["rustc", "cargo"],
+        ..PLAIN
+    },
     typed: "a⌥<⌥>\r",
     end: "submits",
     left: "a|",
@@ -104,9 +94,7 @@ const OUT_AND_BACK: Scene = Scene {
 };
 
 const COUNTED_KILL: Scene = Scene {
-    style: EditMode::Vi,
-    entries: &[],
-    hints: false,
+    desk: VI,
     typed: "a b c d e f g h\u{1b}02d3w",
     end: "eof",
     left: "|g h",
@@ -125,9 +113,7 @@ const COUNTED_KILL: Scene = Scene {
 
 /// The handler's move, and an undo by two keys that begin as the bound ones do.
 const SEQUENCE: Scene = Scene {
-    style: EditMode::Emacs,
-    entries: &[],
-    hints: false,
+    desk: PLAIN,
     typed: "q⌃Xa⌃X⌃U",
     end: "eof",
     left: "|",
@@ -146,9 +132,11 @@ const SEQUENCE: Scene = Scene {
 
 /// The history is asked for the hint of each line but the empty one.
 const TAKEN_HINT: Scene = Scene {
-    style: EditMode::Emacs,
-    entries: &["git status"],
-    hints: true,
+    desk: Desk {
+        entries: &["git status"],
+        hints: true,
+        ..PLAIN
+    },
     typed: "git→\r",
     end: "submits",
     left: "git status|",
@@ -168,9 +156,11 @@ const TAKEN_HINT: Scene = Scene {
 /// The screen is asked for a drawing of each typed character, since a hint stands behind it; for the two moves; and for what goes
 /// and comes back.
 const TO_THE_MATCH: Scene = Scene {
-    style: EditMode::Vi,
-    entries: &["(a)bc"],
-    hints: true,
+    desk: Desk {
+        entries: &["(a)bc"],
+        hints: true,
+        ..VI
+    },
     typed: "(a)\u{1b}%d%P",
     end: "eof",
     left: "(a|)",
@@ -188,208 +178,163 @@ const TO_THE_MATCH: Scene = Scene {
 };
 
 /// How a run is to end.
-#[derive(Clone, Copy)]
+#[derive(Clone, Copy, Debug)]
 enum Ending {
-    Fails(Fault),
+    Fails,
     Well,
     WellOrByMemory,
 }
 
-/// A scene, the call that fails, and how the run is to end.
+/// A scene; whose call fails, and its number among that one's calls, from 1 on, or 0 where none does; and how the run is to end.
 #[derive(Clone, Copy)]
-struct Take {
-    scene: Scene,
-    failing: Failing,
+struct Take<'s> {
+    scene: &'s Scene,
+    party: Party,
+    call: u64,
     ending: Ending,
 }
 
-/// Binds an event to a handler.
-fn binds(alloc: Global, bindings: &mut Bindings, event: Event, handler: Handler) -> Result<()> {
-    let handler = EventHandler::Conditional(Box::new(alloc, handler)?);
-    let _ = bindings.insert(event, handler)?;
-    Ok(())
-}
-
-/// The map of both handlers.
-fn bindings(alloc: Global, failing: Failing) -> Result<Bindings> {
-    let mut bindings = Bindings::new(alloc);
-    let (key, sequence) = (Party::OfEachKey, Party::OfSequence);
-    let nothing = Handler::new(false, failing.of(key), key.fault());
-    binds(alloc, &mut bindings, Event::Any, nothing)?;
-    let moves = Handler::new(true, failing.of(sequence), sequence.fault());
-    let event = Event::KeySeq(keys(alloc, "⌃Xa")?);
-    binds(alloc, &mut bindings, event, moves)?;
-    Ok(bindings)
-}
-
-/// The history of a scene.
-fn shelf(alloc: Global, take: Take) -> Result<Shelf> {
-    let mut history = Shelf::new(alloc, 0);
-    for entry in take.scene.entries {
-        let _ = history.add(entry)?;
+impl Take<'_> {
+    /// Which call of this party fails.
+    fn failing(&self, party: Party) -> u64 {
+        if self.party == party { self.call } else { 0 }
     }
-    history.fail_by(take.failing.of(Party::History), Party::History.fault());
-    Ok(history)
+
+    /// The map of both handlers.
+    fn bindings(&self, alloc: Global) -> Result<Bindings> {
+        let mut bindings = Bindings::new(alloc);
+        let sequence = Event::KeySeq(keys(alloc, "⌃Xa")?);
+        for (event, party, moves) in [
+            (Event::Any, Party::OfEachKey, false),
+            (sequence, Party::OfSequence, true),
+        ] {
+            let handler = Handler::new(moves, self.failing(party), party.fault());
+            let handler = EventHandler::Conditional(Box::new(alloc, handler)?);
+            let _ = bindings.insert(event, handler)?;
+        }
+        Ok(bindings)
+    }
 }
 
 /// Plays a scene, and looks at what is left.
-fn plays(rt: &impl Abort, alloc: Global, take: Take) -> Result<()> {
-    let history = shelf(alloc, take)?;
+fn plays(rt: &impl Abort, alloc: Global, take: Take<'_>) -> Result<()> {
+    let mut history = take.scene.desk.shelf(alloc)?;
+    history.fail_by(take.failing(Party::History), Party::History.fault());
     let mut screen = Recorder::new(alloc, 80, false, 0);
-    screen.cut_at(take.failing.of(Party::Screen));
-    let mut helper = Guide::new(take.scene.hints);
-    helper.fail_by(take.failing.of(Party::Helper), Party::Helper.fault());
+    screen.cut_at(take.failing(Party::Screen));
+    let mut helper = Guide::new(take.scene.desk.hints, false);
+    helper.fail_by(take.failing(Party::Helper), Party::Helper.fault());
     let context = Context::new(&history);
     let mut state = State::new(alloc, &mut screen, &"> ", Some(&mut helper), context)?;
-    runs(rt, alloc, take, &history, &mut state)
+    let outcome = runs(alloc, take, &mut state)?;
+    ends(rt, alloc, take, outcome, &history, &mut state)
 }
 
-fn runs(
-    rt: &impl Abort,
-    alloc: Global,
-    take: Take,
-    history: &Shelf,
-    state: &mut Editor<'_, '_>,
-) -> Result<()> {
-    let config = config(take.scene.style);
-    let bindings = bindings(alloc, take.failing)?;
+/// Runs on what is typed. How that ended.
+fn runs(alloc: Global, take: Take<'_>, state: &mut Editor<'_, '_>) -> Result<Result<Turned>> {
+    let config = take.scene.desk.config();
+    let bindings = take.bindings(alloc)?;
     let mut input = InputState::new(&config, &bindings);
     let mut kills = KillRing::new(alloc, 60);
     let mut typist = Typist::new(alloc);
     typist.press(keys(alloc, take.scene.typed)?.as_slice())?;
-    typist.cut_at(take.failing.of(Party::Reader));
-    let outcome = run(state, &mut input, &mut typist, &mut kills, &config);
-    ends(rt, alloc, take, &outcome, history, state)
+    typist.cut_at(take.failing(Party::Reader));
+    Ok(
+        match run(state, &mut input, &mut typist, &mut kills, &config) {
+            Ok(()) => Ok(Turned::Submitted),
+            Err(error) => Err(error),
+        },
+    )
 }
 
-/// The run ended as it is to end.
+/// The run ended as it is to end: by the fault of the party that failed, or as it does where nothing fails.
 fn ends(
     rt: &impl Abort,
     alloc: Global,
-    take: Take,
-    outcome: &Result<()>,
+    take: Take<'_>,
+    outcome: Result<Turned>,
     history: &Shelf,
     state: &mut Editor<'_, '_>,
 ) -> Result<()> {
-    if let Ending::Fails(fault) = take.ending {
-        let is_answer = fault.is_answer(alloc, outcome)?;
-        assert!(rt; is_answer, "{:?} {outcome:?}", take.failing);
-        return is_mended(rt, alloc, take, history, state);
+    let Take {
+        scene,
+        party,
+        call,
+        ..
+    } = take;
+    match (take.ending, &outcome) {
+        (Ending::Fails, _) => {
+            let is_answer = party.fault().is_answer(alloc, &outcome)?;
+            assert!(rt; is_answer, "{party:?} {call} {outcome:?}");
+            return is_mended(rt, alloc, take, history, state);
+        }
+        (Ending::WellOrByMemory, Err(ReadlineError::Memory)) => {
+            return is_mended(rt, alloc, take, history, state);
+        }
+        _ => {}
     }
-    if matches!(
-        (take.ending, outcome),
-        (Ending::WellOrByMemory, Err(ReadlineError::Memory))
-    ) {
-        return is_mended(rt, alloc, take, history, state);
-    }
-    is_left(rt, take, outcome, state);
-    Ok(())
-}
-
-/// The run ended as it does where nothing fails.
-fn is_left(rt: &impl Abort, take: Take, outcome: &Result<()>, state: &Editor<'_, '_>) {
-    let Take { scene, failing, .. } = take;
-    assert_eq!(rt; ended(outcome), scene.end, "{failing:?}");
-    let (line, pos) = (state.line(), state.pos());
-    let cursor = state.layout().cursor;
-    let found = (
-        (line.get(..pos), line.get(pos..), state.place()),
-        (cursor.row, cursor.col),
-        state.out().redraws(),
+    let line = marked(alloc, state.line(), state.pos())?;
+    let (cursor, redraws) = (state.layout().cursor, state.out().redraws());
+    assert_eq!(rt;
+        (
+            ended(&outcome),
+            line.as_str(),
+            state.place(),
+            (cursor.row, cursor.col),
+            redraws
+        ),
+        (scene.end, scene.left, scene.place, scene.at, scene.redraws),
+        "{party:?} {call}"
     );
-    let (before, behind) = halves(rt, scene.left);
-    let left = (Some(before), Some(behind), scene.place);
-    assert_eq!(rt; found, (left, scene.at, scene.redraws), "{failing:?}");
+    Ok(())
 }
 
 /// The history has its lines and no others, and the line is drawn again as an editor that is made of it draws it.
 fn is_mended(
     rt: &impl Abort,
     alloc: Global,
-    take: Take,
+    take: Take<'_>,
     history: &Shelf,
     state: &mut Editor<'_, '_>,
 ) -> Result<()> {
-    is_kept(rt, take, history)?;
-    let mut screen = Recorder::new(alloc, 80, false, 0);
-    let mut helper = Guide::new(take.scene.hints);
-    let mut context = Context::new(history);
-    assert!(rt; state.place() <= history.len());
-    context.set_history_index(state.place());
+    let is_kept = take.scene.desk.is_kept(history)?;
     let (text, pos) = (state.line(), state.pos());
-    assert!(rt; text.is_char_boundary(pos), "{pos} in {text:?}");
+    let is_sound = text.is_char_boundary(pos) && state.place() <= history.len();
+    assert!(rt; is_kept && is_sound, "{:?} {}", take.party, take.call);
+    let mut screen = Recorder::new(alloc, 80, false, 0);
+    let mut helper = Guide::new(take.scene.desk.hints, false);
+    let mut context = Context::new(history);
+    context.set_history_index(state.place());
     let advisor = Some(&mut helper);
     let mut anew = State::with_line(alloc, &mut screen, &"> ", advisor, context, text, pos)?;
-    is_drawn_alike(rt, take.failing, state, &mut anew)
+    let wanted = drawn(rt, alloc, &mut anew)?;
+    let found = drawn(rt, alloc, state)?;
+    assert_eq!(rt;
+        found.as_str(),
+        wanted.as_str(),
+        "{:?} {}",
+        take.party,
+        take.call
+    );
+    Ok(())
 }
 
-/// Both editors draw their line again.
-fn is_drawn_alike(
-    rt: &impl Abort,
-    failing: Failing,
-    state: &mut Editor<'_, '_>,
-    anew: &mut Editor<'_, '_>,
-) -> Result<()> {
-    anew.refresh_line()?;
+/// What an editor shows that draws its line again: the screen, the kept layout, the hint, and what the screen was handed, before and
+/// behind the old layout. A line of its log can miss its end, where memory ran out.
+fn drawn(rt: &impl Abort, alloc: Global, state: &mut Editor<'_, '_>) -> Result<String> {
     state.refresh_line()?;
-    is_alike(rt, failing, state, anew);
-    Ok(())
-}
-
-/// Two editors show the same, and were handed the same by their last drawing.
-fn is_alike(rt: &impl Abort, failing: Failing, state: &Editor<'_, '_>, anew: &Editor<'_, '_>) {
-    let drawn = last_drawing(state.out());
-    assert!(rt; drawn.is_some(), "{failing:?}");
-    let found = (seen(state), drawn);
-    let wanted = (seen(anew), last_drawing(anew.out()));
-    assert_eq!(rt; found, wanted, "{failing:?}");
-}
-
-fn is_kept(rt: &impl Abort, take: Take, history: &Shelf) -> Result<()> {
-    assert_eq!(rt; history.len(), take.scene.entries.len());
-    for (index, entry) in take.scene.entries.iter().enumerate() {
-        let is_there = match history.get(index, SearchDirection::Forward)? {
-            Some(found) => found.entry.as_str() == *entry,
-            None => false,
-        };
-        assert!(rt; is_there, "{index} after {:?}", take.failing);
-    }
-    Ok(())
-}
-
-/// What an editor shows, its layout, and its hint.
-type Seen<'s> = ((&'s str, Position, Position), Kept, (bool, Option<&'s str>));
-
-fn seen<'s>(state: &'s Editor<'_, '_>) -> Seen<'s> {
-    (
-        state.out().shows(),
-        kept(state),
-        (state.has_hint(), state.hint_text()),
-    )
-}
-
-/// Where the kept layout has the prompt's end, the cursor and the end; whether the prompt is the editor's own, and whether
-/// something is shown behind the line.
-type Kept = (Position, Position, Position, bool, bool);
-
-fn kept(state: &Editor<'_, '_>) -> Kept {
+    let Some((_, last)) = state.out().log().rsplit_once("draw ") else {
+        panic!(rt; "nothing is drawn");
+    };
+    let Some((before, rest)) = last.split_once(" old ") else {
+        panic!(rt; "no old layout");
+    };
+    let Some((_, behind)) = rest.split_once(" new ") else {
+        panic!(rt; "no new layout");
+    };
+    let (screen, hint) = (state.out().shows(), (state.has_hint(), state.hint_text()));
     let layout = state.layout();
-    (
-        layout.prompt_size,
-        layout.cursor,
-        layout.end,
-        layout.default_prompt,
-        layout.has_info,
-    )
-}
-
-/// What a screen was handed by its last drawing, before and behind the old layout. A line of its log can miss its end, where
-/// memory ran out.
-fn last_drawing(screen: &Recorder) -> Option<(&str, &str)> {
-    let (_, drawn) = screen.log().rsplit_once("draw ")?;
-    let (before, behind) = drawn.split_once(" old ")?;
-    let (_, behind) = behind.split_once(" new ")?;
-    Some((before, behind))
+    Ok(format!(in alloc; "{screen:?} {hint:?} {before:?} {behind:?} {layout:?}")?)
 }
 
 /// Fails each call of a party in turn, and the one behind its last, which never comes.
@@ -400,25 +345,19 @@ fn by_each_call(
     party: Party,
     calls: u64,
 ) -> Result<()> {
-    for call in 1..=calls {
+    for call in 1..=calls.saturating_add(1) {
+        let ending = if call > calls {
+            Ending::Well
+        } else {
+            Ending::Fails
+        };
         let take = Take {
-            scene: *scene,
-            failing: Failing(party, call),
-            ending: Ending::Fails(party.fault()),
+            scene,
+            party,
+            call,
+            ending,
         };
         plays(rt, alloc, take)?;
-    }
-    let take = Take {
-        scene: *scene,
-        failing: Failing(party, calls.saturating_add(1)),
-        ending: Ending::Well,
-    };
-    plays(rt, alloc, take)
-}
-
-fn by_each_party(rt: &impl Abort, alloc: Global, scene: &Scene) -> Result<()> {
-    for (party, calls) in scene.calls {
-        by_each_call(rt, alloc, scene, *party, *calls)?;
     }
     Ok(())
 }
@@ -434,45 +373,26 @@ const SCENES: &[Scene] = &[
 #[test]
 fn after_each_fault(rt: HostRuntime) -> std::result::Result<(), Fail> {
     for scene in SCENES {
-        by_each_party(&rt, rt.alloc(), scene)?;
+        for (party, calls) in scene.calls {
+            by_each_call(&rt, rt.alloc(), scene, *party, *calls)?;
+        }
     }
     Ok(())
 }
 
-/// Plays a scene in which nothing fails: it ends well, and where an allocation is refused, by `Memory` alone.
-fn ends_well_or_by_memory(rt: &impl Abort, alloc: Global, scene: Scene) {
-    let take = Take {
-        scene,
-        failing: Failing(Party::Screen, 0),
-        ending: Ending::WellOrByMemory,
-    };
-    match plays(rt, alloc, take) {
-        Ok(()) | Err(ReadlineError::Memory) => {}
-        Err(error) => panic!(rt; "{error}"),
+/// Nothing fails: each scene ends well, and where an allocation is refused, by `Memory` alone.
+#[test]
+fn scenes_or_memory(rt: HostRuntime) {
+    for scene in SCENES {
+        let take = Take {
+            scene,
+            party: Party::Screen,
+            call: 0,
+            ending: Ending::WellOrByMemory,
+        };
+        match plays(&rt, rt.alloc(), take) {
+            Ok(()) | Err(ReadlineError::Memory) => {}
+            Err(error) => panic!(&rt; "{error}"),
+        }
     }
-}
-
-#[test]
-fn out_and_back_or_memory(rt: HostRuntime) {
-    ends_well_or_by_memory(&rt, rt.alloc(), OUT_AND_BACK);
-}
-
-#[test]
-fn counted_kill_or_memory(rt: HostRuntime) {
-    ends_well_or_by_memory(&rt, rt.alloc(), COUNTED_KILL);
-}
-
-#[test]
-fn sequence_or_memory(rt: HostRuntime) {
-    ends_well_or_by_memory(&rt, rt.alloc(), SEQUENCE);
-}
-
-#[test]
-fn taken_hint_or_memory(rt: HostRuntime) {
-    ends_well_or_by_memory(&rt, rt.alloc(), TAKEN_HINT);
-}
-
-#[test]
-fn to_the_match_or_memory(rt: HostRuntime) {
-    ends_well_or_by_memory(&rt, rt.alloc(), TO_THE_MATCH);
 }

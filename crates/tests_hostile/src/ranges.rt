@@ -1,7 +1,8 @@
 //! Each movement, with the counts 0, 1 and 65535, in each command that takes one, at the start, in the middle and at the end of
 //! a text and on an empty line, in both styles and in Vi's command mode.
 
-use crate::desk::{LONG, MODES, Mode, Task, behind, leaves, spliced};
+use crate::bench::{Desk, MODES, Mode, PLAIN};
+use crate::tasks::{LONG, behind, leaves, spliced};
 use line_buffer::At::*;
 use line_buffer::CharSearch as By;
 use line_buffer::Movement::{self, *};
@@ -46,65 +47,26 @@ const OPS: &[Op] = &[
     Op::Dedents,
 ];
 
-const YANK: Cmd = Cmd::Yank(1, Anchor::Before);
-
-fn command(alloc: Global, op: Op, movement: Movement) -> line_config::Result<Cmd> {
-    Ok(match op {
+fn commands(alloc: Global, op: Op, movement: &Movement) -> line_config::Result<Vec<Cmd>> {
+    let movement = movement.clone()?;
+    let command = match op {
         Op::Moves => Cmd::Move(movement),
         Op::Kills => Cmd::Kill(movement),
         Op::Replaces => Cmd::Replace(movement, Some(String::from_str(alloc, "x")?)),
         Op::Copies => Cmd::ViYankTo(movement),
         Op::Indents => Cmd::Indent(movement),
         Op::Dedents => Cmd::Dedent(movement),
-    })
-}
-
-fn commands(alloc: Global, op: Op, movement: &Movement) -> line_config::Result<Vec<Cmd>> {
-    let mut commands = Vec::new(alloc);
-    commands.push(command(alloc, op, movement.clone()?)?)?;
+    };
+    let mut commands = vec![in alloc; command]?;
     if matches!(op, Op::Kills | Op::Copies) {
-        commands.push(YANK)?;
+        commands.push(Cmd::Yank(1, Anchor::Before))?;
     }
     Ok(commands)
 }
 
-/// Whether what a kill takes away is kept.
-fn is_kept(movement: &Movement) -> bool {
-    !matches!(movement, BackwardChar(_) | ForwardChar(_))
-}
-
-/// Whether the lines of its range are indented, and not the cursor's alone.
-fn has_lines(movement: &Movement) -> bool {
-    matches!(
-        movement,
-        BackwardWord(..)
-            | ForwardWord(..)
-            | LineUp(_)
-            | LineDown(_)
-            | WholeBuffer
-            | BeginningOfBuffer
-            | EndOfBuffer
-    )
-}
-
-/// What a copy takes: what a kill takes away, but for the newline before the line at whose start the cursor is.
-fn copied(case: Case<'_>) -> &'static str {
-    let (place, from, to) = case.cell;
-    if *case.movement == BeginningOfLine && place == case.cursor {
-        return "";
-    }
-    case.text.get(from..to).unwrap_or("")
-}
-
-/// Where the line of a place starts.
-fn line_start(text: &str, place: usize) -> usize {
-    match text.get(..place).unwrap_or("").rfind('\n') {
-        Some(newline) => newline.saturating_add(1),
-        None => 0,
-    }
-}
-
-/// The line that an operation leaves, and the cursor.
+/// The line that an operation leaves, and the cursor. What a kill takes away is kept, unless its movement goes by characters. A copy
+/// takes what a kill takes away, but for the newline before the line at whose start the cursor is. By some movements the lines of
+/// the range are indented, and by the others the cursor's alone.
 fn wanted(
     alloc: Global,
     case: Case<'_>,
@@ -117,68 +79,59 @@ fn wanted(
         movement,
         cell: (place, from, to),
     } = case;
-    match op {
-        Op::Moves => Ok((String::from_str(alloc, text)?, place)),
-        Op::Kills if is_kept(movement) => {
-            let gone = text.get(from..to).unwrap_or("");
-            Ok((String::from_str(alloc, text)?, behind(mode, gone, to)))
+    let taken = text.get(from..to).unwrap_or("");
+    match (op, movement) {
+        (Op::Moves, _) => Ok((String::from_str(alloc, text)?, place)),
+        (Op::Kills, BackwardChar(_) | ForwardChar(_)) => {
+            Ok((spliced(alloc, text, (from, to), "")?, from))
         }
-        Op::Kills => Ok((spliced(alloc, text, (from, to), "")?, from)),
-        Op::Replaces => Ok((spliced(alloc, text, (from, to), "x")?, from)),
-        Op::Copies => {
-            let text_of_it = copied(case);
-            let end = cursor.saturating_add(text_of_it.len());
-            Ok((
-                spliced(alloc, text, (cursor, cursor), text_of_it)?,
-                behind(mode, text_of_it, end),
-            ))
+        (Op::Kills, _) => Ok((String::from_str(alloc, text)?, behind(mode, taken, to))),
+        (Op::Replaces, _) => Ok((spliced(alloc, text, (from, to), "x")?, from)),
+        (Op::Copies, BeginningOfLine) if place == cursor => {
+            Ok((String::from_str(alloc, text)?, cursor))
         }
-        Op::Indents => {
-            let place = if has_lines(movement) && from < to {
-                from
-            } else {
-                cursor
+        (Op::Copies, _) => {
+            let end = behind(mode, taken, cursor.saturating_add(taken.len()));
+            Ok((spliced(alloc, text, (cursor, cursor), taken)?, end))
+        }
+        (Op::Indents, _) => {
+            let has_lines = matches!(
+                movement,
+                BackwardWord(..)
+                    | ForwardWord(..)
+                    | LineUp(_)
+                    | LineDown(_)
+                    | WholeBuffer
+                    | BeginningOfBuffer
+                    | EndOfBuffer
+            );
+            let place = if has_lines && from < to { from } else { cursor };
+            let start = match text.get(..place).unwrap_or("").rfind('\n') {
+                Some(newline) => newline.saturating_add(1),
+                None => 0,
             };
-            let start = line_start(text, place);
-            Ok((
-                spliced(alloc, text, (start, start), "  ")?,
-                cursor.saturating_add(2),
-            ))
+            let line = spliced(alloc, text, (start, start), "  ")?;
+            Ok((line, cursor.saturating_add(2)))
         }
-        Op::Dedents => Ok((String::from_str(alloc, text)?, cursor)),
+        (Op::Dedents, _) => Ok((String::from_str(alloc, text)?, cursor)),
     }
-}
-
-fn holds(rt: &impl Abort, alloc: Global, case: Case<'_>, op: Op, mode: Mode) -> Result<(), Fail> {
-    let task = Task {
-        text: case.text,
-        cursor: case.cursor,
-        mode,
-        killed: "",
-    };
-    let (line, pos) = wanted(alloc, case, op, mode)?;
-    let commands = commands(alloc, op, case.movement)?;
-    let wanted = (line.as_str(), pos);
-    leaves(rt, alloc, task, commands, wanted, &(op, case.movement))
-}
-
-fn in_each_mode(rt: &impl Abort, alloc: Global, case: Case<'_>, op: Op) -> Result<(), Fail> {
-    for mode in MODES {
-        holds(rt, alloc, case, op, *mode)?;
-    }
-    Ok(())
 }
 
 fn in_each_command(rt: &impl Abort, alloc: Global, case: Case<'_>) -> Result<(), Fail> {
     for op in OPS {
-        in_each_mode(rt, alloc, case, *op)?;
+        let commands = commands(alloc, *op, case.movement)?;
+        for mode in MODES {
+            let desk = Desk {
+                mode: *mode,
+                start: (case.text, case.cursor),
+                ..PLAIN
+            };
+            let (line, pos) = wanted(alloc, case, *op, *mode)?;
+            leaves(rt, alloc, &desk, commands.as_slice(), (line.as_str(), pos))?;
+        }
     }
     Ok(())
 }
-
-/// A text, and three cursors in it.
-#[derive(Clone, Copy)]
-struct Text(&'static str, usize, usize, usize);
 
 /// The movement with the count 0 in place of 1, where it leads nowhere with that.
 fn uncounted(movement: &Movement) -> Option<Movement> {
@@ -192,46 +145,39 @@ fn uncounted(movement: &Movement) -> Option<Movement> {
     }
 }
 
-/// A row, and with it the same movement with the count 0.
-fn follows(rt: &impl Abort, alloc: Global, text: Text, row: &Row) -> Result<(), Fail> {
-    let (movement, first, second, third) = row;
-    let Text(text, one, two, three) = text;
-    for (cursor, cell) in [(one, *first), (two, *second), (three, *third)] {
+/// A movement from some cursors, and with it the same movement with the count 0, which leads nowhere.
+fn follows(
+    rt: &impl Abort,
+    alloc: Global,
+    text: &'static str,
+    movement: &Movement,
+    cells: &[(usize, Cell)],
+) -> Result<(), Fail> {
+    let uncounted = uncounted(movement);
+    for (cursor, cell) in cells {
+        let cursor = *cursor;
         let case = Case {
             text,
             cursor,
             movement,
-            cell,
+            cell: *cell,
         };
         in_each_command(rt, alloc, case)?;
-    }
-    if let Some(movement) = uncounted(movement) {
-        for cursor in [one, two, three] {
-            stays(rt, alloc, text, cursor, &movement)?;
+        if let Some(movement) = &uncounted {
+            let cell = (cursor, cursor, cursor);
+            in_each_command(
+                rt,
+                alloc,
+                Case {
+                    movement,
+                    cell,
+                    ..case
+                },
+            )?;
         }
     }
     Ok(())
 }
-
-/// A movement that leads nowhere.
-fn stays(
-    rt: &impl Abort,
-    alloc: Global,
-    text: &'static str,
-    cursor: usize,
-    movement: &Movement,
-) -> Result<(), Fail> {
-    let cell = (cursor, cursor, cursor);
-    let case = Case {
-        text,
-        cursor,
-        movement,
-        cell,
-    };
-    in_each_command(rt, alloc, case)
-}
-
-const TWO: Text = Text("é日\n", 0, 2, 6);
 
 const OF_TWO: &[Row] = &[
     (WholeLine, (0, 0, 5), (2, 0, 5), (6, 6, 6)),
@@ -404,16 +350,6 @@ const OF_TWO: &[Row] = &[
     (LineUp(65535), (0, 0, 0), (2, 2, 2), (0, 0, 6)),
     (LineDown(65535), (6, 0, 6), (6, 0, 6), (6, 6, 6)),
 ];
-
-#[test]
-fn of_two_characters(rt: HostRuntime) -> Result<(), Fail> {
-    for row in OF_TWO {
-        follows(&rt, rt.alloc(), TWO, row)?;
-    }
-    Ok(())
-}
-
-const THREE_HUNDRED: Text = Text(LONG, 0, 150, 300);
 
 const OF_LONG: &[Row] = &[
     (WholeLine, (0, 0, 300), (150, 0, 300), (300, 0, 300)),
@@ -627,26 +563,27 @@ const OF_LONG: &[Row] = &[
     (LineDown(65535), (0, 0, 0), (150, 150, 150), (300, 300, 300)),
 ];
 
-#[test]
-fn of_three_hundred(rt: HostRuntime) -> Result<(), Fail> {
-    for row in OF_LONG {
-        follows(&rt, rt.alloc(), THREE_HUNDRED, row)?;
-    }
-    Ok(())
-}
+/// A text, three cursors in it, and the rows that speak of them.
+const TEXTS: &[(&str, (usize, usize, usize), &[Row])] = &[
+    ("é日\n", (0, 2, 6), OF_TWO),
+    (LONG, (0, 150, 300), OF_LONG),
+];
 
-fn follows_in_none(rt: &impl Abort, alloc: Global, row: &Row) -> Result<(), Fail> {
-    stays(rt, alloc, "", 0, &row.0)?;
-    if let Some(movement) = uncounted(&row.0) {
-        stays(rt, alloc, "", 0, &movement)?;
+#[test]
+fn of_texts(rt: HostRuntime) -> Result<(), Fail> {
+    for (text, (one, two, three), rows) in TEXTS {
+        for (movement, first, second, third) in *rows {
+            let cells = [(*one, *first), (*two, *second), (*three, *third)];
+            follows(&rt, rt.alloc(), text, movement, &cells)?;
+        }
     }
     Ok(())
 }
 
 #[test]
 fn of_none(rt: HostRuntime) -> Result<(), Fail> {
-    for row in OF_TWO {
-        follows_in_none(&rt, rt.alloc(), row)?;
+    for (movement, _, _, _) in OF_TWO {
+        follows(&rt, rt.alloc(), "", movement, &[(0, (0, 0, 0))])?;
     }
     Ok(())
 }

@@ -1,1 +1,1 @@
-pub mod Watcher
+pub mod Spoken

@@ -13,69 +13,44 @@ ghost use Rattle.line_keys.specs.declared.refresher.InputMode.TheVariants as mod
 ghost use Rattle.line_keys.specs.declared.keys.KeyCode.TheVariants.{Backspace, Char, Enter, Esc};
 ghost use Rattle.line_keys.specs.declared.keys.TheConstants.Modifiers.{ALT, CTRL, NONE};
 
-/// M--, 2 and 3 write -23: the digits are counted apart from the sign.
-pub fn minus_two_three_is_minus_twenty_three()
-    ensures { count_of (event (Char 45) ALT ∷ event (Char 50) NONE ∷ event (Char 51) NONE ∷ [])
+/// What the keys of a count write.
+pub fn what_counts_write()
+    // M--, 2 and 3 write -23: the digits are counted apart from the sign.
+    ensures minus_two_three { count_of (event (Char 45) ALT ∷ event (Char 50) NONE ∷ event (Char 51) NONE ∷ [])
         ≡ record { n = 23; positive = false } }
-{}
-
-/// M-- alone writes -1.
-pub fn minus_alone_is_minus_one()
-    ensures { count_of (event (Char 45) ALT ∷ []) ≡ record { n = 1; positive = false } }
-{}
-
-/// M-0 writes 1.
-pub fn zero_is_one()
-    ensures { count_of (event (Char 48) ALT ∷ []) ≡ one }
-{}
-
-/// M-- and 0 write 1, whatever the sign.
-pub fn minus_zero_is_one()
-    ensures { count_of (event (Char 45) ALT ∷ event (Char 48) NONE ∷ []) ≡ one }
-{}
-
-/// M-2, - and 3 write 23: a minus sign inside is passed over.
-pub fn minus_inside_is_passed_over()
-    ensures { count_of (event (Char 50) ALT ∷ event (Char 45) NONE ∷ event (Char 51) NONE ∷ [])
+    // M-- alone writes -1.
+    ensures minus_alone { count_of (event (Char 45) ALT ∷ []) ≡ record { n = 1; positive = false } }
+    // M-0 writes 1.
+    ensures zero { count_of (event (Char 48) ALT ∷ []) ≡ one }
+    // M-- and 0 write 1, whatever the sign.
+    ensures minus_zero { count_of (event (Char 45) ALT ∷ event (Char 48) NONE ∷ []) ≡ one }
+    // M-2, - and 3 write 23: a minus sign inside is passed over.
+    ensures minus_inside { count_of (event (Char 50) ALT ∷ event (Char 45) NONE ∷ event (Char 51) NONE ∷ [])
         ≡ record { n = 23; positive = true } }
-{}
-
-/// M-9 and six nines write 9999.
-pub fn seven_nines_are_9999()
-    ensures { let nine = event (Char 57) NONE in
+    // M-9 and six nines write 9999.
+    ensures seven_nines { let nine = event (Char 57) NONE in
         count_of (event (Char 57) ALT ∷ nine ∷ nine ∷ nine ∷ nine ∷ nine ∷ nine ∷ [])
         ≡ record { n = 9999; positive = true } }
-{}
-
-/// M-1, three zeros and 5 write 1000: the first beginning that writes at least 1000 counts.
-pub fn a_thousand_takes_no_more()
-    ensures { let zero = event (Char 48) NONE in
+    // M-1, three zeros and 5 write 1000: the first beginning that writes at least 1000 counts.
+    ensures a_thousand { let zero = event (Char 48) NONE in
         count_of (event (Char 49) ALT ∷ zero ∷ zero ∷ zero ∷ event (Char 53) NONE ∷ [])
         ≡ record { n = 1000; positive = true } }
+    // Without keys the count is 1.
+    ensures no_keys { count_of [] ≡ one }
 {}
 
-/// Without keys the count is 1.
-pub fn no_keys_are_one()
-    ensures { count_of [] ≡ one }
-{}
-
-/// In Emacs M-5 begins a count and 5 does not; in Vi's command mode it is the other way round.
-pub fn digits_begin_counts()
+/// Which keys begin a count, and which go on with it.
+pub fn which_keys_a_count_has()
+    // In Emacs M-5 begins a count and 5 does not; in Vi's command mode it is the other way round.
     ensures emacs_alt { begins_count styles.Emacs modes.Insert (event (Char 53) ALT) ≡ true }
     ensures emacs { begins_count styles.Emacs modes.Insert (event (Char 53) NONE) ≡ false }
     ensures vi_alt { begins_count styles.Vi modes.Command (event (Char 53) ALT) ≡ false }
     ensures vi { begins_count styles.Vi modes.Command (event (Char 53) NONE) ≡ true }
     ensures vi_insert { begins_count styles.Vi modes.Insert (event (Char 53) NONE) ≡ false }
-{}
-
-/// In Vi's command mode 0 begins no count, and goes on with one.
-pub fn zero_goes_on_in_vi()
-    ensures begins { begins_count styles.Vi modes.Command (event (Char 48) NONE) ≡ false }
-    ensures goes_on { continues_count styles.Vi (event (Char 48) NONE) ≡ true }
-{}
-
-/// Behind M-5 the key 3 is one of the count, and Enter ends it.
-pub fn enter_ends_a_count()
+    // In Vi's command mode 0 begins no count, and goes on with one.
+    ensures zero_begins { begins_count styles.Vi modes.Command (event (Char 48) NONE) ≡ false }
+    ensures zero_goes_on { continues_count styles.Vi (event (Char 48) NONE) ≡ true }
+    // Behind M-5 the key 3 is one of the count, and Enter ends it.
     ensures enter { is_count_before styles.Emacs modes.Insert (event (Char 53) ALT ∷ [])
         (event Enter NONE) ≡ true }
     ensures digit { is_count_before styles.Emacs modes.Insert (event (Char 53) ALT ∷ [])
@@ -91,33 +66,26 @@ pub fn second_keys_have_commands()
     ensures other { second_at one (event (Char 97) NONE) ≡ unknown }
 {}
 
-/// A kill or a move done again takes the new count; without one it keeps its own.
-pub fn movements_take_a_new_count()
+/// What a command becomes that is done again.
+pub fn what_is_done_again()
+    // A kill or a move done again takes the new count; without one it keeps its own.
     ensures kills { redone true (Some 3) None (kill (ForwardChar 7)) ≡ kill (ForwardChar 3) }
     ensures keeps { redone true None None (kill (BackwardChar 7)) ≡ kill (BackwardChar 7) }
     ensures moves { bound_anew (Some 1) None (move (BackwardChar 65535)) ≡ move (BackwardChar 1) }
     ensures uncounted { redone true (Some 3) None (kill WholeLine) ≡ kill WholeLine }
-{}
-
-/// An insertion, a yank and a replaced character done again take the new count; without one they keep their own.
-pub fn insertions_take_a_new_count()
+    // An insertion, a yank and a replaced character done again take the new count; without one they keep their own.
     ensures inserts { redone true (Some 2) None (insert 5 (107 ∷ [])) ≡ insert 2 (107 ∷ []) }
     ensures yanks { redone true (Some 2) None (yank 5 Before) ≡ yank 2 Before }
     ensures replaces { redone true (Some 2) None (replace_char 5 120) ≡ replace_char 2 120 }
-    ensures keeps { redone true None None (replace_char 5 120) ≡ replace_char 5 120 }
-{}
-
-/// The dot puts the last text in again for a typed character; a bound one keeps its character.
-pub fn typed_characters_come_again()
+    ensures keeps_its_own { redone true None None (replace_char 5 120) ≡ replace_char 5 120 }
+    // The dot puts the last text in again for a typed character; a bound one keeps its character.
     ensures dot { redone true (Some 2) (Some (97 ∷ 98 ∷ [])) (self_insert 1 98)
         ≡ insert 2 (97 ∷ 98 ∷ []) }
     ensures alone { redone true (Some 2) None (self_insert 1 98) ≡ self_insert 2 98 }
     ensures bound { redone false (Some 2) (Some (97 ∷ 98 ∷ [])) (self_insert 1 98)
         ≡ self_insert 2 98 }
-{}
-
-/// A replacement done again takes the last text; where it was typed over the line, over as many clusters as that has bytes.
-pub fn replacements_come_again()
+    // A replacement done again takes the last text; where it was typed over the line, over as many clusters as that has
+    // bytes.
     ensures by_movement { redone true (Some 2) (Some (120 ∷ [])) (replace (ForwardChar 1) None)
         ≡ replace (ForwardChar 2) (Some (120 ∷ [])) }
     ensures over { redone true (Some 9) (Some (120 ∷ 121 ∷ [])) (replace (ForwardChar 0) None)
@@ -126,10 +94,7 @@ pub fn replacements_come_again()
         ≡ replace (ForwardChar 0) None }
     ensures own_text { redone true (Some 2) (Some (120 ∷ [])) (replace (ForwardChar 0) (Some []))
         ≡ replace (ForwardChar 2) (Some []) }
-{}
-
-/// What can't be done again stays for a binding too.
-pub fn other_commands_stay()
+    // What can't be done again stays for a binding too.
     ensures accepts { bound_anew (Some 3) None accept_line ≡ accept_line }
     ensures undoes { bound_anew (Some 3) None (undo 1) ≡ undo 1 }
     ensures pops { bound_anew (Some 3) None yank_pop ≡ yank_pop }

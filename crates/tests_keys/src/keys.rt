@@ -1,5 +1,7 @@
 //! Keys and their modifiers.
 
+use self::Made::*;
+use self::With::*;
 use bitflags::Flags;
 use line_editor::binding::{Event, EventHandler};
 use line_keys::cmd::Cmd;
@@ -10,228 +12,206 @@ use std::collections::HashMap;
 use std::process::Abort;
 use std::test::Fail;
 
-/// Each set of modifiers with its bits; the same with Ctrl, with Shift and without Shift.
-const SETS: &[(M, u8, M, M, M)] = &[
-    (M::NONE, 0, M::CTRL, M::SHIFT, M::NONE),
-    (M::SHIFT, 2, M::CTRL_SHIFT, M::SHIFT, M::NONE),
-    (M::ALT, 4, M::CTRL_ALT, M::ALT_SHIFT, M::ALT),
-    (M::ALT_SHIFT, 6, M::CTRL_ALT_SHIFT, M::ALT_SHIFT, M::ALT),
-    (M::CTRL, 8, M::CTRL, M::CTRL_SHIFT, M::CTRL),
-    (M::CTRL_SHIFT, 10, M::CTRL_SHIFT, M::CTRL_SHIFT, M::CTRL),
-    (M::CTRL_ALT, 12, M::CTRL_ALT, M::CTRL_ALT_SHIFT, M::CTRL_ALT),
+/// Each set of modifiers; the same with Ctrl, with Shift and without Shift.
+const SETS: &[(M, M, M, M)] = &[
+    (M::NONE, M::CTRL, M::SHIFT, M::NONE),
+    (M::SHIFT, M::CTRL_SHIFT, M::SHIFT, M::NONE),
+    (M::ALT, M::CTRL_ALT, M::ALT_SHIFT, M::ALT),
+    (M::ALT_SHIFT, M::CTRL_ALT_SHIFT, M::ALT_SHIFT, M::ALT),
+    (M::CTRL, M::CTRL, M::CTRL_SHIFT, M::CTRL),
+    (M::CTRL_SHIFT, M::CTRL_SHIFT, M::CTRL_SHIFT, M::CTRL),
+    (M::CTRL_ALT, M::CTRL_ALT, M::CTRL_ALT_SHIFT, M::CTRL_ALT),
     (
         M::CTRL_ALT_SHIFT,
-        14,
         M::CTRL_ALT_SHIFT,
         M::CTRL_ALT_SHIFT,
         M::CTRL_ALT,
     ),
 ];
 
-/// What the modifiers become.
-#[derive(Clone, Copy)]
-enum Modified {
-    Kept,
-    WithCtrl,
-    WithShift,
-    WithoutShift,
+/// How an event is made: of a character, with Ctrl or Alt or plain, or as the normal form of a key.
+enum Made {
+    New(char),
+    Ctrl(char),
+    Alt(char),
+    Plain(char),
+    Normal(K),
 }
 
-/// A character, its key, and what the modifiers become.
-type Character = (char, K, Modified);
+/// With which modifiers it is made, and what they become: each set of them, which stays, gets Ctrl or Shift or loses
+/// Shift; or one set alone, and what that becomes.
+enum With {
+    Each,
+    EachAndCtrl,
+    EachAndShift,
+    EachNotShift,
+    Only(M, M),
+}
 
-/// The event of a character is its key, with each set of modifiers.
-fn names(rt: &impl Abort, case: Character) {
-    let (c, code, modified) = case;
-    for (mods, _, with_ctrl, with_shift, no_shift) in SETS {
-        let left = match modified {
-            Modified::Kept => *mods,
-            Modified::WithCtrl => *with_ctrl,
-            Modified::WithShift => *with_shift,
-            Modified::WithoutShift => *no_shift,
+/// How an event is made, its key, and its modifiers.
+const EVENTS: &[(Made, K, With)] = &[
+    (New(' '), K::Char(' '), EachNotShift),
+    (New('a'), K::Char('a'), EachNotShift),
+    (New('A'), K::Char('A'), EachNotShift),
+    (New('['), K::Char('['), EachNotShift),
+    (New('~'), K::Char('~'), EachNotShift),
+    (New('\u{a0}'), K::Char('\u{a0}'), EachNotShift),
+    (New('é'), K::Char('é'), EachNotShift),
+    (New('\u{d7ff}'), K::Char('\u{d7ff}'), EachNotShift),
+    (New('\u{10ffff}'), K::Char('\u{10ffff}'), EachNotShift),
+    (New('\u{0}'), K::Char('@'), EachAndCtrl),
+    (New('\u{1}'), K::Char('A'), EachAndCtrl),
+    (New('\u{2}'), K::Char('B'), EachAndCtrl),
+    (New('\u{3}'), K::Char('C'), EachAndCtrl),
+    (New('\u{4}'), K::Char('D'), EachAndCtrl),
+    (New('\u{5}'), K::Char('E'), EachAndCtrl),
+    (New('\u{6}'), K::Char('F'), EachAndCtrl),
+    (New('\u{7}'), K::Char('G'), EachAndCtrl),
+    (New('\u{a}'), K::Char('J'), EachAndCtrl),
+    (New('\u{b}'), K::Char('K'), EachAndCtrl),
+    (New('\u{c}'), K::Char('L'), EachAndCtrl),
+    (New('\u{e}'), K::Char('N'), EachAndCtrl),
+    (New('\u{f}'), K::Char('O'), EachAndCtrl),
+    (New('\u{10}'), K::Char('P'), EachAndCtrl),
+    (New('\u{11}'), K::Char('Q'), EachAndCtrl),
+    (New('\u{12}'), K::Char('R'), EachAndCtrl),
+    (New('\u{13}'), K::Char('S'), EachAndCtrl),
+    (New('\u{14}'), K::Char('T'), EachAndCtrl),
+    (New('\u{15}'), K::Char('U'), EachAndCtrl),
+    (New('\u{16}'), K::Char('V'), EachAndCtrl),
+    (New('\u{17}'), K::Char('W'), EachAndCtrl),
+    (New('\u{18}'), K::Char('X'), EachAndCtrl),
+    (New('\u{19}'), K::Char('Y'), EachAndCtrl),
+    (New('\u{1a}'), K::Char('Z'), EachAndCtrl),
+    (New('\u{1c}'), K::Char('\\'), EachAndCtrl),
+    (New('\u{1d}'), K::Char(']'), EachAndCtrl),
+    (New('\u{1e}'), K::Char('^'), EachAndCtrl),
+    (New('\u{1f}'), K::Char('_'), EachAndCtrl),
+    (New('\u{8}'), K::Backspace, Each),
+    (New('\u{7f}'), K::Backspace, Each),
+    (New('\u{d}'), K::Enter, Each),
+    (New('\u{1b}'), K::Esc, Each),
+    (New('\u{80}'), K::Null, Each),
+    (New('\u{9a}'), K::Null, Each),
+    (New('\u{9c}'), K::Null, Each),
+    (New('\u{9f}'), K::Null, Each),
+    (New('\u{9b}'), K::Esc, EachAndShift),
+    (New('\t'), K::Tab, Only(M::NONE, M::NONE)),
+    (New('\t'), K::BackTab, Only(M::SHIFT, M::NONE)),
+    (New('\t'), K::Tab, Only(M::ALT, M::ALT)),
+    (New('\t'), K::BackTab, Only(M::ALT_SHIFT, M::ALT)),
+    (New('\t'), K::Tab, Only(M::CTRL, M::CTRL)),
+    (New('\t'), K::BackTab, Only(M::CTRL_SHIFT, M::CTRL)),
+    (New('\t'), K::Tab, Only(M::CTRL_ALT, M::CTRL_ALT)),
+    (New('\t'), K::BackTab, Only(M::CTRL_ALT_SHIFT, M::CTRL_ALT)),
+    (Normal(K::Tab), K::Tab, Only(M::NONE, M::NONE)),
+    (Normal(K::Tab), K::BackTab, Only(M::SHIFT, M::NONE)),
+    (Normal(K::Tab), K::Tab, Only(M::ALT, M::ALT)),
+    (Normal(K::Tab), K::BackTab, Only(M::ALT_SHIFT, M::ALT)),
+    (Normal(K::Tab), K::Tab, Only(M::CTRL, M::CTRL)),
+    (Normal(K::Tab), K::BackTab, Only(M::CTRL_SHIFT, M::CTRL)),
+    (Normal(K::Tab), K::Tab, Only(M::CTRL_ALT, M::CTRL_ALT)),
+    (
+        Normal(K::Tab),
+        K::BackTab,
+        Only(M::CTRL_ALT_SHIFT, M::CTRL_ALT),
+    ),
+    (Normal(K::Enter), K::Enter, Each),
+    (Normal(K::BackTab), K::BackTab, Each),
+    (Normal(K::Left), K::Left, Each),
+    (Normal(K::F(3)), K::F(3), Each),
+    (Normal(K::Null), K::Null, Each),
+    (
+        Normal(K::Char('\u{1}')),
+        K::Char('A'),
+        Only(M::NONE, M::CTRL),
+    ),
+    (Normal(K::Char('\t')), K::BackTab, Only(M::SHIFT, M::NONE)),
+    (
+        Normal(K::Char('\u{7f}')),
+        K::Backspace,
+        Only(M::ALT, M::ALT),
+    ),
+    (
+        Normal(K::Char('a')),
+        K::Char('A'),
+        Only(M::CTRL_SHIFT, M::CTRL_SHIFT),
+    ),
+    (
+        Normal(K::Char('A')),
+        K::Char('A'),
+        Only(M::CTRL_SHIFT, M::CTRL),
+    ),
+    (
+        Normal(K::Char('z')),
+        K::Char('Z'),
+        Only(M::CTRL_ALT, M::CTRL_ALT),
+    ),
+    (
+        Normal(K::Char('z')),
+        K::Char('z'),
+        Only(M::ALT_SHIFT, M::ALT_SHIFT),
+    ),
+    (
+        Normal(K::Char('Z')),
+        K::Char('Z'),
+        Only(M::ALT_SHIFT, M::ALT),
+    ),
+    (
+        Normal(K::Char('1')),
+        K::Char('1'),
+        Only(M::CTRL_SHIFT, M::CTRL_SHIFT),
+    ),
+    (Normal(K::Char('é')), K::Char('é'), Only(M::CTRL, M::CTRL)),
+    (Normal(K::Char('É')), K::Char('É'), Only(M::SHIFT, M::SHIFT)),
+    (
+        Normal(K::Char('\u{9b}')),
+        K::Char('\u{9b}'),
+        Only(M::NONE, M::NONE),
+    ),
+    (Ctrl('x'), K::Char('x'), Only(M::NONE, M::CTRL)),
+    (Ctrl('\u{0}'), K::Char('@'), Only(M::NONE, M::CTRL)),
+    (Alt('3'), K::Char('3'), Only(M::NONE, M::ALT)),
+    (Alt('\u{4}'), K::Char('D'), Only(M::NONE, M::CTRL_ALT)),
+    (Plain('\r'), K::Enter, Only(M::NONE, M::NONE)),
+    (Plain('q'), K::Char('q'), Only(M::NONE, M::NONE)),
+];
+
+/// The event that is made, with each set of modifiers.
+fn comes(rt: &impl Abort, made: &Made, code: K, with: &With) {
+    for (mods, and_ctrl, and_shift, not_shift) in SETS {
+        let (given, left) = match with {
+            Each => (*mods, *mods),
+            EachAndCtrl => (*mods, *and_ctrl),
+            EachAndShift => (*mods, *and_shift),
+            EachNotShift => (*mods, *not_shift),
+            Only(given, left) => (*given, *left),
         };
-        assert_eq!(rt;
-            KeyEvent::new(c, *mods),
-            KeyEvent(code, left),
-            "{c:?} {mods:?}"
-        );
+        let event = match made {
+            New(c) => KeyEvent::new(*c, given),
+            Ctrl(c) => KeyEvent::ctrl(*c),
+            Alt(c) => KeyEvent::alt(*c),
+            Plain(c) => KeyEvent::from(*c),
+            Normal(code) => KeyEvent::normalize(KeyEvent(*code, given)),
+        };
+        assert_eq!(rt; event, KeyEvent(code, left), "made with {given:?}");
     }
-}
-
-const CHARACTERS: &[Character] = &[
-    (' ', K::Char(' '), Modified::WithoutShift),
-    ('a', K::Char('a'), Modified::WithoutShift),
-    ('A', K::Char('A'), Modified::WithoutShift),
-    ('[', K::Char('['), Modified::WithoutShift),
-    ('~', K::Char('~'), Modified::WithoutShift),
-    ('\u{a0}', K::Char('\u{a0}'), Modified::WithoutShift),
-    ('é', K::Char('é'), Modified::WithoutShift),
-    ('\u{d7ff}', K::Char('\u{d7ff}'), Modified::WithoutShift),
-    ('\u{10ffff}', K::Char('\u{10ffff}'), Modified::WithoutShift),
-    ('\u{0}', K::Char('@'), Modified::WithCtrl),
-    ('\u{1}', K::Char('A'), Modified::WithCtrl),
-    ('\u{2}', K::Char('B'), Modified::WithCtrl),
-    ('\u{3}', K::Char('C'), Modified::WithCtrl),
-    ('\u{4}', K::Char('D'), Modified::WithCtrl),
-    ('\u{5}', K::Char('E'), Modified::WithCtrl),
-    ('\u{6}', K::Char('F'), Modified::WithCtrl),
-    ('\u{7}', K::Char('G'), Modified::WithCtrl),
-    ('\u{a}', K::Char('J'), Modified::WithCtrl),
-    ('\u{b}', K::Char('K'), Modified::WithCtrl),
-    ('\u{c}', K::Char('L'), Modified::WithCtrl),
-    ('\u{e}', K::Char('N'), Modified::WithCtrl),
-    ('\u{f}', K::Char('O'), Modified::WithCtrl),
-    ('\u{10}', K::Char('P'), Modified::WithCtrl),
-    ('\u{11}', K::Char('Q'), Modified::WithCtrl),
-    ('\u{12}', K::Char('R'), Modified::WithCtrl),
-    ('\u{13}', K::Char('S'), Modified::WithCtrl),
-    ('\u{14}', K::Char('T'), Modified::WithCtrl),
-    ('\u{15}', K::Char('U'), Modified::WithCtrl),
-    ('\u{16}', K::Char('V'), Modified::WithCtrl),
-    ('\u{17}', K::Char('W'), Modified::WithCtrl),
-    ('\u{18}', K::Char('X'), Modified::WithCtrl),
-    ('\u{19}', K::Char('Y'), Modified::WithCtrl),
-    ('\u{1a}', K::Char('Z'), Modified::WithCtrl),
-    ('\u{1c}', K::Char('\\'), Modified::WithCtrl),
-    ('\u{1d}', K::Char(']'), Modified::WithCtrl),
-    ('\u{1e}', K::Char('^'), Modified::WithCtrl),
-    ('\u{1f}', K::Char('_'), Modified::WithCtrl),
-    ('\u{8}', K::Backspace, Modified::Kept),
-    ('\u{7f}', K::Backspace, Modified::Kept),
-    ('\u{d}', K::Enter, Modified::Kept),
-    ('\u{1b}', K::Esc, Modified::Kept),
-    ('\u{80}', K::Null, Modified::Kept),
-    ('\u{9a}', K::Null, Modified::Kept),
-    ('\u{9c}', K::Null, Modified::Kept),
-    ('\u{9f}', K::Null, Modified::Kept),
-    ('\u{9b}', K::Esc, Modified::WithShift),
-];
-
-#[test]
-fn of_characters(rt: HostRuntime) {
-    for case in CHARACTERS {
-        names(&rt, *case);
-    }
-}
-
-/// An event, and its normal form.
-type Form = (K, M, K, M);
-
-fn forms(rt: &impl Abort, case: Form) {
-    let (code, mods, normal_code, normal_mods) = case;
-    let event = KeyEvent(code, mods);
-    assert_eq!(rt;
-        KeyEvent::normalize(event),
-        KeyEvent(normal_code, normal_mods),
-        "{event:?}"
-    );
-}
-
-const FORMS: &[Form] = &[
-    (K::Char('\u{1}'), M::NONE, K::Char('A'), M::CTRL),
-    (K::Char('\t'), M::SHIFT, K::BackTab, M::NONE),
-    (K::Char('\u{7f}'), M::ALT, K::Backspace, M::ALT),
-    (K::Char('a'), M::CTRL_SHIFT, K::Char('A'), M::CTRL_SHIFT),
-    (K::Char('A'), M::CTRL_SHIFT, K::Char('A'), M::CTRL),
-    (K::Char('z'), M::CTRL_ALT, K::Char('Z'), M::CTRL_ALT),
-    (K::Char('z'), M::ALT_SHIFT, K::Char('z'), M::ALT_SHIFT),
-    (K::Char('Z'), M::ALT_SHIFT, K::Char('Z'), M::ALT),
-    (K::Char('1'), M::CTRL_SHIFT, K::Char('1'), M::CTRL_SHIFT),
-    (K::Char('é'), M::CTRL, K::Char('é'), M::CTRL),
-    (K::Char('É'), M::SHIFT, K::Char('É'), M::SHIFT),
-    (K::Char('\u{9b}'), M::NONE, K::Char('\u{9b}'), M::NONE),
-];
-
-#[test]
-fn in_normal_form(rt: HostRuntime) {
-    for case in FORMS {
-        forms(&rt, *case);
-    }
-}
-
-/// Keys without a character, and Tab with each set of modifiers: as a character and in normal form.
-fn keeps(rt: &impl Abort, case: (M, u8, M, M, M)) {
-    let (mods, bits, _, _, no_shift) = case;
-    let tab = if mods == no_shift { K::Tab } else { K::BackTab };
-    assert_eq!(rt;
-        KeyEvent::new('\t', mods),
-        KeyEvent(tab, no_shift),
-        "{mods:?}"
-    );
-    let normal = KeyEvent::normalize(KeyEvent(K::Tab, mods));
-    assert_eq!(rt; normal, KeyEvent(tab, no_shift), "{mods:?}");
-    for code in [K::Enter, K::BackTab, K::Left, K::F(3), K::Null] {
-        let event = KeyEvent(code, mods);
-        assert_eq!(rt; KeyEvent::normalize(event), event);
-    }
-    let found = (mods.bits(), M::from_bits(bits), M::from_bits(bits | 1));
-    assert_eq!(rt; found, (bits, Some(mods), None));
 }
 
 #[test]
-fn with_each_set_of_modifiers(rt: HostRuntime) {
-    for (mods, bits, with_ctrl, with_shift, no_shift) in SETS {
-        keeps(&rt, (*mods, *bits, *with_ctrl, *with_shift, *no_shift));
+fn are_made(rt: HostRuntime) {
+    for (made, code, with) in EVENTS {
+        comes(&rt, made, *code, with);
     }
 }
 
-/// How an event is made of a character.
-#[derive(Clone, Copy)]
-enum Maker {
-    Ctrl,
-    Alt,
-    From,
-}
-
-fn makes(rt: &impl Abort, case: (Maker, char, K, M)) {
-    let (maker, c, code, mods) = case;
-    let event = match maker {
-        Maker::Ctrl => KeyEvent::ctrl(c),
-        Maker::Alt => KeyEvent::alt(c),
-        Maker::From => KeyEvent::from(c),
-    };
-    assert_eq!(rt; event, KeyEvent(code, mods));
-}
-
-const MAKERS: &[(Maker, char, K, M)] = &[
-    (Maker::Ctrl, 'x', K::Char('x'), M::CTRL),
-    (Maker::Ctrl, '\u{0}', K::Char('@'), M::CTRL),
-    (Maker::Alt, '3', K::Char('3'), M::ALT),
-    (Maker::Alt, '\u{4}', K::Char('D'), M::CTRL_ALT),
-    (Maker::From, '\r', K::Enter, M::NONE),
-    (Maker::From, 'q', K::Char('q'), M::NONE),
-];
-
-#[test]
-fn by_short_makers(rt: HostRuntime) {
-    for case in MAKERS {
-        makes(&rt, *case);
-    }
-}
-
-/// Two sets: what they have together, what both have, what one alone has, what the first alone has, and what the first
-/// lacks.
-type Sets = (M, M, M, M, M, M, M);
-
-fn combines(rt: &impl Abort, case: Sets) {
-    let (a, b, both, common, either, first, lacks) = case;
-    assert_eq!(rt;
-        (a | b, a & b, a ^ b, a - b, !a),
-        (both, common, either, first, lacks)
-    );
-    let found = (a.contains(b), a.intersects(b), a.is_empty());
-    assert_eq!(rt; found, (common == b, common != M::NONE, a == M::NONE));
-    let mut set = a;
-    set.insert(b);
-    assert_eq!(rt; set, both);
-    set.remove(b);
-    assert_eq!(rt; set, first);
-    set.toggle(both);
-    assert_eq!(rt; set, both - first);
-}
+/// Two sets: the bits of the first, the sets, what they have together, what both have, what one alone has, what the first
+/// alone has, and what the first lacks.
+type Sets = (u8, M, M, M, M, M, M, M);
 
 const COMBINED: &[Sets] = &[
     (
+        10,
         M::CTRL_SHIFT,
         M::CTRL_ALT,
         M::CTRL_ALT_SHIFT,
@@ -241,6 +221,7 @@ const COMBINED: &[Sets] = &[
         M::ALT,
     ),
     (
+        12,
         M::CTRL_ALT,
         M::ALT,
         M::CTRL_ALT,
@@ -250,6 +231,7 @@ const COMBINED: &[Sets] = &[
         M::SHIFT,
     ),
     (
+        12,
         M::CTRL_ALT,
         M::SHIFT,
         M::CTRL_ALT_SHIFT,
@@ -259,6 +241,7 @@ const COMBINED: &[Sets] = &[
         M::SHIFT,
     ),
     (
+        0,
         M::NONE,
         M::NONE,
         M::NONE,
@@ -266,13 +249,102 @@ const COMBINED: &[Sets] = &[
         M::NONE,
         M::NONE,
         M::CTRL_ALT_SHIFT,
+    ),
+    (
+        2,
+        M::SHIFT,
+        M::SHIFT,
+        M::SHIFT,
+        M::SHIFT,
+        M::NONE,
+        M::NONE,
+        M::CTRL_ALT,
+    ),
+    (
+        4,
+        M::ALT,
+        M::ALT,
+        M::ALT,
+        M::ALT,
+        M::NONE,
+        M::NONE,
+        M::CTRL_SHIFT,
+    ),
+    (
+        6,
+        M::ALT_SHIFT,
+        M::ALT_SHIFT,
+        M::ALT_SHIFT,
+        M::ALT_SHIFT,
+        M::NONE,
+        M::NONE,
+        M::CTRL,
+    ),
+    (
+        8,
+        M::CTRL,
+        M::CTRL,
+        M::CTRL,
+        M::CTRL,
+        M::NONE,
+        M::NONE,
+        M::ALT_SHIFT,
+    ),
+    (
+        10,
+        M::CTRL_SHIFT,
+        M::CTRL_SHIFT,
+        M::CTRL_SHIFT,
+        M::CTRL_SHIFT,
+        M::NONE,
+        M::NONE,
+        M::ALT,
+    ),
+    (
+        12,
+        M::CTRL_ALT,
+        M::CTRL_ALT,
+        M::CTRL_ALT,
+        M::CTRL_ALT,
+        M::NONE,
+        M::NONE,
+        M::SHIFT,
+    ),
+    (
+        14,
+        M::CTRL_ALT_SHIFT,
+        M::CTRL_ALT_SHIFT,
+        M::CTRL_ALT_SHIFT,
+        M::CTRL_ALT_SHIFT,
+        M::NONE,
+        M::NONE,
+        M::NONE,
     ),
 ];
+
+fn combines(rt: &impl Abort, case: &Sets) {
+    let (bits, a, b, both, common, either, first, lacks) = *case;
+    assert_eq!(rt;
+        (a | b, a & b, a ^ b, a - b, !a),
+        (both, common, either, first, lacks)
+    );
+    let found = (a.contains(b), a.intersects(b), a.is_empty());
+    assert_eq!(rt; found, (common == b, common != M::NONE, a == M::NONE));
+    let found = (a.bits(), M::from_bits(bits), M::from_bits(bits | 1));
+    assert_eq!(rt; found, (bits, Some(a), None));
+    let mut set = a;
+    set.insert(b);
+    assert_eq!(rt; set, both);
+    set.remove(b);
+    assert_eq!(rt; set, first);
+    set.toggle(both);
+    assert_eq!(rt; set, both - first);
+}
 
 #[test]
 fn modifiers_are_sets(rt: HostRuntime) {
     for case in COMBINED {
-        combines(&rt, *case);
+        combines(&rt, case);
     }
     assert_eq!(rt; !M::from_bits_retain(0xf1), M::CTRL_ALT_SHIFT);
     assert_eq!(rt;

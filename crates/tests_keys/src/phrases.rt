@@ -23,9 +23,10 @@ ghost use Rattle.line_keys.specs.declared.keys.KeyEvent.{KeyEvent};
 ghost use Rattle.line_keys.specs.declared.keys.TheConstants.Modifiers.{ALT, CTRL, NONE};
 ghost use Rattle.line_parts.specs.Environment.{Environment};
 
-/// Behind a key that searches with the count 2, the key b gives the move to the second b.
-pub fn a_plain_key_is_searched_for()
-    ensures { (s : Sequences) (environment : Environment) (draft : Draft) (last : KeyEvent) →
+/// What is read behind a key that searches.
+pub fn keys_behind_a_search()
+    // Behind a key that searches with the count 2, the key b gives the move to the second b.
+    ensures plain_key { (s : Sequences) (environment : Environment) (draft : Draft) (last : KeyEvent) →
         Tailed s environment draft (first_input Emacs) last (searches 2 (λ c. Forward c))
         (key (event (Char 98) NONE) ∷ []) (record {
           command = move (ViCharSearch 2 (Forward 98));
@@ -33,11 +34,8 @@ pub fn a_plain_key_is_searched_for()
           input = record (first_input Emacs) { last_search = Some (Forward 98) };
           shown = kept ∷ [];
         }) }
-{}
-
-/// Behind a key that searches with the count 2, Enter is read too, and stands for nothing.
-pub fn another_key_is_no_search()
-    ensures { (s : Sequences) (environment : Environment) (draft : Draft) (last : KeyEvent) →
+    // Behind a key that searches with the count 2, Enter is read too, and stands for nothing.
+    ensures other_key { (s : Sequences) (environment : Environment) (draft : Draft) (last : KeyEvent) →
         Tailed s environment draft (first_input Emacs) last (searches 2 (λ c. Forward c))
         (key (event Enter NONE) ∷ []) (record {
           command = unknown;
@@ -47,9 +45,10 @@ pub fn another_key_is_no_search()
         }) }
 {}
 
-/// M-3 and a are a phrase that inserts three a's; the hint is asked again.
-pub fn three_times_a()
-    ensures { (environment : Environment) → Phrase nothing_bound environment (empty_draft 0)
+/// Phrases of Emacs, where nothing is bound.
+pub fn phrases_of_emacs()
+    // M-3 and a are a phrase that inserts three a's; the hint is asked again.
+    ensures three_times_a { (environment : Environment) → Phrase nothing_bound environment (empty_draft 0)
         (first_input Emacs) (key (event (Char 51) ALT) ∷ key (event (Char 97) NONE) ∷ [])
         (record {
           command = self_insert 3 97;
@@ -57,11 +56,8 @@ pub fn three_times_a()
           input = first_input Emacs;
           shown = shows_count (event (Char 51) ALT ∷ []) ∷ shows_line ∷ [];
         }) }
-{}
-
-/// M--, 2 and C-F are a phrase that goes two characters back.
-pub fn two_back()
-    ensures { (environment : Environment) → Phrase nothing_bound environment (empty_draft 0)
+    // M--, 2 and C-F are a phrase that goes two characters back.
+    ensures two_back { (environment : Environment) → Phrase nothing_bound environment (empty_draft 0)
         (first_input Emacs)
         (key (event (Char 45) ALT) ∷ key (event (Char 50) NONE) ∷ key (event (Char 70) CTRL) ∷ [])
         (record {
@@ -71,11 +67,8 @@ pub fn two_back()
           shown = shows_count (event (Char 45) ALT ∷ [])
               ∷ shows_count (event (Char 45) ALT ∷ event (Char 50) NONE ∷ []) ∷ shows_line ∷ [];
         }) }
-{}
-
-/// M-3, C-X and C-U are a phrase that takes three steps back.
-pub fn undo_three()
-    ensures { (environment : Environment) → Phrase nothing_bound environment (empty_draft 0)
+    // M-3, C-X and C-U are a phrase that takes three steps back.
+    ensures undo_three { (environment : Environment) → Phrase nothing_bound environment (empty_draft 0)
         (first_input Emacs)
         (key (event (Char 51) ALT) ∷ key (event (Char 88) CTRL) ∷ key (event (Char 85) CTRL) ∷ [])
         (record {
@@ -84,11 +77,8 @@ pub fn undo_three()
           input = first_input Emacs;
           shown = shows_count (event (Char 51) ALT ∷ []) ∷ shows_line ∷ kept ∷ [];
         }) }
-{}
-
-/// The mark before a pasted text and the text x are a phrase that inserts x once, and nothing else changes.
-pub fn paste_once()
-    ensures { (environment : Environment) → Phrase nothing_bound environment (empty_draft 0)
+    // The mark before a pasted text and the text x are a phrase that inserts x once, and nothing else changes.
+    ensures paste_once { (environment : Environment) → Phrase nothing_bound environment (empty_draft 0)
         (first_input Emacs) (key (event BracketedPasteStart NONE) ∷ paste (120 ∷ []) ∷ [])
         (record {
           command = insert 1 (120 ∷ []);
@@ -96,107 +86,12 @@ pub fn paste_once()
           input = first_input Emacs;
           shown = kept ∷ kept ∷ [];
         }) }
-{}
-
-/// C-X alone begins a phrase, and is none.
-pub fn control_x_begins()
-    ensures { (environment : Environment)
+    // C-X alone begins a phrase, and is none.
+    ensures control_x_begins { (environment : Environment)
         → IsBeginning nothing_bound environment (empty_draft 0) (first_input Emacs)
         (key (event (Char 88) CTRL) ∷ []) }
-{}
-
-/// Where the sequence C-X, a is bound, these keys are its command.
-pub fn a_bound_sequence()
-    ensures { (environment : Environment) →
-        let sequence = keys (event (Char 88) CTRL ∷ event (Char 97) NONE ∷ []) in
-        Phrase (only_bound sequence (Some noop)) environment (empty_draft 0) (first_input Emacs)
-        (key (event (Char 88) CTRL) ∷ key (event (Char 97) NONE) ∷ [])
-        (record {
-          command = noop;
-          draft = empty_draft 0;
-          input = first_input Emacs;
-          shown = kept ∷ kept ∷ [];
-        }) }
-{}
-
-/// Where the sequence C-X, a is bound, C-X, b is read in vain, and b is lost.
-pub fn a_key_read_in_vain()
-    ensures { (environment : Environment) →
-        let sequence = keys (event (Char 88) CTRL ∷ event (Char 97) NONE ∷ []) in
-        Phrase (only_bound sequence (Some noop)) environment (empty_draft 0) (first_input Emacs)
-        (key (event (Char 88) CTRL) ∷ key (event (Char 98) NONE) ∷ [])
-        (record {
-          command = unknown;
-          draft = empty_draft 0;
-          input = first_input Emacs;
-          shown = kept ∷ kept ∷ [];
-        }) }
-{}
-
-/// Where the sequence C-X, a is bound, C-X, C-U takes a step back: the second of the keys read in vain counts.
-pub fn the_second_key_of_all()
-    ensures { (environment : Environment) →
-        let sequence = keys (event (Char 88) CTRL ∷ event (Char 97) NONE ∷ []) in
-        Phrase (only_bound sequence (Some noop)) environment (empty_draft 0) (first_input Emacs)
-        (key (event (Char 88) CTRL) ∷ key (event (Char 85) CTRL) ∷ [])
-        (record {
-          command = undo 1;
-          draft = empty_draft 0;
-          input = first_input Emacs;
-          shown = kept ∷ kept ∷ [];
-        }) }
-{}
-
-/// F4 with a handler that answers nothing is a bound sequence: one more key is read in vain.
-pub fn a_handler_without_an_answer()
-    ensures { (environment : Environment) →
-        Phrase (only_bound (keys (event (F 4) NONE ∷ [])) None) environment (empty_draft 0)
-        (first_input Emacs) (key (event (F 4) NONE) ∷ key (event (Char 97) NONE) ∷ [])
-        (record {
-          command = unknown;
-          draft = empty_draft 0;
-          input = first_input Emacs;
-          shown = kept ∷ kept ∷ [];
-        }) }
-{}
-
-/// M-3 and a key that is bound to one x insert three x's.
-pub fn a_bound_key_takes_the_count()
-    ensures { (environment : Environment) →
-        Phrase (only_bound (keys (event (F 2) NONE ∷ [])) (Some (self_insert 1 120))) environment
-        (empty_draft 0) (first_input Emacs)
-        (key (event (Char 51) ALT) ∷ key (event (F 2) NONE) ∷ [])
-        (record {
-          command = self_insert 3 120;
-          draft = hinted environment (empty_draft 0);
-          input = first_input Emacs;
-          shown = shows_count (event (Char 51) ALT ∷ []) ∷ shows_line ∷ [];
-        }) }
-{}
-
-/// A binding of each key is that of the key a too.
-pub fn each_key_is_bound()
-    ensures { (environment : Environment) → Phrase (only_bound each_key (Some noop)) environment
-        (empty_draft 0) (first_input Emacs) (key (event (Char 97) NONE) ∷ [])
-        (record {
-          command = noop;
-          draft = empty_draft 0;
-          input = first_input Emacs;
-          shown = kept ∷ [];
-        }) }
-{}
-
-/// In Vi's insert mode a key's binding is handed 0, in Emacs the count that was typed, or 1.
-pub fn counts_that_are_handed()
-    ensures vi { handed styles.Vi modes.Insert None ≡ record { n = 0; positive = true } }
-    ensures emacs { handed styles.Emacs modes.Insert (Some (record { n = 3; positive = false }))
-        ≡ record { n = 3; positive = false } }
-    ensures untyped { handed styles.Emacs modes.Insert None ≡ one }
-{}
-
-/// M--, C-] and a are a phrase that goes to the a before the cursor.
-pub fn back_to_a_character()
-    ensures { (environment : Environment) → Phrase nothing_bound environment (empty_draft 0)
+    // M--, C-] and a are a phrase that goes to the a before the cursor.
+    ensures back_to_a_character { (environment : Environment) → Phrase nothing_bound environment (empty_draft 0)
         (first_input Emacs)
         (key (event (Char 45) ALT) ∷ key (event (Char 93) CTRL) ∷ key (event (Char 97) NONE) ∷ [])
         (record {
@@ -205,11 +100,8 @@ pub fn back_to_a_character()
           input = first_input Emacs;
           shown = shows_count (event (Char 45) ALT ∷ []) ∷ shows_line ∷ kept ∷ [];
         }) }
-{}
-
-/// F4, which no table has, is a phrase that does nothing, where nothing is bound.
-pub fn a_key_that_no_table_has()
-    ensures { (environment : Environment) → Phrase nothing_bound environment (empty_draft 0)
+    // F4, which no table has, is a phrase that does nothing, where nothing is bound.
+    ensures no_table { (environment : Environment) → Phrase nothing_bound environment (empty_draft 0)
         (first_input Emacs) (key (event (F 4) NONE) ∷ [])
         (record {
           command = unknown;
@@ -219,45 +111,107 @@ pub fn a_key_that_no_table_has()
         }) }
 {}
 
-/// By the table C-D on an empty line is Unknown. The reader's end of the input counts on an empty line, and not on another.
-pub fn the_end_of_the_input_is_for_an_empty_line()
-    ensures table { (row_of Emacs modes.Insert (event (Char 68) CTRL) (empty_draft 0)).entry None
-        ≡ stays (gives unknown) }
-    ensures empty { on_line [] (Some end_of_file) ≡ Some end_of_file }
-    ensures text { on_line (97 ∷ []) (Some end_of_file) ≡ None }
-    ensures other { on_line (97 ∷ []) (Some interrupt) ≡ Some interrupt }
+/// Phrases of Emacs, where keys are bound.
+pub fn phrases_where_keys_are_bound()
+    // Where the sequence C-X, a is bound, these keys are its command.
+    ensures bound_sequence { (environment : Environment) →
+        let sequence = keys (event (Char 88) CTRL ∷ event (Char 97) NONE ∷ []) in
+        Phrase (only_bound sequence (Some noop)) environment (empty_draft 0) (first_input Emacs)
+        (key (event (Char 88) CTRL) ∷ key (event (Char 97) NONE) ∷ [])
+        (record {
+          command = noop;
+          draft = empty_draft 0;
+          input = first_input Emacs;
+          shown = kept ∷ kept ∷ [];
+        }) }
+    // Where the sequence C-X, a is bound, C-X, b is read in vain, and b is lost.
+    ensures read_in_vain { (environment : Environment) →
+        let sequence = keys (event (Char 88) CTRL ∷ event (Char 97) NONE ∷ []) in
+        Phrase (only_bound sequence (Some noop)) environment (empty_draft 0) (first_input Emacs)
+        (key (event (Char 88) CTRL) ∷ key (event (Char 98) NONE) ∷ [])
+        (record {
+          command = unknown;
+          draft = empty_draft 0;
+          input = first_input Emacs;
+          shown = kept ∷ kept ∷ [];
+        }) }
+    // Where the sequence C-X, a is bound, C-X, C-U takes a step back: the second of the keys read in vain counts.
+    ensures second_key_of_all { (environment : Environment) →
+        let sequence = keys (event (Char 88) CTRL ∷ event (Char 97) NONE ∷ []) in
+        Phrase (only_bound sequence (Some noop)) environment (empty_draft 0) (first_input Emacs)
+        (key (event (Char 88) CTRL) ∷ key (event (Char 85) CTRL) ∷ [])
+        (record {
+          command = undo 1;
+          draft = empty_draft 0;
+          input = first_input Emacs;
+          shown = kept ∷ kept ∷ [];
+        }) }
+    // F4 with a handler that answers nothing is a bound sequence: one more key is read in vain.
+    ensures without_an_answer { (environment : Environment) →
+        Phrase (only_bound (keys (event (F 4) NONE ∷ [])) None) environment (empty_draft 0)
+        (first_input Emacs) (key (event (F 4) NONE) ∷ key (event (Char 97) NONE) ∷ [])
+        (record {
+          command = unknown;
+          draft = empty_draft 0;
+          input = first_input Emacs;
+          shown = kept ∷ kept ∷ [];
+        }) }
+    // M-3 and a key that is bound to one x insert three x's.
+    ensures takes_the_count { (environment : Environment) →
+        Phrase (only_bound (keys (event (F 2) NONE ∷ [])) (Some (self_insert 1 120))) environment
+        (empty_draft 0) (first_input Emacs)
+        (key (event (Char 51) ALT) ∷ key (event (F 2) NONE) ∷ [])
+        (record {
+          command = self_insert 3 120;
+          draft = hinted environment (empty_draft 0);
+          input = first_input Emacs;
+          shown = shows_count (event (Char 51) ALT ∷ []) ∷ shows_line ∷ [];
+        }) }
+    // A binding of each key is that of the key a too.
+    ensures each_key { (environment : Environment) → Phrase (only_bound each_key (Some noop)) environment
+        (empty_draft 0) (first_input Emacs) (key (event (Char 97) NONE) ∷ [])
+        (record {
+          command = noop;
+          draft = empty_draft 0;
+          input = first_input Emacs;
+          shown = kept ∷ [];
+        }) }
 {}
 
-/// F2 does what a binding says, else what the reader says, else what the table says.
-pub fn bindings_come_before_the_reader()
-    ensures bound { let bound = (keys (event (F 2) NONE ∷ []), answers (Some noop)) ∷ [] in
+/// Where the command of a key comes from.
+pub fn what_a_key_stands_for()
+    // In Vi's insert mode a key's binding is handed 0, in Emacs the count that was typed, or 1.
+    ensures handed_in_vi { handed styles.Vi modes.Insert None ≡ record { n = 0; positive = true } }
+    ensures handed_in_emacs { handed styles.Emacs modes.Insert (Some (record { n = 3; positive = false }))
+        ≡ record { n = 3; positive = false } }
+    ensures handed_untyped { handed styles.Emacs modes.Insert None ≡ one }
+    // By the table C-D on an empty line is Unknown. The reader's end of the input counts on an empty line, and not on
+    // another.
+    ensures end_by_table { (row_of Emacs modes.Insert (event (Char 68) CTRL) (empty_draft 0)).entry None
+        ≡ stays (gives unknown) }
+    ensures end_on_empty { on_line [] (Some end_of_file) ≡ Some end_of_file }
+    ensures end_on_text { on_line (97 ∷ []) (Some end_of_file) ≡ None }
+    ensures other_on_text { on_line (97 ∷ []) (Some interrupt) ≡ Some interrupt }
+    // F2 does what a binding says, else what the reader says, else what the table says.
+    ensures bound_first { let bound = (keys (event (F 2) NONE ∷ []), answers (Some noop)) ∷ [] in
         source_of (record { bound = bound; own = λ typed. Some interrupt }) (empty_draft 0)
         (first_input Emacs) None (event (F 2) NONE) ≡ by_binding noop }
-    ensures reader { source_of (record { bound = []; own = λ typed. Some interrupt })
+    ensures reader_next { source_of (record { bound = []; own = λ typed. Some interrupt })
         (empty_draft 0) (first_input Emacs) None (event (F 2) NONE) ≡ by_reader interrupt }
-    ensures table { source_of nothing_bound (empty_draft 0) (first_input Emacs) None
+    ensures table_last { source_of nothing_bound (empty_draft 0) (first_input Emacs) None
         (event (F 2) NONE) ≡ by_table (stays unlisted) }
-{}
-
-/// Where F2's own handler answers nothing, that of each key is not asked for it.
-pub fn a_keys_own_handler_is_the_only_one()
-    ensures { bound_command (record {
+    // Where F2's own handler answers nothing, that of each key is not asked for it.
+    ensures own_handler { bound_command (record {
       bound = (each_key, answers (Some noop)) ∷ (keys (event (F 2) NONE ∷ []), answers None) ∷ [];
       own = λ typed. None;
     }) (empty_draft 0) (first_input Emacs) None (event (F 2) NONE) ≡ None }
-{}
-
-/// Where C-X, a is bound, one more key is read behind C-X, and none behind C-X, b; C-X alone has no handler.
-pub fn the_beginning_of_a_bound_sequence()
-    ensures { let begin = event (Char 88) CTRL in
+    // Where C-X, a is bound, one more key is read behind C-X, and none behind C-X, b; C-X alone has no handler.
+    ensures beginning_of_sequence { let begin = event (Char 88) CTRL in
         let bound = (keys (begin ∷ event (Char 97) NONE ∷ []), answers (Some noop)) ∷ [] in
         (leads_on bound (begin ∷ []) ≡ true)
         × (leads_on bound (begin ∷ event (Char 98) NONE ∷ []) ≡ false)
         × (handler_of bound (keys (begin ∷ [])) ≡ None) }
-{}
-
-/// The keys C-a and C-A are two events, and the same in normal form.
-pub fn keys_are_compared_as_they_come()
+    // The keys C-a and C-A are two events, and the same in normal form.
     ensures apart { same_chord (keys (event (Char 97) CTRL ∷ [])) (keys (event (Char 65) CTRL ∷ []))
         ≡ false }
     ensures normal { normal_chord (keys (event (Char 97) CTRL ∷ []))

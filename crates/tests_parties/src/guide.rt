@@ -1,5 +1,6 @@
-//! A helper that hints from the history, and of which a call can fail.
+//! A helper that hints from the history and checks brackets, and of which a call can fail.
 ghost use Rattle.std.specs.Prelude.{true, false, None, option_map, if◌then◌else◌};
+ghost use Rattle.line_parts.specs.BracketVerdict.{bracket_verdict};
 ghost use Rattle.line_parts.specs.Hint.{suggested};
 ghost use Rattle.line_parts.specs.HistoryHint.{history_hint};
 ghost use Rattle.line_parts.specs.Verdict.{valid};
@@ -9,23 +10,25 @@ use crate::fault::Fault;
 use line_config::Result;
 use line_parts::{
     CmdKind, Completer, Context, Helper, Highlighter, Hinter, History, HistoryHinter,
-    ValidationContext, ValidationResult, Validator,
+    MatchingBracketValidator, ValidationContext, ValidationResult, Validator,
 };
 use std::alloc::Global;
 
-/// A helper that hints from the history where it is to, takes each line, and highlights nothing. One of the calls for a hint
-/// or a verdict can fail.
+/// A helper that hints from the history and checks the brackets of a line, each where it is to, and highlights nothing. One of
+/// the calls for a hint or a verdict can fail.
 #[derive(Drop)]
 pub struct Guide {
     hints: bool,
+    brackets: bool,
     countdown: Countdown,
 }
 
 impl Guide {
-    /// A helper that hints, or does not.
-    pub fn new(hints: bool) -> Guide {
+    /// A helper that hints, or does not, and checks brackets, or takes each line.
+    pub fn new(hints: bool, brackets: bool) -> Guide {
         Guide {
             hints,
+            brackets,
             countdown: Countdown::new(0),
         }
     }
@@ -79,11 +82,16 @@ impl Highlighter for Guide {
 impl Validator for Guide {
     ghost sure = { λ _. false };
 
-    ghost verdict_at = { λ _ _. valid None };
+    ghost verdict_at = { λ guide text.
+        if guide.brackets then bracket_verdict text else valid None };
 
-    fn validate(&self, _alloc: Global, _ctx: &ValidationContext<'_>) -> Result<ValidationResult> {
+    fn validate(&self, alloc: Global, ctx: &ValidationContext<'_>) -> Result<ValidationResult> {
         self.countdown.call()?;
-        Ok(ValidationResult::Valid(None))
+        if self.brackets {
+            MatchingBracketValidator::new().validate(alloc, ctx)
+        } else {
+            Ok(ValidationResult::Valid(None))
+        }
     }
 }
 
@@ -92,7 +100,7 @@ impl Helper for Guide {
 
     ghost hints_kept = { λ _ _ same. ap Self.hint_at same };
 
-    ghost verdicts_kept = { λ _ _ _. refl };
+    ghost verdicts_kept = { λ _ _ same. ap Self.verdict_at same };
 
     ghost lights_kept = { λ _ _ _. refl };
 

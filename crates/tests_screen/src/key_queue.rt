@@ -5,11 +5,14 @@ use line_keys::cmd::Cmd;
 use line_keys::keys::{KeyCode, KeyEvent, Modifiers};
 use line_keys::raw_reader::RawReader;
 use line_screen::KeyQueue;
-use std::alloc::Global;
 use std::process::Abort;
 use std::test::Fail;
 
 const CTRL_A: KeyEvent = KeyEvent(KeyCode::Char('A'), Modifiers::CTRL);
+
+const CTRL_C: KeyEvent = KeyEvent(KeyCode::Char('C'), Modifiers::CTRL);
+
+const CTRL_D: KeyEvent = KeyEvent(KeyCode::Char('D'), Modifiers::CTRL);
 
 const ENTER: KeyEvent = KeyEvent(KeyCode::Enter, Modifiers::NONE);
 
@@ -30,6 +33,9 @@ enum Call {
     FailsPasted,
     Ends,
     Has(usize),
+    Interrupts(KeyEvent),
+    EndsInput(KeyEvent),
+    BindsNot(KeyEvent),
 }
 
 fn called(rt: &impl Abort, queue: &mut KeyQueue, call: &Call) -> Result<(), Fail> {
@@ -56,15 +62,23 @@ fn called(rt: &impl Abort, queue: &mut KeyQueue, call: &Call) -> Result<(), Fail
             assert!(rt; matches!(queue.read_pasted_text(), Err(ReadlineError::Eof)));
         }
         Call::Has(len) => assert_eq!(rt; (queue.len(), queue.is_empty()), (*len, *len == 0)),
+        Call::Interrupts(key) => {
+            assert!(rt; matches!(queue.find_binding(key), Some(Cmd::Interrupt)));
+        }
+        Call::EndsInput(key) => {
+            assert!(rt; matches!(queue.find_binding(key), Some(Cmd::EndOfFile)));
+        }
+        Call::BindsNot(key) => assert!(rt; queue.find_binding(key).is_none()),
     }
     Ok(())
 }
 
-/// Calls, and how many failures there were.
-type Case = (&'static [Call], u64);
+/// Whether the queue binds keys, calls, and how many failures there were.
+type Case = (bool, &'static [Call], u64);
 
 const CASES: &[Case] = &[
     (
+        true,
         &[
             Call::Has(0),
             Call::Ends,
@@ -75,6 +89,7 @@ const CASES: &[Case] = &[
         0,
     ),
     (
+        true,
         &[
             Call::Press(CTRL_A),
             Call::Has(1),
@@ -86,6 +101,7 @@ const CASES: &[Case] = &[
     ),
     // the end is one of what is there so far
     (
+        true,
         &[
             Call::Ends,
             Call::Type("x"),
@@ -95,6 +111,7 @@ const CASES: &[Case] = &[
         0,
     ),
     (
+        true,
         &[
             Call::Type("aé\n"),
             Call::Type(""),
@@ -109,6 +126,7 @@ const CASES: &[Case] = &[
         0,
     ),
     (
+        true,
         &[
             Call::Paste("t\n"),
             Call::Has(2),
@@ -122,9 +140,14 @@ const CASES: &[Case] = &[
         ],
         4,
     ),
-    (&[Call::Press(CTRL_A), Call::FailsChar, Call::Has(1)], 1),
+    (
+        true,
+        &[Call::Press(CTRL_A), Call::FailsChar, Call::Has(1)],
+        1,
+    ),
     // a new queue has its mark at the start, and a pasted text can be read again
     (
+        true,
         &[
             Call::Paste("ab"),
             Call::ReadsKey(PASTE_START),
@@ -138,6 +161,7 @@ const CASES: &[Case] = &[
         0,
     ),
     (
+        true,
         &[
             Call::Type("abc"),
             Call::ReadsChar('a'),
@@ -158,46 +182,43 @@ const CASES: &[Case] = &[
         ],
         0,
     ),
+    // two keys are bound, or none
+    (
+        true,
+        &[
+            Call::Interrupts(CTRL_C),
+            Call::EndsInput(CTRL_D),
+            Call::BindsNot(KeyEvent(KeyCode::Char('c'), Modifiers::CTRL)),
+            Call::BindsNot(KeyEvent(KeyCode::Char('C'), Modifiers::NONE)),
+            Call::BindsNot(ENTER),
+        ],
+        0,
+    ),
+    (
+        false,
+        &[
+            Call::BindsNot(CTRL_C),
+            Call::BindsNot(CTRL_D),
+            Call::BindsNot(KeyEvent(KeyCode::Char('c'), Modifiers::CTRL)),
+            Call::BindsNot(KeyEvent(KeyCode::Char('C'), Modifiers::NONE)),
+            Call::BindsNot(ENTER),
+        ],
+        0,
+    ),
 ];
 
 #[test]
 fn gives_what_was_handed_over(rt: HostRuntime) -> Result<(), Fail> {
-    for case in CASES {
-        gives(&rt, rt.alloc(), case)?;
+    for (binds, calls, failures) in CASES {
+        let mut queue = if *binds {
+            KeyQueue::new(rt.alloc())
+        } else {
+            KeyQueue::without_bindings(rt.alloc())
+        };
+        for call in *calls {
+            called(&rt, &mut queue, call)?;
+        }
+        assert_eq!(rt; queue.failures(), *failures);
     }
     Ok(())
-}
-
-fn gives(rt: &impl Abort, alloc: Global, case: &Case) -> Result<(), Fail> {
-    let (calls, failures) = case;
-    let mut queue = KeyQueue::new(alloc);
-    for call in *calls {
-        called(rt, &mut queue, call)?;
-    }
-    assert_eq!(rt; queue.failures(), *failures);
-    Ok(())
-}
-
-/// A key, and whether it interrupts, where the queue binds keys; or whether it ends the input.
-type Bound = (KeyEvent, bool, bool);
-
-const BOUND: &[Bound] = &[
-    (KeyEvent(KeyCode::Char('C'), Modifiers::CTRL), true, false),
-    (KeyEvent(KeyCode::Char('D'), Modifiers::CTRL), false, true),
-    (KeyEvent(KeyCode::Char('c'), Modifiers::CTRL), false, false),
-    (KeyEvent(KeyCode::Char('C'), Modifiers::NONE), false, false),
-    (ENTER, false, false),
-];
-
-#[test]
-fn binds_two_keys_or_none(rt: HostRuntime) {
-    let binding = KeyQueue::new(rt.alloc());
-    let plain = KeyQueue::without_bindings(rt.alloc());
-    for (key, interrupts, ends) in BOUND {
-        let bound = binding.find_binding(key);
-        assert_eq!(&rt; matches!(bound, Some(Cmd::Interrupt)), *interrupts);
-        assert_eq!(&rt; matches!(bound, Some(Cmd::EndOfFile)), *ends);
-        assert_eq!(&rt; bound.is_some(), *interrupts || *ends);
-        assert!(&rt; plain.find_binding(key).is_none());
-    }
 }

@@ -1,8 +1,10 @@
 //! The tests of `line_screen`, and the programs of the documents that stand on it.
 #![tactic(auto)]
 
-pub mod by_keys;
-pub mod caller;
+#[cfg(test)]
+mod by_keys;
+#[cfg(test)]
+mod caller;
 #[cfg(test)]
 mod key_queue;
 #[cfg(test)]
@@ -12,7 +14,4 @@ mod plain;
 #[cfg(test)]
 mod programs;
 #[cfg(test)]
-mod prompter;
-#[cfg(test)]
-mod random;
-pub mod read_line;
+mod read_line;

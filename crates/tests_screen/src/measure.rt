@@ -3,22 +3,10 @@
 use line_buffer::{LineBuffer, Position, Unit};
 use line_screen::{KeyQueue, Plain, measured};
 use line_state::Renderer;
-use std::alloc::Global;
-use std::process::Abort;
 use std::test::Fail;
 
 /// A row and a column.
 type Place = (Unit, Unit);
-
-fn ends(rt: &impl Abort, case: (Unit, &str, Place, Place)) {
-    let (columns, text, (row, col), end) = case;
-    let place = measured(columns, text, Position { row, col });
-    assert_eq!(rt;
-        (place.row, place.col),
-        end,
-        "{text:?} on {columns} columns"
-    );
-}
 
 /// The columns, a text, its origin and its end.
 const ENDS: &[(Unit, &str, Place, Place)] = &[
@@ -63,8 +51,17 @@ const ENDS: &[(Unit, &str, Place, Place)] = &[
 
 #[test]
 fn puts_clusters_on_rows(rt: HostRuntime) {
-    for case in ENDS {
-        ends(&rt, *case);
+    for (columns, text, (row, col), end) in ENDS {
+        let origin = Position {
+            row: *row,
+            col: *col,
+        };
+        let place = measured(*columns, text, origin);
+        assert_eq!(rt;
+            (place.row, place.col),
+            *end,
+            "{text:?} on {columns} columns"
+        );
     }
 }
 
@@ -78,30 +75,6 @@ type Layout = (
     Place,
     Place,
 );
-
-fn lays_out(rt: &impl Abort, alloc: Global, case: &Layout) -> Result<(), Fail> {
-    let (columns, text, pos, info, cursor, end) = *case;
-    assert!(rt;
-        columns > 0 && text.is_char_boundary(pos),
-        "{pos} in {text:?}"
-    );
-    let screen: Plain<KeyQueue> = Plain::new(alloc, columns);
-    let line = LineBuffer::init(alloc, text, pos)?;
-    let layout = screen.compute_layout(Position { row: 0, col: 2 }, true, &line, info);
-    assert_eq!(rt;
-        (
-            (layout.cursor.row, layout.cursor.col),
-            (layout.end.row, layout.end.col)
-        ),
-        (cursor, end),
-        "{pos} in {text:?} on {columns} columns"
-    );
-    assert_eq!(rt;
-        (layout.default_prompt, layout.has_info),
-        (true, info.is_some())
-    );
-    Ok(())
-}
 
 const LAYOUTS: &[Layout] = &[
     (10, "", 0, None, (0, 2), (0, 2)),
@@ -121,8 +94,24 @@ const LAYOUTS: &[Layout] = &[
 
 #[test]
 fn measures_a_line_once(rt: HostRuntime) -> Result<(), Fail> {
-    for case in LAYOUTS {
-        lays_out(&rt, rt.alloc(), case)?;
+    for (columns, text, pos, info, cursor, end) in LAYOUTS {
+        assert!(rt;
+            *columns > 0 && text.is_char_boundary(*pos),
+            "{pos} in {text:?}"
+        );
+        let screen: Plain<KeyQueue> = Plain::new(rt.alloc(), *columns);
+        let line = LineBuffer::init(rt.alloc(), text, *pos)?;
+        let layout = screen.compute_layout(Position { row: 0, col: 2 }, true, &line, *info);
+        let found = (
+            (layout.cursor.row, layout.cursor.col),
+            (layout.end.row, layout.end.col),
+            (layout.default_prompt, layout.has_info),
+        );
+        assert_eq!(rt;
+            found,
+            (*cursor, *end, (true, info.is_some())),
+            "{pos} in {text:?} on {columns} columns"
+        );
     }
     Ok(())
 }

@@ -4,10 +4,10 @@ use line_buffer::{LineBuffer, Position, Unit};
 use line_screen::{KeyQueue, Plain};
 use line_state::Renderer;
 use std::alloc::Global;
-use std::process::Abort;
 use std::test::Fail;
 
-/// A call of the screen. The first draws a line of two rows with something behind it.
+/// A call of the screen. The first draws a line of two rows with something behind it. The last makes two calls that are as the
+/// trait has them: nothing is held back.
 enum Call {
     Draw,
     DrawPlain,
@@ -15,6 +15,7 @@ enum Call {
     Write(&'static str),
     ClearToEnd,
     Clear,
+    HoldBack,
 }
 
 /// Draws this line in full, with the cursor at this place in it.
@@ -46,6 +47,10 @@ fn called(alloc: Global, screen: &mut Plain<KeyQueue>, call: &Call) -> Result<()
         Call::Write(text) => screen.write_and_flush(text)?,
         Call::ClearToEnd => screen.clear_to_eol()?,
         Call::Clear => screen.clear_screen()?,
+        Call::HoldBack => {
+            screen.begin_synchronized_update()?;
+            screen.end_synchronized_update()?;
+        }
     }
     Ok(())
 }
@@ -60,19 +65,6 @@ type Shown = (
 
 /// Calls, what the screen shows then, and how many full redraws there were.
 type Case = (&'static [Call], Shown, u64);
-
-fn shows(rt: &impl Abort, alloc: Global, case: &Case) -> Result<(), Fail> {
-    let (calls, (text, place, prompt, hint), redraws) = case;
-    let mut screen: Plain<KeyQueue> = Plain::new(alloc, 10);
-    for call in *calls {
-        called(alloc, &mut screen, call)?;
-    }
-    let cursor = screen.cursor();
-    assert_eq!(rt; (screen.text(), (cursor.row, cursor.col)), (*text, *place));
-    assert_eq!(rt; (screen.prompt(), screen.hint()), (*prompt, *hint));
-    assert_eq!(rt; (screen.redraws(), screen.get_columns()), (*redraws, 10));
-    Ok(())
-}
 
 const CALLS: &[Case] = &[
     (&[], ("", (0, 0), "", None), 0),
@@ -93,6 +85,11 @@ const CALLS: &[Case] = &[
         1,
     ),
     (&[Call::Draw, Call::Clear], ("", (0, 0), "", None), 1),
+    (
+        &[Call::Draw, Call::HoldBack],
+        ("ab\nc", (1, 0), "> ", Some("de")),
+        1,
+    ),
     (&[Call::Draw, Call::DrawPlain], ("é", (0, 1), "", None), 2),
     (
         &[Call::DrawPlain, Call::Draw],
@@ -103,8 +100,15 @@ const CALLS: &[Case] = &[
 
 #[test]
 fn keeps_what_it_shows(rt: HostRuntime) -> Result<(), Fail> {
-    for case in CALLS {
-        shows(&rt, rt.alloc(), case)?;
+    for (calls, (text, place, prompt, hint), redraws) in CALLS {
+        let mut screen: Plain<KeyQueue> = Plain::new(rt.alloc(), 10);
+        for call in *calls {
+            called(rt.alloc(), &mut screen, call)?;
+        }
+        let cursor = screen.cursor();
+        assert_eq!(rt; (screen.text(), (cursor.row, cursor.col)), (*text, *place));
+        assert_eq!(rt; (screen.prompt(), screen.hint()), (*prompt, *hint));
+        assert_eq!(rt; (screen.redraws(), screen.get_columns()), (*redraws, 10));
     }
     Ok(())
 }

@@ -10,43 +10,11 @@ use line_parts::{Context, MemHistory};
 use line_screen::{KeyQueue, Plain};
 use std::test::Fail;
 
+/// A line that is typed and submitted, and a character that a caller types.
 #[test]
-fn a_typed_line_is_submitted(rt: HostRuntime) -> Result<(), Fail> {
+fn give_what_is_typed(rt: HostRuntime) -> Result<(), Fail> {
     let line = read_line(rt.alloc(), "caf\u{e9}")?;
     assert_eq!(rt; line.as_str(), "caf\u{e9}");
-    Ok(())
-}
-
-const KEYS: &[KeyEvent] = &[
-    KeyEvent(KeyCode::Char('a'), Modifiers::NONE),
-    KeyEvent(KeyCode::Char('3'), Modifiers::ALT),
-    KeyEvent(KeyCode::Char('b'), Modifiers::NONE),
-    KeyEvent(KeyCode::Enter, Modifiers::NONE),
-];
-
-#[test]
-fn a_count_is_read_again_with_its_key(rt: HostRuntime) -> Result<(), Fail> {
-    let mut terminal = Vec::new(rt.alloc());
-    let line = edit_by_keys(rt.alloc(), KEYS, &mut terminal)?;
-    assert_eq!(rt; line.as_str(), "abbb");
-    assert_eq!(rt;
-        terminal.as_slice(),
-        b"> a\n(arg: 3) a\n> abbb\n".as_slice()
-    );
-    Ok(())
-}
-
-#[test]
-fn the_keys_run_out(rt: HostRuntime) -> Result<(), Fail> {
-    let mut terminal = Vec::new(rt.alloc());
-    match edit_by_keys(rt.alloc(), &KEYS[..1], &mut terminal) {
-        Err(ReadlineError::Eof) => Ok(()),
-        _ => panic!(rt; "the line was not submitted"),
-    }
-}
-
-#[test]
-fn a_character_by_the_caller(rt: HostRuntime) -> Result<(), Fail> {
     let mut screen: Plain<KeyQueue> = Plain::new(rt.alloc(), 80);
     let history = MemHistory::new(rt.alloc());
     let mut helper = ();
@@ -54,5 +22,40 @@ fn a_character_by_the_caller(rt: HostRuntime) -> Result<(), Fail> {
     let mut state = State::new(rt.alloc(), &mut screen, &"> ", Some(&mut helper), context)?;
     type_in(&mut state, 'x')?;
     assert_eq!(rt; state.line(), "x");
+    Ok(())
+}
+
+const A: KeyEvent = KeyEvent(KeyCode::Char('a'), Modifiers::NONE);
+
+/// Keys; the line that they submit, or none where the input ends; and what the terminal shows.
+type Case = (&'static [KeyEvent], Option<&'static str>, &'static str);
+
+const CASES: &[Case] = &[
+    // a count is read again with its key
+    (
+        &[
+            A,
+            KeyEvent(KeyCode::Char('3'), Modifiers::ALT),
+            KeyEvent(KeyCode::Char('b'), Modifiers::NONE),
+            KeyEvent(KeyCode::Enter, Modifiers::NONE),
+        ],
+        Some("abbb"),
+        "> a\n(arg: 3) a\n> abbb\n",
+    ),
+    // the keys run out
+    (&[A], None, "> a\n"),
+];
+
+#[test]
+fn edit_by_each_key(rt: HostRuntime) -> Result<(), Fail> {
+    for (keys, wanted, shown) in CASES {
+        let mut terminal = Vec::new(rt.alloc());
+        match edit_by_keys(rt.alloc(), keys, &mut terminal) {
+            Ok(line) => assert_eq!(rt; Some(line.as_str()), *wanted),
+            Err(ReadlineError::Eof) => assert!(rt; wanted.is_none()),
+            Err(_) => panic!(rt; "no line and no end"),
+        }
+        assert_eq!(rt; terminal.as_slice(), shown.as_bytes());
+    }
     Ok(())
 }

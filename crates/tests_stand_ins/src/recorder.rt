@@ -95,17 +95,14 @@ impl Recorder {
         self.calls = self.calls.saturating_add(1);
         if self.calls == self.failing {
             self.failures = self.failures.saturating_add(1);
-            return Err(ReadlineError::Io(self.cause()));
+            let cause = if self.is_cut {
+                io::Error::new(io::ErrorKind::PermissionDenied, CUT)
+            } else {
+                io::Error::from(io::ErrorKind::Other)
+            };
+            return Err(ReadlineError::Io(cause));
         }
         Ok(())
-    }
-
-    /// Why a call fails.
-    fn cause(&self) -> io::Error {
-        if self.is_cut {
-            return io::Error::new(io::ErrorKind::PermissionDenied, CUT);
-        }
-        io::Error::from(io::ErrorKind::Other)
     }
 
     /// Forgets what is shown. The cursor goes to the first place.

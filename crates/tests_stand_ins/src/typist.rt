@@ -87,24 +87,18 @@ impl Typist {
         self.calls == self.failing
     }
 
-    /// Counts the failure of the call that is to fail, and gives its error.
-    fn cut(&mut self) -> io::Error
+    /// Counts the failure of the call that is to fail, or else that the next item is of the wrong kind, and gives its error.
+    fn fault(&mut self, is_cut: bool) -> io::Error
         ensures items { self.new.items ≡ self.old.items }
         ensures rose { Rose self.old.failures self.new.failures }
         ensures counts { self.old.failures ≤ self.new.failures }
     {
         self.failures = self.failures.saturating_add(1);
-        io::Error::new(io::ErrorKind::UnexpectedEof, CUT)
-    }
-
-    /// Counts the failure that the next item is of the wrong kind, and gives its error.
-    fn wrong_item(&mut self) -> io::Error
-        ensures items { self.new.items ≡ self.old.items }
-        ensures rose { Rose self.old.failures self.new.failures }
-        ensures counts { self.old.failures ≤ self.new.failures }
-    {
-        self.failures = self.failures.saturating_add(1);
-        io::Error::new(io::ErrorKind::InvalidData, WRONG)
+        if is_cut {
+            io::Error::new(io::ErrorKind::UnexpectedEof, CUT)
+        } else {
+            io::Error::new(io::ErrorKind::InvalidData, WRONG)
+        }
     }
 }
 
@@ -123,7 +117,7 @@ impl RawReader for Typist {
     fn next_key(&mut self, single_esc_abort: bool) -> Result<KeyEvent, ReadlineError> {
         self.flags.push(single_esc_abort)?;
         if self.is_cut() {
-            return Err(ReadlineError::Io(self.cut()));
+            return Err(ReadlineError::Io(self.fault(true)));
         }
         match self.items.front() {
             Some(Item { key: Some(key), .. }) => {
@@ -131,14 +125,14 @@ impl RawReader for Typist {
                 let _ = self.items.pop_front();
                 Ok(key)
             }
-            Some(_) => Err(ReadlineError::Io(self.wrong_item())),
+            Some(_) => Err(ReadlineError::Io(self.fault(false))),
             None => Err(ReadlineError::Eof),
         }
     }
 
     fn next_char(&mut self) -> Result<char, ReadlineError> {
         if self.is_cut() {
-            return Err(ReadlineError::Io(self.cut()));
+            return Err(ReadlineError::Io(self.fault(true)));
         }
         match self.items.front() {
             Some(
@@ -151,21 +145,21 @@ impl RawReader for Typist {
                 let _ = self.items.pop_front();
                 Ok(c)
             }
-            Some(_) => Err(ReadlineError::Io(self.wrong_item())),
+            Some(_) => Err(ReadlineError::Io(self.fault(false))),
             None => Err(ReadlineError::Eof),
         }
     }
 
     fn read_pasted_text(&mut self) -> Result<String, ReadlineError> {
         if self.is_cut() {
-            return Err(ReadlineError::Io(self.cut()));
+            return Err(ReadlineError::Io(self.fault(true)));
         }
         match self.items.front() {
             Some(Item { key: None, .. }) => match self.items.pop_front() {
                 Some(Item { pasted, .. }) => Ok(pasted),
                 _ => unreachable!(),
             },
-            Some(_) => Err(ReadlineError::Io(self.wrong_item())),
+            Some(_) => Err(ReadlineError::Io(self.fault(false))),
             None => Err(ReadlineError::Eof),
         }
     }

@@ -1,0 +1,397 @@
+//! A file of cases, line by line.
+
+ghost use Rattle.std.specs.Prelude.{◌<◌};
+
+use crate::bench::on_bench;
+use crate::report::{Row, differs};
+use crate::setup::{Setup, Target, binding};
+use line_config::Result;
+use line_editor::Bindings;
+use line_editor::binding::EventHandler;
+use line_script::edit;
+use std::alloc::Global;
+use std::io::{Read, Write};
+
+/// What a file may hold, printed for a file whose first line is `help`.
+const HELP: &str = "\
+# NAME               begins cases, and forgets the settings before it; ## begins a remark
+= VALUE | VALUE ..   ends a case: what is wanted of the lines before it, as the values below
+Settings hold up to the next name; they are those of a script, and
+bind KEYS = COMMAND  keys, `any` or `mouse` stand for a command, or for `asks HANDLER`
+ring N               the slots of the kill ring
+dups 1               the history keeps a line that is the same as the one before it
+lines N              the most lines of the history
+screen N             a screen of N columns, a byte each, that writes down its calls; what follows is for it
+line A|B             the editor is made of a line with its cursor at the bar
+colors, alone        the screen has colors; there is no helper
+hint T, verdict T    what the helper hints, and says of each line: incomplete, valid T or invalid T
+lit KIND             the helper asks for a full drawing of moves, edits or the last
+styled T             the prompt's form with styles
+fails PARTY N        the Nth call of screen, helper, history or reader fails; cut PARTY N by an error of its own
+both ways            keys are also given one by one
+Items are those of a script, and
+keys NAME NAME ..    keys by their names
+pasted T             a pasted text without the mark before it
+start A^B            the empty line is drawn and filled; calls count from there, or from a line `from here`
+do COMMAND; ..       commands are executed, and calls of the editor's state made, by their names
+run, turn, next      what was typed is read by a run, by a turn, or by a command
+phrase NAME NAME ..  keys that are one phrase, which is read and not executed
+with A B N           the cases are done with the counts A typed for @, B for & (- is none), and N for # 
+log CALL             the next call of the screen that is wanted
+";
+
+/// How the reading of a file ended: with so many cases, of which so many differ; at a bad line; or with the help.
+#[derive(Clone, Copy)]
+enum Ending {
+    Rows(usize, usize),
+    BadLine(usize),
+    Help,
+}
+
+/// What comes of a case.
+#[derive(Clone, Copy)]
+enum Tried {
+    Same,
+    Differs,
+    BadLine(usize),
+}
+
+impl Tried {
+    /// What comes of a case that differs or not.
+    fn of(differs: bool) -> Tried {
+        if differs { Tried::Differs } else { Tried::Same }
+    }
+}
+
+/// Reads a file of cases, and prints each that differs and how many there are; or the number of its first bad line.
+///
+/// Returns the status to end with: 0 where none differs, 1 where one does, 3 after a fault of memory or of a stream, and
+/// 4 where a line is bad.
+pub fn play<R: Read + Drop, O: Write>(alloc: Global, input: R, out: &mut O) -> u8 {
+    match play_file(alloc, input, out) {
+        Ok(Ending::Rows(_, 0) | Ending::Help) => 0,
+        Ok(Ending::Rows(_, _)) => 1,
+        Ok(Ending::BadLine(_)) => 4,
+        Err(_) => 3,
+    }
+}
+
+/// The same, and the answer is what was done.
+fn play_file<R: Read + Drop, O: Write>(alloc: Global, mut input: R, out: &mut O) -> Result<Ending> {
+    let mut bytes = Vec::new(alloc);
+    input.read_to_end(&mut bytes)?;
+    let ending = match str::from_utf8(&bytes) {
+        Ok(text) if text.starts_with("help\n") => Ending::Help,
+        Ok(text) => read_rows(alloc, text, out)?,
+        Err(error) => {
+            let good = bytes.as_slice().get(..error.valid_up_to()).unwrap_or(&[]);
+            Ending::BadLine(good.split(|byte| *byte == b'\n').count())
+        }
+    };
+    match &ending {
+        Ending::Rows(rows, differing) => writeln!(out, "{rows} rows, {differing} differ")?,
+        Ending::BadLine(number) => writeln!(out, "bad line {number}")?,
+        Ending::Help => out.write_all(HELP.as_bytes())?,
+    }
+    out.flush()?;
+    Ok(ending)
+}
+
+/// What the lines of a file give: the name, the settings and the ways of the cases that follow, and the lines of the case
+/// that is begun.
+#[derive(Drop)]
+struct Begun<'t> {
+    name: &'t str,
+    settings: Vec<(usize, &'t str)>,
+    ways: Vec<&'t str>,
+    lines: Vec<(usize, &'t str)>,
+}
+
+/// How many cases there were, and how many differ.
+#[derive(Clone, Copy)]
+struct Tally {
+    rows: usize,
+    differing: usize,
+}
+
+/// Tries each case of a text, up to the first bad line.
+fn read_rows<O: Write>(alloc: Global, text: &str, out: &mut O) -> Result<Ending> {
+    let mut begun = Begun {
+        name: "",
+        settings: Vec::new(alloc),
+        ways: Vec::new(alloc),
+        lines: Vec::new(alloc),
+    };
+    let mut tally = Tally {
+        rows: 0,
+        differing: 0,
+    };
+    let mut number = 0_usize;
+    for line in text.split('\n') {
+        number = number.saturating_add(1);
+        begun.adds(alloc, number, line)?;
+        if line.starts_with("= ") {
+            if let Some(bad) = tries_ways(alloc, &begun, &mut tally, out)? {
+                return Ok(Ending::BadLine(bad));
+            }
+            begun.lines.clear();
+        }
+    }
+    if begun.lines.is_empty() {
+        Ok(Ending::Rows(tally.rows, tally.differing))
+    } else {
+        Ok(Ending::BadLine(number))
+    }
+}
+
+impl<'t> Begun<'t> {
+    /// Adds what a line gives.
+    fn adds(&mut self, alloc: Global, number: usize, line: &'t str) -> Result<()> {
+        if line.is_empty() || line.starts_with("## ") {
+            return Ok(());
+        }
+        if let Some(name) = line.strip_prefix("# ") {
+            self.name = name;
+            self.settings.clear();
+            self.ways.clear();
+            self.lines.clear();
+        } else if let Some(way) = line.strip_prefix("with ") {
+            self.ways.push(way)?;
+        } else if is_item(line) {
+            self.lines.push((number, line))?;
+        } else {
+            self.settings.push((number, line))?;
+        }
+        Ok(())
+    }
+}
+
+/// The case of this name that lines give.
+fn row_of<'t>(alloc: Global, name: &'t str, lines: &[(usize, &'t str)]) -> Result<Row<'t>> {
+    let mut row = Row {
+        name,
+        number: 0,
+        items: Vec::new(alloc),
+        phrase: None,
+        is_keys_alone: true,
+        log: Vec::new(alloc),
+        wanted: "",
+    };
+    for (number, line) in lines {
+        if let Some(wanted) = line.strip_prefix("= ") {
+            row.wanted = wanted;
+            row.number = *number;
+        } else if let Some(names) = line.strip_prefix("phrase ") {
+            row.phrase = Some(names);
+        } else if line.starts_with("log ") {
+            row.log.push(*line)?;
+        } else {
+            row.is_keys_alone = row.is_keys_alone && is_typed(line);
+            row.items.push((*number, *line))?;
+        }
+    }
+    Ok(row)
+}
+
+/// Tries a case in each way that it has, and counts it. Returns the number of a bad line.
+fn tries_ways<O: Write>(
+    alloc: Global,
+    begun: &Begun<'_>,
+    tally: &mut Tally,
+    out: &mut O,
+) -> Result<Option<usize>> {
+    if begun.ways.is_empty() {
+        let row = row_of(alloc, begun.name, begun.lines.as_slice())?;
+        return tallies(alloc, begun, &row, tally, out);
+    }
+    for way in begun.ways.as_slice() {
+        if let Some(bad) = tries_way(alloc, begun, way, tally, out)? {
+            return Ok(Some(bad));
+        }
+    }
+    Ok(None)
+}
+
+/// Tries a case in one way, and counts it. Returns the number of a bad line.
+fn tries_way<O: Write>(
+    alloc: Global,
+    begun: &Begun<'_>,
+    way: &str,
+    tally: &mut Tally,
+    out: &mut O,
+) -> Result<Option<usize>> {
+    let mut text = String::from_str(alloc, begun.name)?;
+    text.push('\n')?;
+    for (_, line) in begun.lines.as_slice() {
+        fill(&mut text, line, way)?;
+    }
+    let Some((name, filled)) = text.split_once('\n') else {
+        return Ok(None);
+    };
+    let mut lines = Vec::new(alloc);
+    for ((number, _), line) in begun.lines.as_slice().iter().zip(filled.lines()) {
+        lines.push((*number, line))?;
+    }
+    let row = row_of(alloc, name, lines.as_slice())?;
+    tallies(alloc, begun, &row, tally, out)
+}
+
+/// Adds a line, in which the keys of the first count of a way stand for `@`, those of the second for `&`, and its number
+/// for `#`. A count that is not typed is written as `-`.
+fn fill(text: &mut String, line: &str, way: &str) -> Result<()> {
+    let mut parts = way.split(' ');
+    let first = parts.next().unwrap_or("-");
+    let second = parts.next().unwrap_or("-");
+    let number = parts.next().unwrap_or("-");
+    for c in line.chars() {
+        match c {
+            '@' => types_count(text, first)?,
+            '&' => types_count(text, second)?,
+            '#' => text.push_str(number)?,
+            c => text.push(c)?,
+        }
+    }
+    text.push('\n')?;
+    Ok(())
+}
+
+/// Adds the names of the keys of a count, with a blank behind each.
+fn types_count(text: &mut String, count: &str) -> Result<()> {
+    for digit in count.chars() {
+        if digit != '-' {
+            text.push(digit)?;
+            text.push(' ')?;
+        }
+    }
+    Ok(())
+}
+
+/// Tries a case, and counts it. Returns the number of a bad line.
+fn tallies<O: Write>(
+    alloc: Global,
+    begun: &Begun<'_>,
+    row: &Row<'_>,
+    tally: &mut Tally,
+    out: &mut O,
+) -> Result<Option<usize>> {
+    match tries(alloc, begun.settings.as_slice(), row, out)? {
+        Tried::Same => {}
+        Tried::Differs => tally.differing = tally.differing.saturating_add(1),
+        Tried::BadLine(bad) => return Ok(Some(bad)),
+    }
+    tally.rows = tally.rows.saturating_add(1);
+    Ok(None)
+}
+
+/// Whether a line types something.
+fn is_typed(line: &str) -> bool {
+    match line.split_once(' ') {
+        Some((kind, _)) => matches!(kind, "type" | "key" | "keys" | "paste" | "pasted"),
+        None => false,
+    }
+}
+
+/// Whether a line is no setting.
+fn is_item(line: &str) -> bool {
+    match line {
+        "run" | "turn" | "next" | "next abort" | "read" | "from here" | "take pasted" => true,
+        line => {
+            let (kind, _) = line.split_once(' ').unwrap_or(("", ""));
+            is_typed(line) || matches!(kind, "start" | "do" | "phrase" | "log" | "=")
+        }
+    }
+}
+
+/// Tries a case with these settings.
+fn tries<O: Write>(
+    alloc: Global,
+    settings: &[(usize, &str)],
+    row: &Row<'_>,
+    out: &mut O,
+) -> Result<Tried> {
+    let mut setup = Setup::new(alloc)?;
+    for (number, line) in settings {
+        if !setup.push(alloc, line)? {
+            return Ok(Tried::BadLine(*number));
+        }
+    }
+    let mut bindings = Bindings::new(alloc);
+    for text in setup.bound.as_slice() {
+        let Some(bound) = binding(alloc, text)? else {
+            return Ok(Tried::BadLine(row.number));
+        };
+        let (event, target) = bound;
+        let handler = match target {
+            Target::Does(command) => EventHandler::Simple(command),
+            Target::Asks(watcher) => EventHandler::Conditional(Box::new(alloc, watcher)?),
+        };
+        let _ = bindings.insert(event, handler)?;
+    }
+    tries_bound(alloc, setup, &bindings, row, out)
+}
+
+/// Tries a case with these settings and bindings, in both ways where it is to be.
+fn tries_bound<O: Write>(
+    alloc: Global,
+    mut setup: Setup<'_>,
+    bindings: &Bindings,
+    row: &Row<'_>,
+    out: &mut O,
+) -> Result<Tried> {
+    let columns = setup.screen.unwrap_or(0);
+    if columns == 0 {
+        return tries_script(alloc, setup, bindings, row, out);
+    }
+    let both_ways = setup.both_ways;
+    setup.both_ways = false;
+    match tries_on_bench(alloc, &setup, bindings, columns, row, out)? {
+        Tried::Same if both_ways => {
+            setup.both_ways = true;
+            tries_on_bench(alloc, &setup, bindings, columns, row, out)
+        }
+        first => Ok(first),
+    }
+}
+
+/// Tries a case on the bench.
+fn tries_on_bench<O: Write>(
+    alloc: Global,
+    setup: &Setup<'_>,
+    bindings: &Bindings,
+    columns: u16,
+    row: &Row<'_>,
+    out: &mut O,
+) -> Result<Tried>
+    requires { 0 < columns }
+{
+    let seen = on_bench(alloc, setup, bindings, columns, row)?;
+    if let Some(number) = seen.bad_line {
+        return Ok(Tried::BadLine(number));
+    }
+    let text = str::from_utf8(&seen.lines).unwrap_or("");
+    Ok(Tried::of(differs(row, text, out)?))
+}
+
+/// Tries a case by a script.
+fn tries_script<O: Write>(
+    alloc: Global,
+    setup: Setup<'_>,
+    bindings: &Bindings,
+    row: &Row<'_>,
+    out: &mut O,
+) -> Result<Tried> {
+    let Setup {
+        mut parsed,
+        kill_ring_size,
+        ..
+    } = setup;
+    for (number, line) in row.items.as_slice() {
+        if !parsed.push_line(alloc, line)? {
+            return Ok(Tried::BadLine(*number));
+        }
+    }
+    let mut printed = Vec::new(alloc);
+    let _ = edit(alloc, parsed, bindings, kill_ring_size, &mut printed)?;
+    let text = str::from_utf8(&printed).unwrap_or("");
+    Ok(Tried::of(differs(row, text, out)?))
+}

@@ -1,0 +1,295 @@
+//! The settings of rows that scripts lack.
+
+use line_buffer::Unit;
+use line_config::Result;
+use line_editor::binding::Event;
+use line_keys::cmd::Cmd;
+use line_keys::keys::KeyEvent;
+use line_parts::{CmdKind, History};
+use line_script::{KILL_RING_SIZE, Parsed, key_named};
+use std::alloc::Global;
+use tests_parties::advisor::{Tip, Verdict};
+use tests_stand_ins::source::Source;
+use tests_stand_ins::watcher::Watcher;
+
+/// Which call of a party fails, from 1 on, or 0 for none, and whether it fails by an error of its own.
+#[derive(Clone, Copy)]
+pub struct Failing {
+    pub call: u64,
+    pub by_its_own: bool,
+}
+
+const NEVER: Failing = Failing {
+    call: 0,
+    by_its_own: false,
+};
+
+/// What a row's settings give.
+#[derive(Drop)]
+pub struct Setup<'t> {
+    /// The settings that scripts have.
+    pub parsed: Parsed,
+    /// The columns of a screen that writes down what it is asked for, each byte of a text one column.
+    pub screen: Option<Unit>,
+    /// The form of the prompt with styles.
+    pub styled: Option<&'t str>,
+    /// Whether that screen has colors.
+    pub colors: bool,
+    /// Whether there is a helper.
+    pub helped: bool,
+    /// What it hints for each line.
+    pub hint: Option<Tip>,
+    /// What it says of each line.
+    pub verdict: Verdict,
+    /// For which kind it asks for a full drawing.
+    pub lit: Option<CmdKind>,
+    /// The failing calls of the screen, the helper, the history and the reader.
+    pub failing: [Failing; 4],
+    /// The slots of the kill ring.
+    pub kill_ring_size: usize,
+    /// Whether keys are also given one by one.
+    pub both_ways: bool,
+    /// The line that the editor is made of: the text before its cursor, and the text behind it.
+    pub line: (&'t str, &'t str),
+    /// What keys are bound to, a line for each binding.
+    pub bound: Vec<&'t str>,
+}
+
+impl<'t> Setup<'t> {
+    /// What no setting gives.
+    pub fn new(alloc: Global) -> Result<Setup<'t>> {
+        Ok(Setup {
+            parsed: Parsed::new(alloc)?,
+            screen: None,
+            styled: None,
+            colors: false,
+            helped: true,
+            hint: None,
+            verdict: (true, true, None),
+            lit: None,
+            failing: [NEVER; 4],
+            kill_ring_size: KILL_RING_SIZE,
+            both_ways: false,
+            line: ("", ""),
+            bound: Vec::new(alloc),
+        })
+    }
+
+    /// Adds what a setting gives. Returns false where there is no such setting.
+    pub fn push(&mut self, alloc: Global, line: &'t str) -> Result<bool> {
+        if self.switch(line) {
+            return Ok(true);
+        }
+        let Some((name, text)) = line.split_once(' ') else {
+            return self.parsed.push_line(alloc, line);
+        };
+        match name {
+            "bind" => {
+                self.bound.push(text)?;
+                Ok(true)
+            }
+            "screen" | "ring" | "dups" | "lines" => self.set_number(name, text),
+            "hint" => {
+                self.hint = Some(tip(lasting(alloc, text)?));
+                Ok(true)
+            }
+            "verdict" => Ok(self.set_verdict(lasting(alloc, text)?)),
+            "line" | "styled" | "lit" | "fails" | "cut" => Ok(self.set(name, text)),
+            _ => self.parsed.push_line(alloc, line),
+        }
+    }
+
+    /// Switches on or off what the setting of this name asks for. False where there is no such setting.
+    fn switch(&mut self, name: &str) -> bool {
+        match name {
+            "colors" => self.colors = true,
+            "alone" => self.helped = false,
+            "both ways" => self.both_ways = true,
+            _ => return false,
+        }
+        true
+    }
+
+    /// Sets what this number is for. False where it is no number.
+    fn set_number(&mut self, name: &str, text: &str) -> Result<bool> {
+        let Ok(number) = text.parse::<u16>() else {
+            return Ok(false);
+        };
+        match name {
+            "screen" if number > 0 => self.screen = Some(number),
+            "ring" => self.kill_ring_size = usize::from(number),
+            name => return set_history(&mut self.parsed, name, number),
+        }
+        Ok(true)
+    }
+
+    /// Sets what this text is for. False where it is none of its kind.
+    fn set(&mut self, name: &str, text: &'t str) -> bool {
+        match name {
+            "line" => match text.split_once('^') {
+                Some(line) => self.line = line,
+                None => return false,
+            },
+            "styled" => self.styled = Some(text),
+            "lit" => return self.set_lit(text),
+            _ => return self.set_failing(text, name == "cut"),
+        }
+        true
+    }
+
+    /// Takes what the helper says of each line.
+    fn set_verdict(&mut self, text: &'static str) -> bool {
+        let (name, message) = match text.split_once(' ') {
+            Some((name, message)) => (name, Some(message)),
+            None => (text, None),
+        };
+        self.verdict = match name {
+            "incomplete" => (false, false, message),
+            "valid" => (true, true, message),
+            "invalid" => (true, false, message),
+            _ => return false,
+        };
+        true
+    }
+
+    /// Takes the kind for which the helper asks for a full drawing.
+    fn set_lit(&mut self, name: &str) -> bool {
+        self.lit = match name {
+            "moves" => Some(CmdKind::MoveCursor),
+            "edits" => Some(CmdKind::Other),
+            "the last" => Some(CmdKind::ForcedRefresh),
+            _ => return false,
+        };
+        true
+    }
+
+    /// Takes which call of a party fails.
+    fn set_failing(&mut self, text: &str, by_its_own: bool) -> bool {
+        let Some((party, number)) = text.split_once(' ') else {
+            return false;
+        };
+        let Ok(call) = number.parse() else {
+            return false;
+        };
+        let place = match party {
+            "screen" => 0,
+            "helper" => 1,
+            "history" => 2,
+            "reader" => 3,
+            _ => return false,
+        };
+        self.failing[place] = Failing { call, by_its_own };
+        true
+    }
+}
+
+/// What keys are bound to.
+#[derive(Drop)]
+pub enum Target {
+    Does(Cmd),
+    Asks(Watcher),
+}
+
+/// The event of a binding, and what it is bound to. None where the line is of no such form.
+pub fn binding(alloc: Global, text: &str) -> Result<Option<(Event, Target)>> {
+    let Some((names, target)) = text.split_once(" = ") else {
+        return Ok(None);
+    };
+    let Some(target) = target_named(alloc, target)? else {
+        return Ok(None);
+    };
+    match event_named(alloc, names)? {
+        Some(event) => Ok(Some((event, target))),
+        None => Ok(None),
+    }
+}
+
+/// The command of a text, or the handler behind `asks`.
+fn target_named(alloc: Global, text: &str) -> Result<Option<Target>> {
+    if let Some(handler) = text.strip_prefix("asks ") {
+        return Ok(match watcher(handler) {
+            Some(watcher) => Some(Target::Asks(watcher)),
+            None => None,
+        });
+    }
+    Ok(match Source::new(text).command(alloc)? {
+        Some(command) => Some(Target::Does(command)),
+        None => None,
+    })
+}
+
+/// Sets a limit of the history, or whether it keeps a line that is the same as the one before it. False where it is neither.
+fn set_history(parsed: &mut Parsed, name: &str, number: u16) -> Result<bool> {
+    match name {
+        "lines" => parsed.history.set_max_len(usize::from(number))?,
+        "dups" => parsed.history.ignore_dups(number == 0)?,
+        _ => return Ok(false),
+    }
+    Ok(true)
+}
+
+/// A copy of a text that lasts as long as the program, as the helper wants its answers.
+fn lasting(alloc: Global, text: &str) -> Result<&'static str> {
+    let mut bytes = Vec::new(alloc);
+    bytes.extend_from_slice(text.as_bytes())?;
+    Ok(str::from_utf8(bytes.leak()).unwrap_or(""))
+}
+
+/// A hint that displays a text, and completes the line with it; with another one behind ` -> `; or with none behind ` !`.
+fn tip(text: &'static str) -> Tip {
+    if let Some((shown, completion)) = text.split_once(" -> ") {
+        return Tip(shown, Some(completion));
+    }
+    match text.strip_suffix(" !") {
+        Some(shown) => Tip(shown, None),
+        None => Tip(text, Some(text)),
+    }
+}
+
+/// The event of `any`, `mouse`, or of the names of keys.
+fn event_named(alloc: Global, names: &str) -> Result<Option<Event>> {
+    match names {
+        "any" => Ok(Some(Event::Any)),
+        "mouse" => Ok(Some(Event::Mouse)),
+        "nothing" => Ok(Some(Event::KeySeq(Vec::new(alloc)))),
+        names => match keys_named(alloc, names)? {
+            Some(keys) => Ok(Some(Event::KeySeq(keys))),
+            None => Ok(None),
+        },
+    }
+}
+
+/// The keys of these names, with a blank between two. None where one is no key's.
+pub fn keys_named(alloc: Global, names: &str) -> Result<Option<Vec<KeyEvent>>> {
+    let mut keys = Vec::new(alloc);
+    for name in names.split(' ') {
+        match key_named(name) {
+            Some(key) => keys.push(key)?,
+            None => return Ok(None),
+        }
+    }
+    Ok(Some(keys))
+}
+
+/// The handler of this name, with its numbers.
+fn watcher(text: &str) -> Option<Watcher> {
+    let mut source = Source::new(text);
+    let watcher = match source.word()? {
+        "nothing" => Watcher::Nothing,
+        "count" => Watcher::ForCount(source.count()?, source.word()? == "forth"),
+        "at" => Watcher::At(
+            usize::from(source.count()?),
+            usize::from(source.count()?),
+            usize::from(source.count()?),
+            source.word()? == "hinted",
+        ),
+        "sees" => Watcher::Sees(
+            source.word()? == "emacs",
+            source.word()? == "inserting",
+            usize::from(source.count()?),
+        ),
+        "fails" => Watcher::Fails,
+        _ => return None,
+    };
+    Some(watcher)
+}

@@ -1,0 +1,174 @@
+//! What is large fails for no reason of its own: 1,000 groups of changes, 1,000 lines of a history.
+
+use super::does;
+use line_buffer::KillRing;
+use line_config::Result;
+use line_editor::edit::State;
+use line_keys::refresher::Refresher;
+use line_parts::{Context, History};
+use std::alloc::Global;
+use std::process::Abort;
+use tests_parties::advisor::Advisor;
+use tests_parties::shelf::Shelf;
+use tests_stand_ins::calls::Editor;
+use tests_stand_ins::recorder::Recorder;
+
+/// How many lines the history holds: each is `line` and a number of four digits, the first 1000. What is done once, what
+/// so many times, and what once behind it; and the length of the line, the cursor and the place that are left.
+type Case = (
+    u64,
+    &'static str,
+    u64,
+    &'static str,
+    &'static str,
+    (usize, usize, usize),
+);
+
+/// A history of so many lines.
+fn shelved(alloc: Global, lines: u64) -> Result<Shelf> {
+    let mut history = Shelf::new(alloc, 0);
+    history.set_max_len(5000)?;
+    for line in 0..lines {
+        let number = line.saturating_add(1000);
+        let _ = history.add_owned(format!(in alloc; "line{number}")?)?;
+    }
+    Ok(history)
+}
+
+/// Does the steps, none of which fails.
+fn takes(
+    rt: &impl Abort,
+    alloc: Global,
+    state: &mut Editor<'_, '_>,
+    kills: &mut KillRing,
+    steps: &str,
+    times: u64,
+) -> Result<()> {
+    for _ in 0..times {
+        if !steps.is_empty() {
+            does(rt, alloc, state, kills, steps)?;
+        }
+    }
+    Ok(())
+}
+
+fn lasts(rt: &impl Abort, alloc: Global, case: &Case) -> Result<()> {
+    let (lines, before, times, steps, behind, left) = case;
+    let history = shelved(alloc, *lines)?;
+    let mut screen = Recorder::new(alloc, 80, false, 0);
+    let mut helper = Advisor::new(Some("!!"), (true, true, None), None);
+    let context = Context::new(&history);
+    let mut kills = KillRing::new(alloc, 60);
+    let prompt = (
+        String::from_str(alloc, "> ")?,
+        String::from_str(alloc, "> ")?,
+    );
+    let mut state = State::new(alloc, &mut screen, &prompt, Some(&mut helper), context)?;
+    takes(rt, alloc, &mut state, &mut kills, before, 1)?;
+    takes(rt, alloc, &mut state, &mut kills, steps, *times)?;
+    takes(rt, alloc, &mut state, &mut kills, behind, 1)?;
+    let found = (state.line().len(), state.pos(), state.place());
+    assert_eq!(rt; found, *left, "{steps} {behind}");
+    Ok(())
+}
+
+/// One step after the other and one kill; and walks through a history of 1,100 lines of eight bytes.
+const CASES: &[Case] = &[
+    (
+        0,
+        "",
+        1010,
+        "doing_insert; SelfInsert(1, 'x'); done_inserting",
+        "Undo(1000)",
+        (10, 10, 0),
+    ),
+    (
+        0,
+        "",
+        1010,
+        "doing_insert",
+        "SelfInsert(1200, 'x'); done_inserting; Undo(1)",
+        (0, 0, 0),
+    ),
+    (
+        0,
+        "",
+        1010,
+        "SelfInsert(1, 'x'); Kill(BeginningOfLine)",
+        "Yank(1, Before)",
+        (1010, 1010, 0),
+    ),
+    (
+        0,
+        "",
+        1010,
+        "SelfInsert(1, 'x'); Kill(BeginningOfLine); reset",
+        "Yank(1, Before); YankPop",
+        (1, 1, 0),
+    ),
+    (
+        0,
+        "",
+        1010,
+        "Repaint",
+        "SelfInsert(1200, 'x')",
+        (1200, 1200, 0),
+    ),
+    (1100, "", 1050, "PreviousHistory", "", (8, 8, 50)),
+    (
+        1100,
+        "SelfInsert(1, 'x')",
+        1100,
+        "PreviousHistory",
+        "PreviousHistory",
+        (8, 8, 0),
+    ),
+    (
+        1100,
+        "SelfInsert(1, 'x'); BeginningOfHistory",
+        1100,
+        "NextHistory",
+        "",
+        (1, 1, 1100),
+    ),
+    (
+        1100,
+        "SelfInsert(1, 'l')",
+        1050,
+        "HistorySearchBackward",
+        "",
+        (8, 1, 50),
+    ),
+    (
+        1100,
+        "BeginningOfHistory; Move(BeginningOfLine)",
+        1050,
+        "HistorySearchForward",
+        "",
+        (8, 0, 1050),
+    ),
+    (
+        1100,
+        "",
+        1050,
+        "LineUpOrPreviousHistory(1)",
+        "EndOfHistory",
+        (0, 0, 1100),
+    ),
+    (
+        1100,
+        "Insert(1, \"line1000\")",
+        1,
+        "HistorySearchBackward",
+        "",
+        (8, 8, 0),
+    ),
+];
+
+#[test]
+fn of_changes_and_histories(rt: HostRuntime) -> Result<()> {
+    for case in CASES {
+        lasts(&rt, rt.alloc(), case)?;
+    }
+    Ok(())
+}

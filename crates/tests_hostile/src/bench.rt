@@ -1,0 +1,523 @@
+//! An editor on a bench: what it stands on, keys that are written as text, how they are read, and what is left.
+
+use line_buffer::{
+    GraphemeClusterMode, KillRing, LineBuffer, Mode as Side, Movement, Position, RepeatCount, Unit,
+};
+use line_config::{Config, EditMode, ReadlineError, Result};
+use line_editor::binding::{Event, EventHandler};
+use line_editor::command::{Status, execute};
+use line_editor::run::run;
+use line_editor::{Bindings, InputState, State, Turned, advance};
+use line_keys::cmd::{Anchor, Cmd};
+use line_keys::keys::{KeyCode as K, KeyEvent, Modifiers as M};
+use line_keys::refresher::Refresher;
+use line_parts::history::SearchDirection;
+use line_parts::{Context, History};
+use line_screen::{KeyQueue, Plain};
+use line_state::Renderer;
+use std::alloc::Global;
+use std::io::{Error, ErrorKind};
+use tests_parties::guide::Guide;
+use tests_parties::shelf::Shelf;
+
+/// The style of Emacs, and two modes of Vi.
+#[derive(Clone, Copy, Debug, PartialEq, Eq)]
+pub(crate) enum Mode {
+    Emacs,
+    Insert,
+    Command,
+}
+
+pub(crate) const MODES: &[Mode] = &[Mode::Emacs, Mode::Insert, Mode::Command];
+
+/// All kinds of keys, and the characters that stand for something in a style.
+pub(crate) const CODES: &[K] = &[
+    K::UnknownEscSeq,
+    K::Backspace,
+    K::BackTab,
+    K::BracketedPasteStart,
+    K::BracketedPasteEnd,
+    K::Char('a'),
+    K::Char('c'),
+    K::Char('d'),
+    K::Char('0'),
+    K::Char('7'),
+    K::Char('-'),
+    K::Char('%'),
+    K::Char('.'),
+    K::Char(';'),
+    K::Char('w'),
+    K::Char('A'),
+    K::Char('C'),
+    K::Char('D'),
+    K::Char('J'),
+    K::Char('U'),
+    K::Char('X'),
+    K::Char(']'),
+    K::Char('_'),
+    K::Char('é'),
+    K::Delete,
+    K::Down,
+    K::End,
+    K::Enter,
+    K::Esc,
+    K::F(0),
+    K::F(4),
+    K::F(255),
+    K::Home,
+    K::Insert,
+    K::Left,
+    K::Null,
+    K::PageDown,
+    K::PageUp,
+    K::Right,
+    K::Tab,
+    K::Up,
+];
+
+/// All sets of modifiers.
+pub(crate) const SETS: &[M] = &[
+    M::NONE,
+    M::SHIFT,
+    M::ALT,
+    M::ALT_SHIFT,
+    M::CTRL,
+    M::CTRL_SHIFT,
+    M::CTRL_ALT,
+    M::CTRL_ALT_SHIFT,
+];
+
+/// Returns the keys that a text writes: ⌃ and ⌥ stand for Ctrl and Alt with the next one, or both of them, arrows for the keys
+/// that show them, numbers in circles for function keys, and a control character for the key that sends it.
+pub(crate) fn keys(alloc: Global, text: &str) -> Result<Vec<KeyEvent>> {
+    let mut keys = Vec::new(alloc);
+    let mut mods = M::NONE;
+    for c in text.chars() {
+        match c {
+            '⌃' => mods = mods | M::CTRL,
+            '⌥' => mods = mods | M::ALT,
+            c => {
+                keys.push(key(c, mods))?;
+                mods = M::NONE;
+            }
+        }
+    }
+    Ok(keys)
+}
+
+fn key(c: char, mods: M) -> KeyEvent {
+    let code = match c {
+        '←' => K::Left,
+        '→' => K::Right,
+        '④' => K::F(4),
+        '⑤' => K::F(5),
+        c if mods == M::NONE => return KeyEvent::new(c, mods),
+        c => K::Char(c),
+    };
+    KeyEvent(code, mods)
+}
+
+/// A key, or a pasted text with the mark before it.
+#[derive(Clone, Copy, Debug)]
+pub(crate) enum Item {
+    Key(KeyEvent),
+    Paste(&'static str),
+}
+
+/// The keys that a text writes, as items.
+pub(crate) fn items(alloc: Global, text: &str) -> Result<Vec<Item>> {
+    let mut items = Vec::new(alloc);
+    for key in keys(alloc, text)?.as_slice() {
+        items.push(Item::Key(*key))?;
+    }
+    Ok(items)
+}
+
+/// What keys are bound to. A text that is put again is the one that came in last, and a yanked one comes behind the cursor.
+pub(crate) enum To {
+    Moves(Movement),
+    PutsAgain,
+    Undoes(RepeatCount),
+    Yanks(RepeatCount),
+}
+
+/// What an editor stands on: its mode, the screen's columns, the prompt, the text that is on the line with the cursor in it,
+/// what was killed before, what keys are bound to, each one or a sequence, whether there are hints, whether brackets are checked,
+/// and the lines of the history.
+#[derive(Clone, Copy)]
+pub(crate) struct Desk {
+    pub(crate) mode: Mode,
+    pub(crate) columns: Unit,
+    pub(crate) prompt: &'static str,
+    pub(crate) start: (&'static str, usize),
+    pub(crate) killed: &'static str,
+    pub(crate) bound: &'static [(&'static str, To)],
+    pub(crate) hints: bool,
+    pub(crate) brackets: bool,
+    pub(crate) entries: &'static [&'static str],
+}
+
+/// An empty line in the style of Emacs, on a screen of 80 columns, with nothing else.
+pub(crate) const PLAIN: Desk = Desk {
+    mode: Mode::Emacs,
+    columns: 80,
+    prompt: "> ",
+    start: ("", 0),
+    killed: "",
+    bound: &[],
+    hints: false,
+    brackets: false,
+    entries: &[],
+};
+
+impl Desk {
+    /// The settings of its style.
+    pub(crate) fn config(&self) -> Config {
+        let style = match self.mode {
+            Mode::Emacs => EditMode::Emacs,
+            Mode::Insert | Mode::Command => EditMode::Vi,
+        };
+        Config::builder(GraphemeClusterMode::Unicode)
+            .edit_mode(style)
+            .build()
+    }
+
+    /// The map of what is bound.
+    pub(crate) fn bindings(&self, alloc: Global) -> Result<Bindings> {
+        let mut bindings = Bindings::new(alloc);
+        for (typed, to) in self.bound {
+            let command = match to {
+                To::Moves(movement) => Cmd::Move(movement.clone()?),
+                To::PutsAgain => Cmd::Replace(Movement::ForwardChar(0), None),
+                To::Undoes(n) => Cmd::Undo(*n),
+                To::Yanks(n) => Cmd::Yank(*n, Anchor::After),
+            };
+            let event = Event::KeySeq(keys(alloc, typed)?);
+            let _ = bindings.insert(event, EventHandler::Simple(command))?;
+        }
+        Ok(bindings)
+    }
+
+    /// A history of its lines, of which no call fails.
+    pub(crate) fn shelf(&self, alloc: Global) -> Result<Shelf> {
+        let mut history = Shelf::new(alloc, 0);
+        for entry in self.entries {
+            let _ = history.add(entry)?;
+        }
+        Ok(history)
+    }
+
+    /// Whether the history has its lines, and no others.
+    pub(crate) fn is_kept(&self, history: &Shelf) -> Result<bool> {
+        for (index, entry) in self.entries.iter().enumerate() {
+            match history.get(index, SearchDirection::Forward)? {
+                Some(found) if found.entry.as_str() == *entry => {}
+                _ => return Ok(false),
+            }
+        }
+        Ok(history.len() == self.entries.len())
+    }
+}
+
+/// How items are read: by a run; by turns; by turns where they come one by one; or where so many come first. Where a phrase is cut
+/// in turns, its items are read again.
+#[derive(Clone, Copy, Debug, PartialEq, Eq)]
+pub(crate) enum Way {
+    Run,
+    Turns,
+    OneByOne,
+    CutAt(usize),
+}
+
+/// What an editor does: it reads items, or executes commands, none of which submits.
+#[derive(Clone, Copy)]
+pub(crate) enum Work<'w> {
+    Reads(Way, &'w [Item]),
+    Executes(&'w [Cmd]),
+}
+
+/// What is left: the line with a bar at its cursor, the place in the history, what a yank would give, where the cursor is drawn,
+/// how often all was drawn, how it ended, how many items were handed over, whether the line is drawn as in a full redraw, and what
+/// was amiss on the way, if anything was.
+#[derive(Drop)]
+pub(crate) struct Left {
+    pub(crate) line: String,
+    pub(crate) place: usize,
+    pub(crate) yanked: Option<String>,
+    pub(crate) at: (Unit, Unit),
+    pub(crate) redraws: u64,
+    pub(crate) end: &'static str,
+    pub(crate) given: usize,
+    pub(crate) is_drawn: bool,
+    pub(crate) amiss: &'static str,
+}
+
+/// The line with a bar at its cursor.
+pub(crate) fn marked(alloc: Global, line: &str, pos: usize) -> Result<String> {
+    let before = line.get(..pos).unwrap_or("?");
+    let behind = line.get(pos..).unwrap_or("?");
+    Ok(format!(in alloc; "{before}|{behind}")?)
+}
+
+/// How a turn or a run ended, in a word.
+pub(crate) fn ended(outcome: &Result<Turned>) -> &'static str {
+    match outcome {
+        Ok(Turned::Proceeds) => "proceeds",
+        Ok(Turned::Submitted) => "submits",
+        Ok(Turned::NeedsMore | Turned::Ended) | Err(ReadlineError::Eof) => "eof",
+        Ok(Turned::Interrupted) | Err(ReadlineError::Interrupted) => "interrupted",
+        Err(ReadlineError::Io(_)) => "fails",
+        Err(ReadlineError::Memory) => "out of memory",
+    }
+}
+
+/// An editor of which a call may fail.
+pub(crate) type Editor<'out, 'prompt, W> = State<'out, 'prompt, W, Guide, &'static str, Shelf>;
+
+/// Lets an editor do its work, and returns what is left. What is looked at on the way: after each turn the cursor is on a
+/// boundary, the place within the history, and the redraws within their bound; after one that proceeds, and after each command,
+/// the layout is a full redraw's and the screen shows the line; a run or a turn fails where the reader counts a failure. At the
+/// end the history has its lines, and where all is taken back, the text is that of the start.
+pub(crate) fn left_by(alloc: Global, desk: &Desk, work: Work<'_>) -> Result<Left> {
+    let (text, cursor) = desk.start;
+    if desk.columns == 0 || !text.is_char_boundary(cursor) {
+        return Err(ReadlineError::Io(Error::from(ErrorKind::InvalidInput)));
+    }
+    let history = desk.shelf(alloc)?;
+    let mut screen = Plain::new(alloc, desk.columns);
+    let mut helper = Guide::new(desk.hints, desk.brackets);
+    let (helper, context) = (Some(&mut helper), Context::new(&history));
+    let state = State::with_line(
+        alloc,
+        &mut screen,
+        &desk.prompt,
+        helper,
+        context,
+        text,
+        cursor,
+    )?;
+    let mut left = sits(alloc, desk, state, work)?;
+    if !desk.is_kept(&history)? {
+        left.amiss = "the history";
+    }
+    Ok(left)
+}
+
+fn sits(
+    alloc: Global,
+    desk: &Desk,
+    state: Editor<'_, '_, Plain<KeyQueue>>,
+    work: Work<'_>,
+) -> Result<Left> {
+    let config = desk.config();
+    let bindings = desk.bindings(alloc)?;
+    let mut bench = Bench {
+        alloc,
+        desk: *desk,
+        state,
+        input: InputState::new(&config, &bindings),
+        keys: KeyQueue::new(alloc),
+        kills: KillRing::new(alloc, 60),
+        config,
+        given: 0,
+        amiss: "",
+    };
+    bench.is_laid()?;
+    let outcome = bench.does(work);
+    bench.leaves(ended(&outcome))
+}
+
+/// What is amiss where the line is not drawn as in a full redraw.
+const UNDRAWN: &str = "what is drawn";
+
+/// An editor with all that it needs, how many items it was handed, and what was amiss.
+#[derive(Drop)]
+struct Bench<'b, 'out, 'prompt> {
+    alloc: Global,
+    desk: Desk,
+    state: Editor<'out, 'prompt, Plain<KeyQueue>>,
+    input: InputState<'b>,
+    keys: KeyQueue,
+    kills: KillRing,
+    config: Config,
+    given: usize,
+    amiss: &'static str,
+}
+
+impl Bench<'_, '_, '_> {
+    /// Kills what is to be killed before, and reads the Esc that leads to Vi's command mode, where that is wanted. The move that
+    /// it stands for is not executed.
+    fn is_laid(&mut self) -> Result<()> {
+        if !self.desk.killed.is_empty() {
+            self.kills.kill(self.desk.killed, Side::Append)?;
+        }
+        if self.desk.mode == Mode::Command {
+            self.keys.press(KeyEvent(K::Esc, M::NONE))?;
+            let _ = self.state.next_cmd(&mut self.input, &mut self.keys, false)?;
+            self.keys.mark();
+        }
+        Ok(())
+    }
+
+    /// Does its work. How that ended.
+    fn does(&mut self, work: Work<'_>) -> Result<Turned> {
+        match work {
+            Work::Reads(Way::Run, items) => self.reads(Way::Run, items),
+            Work::Reads(way, items) => {
+                self.state.refresh_line()?;
+                if !self.is_drawn()? {
+                    self.amiss = UNDRAWN;
+                }
+                self.reads(way, items)
+            }
+            Work::Executes(commands) => {
+                self.state.refresh_line()?;
+                self.executes(commands)
+            }
+        }
+    }
+
+    /// Hands items over, and reads where this way has it. How that ended.
+    fn reads(&mut self, way: Way, items: &[Item]) -> Result<Turned> {
+        for index in 0..=items.len() {
+            let is_read = match way {
+                Way::OneByOne => index > 0,
+                Way::CutAt(at) => index == at,
+                Way::Run | Way::Turns => false,
+            };
+            self.given = index;
+            if is_read || index == items.len() {
+                match self.turns(way)? {
+                    Turned::NeedsMore => {}
+                    end => return Ok(end),
+                }
+            }
+            match items.get(index) {
+                Some(Item::Key(key)) => self.keys.press(*key)?,
+                Some(Item::Paste(text)) => self.keys.paste(text)?,
+                None => {}
+            }
+        }
+        Ok(Turned::NeedsMore)
+    }
+
+    /// Runs, or makes turns until one does not proceed, from the mark on. Each reads an item at least. How the last one ended.
+    fn turns(&mut self, way: Way) -> Result<Turned> {
+        if way == Way::Run {
+            let (input, keys, kills) = (&mut self.input, &mut self.keys, &mut self.kills);
+            run(&mut self.state, input, keys, kills, &self.config)?;
+            return Ok(Turned::Submitted);
+        }
+        self.keys.rewind();
+        for _ in 0..70 {
+            let before = (self.state.out().redraws(), self.keys.len());
+            let outcome = self.advances();
+            self.amiss = self.sees(before);
+            match outcome? {
+                Turned::Proceeds => self.keys.mark(),
+                end => return Ok(end),
+            }
+            if !self.is_drawn()? {
+                self.amiss = UNDRAWN;
+            }
+        }
+        Ok(Turned::Proceeds)
+    }
+
+    /// Makes a turn.
+    fn advances(&mut self) -> Result<Turned> {
+        let (input, keys, kills) = (&mut self.input, &mut self.keys, &mut self.kills);
+        advance(&mut self.state, input, keys, kills, &self.config)
+    }
+
+    /// What is amiss behind a turn that began with so many redraws and so many items unread.
+    fn sees(&self, before: (u64, usize)) -> &'static str {
+        let read = before.1.saturating_sub(self.keys.len());
+        let drawn = self.state.out().redraws().saturating_sub(before.0);
+        let (text, pos) = (self.state.line(), self.state.pos());
+        if drawn > (read as u64).saturating_add(3) {
+            "the number of redraws"
+        } else if self.state.place() > self.desk.entries.len() {
+            "the place in the history"
+        } else if !text.is_char_boundary(pos) {
+            "the cursor"
+        } else {
+            self.amiss
+        }
+    }
+
+    /// Executes commands that proceed.
+    fn executes(&mut self, commands: &[Cmd]) -> Result<Turned> {
+        for command in commands {
+            let command = command.clone(self.alloc)?;
+            let (input, kills) = (&self.input, &mut self.kills);
+            if execute(command, &mut self.state, input, kills, &self.config)? == Status::Submit {
+                return Ok(Turned::Submitted);
+            }
+            if !self.is_drawn()? {
+                self.amiss = UNDRAWN;
+            }
+        }
+        Ok(Turned::Proceeds)
+    }
+
+    /// Whether the layout is a full redraw's with what stands behind the line, and the screen shows the line behind the prompt,
+    /// with its cursor there.
+    fn is_drawn(&self) -> Result<bool> {
+        let (text, pos) = (self.state.line(), self.state.pos());
+        if !text.is_char_boundary(pos) {
+            return Ok(false);
+        }
+        let line = LineBuffer::init(self.alloc, text, pos)?;
+        let screen = self.state.out();
+        let prompt = self.desk.prompt;
+        let prompt_end = screen.calculate_position(prompt, Position { row: 0, col: 0 });
+        let wanted = screen.compute_layout(prompt_end, true, &line, screen.hint());
+        let kept = self.state.layout();
+        let kept = (kept.prompt_size, kept.cursor, kept.end, kept.has_info);
+        let measured = (prompt_end, wanted.cursor, wanted.end, wanted.has_info);
+        let shown = (screen.prompt(), screen.text(), screen.cursor());
+        Ok(kept == measured && shown == (prompt, text, wanted.cursor))
+    }
+
+    /// What is left behind this end. Then all is taken back. What proceeded was looked at last.
+    fn leaves(&mut self, end: &'static str) -> Result<Left> {
+        if (self.keys.failures() > 0) != (end == "fails") {
+            self.amiss = "a failure of the reader";
+        }
+        let mut left = self.left(end)?;
+        let (input, kills) = (&self.input, &mut self.kills);
+        let _ = execute(
+            Cmd::Undo(65535),
+            &mut self.state,
+            input,
+            kills,
+            &self.config,
+        )?;
+        if self.state.line() != self.desk.start.0 {
+            self.amiss = "what was taken back";
+        }
+        left.amiss = self.amiss;
+        Ok(left)
+    }
+
+    fn left(&mut self, end: &'static str) -> Result<Left> {
+        let is_drawn = end == "proceeds" || self.is_drawn()?;
+        let cursor = self.state.layout().cursor;
+        let yanked = match self.kills.yank() {
+            Some(text) => Some(String::from_str(self.alloc, text)?),
+            None => None,
+        };
+        Ok(Left {
+            line: marked(self.alloc, self.state.line(), self.state.pos())?,
+            place: self.state.place(),
+            yanked,
+            at: (cursor.row, cursor.col),
+            redraws: self.state.out().redraws(),
+            end,
+            given: self.given,
+            is_drawn,
+            amiss: self.amiss,
+        })
+    }
+}

@@ -1,0 +1,238 @@
+//! Bindings as a map, and sequences of keys that share their beginnings. Run with any one allocation refused,
+//! `forty_keys_are_bound_or_none` passes: it looks at what is left, or the refusal came before the call.
+
+mod pairs;
+
+use self::Does::{Binds, Finds, Starts};
+use self::On::{Each, Keys, Mouse};
+use line_config::{ReadlineError, Result};
+use line_editor::Bindings;
+use line_editor::binding::{Event, EventHandler};
+use line_keys::cmd::Cmd;
+use line_keys::keys::{KeyCode, KeyEvent, Modifiers};
+use std::alloc::Global;
+use std::process::Abort;
+use std::test::Fail;
+
+/// An event.
+#[derive(Drop)]
+enum On {
+    Each,
+    Mouse,
+    /// Keys one after another: those that a text writes, where a letter x stands for that letter with Ctrl; and behind
+    /// them so many of 500 different keys, from the one of a number on. The next 500 are these again.
+    Keys(&'static str, usize, usize),
+}
+
+fn event(alloc: Global, on: &On) -> Result<Event> {
+    let (text, from, len) = match on {
+        Each => return Ok(Event::Any),
+        Mouse => return Ok(Event::Mouse),
+        Keys(text, from, len) => (*text, *from, *len),
+    };
+    let mut keys = Vec::new(alloc);
+    for c in text.chars() {
+        let mods = if c == 'X' || c == 'x' {
+            Modifiers::CTRL
+        } else {
+            Modifiers::NONE
+        };
+        keys.push(KeyEvent(KeyCode::Char(c), mods))?;
+    }
+    for i in from..from.saturating_add(len) {
+        let mods = if i % 500 < 250 {
+            Modifiers::NONE
+        } else {
+            Modifiers::CTRL
+        };
+        keys.push(KeyEvent(KeyCode::F((i % 250) as u8), mods))?;
+    }
+    Ok(Event::KeySeq(keys))
+}
+
+/// The number that an event is bound to: how often its command types an x.
+fn number(handler: Option<&EventHandler>) -> Option<u16> {
+    match handler {
+        Some(EventHandler::Simple(Cmd::SelfInsert(n, 'x'))) => Some(*n),
+        _ => None,
+    }
+}
+
+/// What is done with a map: another one is begun; an event is bound to a number; or it is looked up, and is or begins a bound
+/// one, or not.
+#[derive(Drop)]
+enum Does {
+    Starts,
+    Binds(u16),
+    Finds(bool),
+}
+
+/// What is done with an event, the number that the map answers for it, and how many nodes the map has then.
+type Step = (Does, On, Option<u16>, usize);
+
+const STEPS: &[Step] = &[
+    (Starts, Each, None, 0),
+    (Finds(false), Keys("", 0, 0), None, 0),
+    (Binds(1), Keys("Xa", 0, 0), None, 2),
+    (Binds(2), Keys("Xbc", 0, 0), None, 4),
+    (Binds(3), Mouse, None, 4),
+    (Finds(true), Keys("", 0, 0), None, 4),
+    (Finds(true), Keys("X", 0, 0), None, 4),
+    (Finds(true), Keys("Xa", 0, 0), Some(1), 4),
+    (Finds(true), Keys("Xb", 0, 0), None, 4),
+    (Finds(true), Keys("Xbc", 0, 0), Some(2), 4),
+    (Finds(false), Keys("Xbca", 0, 0), None, 4),
+    (Finds(false), Keys("Xc", 0, 0), None, 4),
+    (Finds(false), Keys("a", 0, 0), None, 4),
+    (Finds(false), Each, None, 4),
+    (Finds(true), Mouse, Some(3), 4),
+    // The old handler comes back.
+    (Starts, Each, None, 0),
+    (Binds(1), Keys("Xa", 0, 0), None, 2),
+    (Binds(2), Keys("Xa", 0, 0), Some(1), 2),
+    (Binds(3), Keys("Xa", 0, 0), Some(2), 2),
+    (Finds(true), Keys("Xa", 0, 0), Some(3), 2),
+    // Nodes are shared.
+    (Starts, Each, None, 0),
+    (Binds(1), Each, None, 0),
+    (Binds(1), Keys("", 0, 0), None, 0),
+    (Binds(1), Keys("Xa", 0, 0), None, 2),
+    (Binds(1), Keys("Xbc", 0, 0), None, 4),
+    (Binds(1), Keys("Xa", 0, 0), Some(1), 4),
+    (Binds(1), Mouse, None, 4),
+    (Binds(1), Keys("X", 0, 0), None, 4),
+    (Binds(1), Keys("a", 0, 0), None, 5),
+    // A thousand keys are bound at once.
+    (Starts, Each, None, 0),
+    (Binds(1), Keys("", 0, 1000), None, 1000),
+    (Finds(true), Keys("", 0, 1000), Some(1), 1000),
+];
+
+/// Does a step. Where memory runs out, the number of nodes is as it was.
+fn takes(rt: &impl Abort, alloc: Global, bindings: &mut Bindings, step: &Step) -> Result<()> {
+    let (does, on, wanted, nodes) = step;
+    let event = event(alloc, on)?;
+    let before = bindings.nodes();
+    match does {
+        Starts => *bindings = Bindings::new(alloc),
+        Binds(n) => {
+            let outcome = bindings.insert(event, EventHandler::from(Cmd::SelfInsert(*n, 'x')));
+            let left = if outcome.is_ok() { *nodes } else { before };
+            assert_eq!(rt; bindings.nodes(), left);
+            assert_eq!(rt; number(outcome?.as_ref()), *wanted);
+        }
+        Finds(begins) => assert_eq!(rt;
+            (number(bindings.get(&event)), bindings.begins(&event)),
+            (*wanted, *begins),
+            "{event:?}"
+        ),
+    }
+    assert_eq!(rt; bindings.nodes(), *nodes);
+    Ok(())
+}
+
+#[test]
+fn events_are_bound_and_found(rt: HostRuntime) -> std::result::Result<(), Fail> {
+    let mut bindings = Bindings::new(rt.alloc());
+    for step in STEPS {
+        takes(&rt, rt.alloc(), &mut bindings, step)?;
+    }
+    Ok(())
+}
+
+/// Each of the 500 keys behind others, bound to a number of its own.
+#[test]
+fn five_hundred_keys_share_a_node(rt: HostRuntime) -> std::result::Result<(), Fail> {
+    for front in ["", "X"] {
+        let mut bindings = Bindings::new(rt.alloc());
+        let all = front.len().saturating_add(500);
+        for i in 0..500u16 {
+            let own = usize::from(i);
+            let nodes = front.len().saturating_add(own).saturating_add(1);
+            let step = (Binds(i), Keys(front, own, 1), None, nodes);
+            takes(&rt, rt.alloc(), &mut bindings, &step)?;
+        }
+        for i in 0..500u16 {
+            let step = (Finds(true), Keys(front, usize::from(i), 1), Some(i), all);
+            takes(&rt, rt.alloc(), &mut bindings, &step)?;
+        }
+    }
+    Ok(())
+}
+
+/// How many of forty keys are bound to 1, and how many to 2; or 0, where none are.
+type Bound = (usize, usize);
+
+/// How many keys are bound to a number, what is bound before that, and then. An empty map is another one.
+const FORTY: &[(usize, u16, Bound, Bound)] = &[
+    (3, 1, (0, 0), (3, 0)),
+    (40, 2, (3, 0), (3, 40)),
+    (40, 2, (0, 0), (0, 40)),
+];
+
+/// These beginnings of forty keys are bound, and no other one.
+fn looked_at(rt: &impl Abort, alloc: Global, bindings: &mut Bindings, bound: &Bound) -> Result<()> {
+    let (first, second) = *bound;
+    let longest = first.max(second);
+    for len in 0..41 {
+        let wanted = match len {
+            0 => None,
+            len if len == first => Some(1),
+            len if len == second => Some(2),
+            _ => None,
+        };
+        let leads = longest > 0 && len <= longest;
+        let step = (Finds(leads), Keys("", 0, len), wanted, longest);
+        takes(rt, alloc, bindings, &step)?;
+    }
+    Ok(())
+}
+
+/// Binds beginnings of forty keys. Where memory runs out, the map is as it was.
+fn forty(rt: &impl Abort, alloc: Global) -> Result<()> {
+    let mut bindings = Bindings::new(alloc);
+    for (len, n, before, after) in FORTY {
+        if *before == (0, 0) {
+            bindings = Bindings::new(alloc);
+        }
+        let step = (Binds(*n), Keys("", 0, *len), None, *len);
+        let outcome = takes(rt, alloc, &mut bindings, &step);
+        let bound = if outcome.is_ok() { after } else { before };
+        looked_at(rt, alloc, &mut bindings, bound)?;
+        outcome?;
+    }
+    Ok(())
+}
+
+#[test]
+fn forty_keys_are_bound(rt: HostRuntime) -> std::result::Result<(), Fail> {
+    forty(&rt, rt.alloc())?;
+    Ok(())
+}
+
+/// A refusal is no failure of the test.
+#[test]
+fn forty_keys_are_bound_or_none(rt: HostRuntime) -> std::result::Result<(), Fail> {
+    match forty(&rt, rt.alloc()) {
+        Ok(()) | Err(ReadlineError::Memory) => Ok(()),
+        Err(_) => Err(Fail::from("no other error")),
+    }
+}
+
+/// Events, and their normal forms.
+const COPIED: &[(On, On)] = &[
+    (Keys("xa", 0, 0), Keys("Xa", 0, 0)),
+    (Each, Each),
+    (Mouse, Mouse),
+];
+
+#[test]
+fn events_are_copied_and_put_into_normal_form(rt: HostRuntime) -> std::result::Result<(), Fail> {
+    for (on, wanted) in COPIED {
+        let event_here = event(rt.alloc(), on)?;
+        let copy = event_here.clone(rt.alloc())?;
+        assert_eq!(rt; copy, event_here);
+        assert_eq!(rt; copy.normalize(), event(rt.alloc(), wanted)?);
+    }
+    Ok(())
+}

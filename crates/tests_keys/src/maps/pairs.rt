@@ -1,0 +1,100 @@
+//! The map of bindings beside a list of pairs that answers the same.
+
+use super::number;
+use line_config::Result;
+use line_editor::Bindings;
+use line_editor::binding::{Event, EventHandler};
+use line_keys::cmd::Cmd;
+use line_keys::keys::{KeyCode, KeyEvent, Modifiers};
+use std::alloc::Global;
+use std::process::Abort;
+use std::test::Fail;
+
+/// Events with their numbers, of which the last counts.
+type Pairs = Vec<(Event, u16)>;
+
+/// The number of an event, and whether it is there, or is keys that one there begins with.
+fn looked_up(pairs: &[(Event, u16)], event: &Event) -> (Option<u16>, bool) {
+    let mut found = None;
+    let mut begins = false;
+    for (own, number) in pairs {
+        if own == event {
+            found = Some(*number);
+        }
+        begins = begins
+            || match (own, event) {
+                (Event::KeySeq(keys), Event::KeySeq(front)) => keys.starts_with(front),
+                (own, event) => own == event,
+            };
+    }
+    (found, begins)
+}
+
+/// An event out of a number: each key, the mouse, or up to four of three keys.
+fn drawn(alloc: Global, seed: u32) -> Result<Event> {
+    let kind = (seed >> 8) % 8;
+    if kind == 0 {
+        return Ok(Event::Any);
+    }
+    if kind == 1 {
+        return Ok(Event::Mouse);
+    }
+    let mut keys = Vec::new(alloc);
+    let mut rest = seed >> 12;
+    for _ in 0..(seed >> 28) % 5 {
+        let code = match rest % 3 {
+            0 => KeyCode::Tab,
+            1 => KeyCode::Enter,
+            _ => KeyCode::Char('a'),
+        };
+        rest /= 3;
+        keys.push(KeyEvent(code, Modifiers::NONE))?;
+    }
+    Ok(Event::KeySeq(keys))
+}
+
+/// Both answer the same of an event. One time in three they give it a number, and answer the one that it had.
+fn agrees(
+    rt: &impl Abort,
+    alloc: Global,
+    bindings: &mut Bindings,
+    pairs: &mut Pairs,
+    event: Event,
+    own: u16,
+) -> std::result::Result<(), Fail> {
+    let (wanted, begins) = looked_up(pairs, &event);
+    assert_eq!(rt;
+        (number(bindings.get(&event)), bindings.begins(&event)),
+        (wanted, begins),
+        "{event:?}"
+    );
+    if own % 3 == 0 {
+        pairs.push((event.clone(alloc)?, own))?;
+        let old = bindings.insert(event, EventHandler::from(Cmd::SelfInsert(own, 'x')))?;
+        assert_eq!(rt; number(old.as_ref()), wanted);
+    }
+    Ok(())
+}
+
+/// Events and numbers come of the numbers of a linear congruence, whose upper bits look mixed.
+#[test]
+fn a_list_of_pairs_answers_the_same(rt: HostRuntime) -> std::result::Result<(), Fail> {
+    let alloc = rt.alloc();
+    let mut bindings = Bindings::new(alloc);
+    let mut pairs = Vec::new(alloc);
+    let mut last = 7u32;
+    for _ in 0..2001 {
+        let next = last.wrapping_mul(1_664_525).wrapping_add(1_013_904_223);
+        let event = drawn(alloc, next)?;
+        agrees(
+            &rt,
+            alloc,
+            &mut bindings,
+            &mut pairs,
+            event,
+            (last >> 16) as u16,
+        )?;
+        last = next;
+    }
+    Ok(())
+}

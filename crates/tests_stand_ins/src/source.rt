@@ -1,0 +1,277 @@
+//! Commands, movements and the arguments of calls, read from text in the form that `Debug` writes them in.
+
+use line_buffer::{At, CharSearch, Movement, RepeatCount, Word};
+use line_config::Result;
+use line_keys::cmd::{Anchor, Cmd};
+use line_parts::{Escapes, unescape_line};
+use std::alloc::Global;
+
+/// A text of which a part was read. Brackets, commas, colons and blanks only part what stands between them.
+#[derive(Drop)]
+pub struct Source<'t> {
+    rest: &'t str,
+}
+
+/// The text that an escaped one stands for. None where an escape is bad.
+pub fn unescape(alloc: Global, text: &str) -> Result<Option<String>> {
+    let mut plain = Vec::new(alloc);
+    if unescape_line(text.as_bytes(), Escapes::V2, &mut plain)? {
+        Ok(String::from_utf8(plain).ok())
+    } else {
+        Ok(None)
+    }
+}
+
+/// Whether a character only parts others.
+fn parts(c: char) -> bool {
+    matches!(c, ' ' | '(' | ')' | '{' | '}' | ',' | ':' | ';')
+}
+
+impl<'t> Source<'t> {
+    /// The whole text, of which nothing was read.
+    pub fn new(text: &'t str) -> Source<'t> {
+        Source {
+            rest: text.trim_matches(parts),
+        }
+    }
+
+    /// Whether all was read.
+    pub fn is_empty(&self) -> bool {
+        self.rest.is_empty()
+    }
+
+    /// What is left behind so many bytes, which were read.
+    fn skip(&mut self, len: usize) {
+        self.rest = self.rest.get(len..).unwrap_or("").trim_start_matches(parts);
+    }
+
+    /// The next word, or number.
+    pub fn word(&mut self) -> Option<&'t str> {
+        let text = self.rest;
+        let len = text.find(parts).unwrap_or(text.len());
+        let word = text.get(..len)?;
+        self.skip(len);
+        Some(word)
+    }
+
+    /// The next number.
+    pub fn count(&mut self) -> Option<RepeatCount> {
+        self.word()?.parse().ok()
+    }
+
+    /// The next number of columns of an indentation.
+    pub fn amount(&mut self) -> Option<u8> {
+        self.word()?.parse().ok()
+    }
+
+    /// The next character, between single quotes.
+    pub fn character(&mut self) -> Option<char> {
+        let text = self.rest.strip_prefix('\'')?;
+        if let Some(escaped) = text.strip_prefix('\\') {
+            let c = escaped.chars().next()?;
+            self.skip(c.len_utf8() + 3);
+            return Some(if c == 'n' { '\n' } else { c });
+        }
+        let c = text.chars().next()?;
+        self.skip(c.len_utf8() + 2);
+        Some(c)
+    }
+
+    /// The next text, between double quotes; there is none in it.
+    pub fn text(&mut self) -> Option<&'t str> {
+        let text = self.rest.strip_prefix('"')?.split('"').next()?;
+        self.skip(text.len() + 2);
+        Some(text)
+    }
+
+    /// The next text, between double quotes, without its escapes.
+    pub fn plain_text(&mut self, alloc: Global) -> Result<Option<String>> {
+        match self.text() {
+            Some(text) => unescape(alloc, text),
+            None => Ok(None),
+        }
+    }
+
+    /// The next text behind `Some`, or none behind `None`.
+    fn some_text(&mut self) -> Option<Option<&'t str>> {
+        match self.word()? {
+            "None" => Some(None),
+            "Some" => Some(Some(self.text()?)),
+            _ => None,
+        }
+    }
+
+    /// The next kind of word.
+    fn word_kind(&mut self) -> Option<Word> {
+        match self.word()? {
+            "Big" => Some(Word::Big),
+            "Emacs" => Some(Word::Emacs),
+            "Vi" => Some(Word::Vi),
+            _ => None,
+        }
+    }
+
+    /// The next place on a word.
+    fn at(&mut self) -> Option<At> {
+        match self.word()? {
+            "Start" => Some(At::Start),
+            "BeforeEnd" => Some(At::BeforeEnd),
+            "AfterEnd" => Some(At::AfterEnd),
+            _ => None,
+        }
+    }
+
+    /// The next side of the cursor.
+    pub fn anchor(&mut self) -> Option<Anchor> {
+        match self.word()? {
+            "After" => Some(Anchor::After),
+            "Before" => Some(Anchor::Before),
+            _ => None,
+        }
+    }
+
+    /// The next search for a character.
+    fn search(&mut self) -> Option<CharSearch> {
+        let direction = self.word()?;
+        let c = self.character()?;
+        match direction {
+            "Forward" => Some(CharSearch::Forward(c)),
+            "ForwardBefore" => Some(CharSearch::ForwardBefore(c)),
+            "Backward" => Some(CharSearch::Backward(c)),
+            "BackwardAfter" => Some(CharSearch::BackwardAfter(c)),
+            _ => None,
+        }
+    }
+
+    /// The next movement.
+    pub fn movement(&mut self) -> Option<Movement> {
+        let movement = match self.word()? {
+            "WholeLine" => Movement::WholeLine,
+            "BeginningOfLine" => Movement::BeginningOfLine,
+            "EndOfLine" => Movement::EndOfLine,
+            "BackwardWord" => Movement::BackwardWord(self.count()?, self.word_kind()?),
+            "ForwardWord" => Movement::ForwardWord(self.count()?, self.at()?, self.word_kind()?),
+            "ViCharSearch" => Movement::ViCharSearch(self.count()?, self.search()?),
+            "ViFirstPrint" => Movement::ViFirstPrint,
+            "BackwardChar" => Movement::BackwardChar(self.count()?),
+            "ForwardChar" => Movement::ForwardChar(self.count()?),
+            "LineUp" => Movement::LineUp(self.count()?),
+            "LineDown" => Movement::LineDown(self.count()?),
+            "WholeBuffer" => Movement::WholeBuffer,
+            "BeginningOfBuffer" => Movement::BeginningOfBuffer,
+            "EndOfBuffer" => Movement::EndOfBuffer,
+            _ => return None,
+        };
+        Some(movement)
+    }
+
+    /// The next command. None where there is no such command.
+    pub fn command(&mut self, alloc: Global) -> Result<Option<Cmd>> {
+        let Some(name) = self.word() else {
+            return Ok(None);
+        };
+        if let Some(command) = plain_command(name) {
+            return Ok(Some(command));
+        }
+        match name {
+            "Insert" | "Replace" | "ReplaceToBracket" => self.command_with_text(alloc, name),
+            name => Ok(self.counted_command(name)),
+        }
+    }
+
+    /// The command of this name, which has a text of its own.
+    fn command_with_text(&mut self, alloc: Global, name: &str) -> Result<Option<Cmd>> {
+        let (count, movement) = match name {
+            "Insert" => (self.count(), None),
+            "Replace" => (None, self.movement()),
+            _ => (None, None),
+        };
+        let text = match self.text_of(name) {
+            Some(Some(text)) => match unescape(alloc, text)? {
+                None => return Ok(None),
+                plain => plain,
+            },
+            Some(None) => None,
+            None => return Ok(None),
+        };
+        Ok(match (name, count, movement, text) {
+            ("Insert", Some(n), _, Some(text)) => Some(Cmd::Insert(n, text)),
+            ("Replace", _, Some(movement), text) => Some(Cmd::Replace(movement, text)),
+            ("ReplaceToBracket", _, _, text) => Some(Cmd::ReplaceToBracket(text)),
+            _ => None,
+        })
+    }
+
+    /// The text of the command of this name.
+    fn text_of(&mut self, name: &str) -> Option<Option<&'t str>> {
+        match name {
+            "Insert" => Some(Some(self.text()?)),
+            _ => self.some_text(),
+        }
+    }
+
+    /// The command of this name, which has a count or a movement.
+    fn counted_command(&mut self, name: &str) -> Option<Cmd> {
+        let command = match name {
+            "Dedent" => Cmd::Dedent(self.movement()?),
+            "Indent" => Cmd::Indent(self.movement()?),
+            "Kill" => Cmd::Kill(self.movement()?),
+            "Move" => Cmd::Move(self.movement()?),
+            "ViYankTo" => Cmd::ViYankTo(self.movement()?),
+            "Overwrite" => Cmd::Overwrite(self.character()?),
+            "ReplaceChar" => Cmd::ReplaceChar(self.count()?, self.character()?),
+            "SelfInsert" => Cmd::SelfInsert(self.count()?, self.character()?),
+            "TransposeWords" => Cmd::TransposeWords(self.count()?),
+            "Undo" => Cmd::Undo(self.count()?),
+            "Yank" => Cmd::Yank(self.count()?, self.anchor()?),
+            "LineUpOrPreviousHistory" => Cmd::LineUpOrPreviousHistory(self.count()?),
+            "LineDownOrNextHistory" => Cmd::LineDownOrNextHistory(self.count()?),
+            "AcceptOrInsertLine" => {
+                let _field = self.word()?;
+                Cmd::AcceptOrInsertLine {
+                    accept_in_the_middle: self.word()? == "true",
+                }
+            }
+            _ => return None,
+        };
+        Some(command)
+    }
+}
+
+/// The command of this name, which has neither count nor movement nor text.
+fn plain_command(name: &str) -> Option<Cmd> {
+    let command = match name {
+        "Abort" => Cmd::Abort,
+        "AcceptLine" => Cmd::AcceptLine,
+        "BeginningOfHistory" => Cmd::BeginningOfHistory,
+        "CapitalizeWord" => Cmd::CapitalizeWord,
+        "ClearScreen" => Cmd::ClearScreen,
+        "Complete" => Cmd::Complete,
+        "CompleteBackward" => Cmd::CompleteBackward,
+        "CompleteHint" => Cmd::CompleteHint,
+        "DowncaseWord" => Cmd::DowncaseWord,
+        "EndOfFile" => Cmd::EndOfFile,
+        "EndOfHistory" => Cmd::EndOfHistory,
+        "ForwardSearchHistory" => Cmd::ForwardSearchHistory,
+        "HistorySearchBackward" => Cmd::HistorySearchBackward,
+        "HistorySearchForward" => Cmd::HistorySearchForward,
+        "Interrupt" => Cmd::Interrupt,
+        "NextHistory" => Cmd::NextHistory,
+        "Noop" => Cmd::Noop,
+        "Repaint" => Cmd::Repaint,
+        "PreviousHistory" => Cmd::PreviousHistory,
+        "QuotedInsert" => Cmd::QuotedInsert,
+        "ReverseSearchHistory" => Cmd::ReverseSearchHistory,
+        "Suspend" => Cmd::Suspend,
+        "TransposeChars" => Cmd::TransposeChars,
+        "Unknown" => Cmd::Unknown,
+        "UpcaseWord" => Cmd::UpcaseWord,
+        "YankPop" => Cmd::YankPop,
+        "MoveToBracket" => Cmd::MoveToBracket,
+        "KillToBracket" => Cmd::KillToBracket,
+        "YankToBracket" => Cmd::YankToBracket,
+        "Newline" => Cmd::Newline,
+        _ => return None,
+    };
+    Some(command)
+}

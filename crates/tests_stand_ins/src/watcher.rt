@@ -1,0 +1,87 @@
+//! Handlers of bindings whose answers are set beforehand.
+ghost use Rattle.std.specs.Prelude.{◌≡◌, length};
+ghost use Rattle.line_editor.specs.Event.{chord_of, event_keys};
+ghost use Rattle.tests_stand_ins.specs.Watcher.{never_fails, watched};
+
+use line_buffer::RepeatCount;
+use line_config::{EditMode, ReadlineError, Result};
+use line_editor::binding::{ConditionalEventHandler, Event, EventContext};
+use line_keys::cmd::Cmd;
+use line_keys::refresher::InputMode;
+use std::alloc::Global;
+use std::io::{Error, ErrorKind};
+
+/// What a handler says where it fails.
+pub const REFUSED: &str = "the handler is asleep";
+
+/// What a handler answers.
+#[derive(Clone, Copy, Drop)]
+pub enum Watcher {
+    /// Nothing.
+    Nothing,
+    /// A k that is inserted, where it is handed this count in this direction; else a command that does nothing.
+    ForCount(RepeatCount, bool),
+    /// A k that is inserted, where it is handed so many keys and shown a line of this length with the cursor at this place,
+    /// with or without a hint; else nothing.
+    At(usize, usize, usize, bool),
+    /// A k that is inserted, where it is shown the style of Emacs or not, the mode of inserting or not, and a hint of which
+    /// so many bytes complete the line; else nothing.
+    Sees(bool, bool, usize),
+    /// An error of input or output.
+    Fails,
+}
+
+impl ConditionalEventHandler for Watcher {
+    ghost sure = { λ watcher. never_fails watcher };
+
+    ghost answer = { λ watcher asked. watched watcher asked };
+
+    fn handle(
+        &self,
+        alloc: Global,
+        evt: &Event,
+        n: RepeatCount,
+        positive: bool,
+        ctx: &EventContext<'_>,
+    ) -> Result<Option<Cmd>> {
+        match self {
+            Watcher::Nothing => Ok(None),
+            Watcher::ForCount(wanted, forth) => {
+                if n == *wanted && positive == *forth {
+                    return Ok(Some(Cmd::Insert(1, String::from_str(alloc, "k")?)));
+                }
+                Ok(Some(Cmd::Noop))
+            }
+            Watcher::At(count, len, pos, hinted) => {
+                let keys = count_of(evt);
+                let there = ctx.line().len() == *len && ctx.pos() == *pos;
+                if keys == *count && there && ctx.has_hint() == *hinted {
+                    return Ok(Some(Cmd::Insert(1, String::from_str(alloc, "k")?)));
+                }
+                Ok(None)
+            }
+            Watcher::Sees(emacs, inserting, len) => {
+                let style = matches!(ctx.mode(), EditMode::Emacs) == *emacs;
+                let mode = matches!(ctx.input_mode(), InputMode::Insert) == *inserting;
+                if style && mode && ctx.hint_text().unwrap_or("").len() == *len {
+                    return Ok(Some(Cmd::Insert(1, String::from_str(alloc, "k")?)));
+                }
+                Ok(None)
+            }
+            Watcher::Fails => Err(ReadlineError::Io(Error::new(
+                ErrorKind::PermissionDenied,
+                REFUSED,
+            ))),
+        }
+    }
+}
+
+/// How many keys an event has.
+fn count_of(event: &Event) -> usize
+    ensures { result ≡ length (event_keys (chord_of event.now)) }
+{
+    match event {
+        Event::KeySeq(keys) => keys.len(),
+        _ => 0,
+    }
+}
