@@ -270,11 +270,17 @@ fn reads(
         seen.is_cut(state.next_cmd(&mut input, &mut typist, false));
     }
     typist.press(keys.as_slice())?;
-    let command = state.next_cmd(&mut input, &mut typist, false)?;
-    seen.read(alloc, &command)?;
+    match state.next_cmd(&mut input, &mut typist, false) {
+        Ok(command) => {
+            let _ = seen.read(alloc, &command)?;
+        }
+        Err(error) => seen.ends(alloc, Err(error))?,
+    }
     typist.press(&[KeyEvent(KeyCode::Char('x'), Modifiers::NONE)])?;
-    let next = state.next_cmd(&mut input, &mut typist, false)?;
-    seen.stands_for(alloc, &next)?;
+    match state.next_cmd(&mut input, &mut typist, false) {
+        Ok(command) => seen.stands_for(alloc, &command)?,
+        Err(error) => seen.ends(alloc, Err(error))?,
+    }
     looks_at(alloc, state, &input, &typist, &mut seen)?;
     Ok(seen)
 }

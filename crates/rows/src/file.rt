@@ -12,17 +12,18 @@ use line_script::edit;
 use std::alloc::Global;
 use std::io::{Read, Write};
 
-/// What a file may hold, printed for a file whose first line is `help`.
+/// The lines that a file may hold, in short, printed for a file whose first line is `help`.
 const HELP: &str = "\
 # NAME               begins cases, and forgets the settings before it; ## begins a remark
-= VALUE | VALUE ..   ends a case: what is wanted of the lines before it, as the values below
+= VALUE | VALUE ..   ends a case: what is wanted of the lines before it
 Settings hold up to the next name; they are those of a script, and
 bind KEYS = COMMAND  keys, `any` or `mouse` stand for a command, or for `asks HANDLER`
 ring N               the slots of the kill ring
 dups 1               the history keeps a line that is the same as the one before it
 lines N              the most lines of the history
+with A B N           the cases are done with the keys of the counts A for @ and B for & (- is none), and N for #
 screen N             a screen of N columns, a byte each, that writes down its calls; what follows is for it
-line A|B             the editor is made of a line with its cursor at the bar
+line A^B             the editor is made of a line with its cursor at the mark
 colors, alone        the screen has colors; there is no helper
 hint T, verdict T    what the helper hints, and says of each line: incomplete, valid T or invalid T
 lit KIND             the helper asks for a full drawing of moves, edits or the last
@@ -36,8 +37,8 @@ start A^B            the empty line is drawn and filled; calls count from there,
 do COMMAND; ..       commands are executed, and calls of the editor's state made, by their names
 run, turn, next      what was typed is read by a run, by a turn, or by a command
 phrase NAME NAME ..  keys that are one phrase, which is read and not executed
-with A B N           the cases are done with the counts A typed for @, B for & (- is none), and N for # 
 log CALL             the next call of the screen that is wanted
+The README of this program says more of each, and has the values.
 ";
 
 /// How the reading of a file ended: with so many cases, of which so many differ; at a bad line; or with the help.
@@ -105,6 +106,8 @@ struct Begun<'t> {
     settings: Vec<(usize, &'t str)>,
     ways: Vec<&'t str>,
     lines: Vec<(usize, &'t str)>,
+    /// The number of the last line that no case has used yet.
+    open: Option<usize>,
 }
 
 /// How many cases there were, and how many differ.
@@ -121,6 +124,7 @@ fn read_rows<O: Write>(alloc: Global, text: &str, out: &mut O) -> Result<Ending>
         settings: Vec::new(alloc),
         ways: Vec::new(alloc),
         lines: Vec::new(alloc),
+        open: None,
     };
     let mut tally = Tally {
         rows: 0,
@@ -129,19 +133,24 @@ fn read_rows<O: Write>(alloc: Global, text: &str, out: &mut O) -> Result<Ending>
     let mut number = 0_usize;
     for line in text.split('\n') {
         number = number.saturating_add(1);
+        if line.starts_with("# ")
+            && let Some(open) = begun.open
+        {
+            return Ok(Ending::BadLine(open));
+        }
         begun.adds(alloc, number, line)?;
         if line.starts_with("= ") {
             if let Some(bad) = tries_ways(alloc, &begun, &mut tally, out)? {
                 return Ok(Ending::BadLine(bad));
             }
             begun.lines.clear();
+            begun.open = None;
         }
     }
-    if begun.lines.is_empty() {
-        Ok(Ending::Rows(tally.rows, tally.differing))
-    } else {
-        Ok(Ending::BadLine(number))
-    }
+    Ok(match begun.open {
+        Some(open) => Ending::BadLine(open),
+        None => Ending::Rows(tally.rows, tally.differing),
+    })
 }
 
 impl<'t> Begun<'t> {
@@ -154,8 +163,10 @@ impl<'t> Begun<'t> {
             self.name = name;
             self.settings.clear();
             self.ways.clear();
-            self.lines.clear();
-        } else if let Some(way) = line.strip_prefix("with ") {
+            return Ok(());
+        }
+        self.open = Some(number);
+        if let Some(way) = line.strip_prefix("with ") {
             self.ways.push(way)?;
         } else if is_item(line) {
             self.lines.push((number, line))?;
@@ -266,6 +277,56 @@ fn types_count(text: &mut String, count: &str) -> Result<()> {
     Ok(())
 }
 
+/// How the values begin that a case can want.
+const VALUES: &[&str] = &[
+    "all",
+    "at",
+    "behind",
+    "calls",
+    "cursor",
+    "empty",
+    "end",
+    "entries",
+    "eof",
+    "fails",
+    "fault",
+    "flags",
+    "highlighter",
+    "hint",
+    "interrupted",
+    "is",
+    "kinds",
+    "last",
+    "len",
+    "line",
+    "mode",
+    "needs",
+    "own",
+    "place",
+    "proceeds",
+    "prompt",
+    "reads",
+    "recovers",
+    "redraws",
+    "says",
+    "shows",
+    "style",
+    "submitted",
+    "then",
+    "trails",
+];
+
+/// Whether each value that a case wants is one that there is.
+fn are_values(wanted: &str) -> bool {
+    for field in wanted.split(" | ") {
+        let kind = field.split(' ').next().unwrap_or("");
+        if !VALUES.iter().any(|value| *value == kind) {
+            return false;
+        }
+    }
+    true
+}
+
 /// Tries a case, and counts it. Returns the number of a bad line.
 fn tallies<O: Write>(
     alloc: Global,
@@ -274,6 +335,9 @@ fn tallies<O: Write>(
     tally: &mut Tally,
     out: &mut O,
 ) -> Result<Option<usize>> {
+    if !are_values(row.wanted) {
+        return Ok(Some(row.number));
+    }
     match tries(alloc, begun.settings.as_slice(), row, out)? {
         Tried::Same => {}
         Tried::Differs => tally.differing = tally.differing.saturating_add(1),

@@ -228,11 +228,20 @@ fn looks_at_calls(
     before: usize,
     out: &mut Vec<u8>,
 ) -> Result<()> {
-    write!(out, "calls {}\nflags ", letters(alloc, log, before)?)?;
+    let calls = letters(alloc, log, before)?;
+    write!(
+        out,
+        "calls {}\nflags ",
+        if calls.is_empty() {
+            "none"
+        } else {
+            calls.as_str()
+        }
+    )?;
     for flag in flags {
         out.write_all(if *flag { b"y" } else { b"n" })?;
     }
-    writeln!(out)?;
+    writeln!(out, "{}", if flags.is_empty() { "none" } else { "" })?;
     for call in log.lines().skip(before) {
         writeln!(out, "log {call}")?;
     }

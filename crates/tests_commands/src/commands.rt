@@ -32,11 +32,14 @@ fn does(
     let config = Config::new(GraphemeClusterMode::Unicode);
     let bindings = Bindings::new(alloc);
     let input = InputState::new(&config, &bindings);
-    match executed(alloc, state, &input, kills, &config, steps) {
-        Some(Ok(_) | Err(ReadlineError::Interrupted | ReadlineError::Eof)) => Ok(()),
-        Some(Err(error)) => Err(error),
-        None => panic!(rt; "no such step in {steps}"),
+    for step in steps.split("; ") {
+        match executed(alloc, state, &input, kills, &config, step) {
+            Some(Ok(_) | Err(ReadlineError::Interrupted | ReadlineError::Eof)) => {}
+            Some(Err(error)) => return Err(error),
+            None => panic!(rt; "no such step in {steps}"),
+        }
     }
+    Ok(())
 }
 
 /// The columns, what is typed behind a prompt that ends on the last row there is, the calls of the renderer, and the column
