@@ -21,9 +21,9 @@ use std::io::Write;
 use tests_parties::advisor::Advisor;
 use tests_parties::fault::{ASLEEP, USUAL};
 use tests_parties::shelf::Shelf;
-use tests_stand_ins::calls::{Editor, done, executed, proceeds, starts};
 use tests_stand_ins::recorder::Recorder;
 use tests_stand_ins::typist::Typist;
+use tests_steps::calls::{Editor, done, executed, proceeds, starts};
 
 /// Does what a row says on the bench. Returns what was seen.
 pub fn on_bench(

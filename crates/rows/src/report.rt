@@ -8,8 +8,8 @@ use line_keys::refresher::Refresher;
 use line_script::report::write_escaped;
 use std::alloc::Global;
 use std::io::{ErrorKind, Write};
-use tests_stand_ins::calls::{Editor, letters};
 use tests_stand_ins::typist::Typist;
+use tests_steps::calls::{Editor, letters};
 
 /// A case: its name and the number of the line that ends it, what is done, each line with its number, the keys that are
 /// read as one phrase, whether the lines type keys and do nothing else, the calls of the renderer that are wanted, and what

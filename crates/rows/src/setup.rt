@@ -9,8 +9,8 @@ use line_parts::{CmdKind, History};
 use line_script::{KILL_RING_SIZE, Parsed, key_named};
 use std::alloc::Global;
 use tests_parties::advisor::{Tip, Verdict};
-use tests_stand_ins::source::Source;
-use tests_stand_ins::watcher::Watcher;
+use tests_steps::source::Source;
+use tests_steps::watcher::Watcher;
 
 /// Which call of a party fails, from 1 on, or 0 for none, and whether it fails by an error of its own.
 #[derive(Clone, Copy)]

@@ -1,4 +1,3 @@
 pub mod Screen
 pub mod ScreenLaws
 pub mod Typist
-pub mod Watcher

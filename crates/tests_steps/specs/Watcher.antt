@@ -7,8 +7,8 @@ use Rattle.line_keys.specs.declared.refresher.InputMode.{InputMode}
 use Rattle.line_keys.specs.declared.refresher.InputMode.TheVariants.{Insert}
 use Rattle.line_editor.specs.Asked.{Asked}
 use Rattle.line_editor.specs.Event.{event_keys}
-use Rattle.tests_stand_ins.specs.declared.watcher.Watcher.{Watcher}
-use Rattle.tests_stand_ins.specs.declared.watcher.Watcher.TheVariants.{At, Fails, ForCount, Nothing, Sees}
+use Rattle.tests_steps.specs.declared.watcher.Watcher.{Watcher}
+use Rattle.tests_steps.specs.declared.watcher.Watcher.TheVariants.{At, Fails, ForCount, Nothing, Sees}
 
 -- whether two answers of yes and no are the same
 abbrev pub same_bool : Bool → Bool → Bool

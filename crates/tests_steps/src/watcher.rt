@@ -1,7 +1,7 @@
 //! Handlers of bindings whose answers are set beforehand.
 ghost use Rattle.std.specs.Prelude.{◌≡◌, length};
 ghost use Rattle.line_editor.specs.Event.{chord_of, event_keys};
-ghost use Rattle.tests_stand_ins.specs.Watcher.{never_fails, watched};
+ghost use Rattle.tests_steps.specs.Watcher.{never_fails, watched};
 
 use line_buffer::RepeatCount;
 use line_config::{EditMode, ReadlineError, Result};
