@@ -19,8 +19,10 @@ fn shown(alloc: Global, parsed: &mut Parsed) -> line_config::Result<Vec<u8>> {
     writeln!(out, "hints {} brackets {}", helper.hints, helper.brackets)?;
     shows_history(alloc, &mut out, parsed)?;
     out.write_all(b"items")?;
-    while !parsed.items.is_empty() {
-        shows_item(&mut out, parsed)?;
+    for _ in 0..parsed.items.len() {
+        if !parsed.items.is_empty() {
+            shows_item(&mut out, parsed)?;
+        }
     }
     Ok(out)
 }
