@@ -39,7 +39,7 @@ pub fn play<R: Read + Drop, O: Write>(alloc: Global, input: R, out: &mut O) -> u
 
 /// The same, and the answer is what was done. An error is a fault of memory, or of one of the two streams.
 fn play_script<R: Read + Drop, O: Write>(alloc: Global, input: R, out: &mut O) -> Result<Ending> {
-    let parsed = match read_script(alloc, input) {
+    let mut parsed = match read_script(alloc, input) {
         Ok(parsed) => parsed,
         Err(ScriptError::BadLine(line)) => {
             writeln!(out, "bad script line {line}")?;
@@ -48,14 +48,15 @@ fn play_script<R: Read + Drop, O: Write>(alloc: Global, input: R, out: &mut O) -
         }
         Err(ScriptError::Fault(error)) => return Err(error),
     };
-    let outcome = edit(alloc, parsed, &Bindings::new(alloc), KILL_RING_SIZE, out)?;
+    let bindings = Bindings::new(alloc);
+    let outcome = edit(alloc, &mut parsed, &bindings, KILL_RING_SIZE, out)?;
     out.flush()?;
     Ok(Ending::Ran(outcome))
 }
 
 /// Edits a line as a script says, with these bindings and a kill ring of so many slots, and prints what became of it.
 ///
-/// Returns how the run ended.
+/// Returns how the run ended. What the script types is read then.
 ///
 /// # Errors
 ///
@@ -63,14 +64,12 @@ fn play_script<R: Read + Drop, O: Write>(alloc: Global, input: R, out: &mut O) -
 /// What was printed then is a beginning of the six lines.
 pub fn edit<O: Write>(
     alloc: Global,
-    parsed: Parsed,
+    parsed: &mut Parsed,
     bindings: &Bindings,
     kill_ring_size: usize,
     out: &mut O,
 ) -> Result<Outcome> {
     let mut screen = Plain::new(alloc, parsed.columns);
-    let mut helper = parsed.helper;
-    let mut script = parsed.items;
     let prompt = parsed.prompt.as_str();
     let config = Config::builder(GraphemeClusterMode::Unicode)
         .edit_mode(parsed.edit_mode)
@@ -78,8 +77,20 @@ pub fn edit<O: Write>(
     let mut input = InputState::new(&config, bindings);
     let mut kill_ring = KillRing::new(alloc, kill_ring_size);
     let context = Context::new(&parsed.history);
-    let mut state = State::new(alloc, &mut screen, &prompt, Some(&mut helper), context)?;
-    let answer = run(&mut state, &mut input, &mut script, &mut kill_ring, &config);
+    let mut state = State::new(
+        alloc,
+        &mut screen,
+        &prompt,
+        Some(&mut parsed.helper),
+        context,
+    )?;
+    let answer = run(
+        &mut state,
+        &mut input,
+        &mut parsed.items,
+        &mut kill_ring,
+        &config,
+    );
     let report = Report {
         outcome: Outcome::of(answer),
         line: state.line(),

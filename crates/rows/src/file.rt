@@ -374,17 +374,38 @@ fn tries<O: Write>(
     out: &mut O,
 ) -> Result<Tried> {
     let mut setup = Setup::new(alloc)?;
+    match sets_up(alloc, &mut setup, settings)? {
+        Some(bad) => Ok(Tried::BadLine(bad)),
+        None => tries_set_up(alloc, &mut setup, row, out),
+    }
+}
+
+/// Takes the settings. Returns the number of a bad line.
+fn sets_up<'t>(
+    alloc: Global,
+    setup: &mut Setup<'t>,
+    settings: &[(usize, &'t str)],
+) -> Result<Option<usize>> {
     for (number, line) in settings {
         if !setup.push(alloc, line)? {
-            return Ok(Tried::BadLine(*number));
+            return Ok(Some(*number));
         }
     }
+    Ok(None)
+}
+
+/// Tries a case with what its settings gave.
+fn tries_set_up<O: Write>(
+    alloc: Global,
+    setup: &mut Setup<'_>,
+    row: &Row<'_>,
+    out: &mut O,
+) -> Result<Tried> {
     let mut bindings = Bindings::new(alloc);
     for text in setup.bound.as_slice() {
-        let Some(bound) = binding(alloc, text)? else {
+        let Some((event, target)) = binding(alloc, text)? else {
             return Ok(Tried::BadLine(row.number));
         };
-        let (event, target) = bound;
         let handler = match target {
             Target::Does(command) => EventHandler::Simple(command),
             Target::Asks(watcher) => EventHandler::Conditional(Box::new(alloc, watcher)?),
@@ -397,7 +418,7 @@ fn tries<O: Write>(
 /// Tries a case with these settings and bindings, in both ways where it is to be.
 fn tries_bound<O: Write>(
     alloc: Global,
-    mut setup: Setup<'_>,
+    setup: &mut Setup<'_>,
     bindings: &Bindings,
     row: &Row<'_>,
     out: &mut O,
@@ -408,10 +429,10 @@ fn tries_bound<O: Write>(
     }
     let both_ways = setup.both_ways;
     setup.both_ways = false;
-    match tries_on_bench(alloc, &setup, bindings, columns, row, out)? {
+    match tries_on_bench(alloc, setup, bindings, columns, row, out)? {
         Tried::Same if both_ways => {
             setup.both_ways = true;
-            tries_on_bench(alloc, &setup, bindings, columns, row, out)
+            tries_on_bench(alloc, setup, bindings, columns, row, out)
         }
         first => Ok(first),
     }
@@ -439,23 +460,19 @@ fn tries_on_bench<O: Write>(
 /// Tries a case by a script.
 fn tries_script<O: Write>(
     alloc: Global,
-    setup: Setup<'_>,
+    setup: &mut Setup<'_>,
     bindings: &Bindings,
     row: &Row<'_>,
     out: &mut O,
 ) -> Result<Tried> {
-    let Setup {
-        mut parsed,
-        kill_ring_size,
-        ..
-    } = setup;
+    let parsed = &mut setup.parsed;
     for (number, line) in row.items.as_slice() {
         if !parsed.push_line(alloc, line)? {
             return Ok(Tried::BadLine(*number));
         }
     }
     let mut printed = Vec::new(alloc);
-    let _ = edit(alloc, parsed, bindings, kill_ring_size, &mut printed)?;
+    let _ = edit(alloc, parsed, bindings, setup.kill_ring_size, &mut printed)?;
     let text = str::from_utf8(&printed).unwrap_or("");
     Ok(Tried::of(differs(row, text, out)?))
 }
