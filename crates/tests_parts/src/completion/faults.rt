@@ -102,6 +102,20 @@ fn asks<C: Completer>(
     put: Put<'_>,
     faults: (Option<Fault>, Option<Fault>),
 ) -> Result<bool> {
+    Ok(
+        updates(alloc, completer, put, faults.1)?
+            && offers_nothing(alloc, completer, (put.0, put.1), faults.0)?
+            && offers_nothing(alloc, completer, ("ls u", 4), faults.0)?,
+    )
+}
+
+/// Whether the line takes the text, or the update fails by its fault, if it has one, and leaves the line as it was.
+fn updates<C: Completer>(
+    alloc: Global,
+    completer: &C,
+    put: Put<'_>,
+    fault: Option<Fault>,
+) -> Result<bool> {
     let (text, pos, elected, wanted) = put;
     if !text.is_char_boundary(0) || !text.is_char_boundary(pos) {
         return Ok(false);
@@ -109,12 +123,8 @@ fn asks<C: Completer>(
     let mut line = LineBuffer::init(alloc, text, pos)?;
     let mut changes = Changeset::new(alloc);
     let outcome = completer.update(&mut line, 0, elected, &mut changes);
-    Ok(
-        is_outcome(alloc, &outcome, faults.1)?
-            && (line.as_str(), line.pos(), changes.len()) == wanted
-            && offers_nothing(alloc, completer, (text, pos), faults.0)?
-            && offers_nothing(alloc, completer, ("ls u", 4), faults.0)?,
-    )
+    let is_so = (line.as_str(), line.pos(), changes.len()) == wanted;
+    Ok(is_so && is_outcome(alloc, &outcome, fault)?)
 }
 
 /// A completer.
