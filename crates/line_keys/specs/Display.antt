@@ -1,5 +1,5 @@
 -- What is drawn of a line, and what a full redraw of it would give.
-use Rattle.std.specs.Prelude.{◌≡◌, ℕ, ◌+◌, ◌-◌, Bool, false, if◌then◌else◌, nat_lt, min, List, take, Option, Some, None, is_some, OnOk, Result}
+use Rattle.std.specs.Prelude.{◌≡◌, ℕ, ◌+◌, ◌-◌, Bool, false, if◌then◌else◌, nat_lt, min, List, take, Option, Some, None, is_some, OnOk, OnErr, Result}
 use Rattle.line_buffer.specs.Line.{Line}
 use Rattle.line_buffer.specs.declared.layout.Position.{Position}
 use Rattle.line_buffer.specs.declared.layout.Layout.{Layout}
@@ -24,6 +24,17 @@ pub record Screen : Type 0 where
   pub position : Position
   pub text : List ℕ
   pub origin : Position
+
+-- what a screen was asked to do beside drawing the line: whether what is drawn is held back, how many texts were written by themselves,
+-- and how many beeps were given
+pub record Beside : Type 0 where
+  pub held : Bool
+  pub written : ℕ
+  pub beeps : ℕ
+
+-- a screen that keeps no count of what it was asked beside drawing
+abbrev pub uncounted : Beside
+uncounted = record { held = false; written = 0; beeps = 0 }
 
 -- what is drawn of a line: the screen, where the prompt ends, the layout that is kept of it, and the last answer of `highlight_char`
 pub record Display : Type 0 where
@@ -102,9 +113,10 @@ pub record IsRight (display : Display) (line : Line) : Type 0 where
   pub drawn : ShowsText display line.text
   pub cursor : HasCursorAt display line
 
--- the cursor goes to a position: the kept one does, and the drawn one with it, and all else stays
+-- the cursor goes to a position: the kept one does, and the drawn one with it, and all else stays; after an error the kept one too
 pub record GoesToPosition {T : Type 0} (result : Result T ReadlineError) (old new : Display) (place : Position) : Type 0 where
   pub layout : OnOk result (new.layout ≡ record old.layout { cursor = place })
+  pub kept : OnErr result (new.layout ≡ old.layout)
   pub position : old.screen.position ≡ old.layout.cursor → OnOk result (new.screen.position ≡ new.layout.cursor)
   pub shows : new.screen.text ≡ old.screen.text
   pub origin : new.screen.origin ≡ old.screen.origin

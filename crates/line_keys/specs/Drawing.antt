@@ -1,10 +1,11 @@
 -- What a call draws.
-use Rattle.std.specs.Prelude.{◌≡◌, ◌⊎◌, ℕ, Bool, true, false, if◌then◌else◌, MatchBool, List, Option, None, OnOk, Result}
+use Rattle.std.specs.Prelude.{◌≡◌, ◌⊎◌, ℕ, Bool, true, false, if◌then◌else◌, MatchBool, List, Option, None, OnOk, OnErr, Result}
 use Rattle.line_buffer.specs.Line.{Line}
 use Rattle.line_config.specs.declared.error.ReadlineError.{ReadlineError}
 use Rattle.line_buffer.specs.declared.layout.Position.{Position}
 use Rattle.line_keys.specs.Display.{HasCursorAt, IsRight, ShowsInFull, ShowsText, corner, cursor_position, ending_at, lit_after}
 use Rattle.line_keys.specs.Draft.{Draft, KeepsText, hint_shown, hinted, start_text}
+use Rattle.line_keys.specs.Fault.{FaultLeaves}
 use Rattle.line_keys.specs.Frame.{FailsByParty, FailsByRenderer, Frame}
 use Rattle.line_keys.specs.Plainly.{KilledPlainly, TypedPlainly, has_highlighting, leaves_bare}
 use Rattle.line_keys.specs.ShownLine.{HasCursorDrawn, HasRightLayout, IsInPlace, KeepsDrawn, Redraws, Shows}
@@ -123,19 +124,32 @@ pub record Undrawn {X : Type 0} (e : Ghosts X) (old new : X) : Type 0 where
   pub failures : e.failures new ≡ e.failures old
   pub frame : Frame e old new
 
--- what a call leaves that only draws, once in full or never: the draft and the last answer of `highlight_char` stay
+-- after an error the kept layout is the one from before
+abbrev pub KeepsLayoutOnErr : {X T : Type 0} → Ghosts X → Result T ReadlineError → X → X → Type 0
+KeepsLayoutOnErr e result old new = OnErr result ((e.display new).layout ≡ (e.display old).layout)
+
+-- after an error the draft is the one from before, or the one that was to be drawn
+abbrev pub KeepsDraftOnErr : {X T : Type 0} → Ghosts X → Result T ReadlineError → X → X → Draft → Type 0
+KeepsDraftOnErr e result old new left = OnErr result ((e.draft new ≡ e.draft old) ⊎ (e.draft new ≡ left))
+
+-- what a call leaves that only draws, once in full or never: the draft and the last answer of `highlight_char` stay, and after an error
+-- the kept layout
 pub record Paints {X T : Type 0} (e : Ghosts X) (in_full : Bool) (result : Result T ReadlineError) (old new : X) : Type 0 where
   pub draft : e.draft new ≡ e.draft old
   pub lit : (e.display new).lit ≡ (e.display old).lit
+  pub kept : KeepsLayoutOnErr e result old new
   pub redraws : MatchBool in_full (OnOk result (Redraws e 1 1 old new)) (e.redraws new ≡ e.redraws old)
   pub frame : Frame e old new
   pub fails : FailsByRenderer e result old new
 
--- what each refresh leaves: the draft, and all of it but the hint in any case; and what it draws
+-- what each refresh leaves: the draft, and all of it but the hint in any case; and what it draws. After an error the draft is the one
+-- from before or the one that was to be drawn, and the kept layout stays
 pub record Refreshes {X T : Type 0} (e : Ghosts X) (result : Result T ReadlineError) (old new : X) (left : Draft) (drawing : Drawing) : Type 0 where
   pub draft : OnOk result (e.draft new ≡ left)
+  pub err : KeepsDraftOnErr e result old new left
   pub text : KeepsText (e.draft old) (e.draft new)
   pub drew : OnOk result (Drew e 1 drawing old new)
+  pub kept : KeepsLayoutOnErr e result old new
   pub frame : Frame e old new
   pub fails : FailsByParty e (asked_by drawing) result old new
 
@@ -153,15 +167,21 @@ pub data ShowsChange {X : Type 0} (e : Ghosts X) (most : ℕ) (old new : X) : Ty
   drawn_plainly : ChangedPlainly e old new → ShowsChange e most old new
 
 -- what a call leaves that edits the line or moves its cursor: the draft, and the text that all changes taken back give; and what it
--- draws, a line with so many full redraws: what is drawn stays good, and a changed text is drawn; of the parties it asks these alone
-pub record DoesAsking {X T : Type 0} (e : Ghosts X) (asks : Asks) (result : Result T ReadlineError) (old new : X) (left : Draft) (drawing : Drawing) (times : ℕ) : Type 0 where
+-- draws, a line with so many full redraws: what is drawn stays good, and a changed text is drawn; of the parties it asks these alone.
+-- After a fault the draft is that of a moment of the call, but for its hint: before it, halfway or behind it
+pub record DoesInTwo {X T : Type 0} (e : Ghosts X) (asks : Asks) (result : Result T ReadlineError) (old new : X) (halfway left : Draft) (drawing : Drawing) (times : ℕ) : Type 0 where
   pub draft : OnOk result (e.draft new ≡ left)
+  pub fault : FaultLeaves result (e.environment old) (e.draft old) halfway left (e.draft new)
   pub start : OnOk result (start_text (e.draft new) ≡ start_text (e.draft old))
   pub drew : OnOk result (Drew e times drawing old new)
   pub keeps : OnOk result (KeepsDrawn e old new)
   pub change : OnOk result (ShowsChange e times old new)
   pub frame : Frame e old new
   pub fails : FailsByParty e asks result old new
+
+-- the same of a call that changes the line once
+abbrev pub DoesAsking : {X T : Type 0} → Ghosts X → Asks → Result T ReadlineError → X → X → Draft → Drawing → ℕ → Type 0
+DoesAsking e asks result old new left drawing times = DoesInTwo e asks result old new (e.draft old) left drawing times
 
 -- the same of a call that asks for what it draws alone
 abbrev pub Does : {X T : Type 0} → Ghosts X → Result T ReadlineError → X → X → Draft → Drawing → ℕ → Type 0
@@ -171,6 +191,7 @@ Does e result old new left drawing times = DoesAsking e (asked_by drawing) resul
 -- drawn, and the line then ends at this position; else the line is drawn in full with its hint; all but the hint stays in any case
 pub record ShowsEnd {X T : Type 0} (e : Ghosts X) (result : Result T ReadlineError) (old new : X) (position : Position) : Type 0 where
   pub draft : OnOk result (e.draft new ≡ hinted (e.environment old) (e.draft old))
+  pub err : KeepsDraftOnErr e result old new (hinted (e.environment old) (e.draft old))
   pub text : KeepsText (e.draft old) (e.draft new)
   pub drew : OnOk result (Drew e 1 (change_drawn (leaves_bare (e.environment old) (e.display old) (hinted (e.environment old) (e.draft old))) position) old new)
   pub frame : Frame e old new
@@ -186,6 +207,7 @@ pub record PutsCursorAt {X T : Type 0} (e : Ghosts X) (result : Result T Readlin
       → ShowsText (e.display old) (e.draft old).line.text → OnOk result (HasRightLayout e new)
   pub placed : position ≡ cursor_position (e.display old).surface.measure (e.display old).prompt_end (e.draft old).line
       → OnOk result (HasCursorDrawn e new)
+  pub kept : KeepsLayoutOnErr e result old new
   pub frame : Frame e old new
   pub fails : FailsByRenderer e result old new
 
@@ -195,6 +217,7 @@ pub record DrawsCursor {X T : Type 0} (e : Ghosts X) (result : Result T Readline
   pub drew : OnOk result (DrewCursor e kind old new)
   pub placed : OnOk result (HasCursorDrawn e new)
   pub right : OnOk result (ShowsText (e.display old) (e.draft old).line.text → IsRight (e.display new) (e.draft old).line)
+  pub kept : KeepsLayoutOnErr e result old new
   pub frame : Frame e old new
   pub fails : FailsByRenderer e result old new
 
@@ -202,10 +225,12 @@ pub record DrawsCursor {X T : Type 0} (e : Ghosts X) (result : Result T Readline
 -- cursor goes to the line's; all but the hint stays in any case
 pub record ShowsEdit {X T : Type 0} (e : Ghosts X) (edited : Bool) (result : Result T ReadlineError) (old new : X) : Type 0 where
   pub draft : OnOk result (e.draft new ≡ (if edited then hinted (e.environment old) (e.draft old) else e.draft old))
+  pub err : KeepsDraftOnErr e result old new (hinted (e.environment old) (e.draft old))
   pub text : KeepsText (e.draft old) (e.draft new)
   pub drew : OnOk result (Drew e 1 (edit_drawn edited) old new)
   pub placed : OnOk result (HasCursorDrawn e new)
   pub right : OnOk result (ShowsText (e.display old) (e.draft old).line.text → IsRight (e.display new) (e.draft old).line)
+  pub kept : KeepsLayoutOnErr e result old new
   pub frame : Frame e old new
   pub fails : FailsByParty e (asked_by (edit_drawn edited)) result old new
 

@@ -12,6 +12,7 @@ pub mod Motion
 pub mod Table
 pub mod Row
 pub mod Draft
+pub mod Fault
 pub mod Display
 pub mod Frame
 pub mod ShownLine

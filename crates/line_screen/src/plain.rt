@@ -206,6 +206,7 @@ fn owned(alloc: Global, hint: Option<&str>) -> Result<Option<String>>
 impl<R: RawReader> ScreenState for Plain<R> {
     ghost use Rattle.std.specs.Prelude.{false};
     ghost use Rattle.line_buffer.specs.declared.layout.GraphemeClusterMode.TheVariants.{Unicode};
+    ghost use Rattle.line_keys.specs.Display.{uncounted};
     ghost use Rattle.line_screen.specs.Measure.{measured};
 
     ghost surface = { λ p. record {
@@ -216,6 +217,8 @@ impl<R: RawReader> ScreenState for Plain<R> {
     } };
 
     ghost screen = { λ p. record { position = p.place; text = string_bytes p.text; origin = p.origin } };
+
+    ghost beside = { λ _. uncounted };
 
     ghost redraws = { λ p. p.redraws };
 
@@ -393,7 +396,9 @@ impl<R: RawReader> Renderer for Plain<R> {
         self.columns
     }
 
-    fn get_rows(&self) -> Unit {
+    fn get_rows(&self) -> Unit
+        ensures { result ≡ ROWS }
+    {
         ROWS
     }
 

@@ -5,7 +5,7 @@ use Rattle.line_buffer.specs.declared.layout.Layout.{Layout}
 use Rattle.line_config.specs.Error.{FaultsOnly}
 use Rattle.line_config.specs.Failures.{CountsFailures}
 use Rattle.line_config.specs.declared.error.ReadlineError.{ReadlineError}
-use Rattle.line_keys.specs.Display.{Surface, Screen, IsFullRedraw, corner}
+use Rattle.line_keys.specs.Display.{Beside, Surface, Screen, IsFullRedraw, corner}
 use Rattle.line_state.specs.declared.screen_state.ScreenState.{Ghosts}
 
 -- what is handed over for a full redraw agrees: the prompt ends at the layout's prompt end, the layout is a full redraw's, the old
@@ -47,6 +47,24 @@ pub record Tries {X T : Type 0} (r : Ghosts X) (result : Result T ReadlineError)
   pub faults : FaultsOnly result
 
 -- such a call that draws nothing in full
+pub record DrawsNoLine {X T : Type 0} (r : Ghosts X) (result : Result T ReadlineError) (old new : X) : Type 0 where
+  pub redraws : r.redraws new ≡ r.redraws old
+  pub tries : Tries r result old new
+
+-- such a call that draws a part, and is asked for nothing beside that
 pub record DrawsPart {X T : Type 0} (r : Ghosts X) (result : Result T ReadlineError) (old new : X) : Type 0 where
   pub redraws : r.redraws new ≡ r.redraws old
   pub tries : Tries r result old new
+  pub beside : r.beside new ≡ r.beside old
+
+-- beside drawing a screen was asked at most to write texts by themselves
+abbrev pub WritesAtMost : Beside → Beside → Type 0
+WritesAtMost old new = new ≡ record old { written = new.written }
+
+-- beside drawing a screen was asked at most to beep
+abbrev pub BeepsAtMost : Beside → Beside → Type 0
+BeepsAtMost old new = new ≡ record old { beeps = new.beeps }
+
+-- beside drawing a screen was asked at most to hold back what is drawn, or to show it
+abbrev pub HoldsAtMost : Beside → Beside → Type 0
+HoldsAtMost old new = new ≡ record old { held = new.held }

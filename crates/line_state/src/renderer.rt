@@ -5,7 +5,7 @@ ghost use Rattle.line_config.specs.Error.{IsOneMore};
 ghost use Rattle.line_buffer.specs.Printable.{is_plain, is_printable};
 ghost use Rattle.line_buffer.specs.declared.layout.Position.{Position};
 ghost use Rattle.line_keys.specs.Display.{IsFullRedraw, next_column};
-ghost use Rattle.line_state.specs.ScreenState.{Agrees, DrawsPart, EndsBehind, HasRoom, Tries, shown_by, with_shown};
+ghost use Rattle.line_state.specs.ScreenState.{Agrees, BeepsAtMost, DrawsNoLine, DrawsPart, EndsBehind, HasRoom, HoldsAtMost, Tries, WritesAtMost, shown_by, with_shown};
 
 use crate::screen_state::ScreenState;
 use line_buffer::{GraphemeClusterMode, Layout, LineBuffer, Position, Unit};
@@ -50,6 +50,7 @@ pub trait Renderer: ScreenState {
             (option_map (λ l. l.now) old_layout.entry) new_layout.now (is_some highlighter.entry)
             → OnOk result (Self.screen self.new ≡ shown_by new_layout.now line.now) }
         ensures redraws { OnOk result (IsOneMore (Self.redraws self.old) (Self.redraws self.new)) }
+        ensures beside { Self.beside self.new ≡ Self.beside self.old }
         ensures tries { Tries Self.ScreenState result self.old self.new };
 
     /// Returns the layout of a full redraw, with each position measured from scratch.
@@ -90,12 +91,14 @@ pub trait Renderer: ScreenState {
         ensures shown { (c : ℕ) → buf.now ≡ c ∷ [] → is_printable c ≡ true
             → HasRoom (Self.surface self.old) (Self.screen self.old)
             → OnOk result (Self.screen self.new ≡ with_shown (Self.screen self.old) c) }
-        ensures part { DrawsPart Self.ScreenState result self.old self.new };
+        ensures beside { WritesAtMost (Self.beside self.old) (Self.beside self.new) }
+        ensures part { DrawsNoLine Self.ScreenState result self.old self.new };
 
     /// Tells the person that nothing could be done. Nothing shown changes.
     fn beep(&mut self) -> Result<()>
         ensures screen { Self.screen self.new ≡ Self.screen self.old }
-        ensures part { DrawsPart Self.ScreenState result self.old self.new };
+        ensures beside { BeepsAtMost (Self.beside self.old) (Self.beside self.new) }
+        ensures part { DrawsNoLine Self.ScreenState result self.old self.new };
 
     /// Clears the whole screen. What is shown then is not said: a full redraw is to follow.
     fn clear_screen(&mut self) -> Result<()>
@@ -119,6 +122,7 @@ pub trait Renderer: ScreenState {
     fn update_size(&mut self)
         ensures screen { Self.screen self.new ≡ Self.screen self.old }
         ensures surface { Self.surface self.new ≡ Self.surface self.old }
+        ensures beside { Self.beside self.new ≡ Self.beside self.old }
         ensures redraws { Self.redraws self.new ≡ Self.redraws self.old }
         ensures failures { Self.failures self.new ≡ Self.failures self.old };
 
@@ -145,7 +149,8 @@ pub trait Renderer: ScreenState {
     /// What is drawn from here on may be held back.
     fn begin_synchronized_update(&mut self) -> Result<()>
         ensures screen { Self.screen self.new ≡ Self.screen self.old }
-        ensures part { DrawsPart Self.ScreenState result self.old self.new }
+        ensures beside { HoldsAtMost (Self.beside self.old) (Self.beside self.new) }
+        ensures part { DrawsNoLine Self.ScreenState result self.old self.new }
     {
         // Nothing is held back.
         Ok(())
@@ -154,7 +159,8 @@ pub trait Renderer: ScreenState {
     /// What was held back is shown.
     fn end_synchronized_update(&mut self) -> Result<()>
         ensures screen { Self.screen self.new ≡ Self.screen self.old }
-        ensures part { DrawsPart Self.ScreenState result self.old self.new }
+        ensures beside { HoldsAtMost (Self.beside self.old) (Self.beside self.new) }
+        ensures part { DrawsNoLine Self.ScreenState result self.old self.new }
     {
         // Nothing was held back.
         Ok(())

@@ -1,13 +1,15 @@
 //! What contracts see of a renderer.
 ghost use Rattle.std.specs.Prelude.{ℕ};
-ghost use Rattle.line_keys.specs.Display.{Screen, Surface};
+ghost use Rattle.line_keys.specs.Display.{Beside, Screen, Surface};
 
-/// What contracts see of a renderer, and no code reads: what of its screen never changes, what the screen shows, and the
-/// counts of full redraws and of failures. A count stays at its greatest value.
+/// What contracts see of a renderer, and no code reads: what of its screen never changes, what the screen shows, what it was
+/// asked to do beside drawing, and the counts of full redraws and of failures. A count stays at its greatest value.
 pub trait ScreenState {
     ghost surface: { Self → Surface };
 
     ghost screen: { Self → Screen };
+
+    ghost beside: { Self → Beside };
 
     ghost redraws: { Self → ℕ };
 

@@ -6,6 +6,7 @@ ghost use Rattle.line_buffer.specs.Line.{with_cursor};
 ghost use Rattle.line_buffer.specs.Printable.{is_plain, is_printable};
 ghost use Rattle.line_keys.specs.Display.{GoesToPosition, GoesToShownEnd, HasCursorAt, columns_back, corner, cursor_position, never_drawn};
 ghost use Rattle.line_state.specs.Drawn.{ColorsAreOn, DrawsInFull, DrawsNoneInFull, RedrawsKept, TakesBack, Writes, cleared};
+ghost use Rattle.line_state.specs.ScreenState.{BeepsAtMost};
 ghost use Rattle.line_state.specs.Shown.{IsShownPlain, KnowsEnd, StandsAtEnd};
 
 use crate::drawn::Drawn;
@@ -70,6 +71,8 @@ impl<'out, 'prompt, W: Renderer, P: Prompt> Drawn for View<'out, 'prompt, W, P> 
       screen = W.screen v.out.now;
       lit = v.highlight_char;
     } };
+
+    ghost beside = { λ v. W.beside v.out.now };
 
     ghost redraws = { λ v. W.redraws v.out.now };
 
@@ -336,6 +339,7 @@ impl<'out, 'prompt, W: Renderer, P: Prompt> View<'out, 'prompt, W, P> {
             GoesToPosition result (d self.old) (d self.new) position }
         ensures still { (⟦<Self as Drawn>⟧.display self.old).layout.cursor ≡ position
             → IsOk result }
+        ensures beside { let d = ⟦<Self as Drawn>⟧ in d.beside self.new ≡ d.beside self.old }
         ensures part { DrawsNoneInFull ⟦<Self as Drawn>⟧ result self.old self.new }
     {
         if self.layout.cursor == position {
@@ -358,6 +362,7 @@ impl<'out, 'prompt, W: Renderer, P: Prompt> View<'out, 'prompt, W, P> {
             GoesToShownEnd result (d self.old) (d self.new) }
         ensures still { let layout = (⟦<Self as Drawn>⟧.display self.old).layout in
             layout.cursor ≡ layout.end → IsOk result }
+        ensures beside { let d = ⟦<Self as Drawn>⟧ in d.beside self.new ≡ d.beside self.old }
         ensures part { DrawsNoneInFull ⟦<Self as Drawn>⟧ result self.old self.new }
     {
         self.at_cursor = false;
@@ -456,6 +461,8 @@ impl<'out, 'prompt, W: Renderer, P: Prompt> View<'out, 'prompt, W, P> {
     /// Those of the renderer.
     pub fn beep(&mut self) -> Result<()>
         ensures display { let d = ⟦<Self as Drawn>⟧.display in d self.new ≡ d self.old }
+        ensures beside { let d = ⟦<Self as Drawn>⟧ in
+            BeepsAtMost (d.beside self.old) (d.beside self.new) }
         ensures part { DrawsNoneInFull ⟦<Self as Drawn>⟧ result self.old self.new }
     {
         self.out.beep()
@@ -471,6 +478,7 @@ impl<'out, 'prompt, W: Renderer, P: Prompt> View<'out, 'prompt, W, P> {
             OnOk result ((d self.new).layout ≡ cleared (d self.old).layout) }
         ensures err { let d = ⟦<Self as Drawn>⟧.display in
             OnErr result ((d self.new).layout ≡ (d self.old).layout) }
+        ensures beside { let d = ⟦<Self as Drawn>⟧ in d.beside self.new ≡ d.beside self.old }
         ensures part { DrawsNoneInFull ⟦<Self as Drawn>⟧ result self.old self.new }
     {
         self.in_place = false;
@@ -489,6 +497,7 @@ impl<'out, 'prompt, W: Renderer, P: Prompt> View<'out, 'prompt, W, P> {
     pub fn move_cursor_at_leftmost(&mut self, rdr: &mut W::Reader) -> Result<()>
         ensures layout { let d = ⟦<Self as Drawn>⟧.display in
             (d self.new).layout ≡ (d self.old).layout }
+        ensures beside { let d = ⟦<Self as Drawn>⟧ in d.beside self.new ≡ d.beside self.old }
         ensures part { DrawsNoneInFull ⟦<Self as Drawn>⟧ result self.old self.new }
     {
         self.in_place = false;
@@ -515,7 +524,8 @@ impl<'out, 'prompt, W: Renderer, P: Prompt> View<'out, 'prompt, W, P> {
         ensures display { let d = ⟦<Self as Drawn>⟧.display in
             d self.new ≡ record (d self.old) { lit = lit } }
         ensures stays { let d = ⟦<Self as Drawn>⟧ in (d.redraws self.new ≡ d.redraws self.old)
-            × (d.failures self.new ≡ d.failures self.old) × (d.loan self.new ≡ d.loan self.old) }
+            × (d.failures self.new ≡ d.failures self.old) × (d.loan self.new ≡ d.loan self.old)
+            × (d.beside self.new ≡ d.beside self.old) }
     {
         self.highlight_char = lit;
     }

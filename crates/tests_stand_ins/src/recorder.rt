@@ -197,6 +197,7 @@ fn after_byte(columns: Unit, place: Position, byte: u8) -> Position
 
 impl ScreenState for Recorder {
     ghost use Rattle.line_buffer.specs.declared.layout.GraphemeClusterMode.TheVariants.{Unicode};
+    ghost use Rattle.line_keys.specs.Display.{uncounted};
     ghost use Rattle.tests_stand_ins.specs.Screen.{measured_by_bytes};
 
     ghost surface = { λ r. record {
@@ -211,6 +212,8 @@ impl ScreenState for Recorder {
       text = string_bytes r.text;
       origin = r.origin;
     } };
+
+    ghost beside = { λ _. uncounted };
 
     ghost redraws = { λ r. r.redraws };
 

@@ -43,5 +43,7 @@ returns g c =
       layout = refl;
       right = λ line end plain right.
           written_right line _ _ c.args.c (g.met.W.Renderer.one_column out) end plain print free below_there (written.shown c.args.c text print) refl written.part.tries.surface refl right;
+      kept = tt;
+      beside = search rules;
       part = search rules;
     }
