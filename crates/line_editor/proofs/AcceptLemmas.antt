@@ -1,18 +1,18 @@
 -- Facts on lines that are accepted.
-use Rattle.std.proofs.Common.{◌≡◌, ℕ, ◌+◌, Bool, true, false, cond, not, List, Option, None, Ok, Err, refl, sym, ◌∙◌, ap, subst, arith}
+use Rattle.std.proofs.Common.{◌≡◌, inl, inr, ℕ, ◌+◌, Bool, true, false, cond, not, List, Option, None, Ok, Err, refl, sym, ◌∙◌, ap, subst, arith}
 use Rattle.std.specs.Prelude.{◌||◌, ◌&&◌, if◌then◌else◌, is_some}
 use Rattle.line_buffer.specs.Changes.{adds_end}
 use Rattle.line_buffer.specs.KillRing.{Ring}
 use Rattle.line_buffer.specs.Line.{Line, ends_in_white_space}
 use Rattle.line_config.specs.declared.error.ReadlineError.{ReadlineError}
-use Rattle.line_keys.specs.Command.{accept_line, accept_or_insert_line, end_of_file}
+use Rattle.line_keys.specs.Command.{Command, accept_line, accept_or_insert_line, end_of_file}
 use Rattle.line_keys.specs.Display.{Display, Surface}
-use Rattle.line_keys.specs.Draft.{Draft, hint_shown, in_group, out_of_group, unhinted}
+use Rattle.line_keys.specs.Draft.{Draft, KeepsText, hint_shown, in_group, out_of_group, unhinted}
 use Rattle.line_keys.specs.Drawing.{Does, DoesAsking, Drawing, Drew, DrewLine, Undrawn, drawn_in_full, nothing, text_same, with_hint, with_text}
-use Rattle.line_keys.specs.Frame.{Frame}
+use Rattle.line_keys.specs.Frame.{FailsByParty, Frame}
 use Rattle.line_keys.specs.ShownLine.{LosesHint, ShowsNoHint}
 use Rattle.line_keys.specs.declared.editor_state.EditorState.{Ghosts}
-use Rattle.line_parts.specs.Asks.{Asks, for_hint, for_verdict, is_sure, nobody}
+use Rattle.line_parts.specs.Asks.{Asks, Sureness, for_hint, for_verdict, is_sure, nobody}
 use Rattle.line_parts.specs.Environment.{Environment, verdict_on}
 use Rattle.line_parts.specs.Verdict.{Verdict, incomplete, invalid, message_of, valid}
 use Rattle.line_parts.specs.declared.highlight.CmdKind.{CmdKind}
@@ -22,7 +22,7 @@ use Rattle.line_editor.specs.Drawings.{asked_for_reply, asked_of, once_for, repl
 use Rattle.line_editor.specs.Editor.{Answer, proceeds, submitted}
 use Rattle.line_editor.specs.DraftEdits.{typed_in}
 use Rattle.line_editor.specs.Input.{Input}
-use Rattle.line_editor.specs.Outcomes.{DrawnAfter, Executed, Executes, editor_of}
+use Rattle.line_editor.specs.Outcomes.{DrawnAfter, Executed, Executes, editor_of, step_from}
 use Rattle.line_editor.specs.declared.command.Reply.{Reply}
 use Rattle.line_editor.specs.declared.command.Reply.TheVariants.{GoesOn, Stays, Submits}
 use Rattle.line_editor.specs.DrawnVerdict.{draws_verdict, draws_verdict_on, kind_of_verdict}
@@ -32,6 +32,7 @@ use Rattle.line_editor.proofs.CountLemmas.{rises_twice, rises_within}
 use Rattle.line_editor.proofs.DoneLemmas.{line_after}
 use Rattle.line_editor.proofs.DrawnLemmas.{frame_then, hint_trails, keeps_then, no_hint_line}
 use Rattle.line_editor.proofs.EditLemmas.{was_validated}
+use Rattle.line_editor.proofs.FaultLemmas.{but_hint, fault_from, fault_halfway, fault_other, fault_unhinted, fault_within, same_draft, whole_text}
 
 -- the end of the input, where the hint was taken away
 pub ends_at : {X T : Type 0} (e : Ghosts X) (x : T) (old new : X) (input : Input) (indent : ℕ) (kills : Ring) (answer : Answer)
@@ -89,6 +90,7 @@ validates e x y z old mid new verdict corrected helped said ends asked shown =
     ∙ sym (ap (λ b. b && draws_verdict_on v (adds_end (in_group (e.draft old)).changes.open_groups (in_group (e.draft old)).changes.entries || is_some (e.draft old).hint)) helped) in
     record {
       draft = left;
+      fault = tt;
       start = shown.start ∙ asked.start;
       drew = subst (λ w. Drew e 1 (if draws_verdict (e.environment old) (e.draft old) then with_text (message_of w) (kind_of_verdict w) else nothing) old new) said
           (subst (λ b. Drew e 1 (if b then with_text (message_of verdict) (kind_of_verdict verdict) else nothing) old new) draws
@@ -98,6 +100,108 @@ validates e x y z old mid new verdict corrected helped said ends asked shown =
       frame = frame_then e old mid new asked.frame shown.frame;
       fails = record { io = tt; faults = tt; quiet = shown.fails.quiet ∙ asked.fails.quiet };
     }
+
+-- a verdict changes nothing but the hint
+verdict_text : (verdict : Verdict) (draft : Draft) → KeepsText (unhinted_by verdict draft) draft
+verdict_text incomplete draft = whole_text draft
+verdict_text (valid message) draft = record { line = refl; saved = refl; index = refl; changes = refl }
+verdict_text (invalid message) draft = record { line = refl; saved = refl; index = refl; changes = refl }
+
+validated_text : (environment : Environment) (draft : Draft) → is_some environment.verdict_at ≡ true → KeepsText (validated environment draft) (out_of_group (in_group draft))
+validated_text environment draft helped =
+    subst (λ (d : Draft). KeepsText d (out_of_group (in_group draft))) (sym (was_validated environment draft helped))
+    (verdict_text (verdict_on environment draft.line.text) (out_of_group (in_group draft)))
+
+-- a verdict that could not be asked for
+pub asking_fails : {X T U : Type 0} (e : Ghosts X) (f : ReadlineError) (old new : X) → is_some (e.environment old).verdict_at ≡ true
+    → DoesAsking {T = T} e for_verdict (Err f) old new (out_of_group (in_group (e.draft old))) nothing 1
+    → DoesAsking {T = U} e for_verdict (Err f) old new (validated (e.environment old) (e.draft old)) (verdict_drawn (e.environment old) (e.draft old)) 1
+asking_fails {T = T} {U = U} e f old new helped asked = record {
+  draft = tt;
+  fault = fault_other f (e.environment old) (e.draft old) (e.draft old) _ _ (e.draft new) (validated_text (e.environment old) (e.draft old) helped) asked.fault;
+  start = tt;
+  drew = tt;
+  keeps = tt;
+  change = tt;
+  frame = asked.frame;
+  fails = record { io = asked.fails.io; faults = asked.fails.faults; quiet = asked.fails.quiet };
+}
+
+-- one that could not be drawn
+pub drawing_fails : {X T U V : Type 0} (e : Ghosts X) (x : T) (f : ReadlineError) (old mid new : X) (verdict : Verdict) (drawing : Drawing) → is_some (e.environment old).verdict_at ≡ true
+    → DoesAsking e for_verdict (Ok x) old mid (out_of_group (in_group (e.draft old))) nothing 1
+    → DoesAsking {T = U} e nobody (Err f) mid new (unhinted_by verdict (e.draft mid)) drawing 1
+    → DoesAsking {T = V} e for_verdict (Err f) old new (validated (e.environment old) (e.draft old)) (verdict_drawn (e.environment old) (e.draft old)) 1
+drawing_fails {U = U} {V = V} e x f old mid new verdict drawing helped asked shown =
+    let text : KeepsText (validated (e.environment old) (e.draft old)) (e.draft mid) =
+    but_hint _ _ (e.draft mid) (validated_text (e.environment old) (e.draft old) helped) (same_draft _ (e.draft mid) asked.draft) in
+    record {
+      draft = tt;
+      fault = fault_within f (e.environment mid) (e.environment old) (e.draft old) (e.draft mid) (e.draft old) _ _ (e.draft new) asked.frame.environment
+          (inl (ap (λ (d : Draft). d.hint) asked.draft)) text (by_verdict verdict (e.draft mid) _ text) shown.fault;
+      start = tt;
+      drew = tt;
+      keeps = tt;
+      change = tt;
+      frame = frame_then e old mid new asked.frame shown.frame;
+      fails = fails_more e {T = V} (Err f) nobody for_verdict old new (λ sure. refl) (fails_then e nobody (Err f) old mid new asked.frame shown.frame asked.fails.quiet
+          (record { io = shown.fails.io; faults = shown.fails.faults; quiet = shown.fails.quiet }));
+    }
+  where
+    by_verdict : (verdict : Verdict) (draft left : Draft) → KeepsText left draft → KeepsText left (unhinted_by verdict draft)
+    by_verdict incomplete draft left text = text
+    by_verdict (valid message) draft left text = record { line = text.line; saved = text.saved; index = text.index; changes = text.changes }
+    by_verdict (invalid message) draft left text = record { line = text.line; saved = text.saved; index = text.index; changes = text.changes }
+
+-- a hint that could not be taken away
+pub drop_fails : {X T : Type 0} (e : Ghosts X) (f : ReadlineError) (old new : X) (input : Input) (indent : ℕ) (kills : Ring) (command : Command) (drawing : Drawing)
+    → kills ≡ (step_from e old input indent kills command).editor.kills
+    → DoesAsking {T = T} e nobody (Err f) old new (unhinted (e.draft old)) drawing 1
+    → Executes e (Err f) old input indent kills command new kills
+drop_fails {T = T} e f old new input indent kills command drawing same does =
+    executed_wrong e old new input indent kills kills command {T = T} f
+    (fault_unhinted f (e.environment old) (e.draft old) _ _ (e.draft new) does.fault) (λ no. same)
+    (fails_more e {T = T} (Err f) nobody _ old new (λ sure. refl) does.fails) does.frame
+
+-- whoever is asked for a reply is asked for a verdict
+sure_verdict : (sure : Sureness) (reply : Reply) → is_sure sure (asked_for_reply reply) ≡ true → is_sure sure for_verdict ≡ true
+sure_verdict sure Submits all = all
+sure_verdict sure Stays all = all
+sure_verdict sure GoesOn all = sure_all sure for_verdict all
+
+module _ {X T U : Type 0} (e : Ghosts X) (x : T) (f : ReadlineError) (old mid new : X) (drawing : Drawing)
+    (drop : DoesAsking e nobody (Ok x) old mid (unhinted (e.draft old)) (unhinted_drawn (e.display old) (e.draft old)) 1)
+    (asked : DoesAsking {T = U} e for_verdict (Err f) mid new (validated (e.environment mid) (e.draft mid)) drawing 1) where
+  bare_text : KeepsText (e.draft old) (e.draft mid)
+  bare_text = but_hint (e.draft old) (unhinted (e.draft old)) (e.draft mid) (record { line = refl; saved = refl; index = refl; changes = refl })
+      (same_draft (unhinted (e.draft old)) (e.draft mid) drop.draft)
+
+  bare_hint : (e.draft mid).hint ≡ None
+  bare_hint = ap (λ (d : Draft). d.hint) drop.draft
+
+  left_bare : validated (e.environment mid) (e.draft mid) ≡ validated (e.environment old) (unhinted (e.draft old))
+  left_bare = ap (λ w. validated w (e.draft mid)) drop.frame.environment ∙ ap (λ d. validated (e.environment old) d) drop.draft
+
+  asked_fails : FailsByParty {T = U} e for_verdict (Err f) old new
+  asked_fails = fails_then e for_verdict (Err f) old mid new drop.frame asked.frame drop.fails.quiet asked.fails
+
+  -- a verdict that could not be had for a line that is to be submitted
+  pub accepting_fails : (input : Input) (indent : ℕ) (kills : Ring) → Executes e (Err f) old input indent kills accept_line new kills
+  accepting_fails input indent kills =
+      executed_wrong e old new input indent kills kills accept_line {T = U} f
+      (fault_from f (e.environment mid) (e.environment old) (e.draft old) (e.draft mid) (e.draft mid) (e.draft old) _ _ (e.draft new) drop.frame.environment left_bare
+      (inr (inl bare_hint)) (inr (inl bare_hint)) (inl bare_text) (inl bare_text) asked.fault)
+      (λ no. refl) asked_fails (frame_then e old mid new drop.frame asked.frame)
+
+  -- or for one that may be given a newline
+  pub inserting_fails : (in_the_middle : Bool) (input : Input) (indent : ℕ) (kills : Ring) → Executes e (Err f) old input indent kills (accept_or_insert_line in_the_middle) new kills
+  inserting_fails in_the_middle input indent kills =
+      executed_wrong e old new input indent kills kills (accept_or_insert_line in_the_middle) {T = U} f
+      (fault_halfway f (e.environment mid) (e.environment old) (e.draft old) (e.draft mid) _ (validated (e.environment old) (unhinted (e.draft old))) _ (e.draft new)
+      drop.frame.environment left_bare (inr (inl bare_hint)) bare_text asked.fault)
+      (λ no. refl)
+      (fails_more e {T = U} (Err f) for_verdict (asked_of (e.display old) (e.environment old) (editor_of e old kills) (accept_or_insert_line in_the_middle)) old new
+      (λ sure. sure_verdict (e.sure old) _ sure) asked_fails) (frame_then e old mid new drop.frame asked.frame)
 
 -- the hint taken away, and then a verdict: the last of both is what was drawn
 two_drawn : {X : Type 0} (e : Ghosts X) (old mid new : X) (dropped said : Bool) (message : Option (List ℕ)) (kind : CmdKind) → Frame e old mid
@@ -272,6 +376,11 @@ module _ {X T U : Type 0} (e : Ghosts X) (x : T) (y : U) (old mid new : X)
         let asks : Asks = asked_of (e.display old) (e.environment old) (editor_of e old kills) (accept_or_insert_line in_the_middle) in
         let all : Frame e old new = frame_then e old mid new drop.frame asked.frame in
         executed_wrong e old last input indent kills kills (accept_or_insert_line in_the_middle) f
+        (fault_from f (e.environment new) (e.environment old) (e.draft old) (e.draft new) (e.draft new) left _ _ (e.draft last) all.environment
+        (ap (λ w. typed_in w 1 10 (e.draft new)) all.environment ∙ ap (λ d. typed_in (e.environment old) 1 10 d) left_is ∙ ap (λ (p : Draft × Answer). p.0) (left_by GoesOn is))
+        (inr (inr (ap (λ (d : Draft). d.hint) left_is))) (inr (inr (ap (λ (d : Draft). d.hint) left_is)))
+        (inr (same_draft left (e.draft new) left_is)) (inr (same_draft left (e.draft new) left_is)) typed.fault)
+        (λ no. refl)
         (fails_more e (Err f) for_hint asks old last
         (λ sure. sure_all (e.sure old) for_hint (sym (ap (λ r. is_sure (e.sure old) (asked_for_reply r)) (reply_is ∙ is)) ∙ sure))
         (fails_then e for_hint (Err f) old new last all typed.frame (asked.fails.quiet ∙ drop.fails.quiet) typed.fails))

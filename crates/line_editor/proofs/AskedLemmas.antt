@@ -63,6 +63,7 @@ module _ {X : Type 0} (e : Ghosts X) where
       → DoesAsking e less r old new left drawing most → DoesAsking e more r old new left drawing most
   does_more r less more old new left drawing most within does = record {
     draft = does.draft;
+    fault = does.fault;
     start = does.start;
     drew = does.drew;
     keeps = does.keeps;

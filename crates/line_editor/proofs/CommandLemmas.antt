@@ -8,19 +8,20 @@ use Rattle.line_buffer.specs.Line.{Line, ends_in_white_space, moved_to}
 use Rattle.line_buffer.specs.declared.movement.Movement.{Movement}
 use Rattle.line_buffer.specs.declared.movement.Movement.TheVariants as By
 use Rattle.line_config.specs.declared.error.ReadlineError.{ReadlineError}
-use Rattle.line_config.specs.Error.{Rose, is_io, max_count}
+use Rattle.line_config.specs.Error.{Rose, is_memory, max_count}
 use Rattle.line_keys.specs.Command.{Command, accept_line, accept_or_insert_line, command_of, end_of_file, interrupt, kill, kill_to_bracket, move, move_to_bracket, newline, replace, replace_to_bracket, self_insert, vi_yank_to, yank, yank_pop, yank_to_bracket}
 use Rattle.line_keys.specs.declared.cmd.Anchor.{Anchor}
 use Rattle.line_keys.specs.declared.cmd.Cmd.{Cmd}
 use Rattle.line_buffer.specs.declared.layout.Position.{Position}
 use Rattle.line_keys.specs.Display.{Display, IsRight, ShowsInFull, Surface, columns_back, columns_on, corner, lit_after}
-use Rattle.line_keys.specs.Draft.{Draft, hint_shown, start_text, unhinted}
-use Rattle.line_keys.specs.Drawing.{CursorWay, Does, DoesAsking, Drawing, Drew, DrewBehind, DrewLine, DrewNothing, DrewPart, Refreshes, ShowsChange, asked_by, behind_prompt, change_drawn, cursor, cursor_over, cursor_redrew, cursor_stayed, cursor_to_end, cursor_went, drawn_if, drawn_in_full, drawn_plainly, edit_drawn, in_part, nothing, text_same, with_hint, with_text}
+use Rattle.line_keys.specs.Draft.{Draft, KeepsText, hint_shown, hinted, start_text, unhinted}
+use Rattle.line_keys.specs.Fault.{FaultLeft, IsEarlierHint}
+use Rattle.line_keys.specs.Drawing.{CursorWay, Does, DoesAsking, DoesInTwo, Drawing, Drew, DrewBehind, DrewLine, DrewNothing, DrewPart, Refreshes, ShowsChange, asked_by, behind_prompt, change_drawn, cursor, cursor_over, cursor_redrew, cursor_stayed, cursor_to_end, cursor_went, drawn_if, drawn_in_full, drawn_plainly, edit_drawn, in_part, nothing, text_same, with_hint, with_text}
 use Rattle.line_keys.specs.Plainly.{KilledPlainly, TypedPlainly, has_highlighting}
 use Rattle.line_keys.specs.Frame.{FailsByParty, Frame}
 use Rattle.line_keys.specs.ShownLine.{Redraws}
 use Rattle.line_keys.specs.declared.editor_state.EditorState.{Ghosts}
-use Rattle.line_parts.specs.Asks.{Asks, for_hint, is_sure, nobody}
+use Rattle.line_parts.specs.Asks.{Asks, Sureness, for_hint, is_sure, nobody}
 use Rattle.line_parts.specs.Environment.{Environment, verdict_on}
 use Rattle.line_parts.specs.declared.highlight.CmdKind.{CmdKind}
 use Rattle.line_parts.specs.declared.highlight.CmdKind.TheVariants.{ForcedRefresh, MoveCursor, Other}
@@ -32,17 +33,16 @@ use Rattle.line_editor.specs.Drawings.{any_plain_kill, asked_of, bracket_drawn, 
 use Rattle.line_editor.specs.Editor.{Answer, Editor, Ruler, Step, proceeds, edited_of, measuring, proceeding, ruler_of, with_draft}
 use Rattle.line_editor.specs.DraftEdits.{after_edit, bracket_replaced, kill_popped, kill_yanked, killed_by, movement_replaced, popped_in, text_inserted, yanked_in}
 use Rattle.line_editor.specs.Input.{Input}
-use Rattle.line_editor.specs.Outcomes.{DoesWithKills, DrewFor, Executed, Executes, StepsTo, editor_of}
-use Rattle.line_editor.specs.Status.{answer_at, answer_of}
-use Rattle.line_editor.specs.Step.{edited_by, step}
+use Rattle.line_editor.specs.Outcomes.{DoesInTwoWithKills, DoesWithKills, DrewFor, Executed, Executes, StepsTo, editor_of, step_from}
+use Rattle.line_editor.specs.Status.{answer_of}
+use Rattle.line_editor.specs.Step.{edited_by, edited_halfway, halfway_of, step}
 use Rattle.line_editor.specs.declared.command.Reply.{Reply}
 use Rattle.line_editor.specs.declared.command.Reply.TheVariants.{GoesOn}
 use Rattle.line_editor.specs.declared.command.Status.{Status}
 use Rattle.line_editor.specs.declared.command.Status.TheVariants.{Proceed}
 use Rattle.line_editor.proofs.AskedLemmas.{fails_more}
 use Rattle.line_editor.proofs.CountLemmas.{rises_more, rises_stays, rises_twice, rises_up_to, rises_within, stays_rises}
-use Rattle.line_editor.proofs.HistoryMoveLemmas.{always}
-use Rattle.line_editor.proofs.DoneLemmas.{nothing_drawn}
+use Rattle.line_editor.proofs.FaultLemmas.{but_hint, fault_from, fault_halfway, fault_redrawn, fault_unhinted, same_draft, unless_memory, whole_text}
 use Rattle.line_editor.proofs.DrawnLemmas.{frame_then, hint_trails, keeps_then}
 
 abbrev pub editor_with : Draft → Ring → Editor
@@ -67,11 +67,11 @@ measured_by d indent By.BeginningOfBuffer line = refl
 measured_by d indent By.EndOfBuffer line = refl
 
 -- so a move is done by the ruler
-pub moved_by_ruler : {X T : Type 0} (e : Ghosts X) (asks : Asks) (r : Result T ReadlineError) (old new : X) (indent : ℕ) (movement : Movement) (drawing : Drawing) (most : ℕ)
-    → DoesAsking e asks r old new (record (e.draft old) { line = moved (e.display old).layout movement (e.draft old).line }) drawing most
-    → DoesAsking e asks r old new (record (e.draft old) { line = moved (measuring (ruler_of (e.display old) indent)) movement (e.draft old).line }) drawing most
-moved_by_ruler e asks r old new indent movement drawing most does =
-    subst (λ l. DoesAsking e asks r old new (record (e.draft old) { line = l }) drawing most) (measured_by (e.display old) indent movement (e.draft old).line) does
+pub moved_by_ruler : {X T : Type 0} (e : Ghosts X) (asks : Asks) (r : Result T ReadlineError) (old new : X) (indent : ℕ) (movement : Movement) (halfway : Draft) (drawing : Drawing) (most : ℕ)
+    → DoesInTwo e asks r old new halfway (record (e.draft old) { line = moved (e.display old).layout movement (e.draft old).line }) drawing most
+    → DoesInTwo e asks r old new halfway (record (e.draft old) { line = moved (measuring (ruler_of (e.display old) indent)) movement (e.draft old).line }) drawing most
+moved_by_ruler e asks r old new indent movement halfway drawing most does =
+    subst (λ l. DoesInTwo e asks r old new halfway (record (e.draft old) { line = l }) drawing most) (measured_by (e.display old) indent movement (e.draft old).line) does
 
 -- a count that rose behind one that never falls rose from before it
 rose_later : (old mid new : ℕ) → old ≤ mid → mid ≤ new → Rose mid new → Rose old new
@@ -186,6 +186,14 @@ edit_draws display environment editor (vi_yank_to movement) only = absurd (cc)
 edit_draws display environment editor (yank n anchor) only = absurd (cc)
 edit_draws display environment editor yank_pop only = absurd (cc)
 edit_draws display environment editor _ only = refl
+
+-- and what it leaves halfway
+pub edit_halfway : (environment : Environment) (editor : Editor) (command : Command) → only_edits command ≡ true
+    → halfway_of environment editor command ≡ edited_halfway environment editor.draft command
+edit_halfway environment editor (accept_or_insert_line in_the_middle) only = absurd (cc)
+edit_halfway environment editor (replace movement text) only = absurd (cc)
+edit_halfway environment editor (replace_to_bracket text) only = absurd (cc)
+edit_halfway environment editor _ only = refl
 
 -- so is how often it draws
 pub edit_times : (display : Display) (environment : Environment) (editor : Editor) (command : Command) → only_edits command ≡ true
@@ -305,12 +313,17 @@ module _ {X : Type 0} (e : Ghosts X) where
 
   -- an edit that is drawn with its hint, behind a step that took the hint away
   pub typed_behind : {T : Type 0} (r : Result T ReadlineError) (old mid new : X) (drawn : Bool) (made : Environment → Draft → Draft) (given : Draft)
-      → e.draft mid ≡ given → given.line.text ≡ (e.draft old).line.text → start_text (e.draft mid) ≡ start_text (e.draft old)
+      → e.draft mid ≡ given → KeepsText (e.draft old) given → given.hint ≡ None → start_text (e.draft mid) ≡ start_text (e.draft old)
       → Drew e 1 (if drawn then with_text None ForcedRefresh else nothing) old mid → Frame e old mid → e.failures mid ≡ e.failures old
       → Does e r mid new (made (e.environment mid) (e.draft mid)) with_hint 1
       → Does e r old new (made (e.environment old) given) with_hint (once_for (if drawn then with_text None ForcedRefresh else nothing) + 1)
-  typed_behind (Err er) old mid new drawn made given draft text start drew frame none does = record {
+  typed_behind (Err er) old mid new drawn made given draft text gone start drew frame none does = record {
     draft = tt;
+    fault = fault_from er (e.environment mid) (e.environment old) (e.draft old) (e.draft mid) (e.draft mid) (e.draft old) _ _ (e.draft new) frame.environment
+        (ap (λ w. made w (e.draft mid)) frame.environment ∙ ap (λ d. made (e.environment old) d) draft)
+        (inr (inl (ap (λ (d : Draft). d.hint) draft ∙ gone))) (inr (inl (ap (λ (d : Draft). d.hint) draft ∙ gone)))
+        (inl (but_hint (e.draft old) given (e.draft mid) text (same_draft given (e.draft mid) draft)))
+        (inl (but_hint (e.draft old) given (e.draft mid) text (same_draft given (e.draft mid) draft))) does.fault;
     start = tt;
     drew = tt;
     keeps = tt;
@@ -318,12 +331,13 @@ module _ {X : Type 0} (e : Ghosts X) where
     frame = frame_then e old mid new frame does.frame;
     fails = fails_then for_hint (Err er) old mid new frame does.frame none does.fails;
   }
-  typed_behind (Ok x) old mid new drawn made given draft text start drew frame none does =
+  typed_behind (Ok x) old mid new drawn made given draft text gone start drew frame none does =
       let first : ℕ = once_for (if drawn then with_text None ForcedRefresh else nothing) in
       let line : DrewLine e (first + 1) (hint_shown (e.draft new)) Other old new =
       line_then e old mid new frame (perhaps_lit drawn 1 None ForcedRefresh old mid drew) first 1 _ Other (perhaps_redraws drawn None ForcedRefresh old mid drew) does.drew in
       record {
         draft = does.draft ∙ ap (λ w. made w (e.draft mid)) frame.environment ∙ ap (λ d. made (e.environment old) d) draft;
+        fault = tt;
         start = does.start ∙ start;
         drew = line;
         keeps = record { right = λ was. line.right; line = λ was. hint_trails e new line.shows };
@@ -332,12 +346,27 @@ module _ {X : Type 0} (e : Ghosts X) where
         fails = fails_then for_hint (Ok x) old mid new frame does.frame none does.fails;
       }
 
+  -- a hint that could not be taken away before an edit
+  pub drops_wrong : {T U : Type 0} (f : ReadlineError) (old new : X) (left : Draft) (drawing : Drawing) (times most : ℕ)
+      → DoesAsking {T = T} e nobody (Err f) old new (unhinted (e.draft old)) drawing most → Does {T = U} e (Err f) old new left with_hint times
+  drops_wrong {U = U} f old new left drawing times most drop = record {
+    draft = tt;
+    fault = fault_unhinted f (e.environment old) (e.draft old) (e.draft old) left (e.draft new) drop.fault;
+    start = tt;
+    drew = tt;
+    keeps = tt;
+    change = tt;
+    frame = drop.frame;
+    fails = fails_more e {T = U} (Err f) nobody for_hint old new (λ sure. refl) (record { io = drop.fails.io; faults = drop.fails.faults; quiet = drop.fails.quiet });
+  }
+
   -- a refresh that keeps the text is an edit
   pub does_refresh : {T : Type 0} (r : Result T ReadlineError) (old new : X) (left : Draft)
-      → start_text left ≡ start_text (e.draft old)
+      → start_text left ≡ start_text (e.draft old) → left ≡ hinted (e.environment old) (e.draft old)
       → Refreshes e r old new left with_hint → Does e r old new left with_hint 1
-  does_refresh (Ok x) old new left start refreshed = record {
+  does_refresh (Ok x) old new left start is refreshed = record {
     draft = refreshed.draft;
+    fault = tt;
     start = ap start_text refreshed.draft ∙ start;
     drew = refreshed.drew;
     keeps = record { right = λ was. refreshed.drew.right; line = λ was. hint_trails e new refreshed.drew.shows };
@@ -345,8 +374,8 @@ module _ {X : Type 0} (e : Ghosts X) where
     frame = refreshed.frame;
     fails = refreshed.fails;
   }
-  does_refresh (Err er) old new left start refreshed =
-      record { draft = tt; start = tt; drew = tt; keeps = tt; change = tt; frame = refreshed.frame; fails = refreshed.fails }
+  does_refresh (Err er) old new left start is refreshed =
+      record { draft = tt; fault = fault_redrawn e er old new left is refreshed.err; start = tt; drew = tt; keeps = tt; change = tt; frame = refreshed.frame; fails = refreshed.fails }
 
 -- what is drawn of a kill: of a range that was found, a part where it is a plain kill
 abbrev pub killed_as : Bool → Bool → Position → Drawing
@@ -462,17 +491,34 @@ module _ {X T : Type 0} (e : Ghosts X) (x : T) (old mid new : X) (kills kills' :
       fails_more e r nobody (asked_by asks) old new (λ sure. refl) (fails_then e nobody r old mid new killed.does.frame frame killed.does.fails.quiet fails)
 
   abbrev Leaves : {U : Type 0} → Result U ReadlineError → Drawing → Type 0
-  Leaves r drawing = Does e r old new put_in (if not empty then with_hint else drawing) (if not empty then once_for drawing + 1 else 1)
+  Leaves r drawing = DoesInTwo e (asked_by (if not empty then with_hint else drawing)) r old new before.draft put_in
+      (if not empty then with_hint else drawing) (if not empty then once_for drawing + 1 else 1)
+
+  -- the kill is what was done halfway
+  abbrev killed_text : KeepsText before.draft (e.draft mid)
+  killed_text = same_draft before.draft (e.draft mid) killed.does.draft
+
+  abbrev killed_hint : IsEarlierHint (e.draft old) before.draft (e.draft mid).hint
+  killed_hint = inr (inr (ap (λ (d : Draft). d.hint) killed.does.draft))
+
+  fault_put : (f : ReadlineError)
+      → FaultLeft f (e.environment mid) (e.draft mid) (e.draft mid) (text_inserted (e.environment mid) text (e.draft mid)) (e.draft new)
+      → FaultLeft f (e.environment old) (e.draft old) before.draft put_in (e.draft new)
+  fault_put f fault =
+      fault_from f (e.environment mid) (e.environment old) (e.draft old) (e.draft mid) (e.draft mid) before.draft _ _ (e.draft new) killed.does.frame.environment
+      (ap (λ (w : Environment). text_inserted w text (e.draft mid)) killed.does.frame.environment ∙ ap (λ (d : Draft). text_inserted (e.environment old) text d) killed.does.draft)
+      killed_hint killed_hint (inr killed_text) (inr killed_text) fault
 
   puts : {U : Type 0} (r : Result U ReadlineError) → Does e r mid new (text_inserted (e.environment mid) text (e.draft mid)) (drawn_if (not empty)) 1 → Leaves r killed_drawn
   puts (Err f) put =
-      record { draft = tt; start = tt; drew = tt; keeps = tt; change = tt; frame = frame_then e old mid new killed.does.frame put.frame; fails = fails_put (Err f) empty killed_drawn put.frame put.fails }
+      record { draft = tt; fault = fault_put f put.fault; start = tt; drew = tt; keeps = tt; change = tt; frame = frame_then e old mid new killed.does.frame put.frame; fails = fails_put (Err f) empty killed_drawn put.frame put.fails }
   puts (Ok y) put =
       let stays : empty ≡ true → e.draft new ≡ e.draft mid = λ none. put.draft ∙ none_put (e.environment mid) text (e.draft mid) empty refl none in
       let first : Drew e 1 (killed_as as_kill.found as_kill.plainly as_kill.position) old mid = subst (λ (d : Drawing). Drew e 1 d old mid) (sym as_kill.same) killed.does.drew in
       let drew = twice_drawn e old mid new killed.does.frame as_kill.found as_kill.plainly empty as_kill.position stays first put.drew in
       subst (λ (d : Drawing). Leaves (Ok y) d) as_kill.same (record {
         draft = put.draft ∙ ap (λ (w : Environment). text_inserted w text (e.draft mid)) killed.does.frame.environment ∙ ap (λ (d : Draft). text_inserted (e.environment old) text d) killed.does.draft;
+        fault = tt;
         start = put.start ∙ killed.does.start;
         drew = drew;
         keeps = keeps_then e old mid new killed.does.keeps put.keeps;
@@ -483,14 +529,14 @@ module _ {X T : Type 0} (e : Ghosts X) (x : T) (old mid new : X) (kills kills' :
 
   pub replaced : {U : Type 0} (r : Result U ReadlineError)
       → Does e r mid new (text_inserted (e.environment mid) text (e.draft mid)) (drawn_if (not (length text == 0))) 1
-      → DoesWithKills e r old kills new kills' (with_draft before put_in) (replacement_drawn killed_drawn (Some text)) (replacement_times killed_drawn (Some text))
-  replaced r put = record { does = puts r put; kills_left = always r killed.kills_left }
+      → DoesInTwoWithKills e r old kills new kills' before.draft (with_draft before put_in) (replacement_drawn killed_drawn (Some text)) (replacement_times killed_drawn (Some text))
+  replaced r put = record { does = puts r put; kills_left = unless_memory r killed.kills_left }
 
 -- the same of a movement that is killed
 pub replaced_movement : {X T U : Type 0} (e : Ghosts X) (x : T) (old mid new : X) (kills kills' : Ring) (movement : Movement) (range : Option (ℕ × ℕ)) (text : List ℕ)
     → DoesWithKills e (Ok x) old kills mid kills' (killed_by (e.environment old) movement (editor_of e old kills) range) (kill_drawn (e.display old) (e.environment old) (e.draft old) range) 1
     → (r : Result U ReadlineError) → Does e r mid new (text_inserted (e.environment mid) text (e.draft mid)) (drawn_if (not (length text == 0))) 1
-    → DoesWithKills e r old kills new kills'
+    → DoesInTwoWithKills e r old kills new kills' (killed_by (e.environment old) movement (editor_of e old kills) range).draft
     (with_draft (killed_by (e.environment old) movement (editor_of e old kills) range)
     (text_inserted (e.environment old) text (killed_by (e.environment old) movement (editor_of e old kills) range).draft))
     (replacement_drawn (kill_drawn (e.display old) (e.environment old) (e.draft old) range) (Some text))
@@ -499,12 +545,56 @@ replaced_movement e x old mid new kills kills' movement range text killed r put 
     replaced e x old mid new kills kills' (killed_by (e.environment old) movement (editor_of e old kills) range) (kill_drawn (e.display old) (e.environment old) (e.draft old) range)
     (kill_as (e.display old) (e.environment old) (e.draft old) range) text killed r put
 
+-- whoever is asked for a replacement is asked for its kill
+sure_killed : (sure : Sureness) (drawing : Drawing) (text : Bool) → KilledAs drawing → is_sure sure (asked_by (if text then with_hint else drawing)) ≡ true
+    → is_sure sure (asked_by drawing) ≡ true
+sure_killed sure drawing false as_kill all = all
+sure_killed sure drawing true as_kill all =
+    subst (λ (d : Drawing). is_sure sure (asked_by d) ≡ true) as_kill.same (by_kill as_kill.found as_kill.plainly as_kill.position)
+  where
+    by_kill : (found plainly : Bool) (position : Position) → is_sure sure (asked_by (killed_as found plainly position)) ≡ true
+    by_kill false plainly position = refl
+    by_kill true true position = all
+    by_kill true false position = all
+
+-- a kill that went wrong, before a text could come in its place
+pub kill_fails : {X T U : Type 0} (e : Ghosts X) (f : ReadlineError) (old new : X) (kills kills' : Ring) (left left' : Editor) (drawing : Drawing) (as_kill : KilledAs drawing) (text : Option (List ℕ)) (times : ℕ)
+    → left'.kills ≡ left.kills → DoesWithKills e {T = T} (Err f) old kills new kills' left drawing 1
+    → DoesInTwoWithKills e {T = U} (Err f) old kills new kills' left.draft left' (replacement_drawn drawing text) times
+kill_fails {U = U} e f old new kills kills' left left' drawing as_kill text times same killed = record {
+  does = record {
+    draft = tt;
+    fault = fault_halfway f (e.environment old) (e.environment old) (e.draft old) (e.draft old) left.draft left.draft left'.draft (e.draft new) refl refl (inl refl)
+        (whole_text (e.draft old)) killed.does.fault;
+    start = tt;
+    drew = tt;
+    keeps = tt;
+    change = tt;
+    frame = killed.does.frame;
+    fails = fails_more e {T = U} (Err f) (asked_by drawing) (asked_by (replacement_drawn drawing text)) old new
+        (λ sure. sure_killed (e.sure old) drawing (has_text text) as_kill sure)
+        (record { io = killed.does.fails.io; faults = killed.does.fails.faults; quiet = killed.does.fails.quiet });
+  };
+  kills_left = λ calm. killed.kills_left calm ∙ sym same;
+}
+
+-- the same of a movement that could not be killed
+pub movement_fails : {X T U : Type 0} (e : Ghosts X) (f : ReadlineError) (old new : X) (kills kills' : Ring) (movement : Movement) (range : Option (ℕ × ℕ)) (left' : Editor) (text : Option (List ℕ)) (times : ℕ)
+    → left'.kills ≡ (killed_by (e.environment old) movement (editor_of e old kills) range).kills
+    → DoesWithKills e {T = T} (Err f) old kills new kills' (killed_by (e.environment old) movement (editor_of e old kills) range) (kill_drawn (e.display old) (e.environment old) (e.draft old) range) 1
+    → DoesInTwoWithKills e {T = U} (Err f) old kills new kills' (killed_by (e.environment old) movement (editor_of e old kills) range).draft left'
+    (replacement_drawn (kill_drawn (e.display old) (e.environment old) (e.draft old) range) text) times
+movement_fails e f old new kills kills' movement range left' text times same killed =
+    kill_fails e f old new kills kills' (killed_by (e.environment old) movement (editor_of e old kills) range) left' (kill_drawn (e.display old) (e.environment old) (e.draft old) range)
+    (kill_as (e.display old) (e.environment old) (e.draft old) range) text times same killed
+
 -- a kill with nothing in its place
 pub only_killed : {X T U : Type 0} (e : Ghosts X) (x : T) (y : U) (old new : X) (kills kills' : Ring) (left : Editor) (drawing : Drawing)
-    → DoesWithKills e (Ok x) old kills new kills' left drawing 1 → DoesWithKills e (Ok y) old kills new kills' left drawing 1
-only_killed e x y old new kills kills' left drawing killed = record {
+    → (halfway : Draft) → DoesWithKills e (Ok x) old kills new kills' left drawing 1 → DoesInTwoWithKills e (Ok y) old kills new kills' halfway left drawing 1
+only_killed e x y old new kills kills' left drawing halfway killed = record {
   does = record {
     draft = killed.does.draft;
+    fault = tt;
     start = killed.does.start;
     drew = killed.does.drew;
     keeps = killed.does.keeps;
@@ -517,16 +607,18 @@ only_killed e x y old new kills kills' left drawing killed = record {
 
 -- the same of an equal text
 pub replaced_as : {X T : Type 0} (e : Ghosts X) (r : Result T ReadlineError) (old new : X) (kills kills' : Ring) (movement : Movement) (drawing : Drawing) (put put' : Option (List ℕ)) → put ≡ put'
-    → DoesWithKills e r old kills new kills' (movement_replaced (e.environment old) movement put (editor_of e old kills)) (replacement_drawn drawing put) (replacement_times drawing put)
-    → DoesWithKills e r old kills new kills' (movement_replaced (e.environment old) movement put' (editor_of e old kills)) (replacement_drawn drawing put') (replacement_times drawing put')
-replaced_as e r old new kills kills' movement drawing put put' same done =
-    subst (λ (p : Option (List ℕ)). DoesWithKills e r old kills new kills' (movement_replaced (e.environment old) movement p (editor_of e old kills)) (replacement_drawn drawing p) (replacement_times drawing p)) same done
+    → (halfway : Draft)
+    → DoesInTwoWithKills e r old kills new kills' halfway (movement_replaced (e.environment old) movement put (editor_of e old kills)) (replacement_drawn drawing put) (replacement_times drawing put)
+    → DoesInTwoWithKills e r old kills new kills' halfway (movement_replaced (e.environment old) movement put' (editor_of e old kills)) (replacement_drawn drawing put') (replacement_times drawing put')
+replaced_as e r old new kills kills' movement drawing put put' same halfway done =
+    subst (λ (p : Option (List ℕ)). DoesInTwoWithKills e r old kills new kills' halfway (movement_replaced (e.environment old) movement p (editor_of e old kills)) (replacement_drawn drawing p) (replacement_times drawing p)) same done
 
 pub bracket_replaced_as : {X T : Type 0} (e : Ghosts X) (r : Result T ReadlineError) (old new : X) (kills kills' : Ring) (drawing : Drawing) (put put' : Option (List ℕ)) → put ≡ put'
-    → DoesWithKills e r old kills new kills' (bracket_replaced (e.environment old) put (editor_of e old kills)) (replacement_drawn drawing put) (replacement_times drawing put)
-    → DoesWithKills e r old kills new kills' (bracket_replaced (e.environment old) put' (editor_of e old kills)) (replacement_drawn drawing put') (replacement_times drawing put')
-bracket_replaced_as e r old new kills kills' drawing put put' same done =
-    subst (λ (p : Option (List ℕ)). DoesWithKills e r old kills new kills' (bracket_replaced (e.environment old) p (editor_of e old kills)) (replacement_drawn drawing p) (replacement_times drawing p)) same done
+    → (halfway : Draft)
+    → DoesInTwoWithKills e r old kills new kills' halfway (bracket_replaced (e.environment old) put (editor_of e old kills)) (replacement_drawn drawing put) (replacement_times drawing put)
+    → DoesInTwoWithKills e r old kills new kills' halfway (bracket_replaced (e.environment old) put' (editor_of e old kills)) (replacement_drawn drawing put') (replacement_times drawing put')
+bracket_replaced_as e r old new kills kills' drawing put put' same halfway done =
+    subst (λ (p : Option (List ℕ)). DoesInTwoWithKills e r old kills new kills' halfway (bracket_replaced (e.environment old) p (editor_of e old kills)) (replacement_drawn drawing p) (replacement_times drawing p)) same done
 
 -- the current text of the kill ring that is yanked
 pub yanked_by : {X T : Type 0} (e : Ghosts X) (r : Result T ReadlineError) (old new : X) (kills kills' : Ring) (input : Input) (anchor : Anchor) (n : ℕ) (yanked : Option (List ℕ)) (text : List ℕ)
@@ -535,7 +627,7 @@ pub yanked_by : {X T : Type 0} (e : Ghosts X) (r : Result T ReadlineError) (old 
     → DoesWithKills e r old kills new kills' (kill_yanked (e.environment old) input anchor n yanked (editor_of e old kills)) (yank_drawn yanked) 1
 yanked_by e r old new kills kills' input anchor n yanked text is ring does =
     subst (λ (y : Option (List ℕ)). DoesWithKills e r old kills new kills' (kill_yanked (e.environment old) input anchor n y (editor_of e old kills)) (yank_drawn y) 1) is
-    (record { does = does; kills_left = always r ring })
+    (record { does = does; kills_left = unless_memory r ring })
 
 -- a text that takes the place of a yanked one
 pub popped_by : {X T : Type 0} (e : Ghosts X) (r : Result T ReadlineError) (old new : X) (kills kills' : Ring) (popped : Option (ℕ × List ℕ)) (size : ℕ) (text : List ℕ)
@@ -544,7 +636,7 @@ pub popped_by : {X T : Type 0} (e : Ghosts X) (r : Result T ReadlineError) (old 
     → DoesWithKills e r old kills new kills' (kill_popped (e.environment old) popped (editor_of e old kills)) (pop_drawn (e.draft old).line popped) 1
 popped_by e r old new kills kills' popped size text is ring does =
     subst (λ p. DoesWithKills e r old kills new kills' (kill_popped (e.environment old) p (editor_of e old kills)) (pop_drawn (e.draft old).line p) 1) is
-    (record { does = does; kills_left = always r ring })
+    (record { does = does; kills_left = unless_memory r ring })
 
 module _ {X : Type 0} (e : Ghosts X) where
   -- the cursor is drawn with one full redraw at most
@@ -628,20 +720,30 @@ module _ {X : Type 0} (e : Ghosts X) (old new : X) (input : Input) (indent : ℕ
   -- a command that was executed
   pub executed_ok : (status : Status) → Executed e old input indent kills command new kills' (answer_of status) → Frame e old new → e.failures new ≡ e.failures old
       → Executes e (Ok status) old input indent kills command new kills'
-  executed_ok status done frame none = record { comes = done; frame = frame; io = tt; quiet = none }
+  executed_ok status done frame none = record {
+    comes = done;
+    wrong = tt;
+    frame = frame;
+    io = tt;
+    quiet = none;
+  }
 
   -- one that went wrong
-  pub executed_wrong : {T : Type 0} (f : ReadlineError) → FailsByParty {T = T} e (asked_of (e.display old) (e.environment old) (editor_of e old kills) command) (Err f) old new → Frame e old new → Executes e (Err f) old input indent kills command new kills'
-  executed_wrong f fails frame =
-      record { comes = λ no. absurd (let is = fails.faults in cc); frame = frame; io = fails.io; quiet = fails.quiet }
+  pub executed_wrong : {T : Type 0} (f : ReadlineError)
+      → FaultLeft f (e.environment old) (e.draft old) (halfway_of (e.environment old) (editor_of e old kills) command)
+      (step_from e old input indent kills command).editor.draft (e.draft new)
+      → (is_memory f ≡ false → kills' ≡ (step_from e old input indent kills command).editor.kills)
+      → FailsByParty {T = T} e (asked_of (e.display old) (e.environment old) (editor_of e old kills) command) (Err f) old new → Frame e old new → Executes e (Err f) old input indent kills command new kills'
+  executed_wrong f fault kept fails frame =
+      record { comes = λ no. absurd (let is = fails.faults in cc); wrong = record { draft = fault; kills_left = kept }; frame = frame; io = fails.io; quiet = fails.quiet }
 
   -- one that proceeds
   does_ok : {T : Type 0} (x : T) (asks : Asks) (left : Editor) (drawing : Drawing)
       → step (ruler_of (e.display old) indent) (e.environment old) input (editor_of e old kills) command ≡ proceeding left
       → drawing_of (e.display old) (e.environment old) (editor_of e old kills) command ≡ drawing
-      → DoesAsking e asks (Ok x) old new left.draft drawing (times_of (e.display old) (e.environment old) (editor_of e old kills) command) → kills' ≡ left.kills
+      → (halfway : Draft) → DoesInTwo e asks (Ok x) old new halfway left.draft drawing (times_of (e.display old) (e.environment old) (editor_of e old kills) command) → kills' ≡ left.kills
       → Executes e (Ok Proceed) old input indent kills command new kills'
-  does_ok x asks left drawing steps draws does ring =
+  does_ok x asks left drawing steps draws halfway does ring =
       let stepped : StepsTo e old input indent kills command new kills' proceeds = record {
         editor = editor_is _ _ _ _ does.draft ring ∙ sym (ap (λ (s : Step). s.editor) steps);
         answered = ap (λ (s : Step). s.answer) steps;
@@ -662,44 +764,59 @@ module _ {X : Type 0} (e : Ghosts X) (old new : X) (input : Input) (indent : ℕ
   pub proceeds_ok : {T : Type 0} (x : T) (left : Editor) (drawing : Drawing)
       → step (ruler_of (e.display old) indent) (e.environment old) input (editor_of e old kills) command ≡ proceeding left
       → drawing_of (e.display old) (e.environment old) (editor_of e old kills) command ≡ drawing
-      → DoesWithKills e (Ok x) old kills new kills' left drawing (times_of (e.display old) (e.environment old) (editor_of e old kills) command)
+      → (halfway : Draft) → DoesInTwoWithKills e (Ok x) old kills new kills' halfway left drawing (times_of (e.display old) (e.environment old) (editor_of e old kills) command)
       → Executes e (Ok Proceed) old input indent kills command new kills'
-  proceeds_ok x left drawing steps draws done = does_ok x (asked_by drawing) left drawing steps draws done.does done.kills_left
+  proceeds_ok x left drawing steps draws halfway done = does_ok x (asked_by drawing) left drawing steps draws halfway done.does done.kills_left
 
   -- one with the kill ring that went wrong
-  proceeds_wrong : {T : Type 0} (f : ReadlineError) (left : Editor) (drawing : Drawing) (most : ℕ)
+  proceeds_wrong : {T : Type 0} (f : ReadlineError) (halfway : Draft) (left : Editor) (drawing : Drawing) (most : ℕ)
+      → step_from e old input indent kills command ≡ proceeding left
+      → halfway_of (e.environment old) (editor_of e old kills) command ≡ halfway
       → asked_of (e.display old) (e.environment old) (editor_of e old kills) command ≡ asked_by drawing
-      → DoesWithKills e {T = T} (Err f) old kills new kills' left drawing most
+      → DoesInTwoWithKills e {T = T} (Err f) old kills new kills' halfway left drawing most
       → Executes e (Err f) old input indent kills command new kills'
-  proceeds_wrong {T = T} f left drawing most asks done = executed_wrong {T = T} f (rw asks done.does.fails) done.does.frame
+  proceeds_wrong {T = T} f halfway left drawing most steps half asks done =
+      executed_wrong {T = T} f
+      (subst (λ (d : Draft). FaultLeft f (e.environment old) (e.draft old) d (step_from e old input indent kills command).editor.draft (e.draft new)) (sym half)
+      (subst (λ (s : Step). FaultLeft f (e.environment old) (e.draft old) halfway s.editor.draft (e.draft new)) (sym steps) done.does.fault))
+      (subst (λ (s : Step). is_memory f ≡ false → kills' ≡ s.editor.kills) (sym steps) done.kills_left)
+      (rw asks done.does.fails) done.does.frame
 
   -- an edit that proceeds
   pub edits_ok : {T : Type 0} (x : T) (asks : Asks) → only_edits command ≡ true → kills' ≡ kills
-      → DoesAsking e asks (Ok x) old new (edited_by (ruler_of (e.display old) indent) (e.environment old) input (e.draft old) command)
+      → (halfway : Draft) → DoesInTwo e asks (Ok x) old new halfway (edited_by (ruler_of (e.display old) indent) (e.environment old) input (e.draft old) command)
       (edited_drawn (e.display old) (e.environment old) (e.draft old) command) (edited_times (e.display old) (e.draft old) command)
       → Executes e (Ok Proceed) old input indent kills command new kills'
-  edits_ok x asks only same does =
+  edits_ok x asks only same halfway does =
       does_ok x asks _ _ (edit_steps (ruler_of (e.display old) indent) (e.environment old) input (editor_of e old kills) command only)
-      (edit_draws (e.display old) (e.environment old) (editor_of e old kills) command only)
-      (subst (λ n. DoesAsking e asks (Ok x) old new (edited_by (ruler_of (e.display old) indent) (e.environment old) input (e.draft old) command)
+      (edit_draws (e.display old) (e.environment old) (editor_of e old kills) command only) halfway
+      (subst (λ n. DoesInTwo e asks (Ok x) old new halfway (edited_by (ruler_of (e.display old) indent) (e.environment old) input (e.draft old) command)
       (edited_drawn (e.display old) (e.environment old) (e.draft old) command) n)
       (sym (edit_times (e.display old) (e.environment old) (editor_of e old kills) command only)) does) same
 
   -- an edit that went wrong
-  pub edits_wrong : {T : Type 0} (f : ReadlineError) (left : Draft) (drawing : Drawing) (most : ℕ) → only_edits command ≡ true
-      → DoesAsking {T = T} e (edited_asked (e.display old) (e.environment old) (e.draft old) command) (Err f) old new left drawing most
+  pub edits_wrong : {T : Type 0} (f : ReadlineError) (drawing : Drawing) (most : ℕ) → only_edits command ≡ true → kills' ≡ kills
+      → DoesInTwo {T = T} e (edited_asked (e.display old) (e.environment old) (e.draft old) command) (Err f) old new (edited_halfway (e.environment old) (e.draft old) command)
+      (edited_by (ruler_of (e.display old) indent) (e.environment old) input (e.draft old) command) drawing most
       → Executes e (Err f) old input indent kills command new kills'
-  edits_wrong f left drawing most only does =
-      executed_wrong f
+  edits_wrong {T = T} f drawing most only same does =
+      let steps = edit_steps (ruler_of (e.display old) indent) (e.environment old) input (editor_of e old kills) command only in
+      executed_wrong {T = T} f
+      (subst (λ (d : Draft). FaultLeft f (e.environment old) (e.draft old) d (step_from e old input indent kills command).editor.draft (e.draft new))
+      (sym (edit_halfway (e.environment old) (editor_of e old kills) command only))
+      (subst (λ (s : Step). FaultLeft f (e.environment old) (e.draft old) (edited_halfway (e.environment old) (e.draft old) command) s.editor.draft (e.draft new)) (sym steps) does.fault))
+      (λ no. same ∙ ap (λ (s : Step). s.editor.kills) (sym steps))
       (fails_more e (Err f) (edited_asked (e.display old) (e.environment old) (e.draft old) command) (asked_of (e.display old) (e.environment old) (editor_of e old kills) command) old new
       (λ sure. ap (λ a. is_sure (e.sure old) a) (sym (edit_asks (e.display old) (e.environment old) (editor_of e old kills) command only)) ∙ sure) does.fails)
       does.frame
 
 -- such a command by its name in the code
 pub goes_wrong_by : {X T : Type 0} (e : Ghosts X) (old new : X) (input : Input) (indent : ℕ) (kills kills' : Ring) (cmd named : Cmd) (result : Result Status ReadlineError) (g f : ReadlineError)
-    (left : Editor) (drawing : Drawing) (most : ℕ) → cmd ≡ named → result ≡ Err g → g ≡ f
-    → DoesWithKills e {T = T} (Err f) old kills new kills' left drawing most
+    (halfway : Draft) (left : Editor) (drawing : Drawing) (most : ℕ) → cmd ≡ named → result ≡ Err g → g ≡ f
+    → DoesInTwoWithKills e {T = T} (Err f) old kills new kills' halfway left drawing most
     → asked_of (e.display old) (e.environment old) (editor_of e old kills) (command_of named) ≡ asked_by drawing
+    → step_from e old input indent kills (command_of named) ≡ proceeding left
+    → halfway_of (e.environment old) (editor_of e old kills) (command_of named) ≡ halfway
     → Executes e result old input indent kills (command_of cmd) new kills'
-goes_wrong_by e old new input indent kills kills' cmd named result g f left drawing most is came gives done asks =
-    rw (is, came, gives) (proceeds_wrong e old new input indent kills kills' (command_of named) f left drawing most asks done)
+goes_wrong_by e old new input indent kills kills' cmd named result g f halfway left drawing most is came gives done asks steps half =
+    rw (is, came, gives) (proceeds_wrong e old new input indent kills kills' (command_of named) f halfway left drawing most steps half asks done)

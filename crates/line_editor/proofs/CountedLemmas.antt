@@ -32,6 +32,14 @@ asked_again : (environment environment' : Environment) (draft left : Draft) → 
 asked_again environment environment' draft left same (inl is) = ap (λ w. hinted w left) same ∙ ap (λ d. hinted environment d) is
 asked_again environment environment' draft left same (inr is) = ap (λ w. hinted w left) same ∙ ap (λ d. hinted environment d) is
 
+-- what was left by a cut, and then by another, was left by one
+left_twice : (environment environment' : Environment) (draft now next : Draft) → environment' ≡ environment
+    → LeftByCut environment draft now → LeftByCut environment' now next → LeftByCut environment draft next
+left_twice environment environment' draft now next same (inl first) (inl second) = inl (second ∙ first)
+left_twice environment environment' draft now next same (inr first) (inl second) = inr (second ∙ first)
+left_twice environment environment' draft now next same (inl first) (inr second) = inr (second ∙ asked_again environment environment' draft now same (inl first))
+left_twice environment environment' draft now next same (inr first) (inr second) = inr (second ∙ asked_again environment environment' draft now same (inr first))
+
 keeps_by : (environment : Environment) (draft left : Draft) → left ≡ hinted environment draft → KeepsText draft left
 keeps_by environment draft left is = record {
   line = ap (λ (d : Draft). d.line) is;
@@ -112,6 +120,7 @@ module _ {X Y : Type 0} (e : editors.Ghosts X) (r : readers.Ghosts Y) (start : X
               },
             );
         draft = λ no. read.draft no ∙ asked_again (e.environment start) (e.environment now) (e.draft start) (e.draft now) c.frame.environment c.left;
+        left = left_twice (e.environment start) (e.environment now) (e.draft start) (e.draft now) (e.draft next) c.frame.environment c.left read.left;
         text = keeps_twice (e.environment start) (e.draft start) (e.draft now) (e.draft next) c.left read.text;
         keeps = record {
           frame = frame_then e start now next c.frame read.keeps.frame;
@@ -198,6 +207,7 @@ module _ {X Y : Type 0} (e : editors.Ghosts X) (r : readers.Ghosts Y) (start : X
             };
           };
           draft = draft;
+          left = inr draft;
           text = keeps_by (e.environment start) (e.draft start) (e.draft last) draft;
           keeps = record {
             frame = frame_then e start next last frame refreshed.frame;
@@ -214,6 +224,8 @@ module _ {X Y : Type 0} (e : editors.Ghosts X) (r : readers.Ghosts Y) (start : X
     redraw_fails f last refreshed = record {
       read = λ no. absurd (let is = refreshed.fails.faults in cc);
       draft = λ no. absurd (let is = refreshed.fails.faults in cc);
+      left = left_twice (e.environment start) (e.environment next) (e.draft start) (e.draft next) (e.draft last) (read.keeps.frame.environment ∙ c.frame.environment)
+          (inr (read.draft ∙ asked_again (e.environment start) (e.environment now) (e.draft start) (e.draft now) c.frame.environment c.left)) refreshed.err;
       text = keeps_twice (e.environment start) (e.draft start) (e.draft next) (e.draft last)
           (inr (read.draft ∙ asked_again (e.environment start) (e.environment now) (e.draft start) (e.draft now) c.frame.environment c.left)) refreshed.text;
       keeps = record {

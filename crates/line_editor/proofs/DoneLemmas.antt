@@ -5,8 +5,9 @@ use Rattle.line_config.specs.declared.error.ReadlineError.{ReadlineError}
 use Rattle.line_buffer.specs.Line.{Line, inserted_at_cursor, without}
 use Rattle.line_buffer.specs.Undo.{first_text}
 use Rattle.line_keys.specs.Display.{Display, HasCursorAt, lit_after}
-use Rattle.line_keys.specs.Draft.{Draft, hinted, hint_shown, start_text}
-use Rattle.line_keys.specs.Drawing.{ChangedPlainly, Does, DoesAsking, Drew, DrewCursor, DrewLine, DrewNothing, Refreshes, ShowsChange, ShowsEdit, Undrawn, cursor, drawn_if, drawn_in_full, drawn_plainly, edit_drawn, nothing, text_same, with_hint}
+use Rattle.line_keys.specs.Draft.{Draft, KeepsText, hinted, hint_shown, start_text}
+use Rattle.line_keys.specs.Drawing.{ChangedPlainly, Does, DoesInTwo, Drew, DrewCursor, DrewLine, DrewNothing, Refreshes, ShowsChange, ShowsEdit, Undrawn, cursor, drawn_if, drawn_in_full, drawn_plainly, edit_drawn, text_same, with_hint}
+use Rattle.line_keys.specs.Fault.{IsEarlierHint}
 use Rattle.line_keys.specs.Frame.{FailsByParty}
 use Rattle.line_keys.specs.Plainly.{KilledPlainly, TypedPlainly, kills_plainly, types_plainly}
 use Rattle.line_keys.specs.ShownLine.{HasCursorDrawn, HasRightLayout}
@@ -20,6 +21,7 @@ use Rattle.line_state.specs.Edited.{Edited}
 use Rattle.line_editor.specs.Editor.{with_edited}
 use Rattle.line_editor.specs.DraftEdits.{after_edit}
 use Rattle.line_editor.proofs.CountLemmas.{stays_then}
+use Rattle.line_editor.proofs.FaultLemmas.{but_hinted, fault_from, fault_shown, whole_text}
 use Rattle.line_editor.proofs.DrawnLemmas.{drawn_stays, frame_then, hint_trails, keeps_move, keeps_then, right_after, way_after}
 
 -- what leaves all but the draft draws nothing
@@ -94,13 +96,23 @@ module _ {X : Type 0} (e : Ghosts X) (old mid new : X) (undrawn : Undrawn e old 
     pub done_reported : {T : Type 0} (r : Result T ReadlineError) → Redrawn e r mid new
         → Does e r old new (hinted (e.environment old) made) with_hint 1
     done_reported (Err er) shows =
-        record { draft = tt; start = tt; drew = tt; keeps = tt; change = tt; frame = frame_then e old mid new undrawn.frame shows.frame; fails = fails_after for_hint (Err er) shows.fails }
+        record {
+          draft = tt;
+          fault = fault_shown e er old mid new made _ (hinted (e.environment old) made) undrawn.frame.environment draft hint (but_hinted (e.environment old) made) shows.err;
+          start = tt;
+          drew = tt;
+          keeps = tt;
+          change = tt;
+          frame = frame_then e old mid new undrawn.frame shows.frame;
+          fails = fails_after for_hint (Err er) shows.fails;
+        }
     done_reported (Ok x) shows =
         let asked : e.draft new ≡ hinted (e.environment old) made =
         shows.draft ∙ ap (λ w. hinted w (e.draft mid)) undrawn.frame.environment ∙ ap (λ d. hinted (e.environment old) d) draft in
         let drew : DrewLine e 1 (hint_shown (e.draft new)) Other old new = line_after 1 (hint_shown (e.draft new)) Other shows.drew in
         record {
           draft = asked;
+          fault = tt;
           start = ap start_text asked ∙ first;
           drew = drew;
           keeps = record { right = λ was. drew.right; line = λ was. hint_trails e new drew.shows };
@@ -113,13 +125,23 @@ module _ {X : Type 0} (e : Ghosts X) (old mid new : X) (undrawn : Undrawn e old 
     done_unreported : {T : Type 0} (r : Result T ReadlineError) → made.line.text ≡ (e.draft old).line.text → ShowsEdit e false r mid new
         → Does e r old new made (cursor MoveCursor) 1
     done_unreported (Err er) text shows =
-        record { draft = tt; start = tt; drew = tt; keeps = tt; change = tt; frame = frame_then e old mid new undrawn.frame shows.frame; fails = fails_after nobody (Err er) shows.fails }
+        record {
+          draft = tt;
+          fault = fault_shown e er old mid new made _ made undrawn.frame.environment draft hint (whole_text made) shows.err;
+          start = tt;
+          drew = tt;
+          keeps = tt;
+          change = tt;
+          frame = frame_then e old mid new undrawn.frame shows.frame;
+          fails = fails_after nobody (Err er) shows.fails;
+        }
     done_unreported (Ok x) text shows =
         let same : (e.draft mid).line.text ≡ (e.draft old).line.text = ap (λ (d : Draft). d.line.text) draft ∙ text in
         let right : HasRightLayout e old → HasRightLayout e new =
         λ was. right_after e old mid new undrawn.drew.display same (ap (λ (d : Draft). d.line) shows.draft) shows.right was in
         record {
           draft = shows.draft ∙ draft;
+          fault = tt;
           start = ap start_text (shows.draft ∙ draft) ∙ first;
           drew = cursor_after MoveCursor (ap (λ (d : Draft). d.line) shows.draft) shows.placed shows.drew;
           keeps = keeps_move e MoveCursor old new (frame_then e old mid new undrawn.frame shows.frame) (ap (λ (d : Draft). d.line.text) (shows.draft ∙ draft) ∙ text)
@@ -134,7 +156,7 @@ module _ {X : Type 0} (e : Ghosts X) (old mid new : X) (undrawn : Undrawn e old 
         → (reported ≡ false → made.line.text ≡ (e.draft old).line.text) → ShowsEdit e reported r mid new
         → Does e r old new (if reported then hinted (e.environment old) made else made) (edit_drawn reported) 1
     done_either r true text shows =
-        done_reported r (record { draft = shows.draft; text = shows.text; drew = shows.drew; frame = shows.frame; fails = shows.fails })
+        done_reported r (record { draft = shows.draft; err = shows.err; text = shows.text; drew = shows.drew; kept = shows.kept; frame = shows.frame; fails = shows.fails })
     done_either r false text shows = done_unreported r (text refl) shows
 
 -- an edit that is shown: reported or not, the draft is drawn
@@ -186,12 +208,15 @@ abbrev lined : Draft → Line → Option Suggestion → Draft
 lined draft line hint = record draft { line = line; hint = hint }
 
 -- what is done behind a step that draws nothing and leaves the line and its hint is done from before it
-pub does_after : {X T : Type 0} (e : Ghosts X) (asks : Asks) (r : Result T ReadlineError) (old mid new : X) (left left' : Draft) (reported : Bool)
+pub does_after : {X T : Type 0} (e : Ghosts X) (asks : Asks) (r : Result T ReadlineError) (old mid new : X) (halfway' halfway left left' : Draft) (reported : Bool)
     → Undrawn e old mid → (e.draft mid).line ≡ (e.draft old).line → (e.draft mid).hint ≡ (e.draft old).hint
     → start_text (e.draft mid) ≡ start_text (e.draft old) → left ≡ left'
-    → DoesAsking e asks r mid new left (drawn_if reported) 1 → DoesAsking e asks r old new left' (drawn_if reported) 1
-does_after e asks (Err er) old mid new left left' reported undrawn line hint first same does = record {
+    → IsEarlierHint (e.draft old) halfway halfway'.hint
+    → KeepsText (e.draft old) (e.draft mid) ⊎ KeepsText halfway (e.draft mid) → KeepsText (e.draft old) halfway' ⊎ KeepsText halfway halfway'
+    → DoesInTwo e asks r mid new halfway' left (drawn_if reported) 1 → DoesInTwo e asks r old new halfway left' (drawn_if reported) 1
+does_after e asks (Err er) old mid new halfway' halfway left left' reported undrawn line hint first same hint' moment moment' does = record {
   draft = tt;
+  fault = fault_from er (e.environment mid) (e.environment old) (e.draft old) (e.draft mid) halfway' halfway left left' (e.draft new) undrawn.frame.environment same (inl hint) hint' moment moment' does.fault;
   start = tt;
   drew = tt;
   keeps = tt;
@@ -199,9 +224,10 @@ does_after e asks (Err er) old mid new left left' reported undrawn line hint fir
   frame = frame_then e old mid new undrawn.frame does.frame;
   fails = fails_after e old mid new undrawn asks (Err er) does.fails;
 }
-does_after e asks (Ok x) old mid new left left' reported undrawn line hint first same does =
+does_after e asks (Ok x) old mid new halfway' halfway left left' reported undrawn line hint first same hint' moment moment' does =
     record {
       draft = does.draft ∙ same;
+      fault = tt;
       start = does.start ∙ first;
       drew = drawn_after reported does.drew;
       keeps = keeps_then e old mid new (drawn_stays e old mid undrawn.frame.environment undrawn.drew line hint) does.keeps;

@@ -9,7 +9,7 @@ use Rattle.line_keys.specs.Drawing.{CursorWay, DrewCursorAlone, DrewLine, DrewNo
 use Rattle.line_keys.specs.Frame.{Frame}
 use Rattle.line_keys.specs.Plainly.{has_highlighting}
 use Rattle.line_keys.specs.ShownLine.{HasCursorDrawn, HasRightLayout, IsInPlace, Shows}
-use Rattle.line_keys.specs.ShownLine.{KeepsDrawn, LosesHint, MayTrail, ShowsLine, ShowsNoHint}
+use Rattle.line_keys.specs.ShownLine.{KeepsDrawn, MayTrail, ShowsLine, ShowsNoHint}
 use Rattle.line_keys.specs.declared.editor_state.EditorState.{Ghosts}
 use Rattle.line_parts.specs.Environment.{Environment, verdict_on}
 use Rattle.line_parts.specs.Verdict.{Verdict, message_of}

@@ -1,36 +1,39 @@
 -- Facts on moves in the history, and on what is drawn where a step that draws nothing comes first.
-use Rattle.std.proofs.Common.{◌≡◌, ℕ, ◌+◌, ◌-◌, ◌≤◌, ◌==◌, ◌++◌, Bool, true, false, cond, List, [], length, take, drop, Option, Some, None, Result, Ok, Err, eqb, not, is_some, option_map, refl, sym, ◌∙◌, ap, subst, arith}
+use Rattle.std.proofs.Common.{◌≡◌, inl, inr, ℕ, ◌+◌, ◌-◌, ◌≤◌, ◌==◌, ◌++◌, Bool, true, false, cond, List, length, take, drop, Option, Some, None, Result, Ok, Err, eqb, not, is_some, refl, sym, ◌∙◌, ap, subst, arith}
 use Rattle.std.specs.Prelude.{if◌then◌else◌, IsCharBoundary, IsUtf8, OnOk, option_and_then}
 use Rattle.std.specs.List.{slice_range, starts_with}
 use Rattle.std.proofs.Math.Seq.{take-append_seam}
 use Rattle.std.proofs.lemmas.Bool.Decides.{Decides-eqb}
 use Rattle.std.proofs.lemmas.List.{length-append}
-use Rattle.std.proofs.lemmas.Option.{slice_get-get_or}
 use Rattle.std.proofs.lemmas.Slice.Eq.{starts_is}
 use Rattle.std.proofs.lemmas.Str.{IsCharBoundary-from_take}
 use Rattle.line_config.specs.declared.error.ReadlineError.{ReadlineError}
-use Rattle.line_config.specs.Error.{Rose}
-use Rattle.line_keys.specs.Draft.{Draft, start_text}
-use Rattle.line_keys.specs.Drawing.{Does, DoesAsking, DrewNothing, Paints, Undrawn, drawn_if, nothing, text_same, with_hint}
+use Rattle.line_config.specs.Error.{Rose, is_fault, is_io, is_memory}
+use Rattle.line_config.specs.declared.error.ReadlineError.TheVariants.{Eof, Interrupted, Io, Memory}
+use Rattle.line_keys.specs.Draft.{Draft, KeepsText, start_text}
+use Rattle.line_keys.specs.Fault.{FaultLeft}
+use Rattle.line_keys.specs.Drawing.{Does, DoesAsking, DoesInTwo, DrewNothing, Drawing, Paints, Undrawn, drawn_if, nothing, text_same, with_hint}
 use Rattle.line_keys.specs.Frame.{FailsByParty, FailsByRenderer, Frame}
 use Rattle.line_keys.specs.declared.editor_state.EditorState.{Ghosts}
+use Rattle.line_parts.specs.Environment.{Environment}
 use Rattle.line_parts.specs.Asks.{Asks, for_hint, for_line, for_look_up, nobody}
-use Rattle.line_parts.specs.History.{Found, behind_start, entry_at, line_at, starting_with}
+use Rattle.line_parts.specs.History.{Found, behind_start, starting_with}
 use Rattle.line_parts.specs.HistoryLaws.{IsOnSide}
 use Rattle.line_parts.specs.Hint.{Suggestion}
 use Rattle.line_parts.specs.declared.history.SearchDirection.{SearchDirection}
 use Rattle.line_parts.specs.declared.history.SearchDirection.TheVariants.{Forward, Reverse}
 use Rattle.line_parts.proofs.HistoryLawLemmas.{found_is_nearest}
-use Rattle.line_buffer.specs.Line.{Line, before, with_cursor, end_of_line}
+use Rattle.line_buffer.specs.Line.{Line, before, with_cursor}
 use Rattle.line_buffer.specs.Undo.{first_text}
 use Rattle.line_state.specs.Edited.{Edited, in_one_group, with_update_to}
 use Rattle.line_editor.specs.Editor.{edited_of, with_edited}
-use Rattle.line_editor.specs.DraftEdits.{completed, with_completion}
+use Rattle.line_editor.specs.DraftEdits.{completed, with_completion_at_end}
 use Rattle.line_editor.specs.HistoryMoves.{asked_for, asked_in_search, at_index, come_back, search_beside, search_of, search_shown, found_shown, line_shown, restored, saved_at_end, showing}
 use Rattle.line_buffer.proofs.SearchLemmas.{front_range}
 use Rattle.line_state.proofs.EditedLemmas.{first_moved}
 use Rattle.line_editor.proofs.AskedLemmas.{does_more, sure_hint}
 use Rattle.line_editor.proofs.DoneLemmas.{Redrawn, does_after, edit_reported, undrawn_twice}
+use Rattle.line_editor.proofs.FaultLemmas.{fault_exact, fault_other, fault_stays, fault_wider, same_draft}
 use Rattle.line_editor.proofs.DrawnLemmas.{drawn_stays, frame_then}
 
 -- all stays
@@ -43,15 +46,30 @@ pub still_done : {X T : Type 0} (e : Ghosts X) (asks : Asks) (r : Result T Readl
     → DrewNothing e old new → Frame e old new → FailsByParty e asks r old new
     → DoesAsking e asks r old new left nothing 1
 still_done e asks (Err er) old new left draft line hint first undrew frame fails =
-    record { draft = tt; start = tt; drew = tt; keeps = tt; change = tt; frame = frame; fails = fails }
+    record { draft = tt; fault = fault_exact e er old new _ left draft hint; start = tt; drew = tt; keeps = tt; change = tt; frame = frame; fails = fails }
 still_done e asks (Ok x) old new left draft line hint first undrew frame fails = record {
   draft = draft;
+  fault = tt;
   start = ap start_text draft ∙ first;
   drew = undrew;
   keeps = drawn_stays e old new frame.environment undrew (ap (λ (d : Draft). d.line) draft ∙ line) (ap (λ (d : Draft). d.hint) draft ∙ hint);
   change = text_same (ap (λ (d : Draft). d.line.text) draft ∙ ap (λ l. l.text) line);
   frame = frame;
   fails = fails;
+}
+
+-- a call that leaves nothing halfway may be said to
+pub in_two : {X T : Type 0} (e : Ghosts X) (asks : Asks) (r : Result T ReadlineError) (old new : X) (halfway left : Draft) (drawing : Drawing) (times : ℕ)
+    → DoesAsking e asks r old new left drawing times → DoesInTwo e asks r old new halfway left drawing times
+in_two e asks r old new halfway left drawing times does = record {
+  draft = does.draft;
+  fault = fault_wider r (e.environment old) (e.draft old) halfway left (e.draft new) does.fault;
+  start = does.start;
+  drew = does.drew;
+  keeps = does.keeps;
+  change = does.change;
+  frame = does.frame;
+  fails = does.fails;
 }
 
 -- nothing happens
@@ -108,29 +126,38 @@ saved_starts false draft = refl
 pub left_for : {X T : Type 0} (e : Ghosts X) (r : Result T ReadlineError) (old mid new : X) (index : ℕ)
     → Undrawn e old mid → e.draft mid ≡ saved_at_end (e.environment old) (e.draft old)
     → DoesAsking e for_line r mid new (line_shown (e.environment mid) index (e.draft mid)) with_hint 1
-    → DoesAsking e for_line r old new (line_shown (e.environment old) index (saved_at_end (e.environment old) (e.draft old))) with_hint 1
+    → DoesInTwo e for_line r old new (saved_at_end (e.environment old) (e.draft old)) (line_shown (e.environment old) index (saved_at_end (e.environment old) (e.draft old))) with_hint 1
 left_for e r old mid new index undrawn draft shown =
     let at_end : Bool = (e.draft old).index == length (e.environment old).lines in
-    does_after e for_line r old mid new _ _ true undrawn
+    does_after e for_line r old mid new (e.draft mid) (saved_at_end (e.environment old) (e.draft old)) _ _ true undrawn
     (ap (λ (d : Draft). d.line) draft ∙ saved_line at_end (e.draft old))
     (ap (λ (d : Draft). d.hint) draft ∙ saved_hint at_end (e.draft old))
     (ap start_text draft ∙ saved_starts at_end (e.draft old))
     (ap (λ w. line_shown w index (e.draft mid)) undrawn.frame.environment ∙ ap (λ d. line_shown (e.environment old) index d) draft)
+    (inl (ap (λ (d : Draft). d.hint) draft ∙ saved_hint at_end (e.draft old)))
+    (inr (same_draft _ (e.draft mid) draft)) (inr (same_draft _ (e.draft mid) draft))
     shown
 
 -- at the way's end all stays, and before it an edit is drawn
-pub way_stays : {X T : Type 0} (e : Ghosts X) (x : T) (old : X) (b : Bool) (asks : Asks) (left : Draft) → b ≡ true
-    → DoesAsking e (if b then nobody else asks) (Ok x) old old (if b then e.draft old else left) (drawn_if (not b)) 1
-way_stays e x old b asks left at =
-    subst (λ c. DoesAsking e (if c then nobody else asks) (Ok x) old old (if c then e.draft old else left) (drawn_if (not c)) 1) (sym at)
-    (nothing_done e nobody x old)
+pub way_stays : {X T : Type 0} (e : Ghosts X) (x : T) (old : X) (b : Bool) (asks : Asks) (halfway left : Draft) → b ≡ true
+    → DoesInTwo e (if b then nobody else asks) (Ok x) old old halfway (if b then e.draft old else left) (drawn_if (not b)) 1
+way_stays e x old b asks halfway left at =
+    subst (λ c. DoesInTwo e (if c then nobody else asks) (Ok x) old old halfway (if c then e.draft old else left) (drawn_if (not c)) 1) (sym at)
+    (in_two e nobody (Ok x) old old halfway (e.draft old) nothing 1 (nothing_done e nobody x old))
 
-pub way_goes : {X T : Type 0} (e : Ghosts X) (r : Result T ReadlineError) (old new : X) (b : Bool) (asks asks' : Asks) (left left' : Draft)
+pub way_goes : {X T : Type 0} (e : Ghosts X) (r : Result T ReadlineError) (old new : X) (b : Bool) (asks asks' : Asks) (halfway left left' : Draft)
+    → b ≡ false → asks ≡ asks' → left ≡ left' → DoesInTwo e asks r old new halfway left with_hint 1
+    → DoesInTwo e (if b then nobody else asks') r old new halfway (if b then e.draft old else left') (drawn_if (not b)) 1
+way_goes e r old new b asks asks' halfway left left' at asked same edit =
+    subst (λ c. DoesInTwo e (if c then nobody else asks') r old new halfway (if c then e.draft old else left') (drawn_if (not c)) 1) (sym at)
+    (subst (λ a. DoesInTwo e a r old new halfway left' with_hint 1) asked (subst (λ d. DoesInTwo e asks r old new halfway d with_hint 1) same edit))
+
+-- the same of a call that leaves nothing halfway
+pub way_goes_once : {X T : Type 0} (e : Ghosts X) (r : Result T ReadlineError) (old new : X) (b : Bool) (asks asks' : Asks) (halfway left left' : Draft)
     → b ≡ false → asks ≡ asks' → left ≡ left' → DoesAsking e asks r old new left with_hint 1
-    → DoesAsking e (if b then nobody else asks') r old new (if b then e.draft old else left') (drawn_if (not b)) 1
-way_goes e r old new b asks asks' left left' at asked same edit =
-    subst (λ c. DoesAsking e (if c then nobody else asks') r old new (if c then e.draft old else left') (drawn_if (not c)) 1) (sym at)
-    (subst (λ a. DoesAsking e a r old new left' with_hint 1) asked (subst (λ d. DoesAsking e asks r old new d with_hint 1) same edit))
+    → DoesInTwo e (if b then nobody else asks') r old new halfway (if b then e.draft old else left') (drawn_if (not b)) 1
+way_goes_once e r old new b asks asks' halfway left left' at asked same edit =
+    way_goes e r old new b asks asks' halfway left left' at asked same (in_two e asks r old new halfway left with_hint 1 edit)
 
 -- a renderer that failed is a party that failed
 fails_by : {X T : Type 0} (e : Ghosts X) (asks : Asks) (r : Result T ReadlineError) (old mid new : X) → e.failures mid ≡ e.failures old
@@ -140,6 +167,52 @@ fails_by e asks (Err er) old mid new same fails = record {
   io = λ i sure. subst (λ n. Rose n (e.failures new)) same (fails.io i);
   faults = fails.faults;
   quiet = λ no. fails.quiet no ∙ same;
+}
+
+-- memory that is out is no error of input or output
+memory_alone : (f : ReadlineError) → is_memory f ≡ true → (is_io f ≡ false) × (is_fault f ≡ true)
+memory_alone Memory is = (refl, refl)
+memory_alone Eof is = absurd (cc)
+memory_alone Interrupted is = absurd (cc)
+memory_alone (Io cause) is = absurd (cc)
+
+-- a line that could not be saved
+pub saving_fails : {X T : Type 0} (e : Ghosts X) (f : ReadlineError) (old new : X) (halfway left : Draft) → e.draft new ≡ e.draft old → Undrawn e old new → is_memory f ≡ true
+    → DoesInTwo {T = T} e for_line (Err f) old new halfway left with_hint 1
+saving_fails e f old new halfway left same undrawn memory =
+    let kind = memory_alone f memory in
+    record {
+      draft = tt;
+      fault = fault_stays e f old new halfway left same;
+      start = tt;
+      drew = tt;
+      keeps = tt;
+      change = tt;
+      frame = undrawn.frame;
+      fails = record { io = λ io. absurd (let no = kind.0 in cc); faults = kind.1; quiet = λ no. undrawn.failures };
+    }
+
+-- what the hint completes the line with changes nothing but the line and its changes
+completion_text : (environment : Environment) (hint : Option Suggestion) (draft : Draft) → is_some hint ≡ true
+    → KeepsText (completed environment hint draft) (with_edited draft (with_completion_at_end (option_and_then (λ h. h.completion) hint) draft))
+completion_text environment None draft some = absurd (cc)
+completion_text environment (Some h) draft some = record { line = refl; saved = refl; index = refl; changes = refl }
+
+-- a hint that could not be put into the line
+pub completing_fails : {X T U : Type 0} (e : Ghosts X) (f : ReadlineError) (old new : X) → is_some (e.draft old).hint ≡ true
+    → FaultLeft f (e.environment old) (e.draft old) (e.draft old)
+    (with_edited (e.draft old) (with_completion_at_end (option_and_then (λ h. h.completion) (e.draft old).hint) (e.draft old))) (e.draft new)
+    → Frame e old new → FailsByRenderer {T = T} e (Err f) old new
+    → Does {T = U} e (Err f) old new (completed (e.environment old) (e.draft old).hint (e.draft old)) (drawn_if (is_some (e.draft old).hint)) 1
+completing_fails {U = U} e f old new some fault frame fails = record {
+  draft = tt;
+  fault = fault_other f (e.environment old) (e.draft old) (e.draft old) _ _ (e.draft new) (completion_text (e.environment old) (e.draft old).hint (e.draft old) some) fault;
+  start = tt;
+  drew = tt;
+  keeps = tt;
+  change = tt;
+  frame = frame;
+  fails = fails_by {T = U} e _ (Err f) old old new refl (record { io = fails.io; faults = fails.faults; quiet = fails.quiet });
 }
 
 -- there is a beep behind a step that draws nothing and leaves the line

@@ -18,6 +18,7 @@ pub mod AcceptLemmas
 pub mod CommandLemmas
 pub mod CountLemmas
 pub mod CountedLemmas
+pub mod FaultLemmas
 pub mod DoneLemmas
 pub mod DrawnLemmas
 pub mod EditLemmas

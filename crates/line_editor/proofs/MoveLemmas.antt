@@ -1,5 +1,5 @@
 -- Facts on a cursor that is moved.
-use Rattle.std.proofs.Common.{◌≡◌, ℕ, Bool, true, false, List, [], ◌∷◌, Option, Some, None, is_some, Result, Ok, Err, refl, sym, ap, subst, ◌∙◌, arith}
+use Rattle.std.proofs.Common.{◌≡◌, inl, inr, ℕ, Bool, true, false, List, [], ◌∷◌, Option, Some, None, is_some, Result, Ok, Err, refl, sym, ap, subst, ◌∙◌, arith}
 use Rattle.std.specs.Prelude.{if◌then◌else◌}
 use Rattle.line_buffer.specs.Changes.{Entry}
 use Rattle.line_buffer.specs.Line.{Line, after, moved_to, with_cursor}
@@ -11,7 +11,8 @@ use Rattle.line_buffer.specs.declared.movement.Word.TheVariants.{Big}
 use Rattle.line_config.specs.declared.error.ReadlineError.{ReadlineError}
 use Rattle.line_keys.specs.Draft.{Draft, start_text}
 use Rattle.line_keys.specs.Display.{Display, HasCursorAt, ShowsText, cursor_position}
-use Rattle.line_keys.specs.Drawing.{CursorWay, Does, DoesAsking, Drawing, DrawsCursor, DrewCursor, MovesTo, PutsCursorAt, Undrawn, cursor_over, cursor_stayed, drawn_if, text_same}
+use Rattle.line_keys.specs.Drawing.{CursorWay, DoesInTwo, Drawing, DrawsCursor, DrewCursor, MovesTo, PutsCursorAt, Undrawn, cursor_over, cursor_stayed, drawn_if, text_same}
+use Rattle.line_keys.specs.Fault.{as_halfway}
 use Rattle.line_keys.specs.Frame.{FailsByRenderer, Frame}
 use Rattle.line_keys.specs.ShownLine.{HasCursorDrawn}
 use Rattle.line_keys.specs.declared.editor_state.EditorState.{Ghosts}
@@ -24,6 +25,7 @@ use Rattle.line_state.specs.Edited.{Edited, with_place}
 use Rattle.line_state.specs.Moves.{to_first_print}
 use Rattle.line_editor.specs.Editor.{edited_of, with_edited}
 use Rattle.line_editor.proofs.DoneLemmas.{cursor_after, does_after}
+use Rattle.line_editor.proofs.FaultLemmas.{of_made, same_draft, whole_text}
 use Rattle.line_editor.proofs.DrawnLemmas.{frame_then, keeps_move, keeps_then, right_after, way_after}
 use Rattle.line_editor.proofs.EditLemmas.{moved_text}
 
@@ -134,24 +136,27 @@ module _ {X : Type 0} (e : Ghosts X) (old middle new : X) (kind : CmdKind) (line
 
 -- where the cursor has no place to go to, what is done instead is done from before
 pub else_done : {X T : Type 0} (e : Ghosts X) (r : Result T ReadlineError) (old mid new : X) (found : Bool) (place : Option ℕ) (moved : Draft)
-    (left : Environment → Draft → Draft) (there : Drawing) (reported : Environment → Draft → Bool) (asked : Environment → Draft → Asks)
+    (halfway left : Environment → Draft → Draft) (there : Drawing) (reported : Environment → Draft → Bool) (asked : Environment → Draft → Asks)
     → found ≡ is_some place → found ≡ false → Undrawn e old mid
     → e.draft mid ≡ record (e.draft old) { line = moved_to (e.draft old).line place }
-    → DoesAsking e (asked (e.environment mid) (e.draft mid)) r mid new (left (e.environment mid) (e.draft mid)) (drawn_if (reported (e.environment mid) (e.draft mid))) 1
-    → DoesAsking e (if is_some place then nobody else asked (e.environment old) (e.draft old)) r old new
+    → DoesInTwo e (asked (e.environment mid) (e.draft mid)) r mid new (halfway (e.environment mid) (e.draft mid)) (left (e.environment mid) (e.draft mid)) (drawn_if (reported (e.environment mid) (e.draft mid))) 1
+    → DoesInTwo e (if is_some place then nobody else asked (e.environment old) (e.draft old)) r old new (halfway (e.environment old) (e.draft old))
     (if is_some place then moved else left (e.environment old) (e.draft old))
     (if is_some place then there else drawn_if (reported (e.environment old) (e.draft old))) 1
-else_done e r old mid new found place moved left there reported asked answer missing undrawn draft does =
-    let P : Bool → Type 0 = λ b. DoesAsking e (if b then nobody else asked (e.environment old) (e.draft old)) r old new (if b then moved else left (e.environment old) (e.draft old))
+else_done e r old mid new found place moved halfway left there reported asked answer missing undrawn draft does =
+    let P : Bool → Type 0 = λ b. DoesInTwo e (if b then nobody else asked (e.environment old) (e.draft old)) r old new (halfway (e.environment old) (e.draft old)) (if b then moved else left (e.environment old) (e.draft old))
     (if b then there else drawn_if (reported (e.environment old) (e.draft old))) 1 in
     let none : is_some place ≡ false = sym answer ∙ missing in
     let same : e.draft mid ≡ e.draft old = draft ∙ ap (λ l. record (e.draft old) { line = l }) (stays_there (e.draft old).line place none) in
-    let Q : Environment → Type 0 = λ w. DoesAsking e (asked w (e.draft mid)) r mid new (left (e.environment mid) (e.draft mid)) (drawn_if (reported w (e.draft mid))) 1 in
-    let R : Draft → Type 0 = λ d. DoesAsking e (asked (e.environment old) d) r mid new (left (e.environment mid) (e.draft mid)) (drawn_if (reported (e.environment old) d)) 1 in
+    let Q : Environment → Type 0 = λ w. DoesInTwo e (asked w (e.draft mid)) r mid new (halfway (e.environment mid) (e.draft mid)) (left (e.environment mid) (e.draft mid)) (drawn_if (reported w (e.draft mid))) 1 in
+    let R : Draft → Type 0 = λ d. DoesInTwo e (asked (e.environment old) d) r mid new (halfway (e.environment mid) (e.draft mid)) (left (e.environment mid) (e.draft mid)) (drawn_if (reported (e.environment old) d)) 1 in
+    let half : halfway (e.environment mid) (e.draft mid) ≡ halfway (e.environment old) (e.draft old) =
+    ap (λ w. halfway w (e.draft mid)) undrawn.frame.environment ∙ ap (λ d. halfway (e.environment old) d) same in
     subst P (sym none)
-    (does_after e (asked (e.environment old) (e.draft old)) r old mid new _ _ (reported (e.environment old) (e.draft old)) undrawn (ap (λ (d : Draft). d.line) same) (ap (λ (d : Draft). d.hint) same)
+    (does_after e (asked (e.environment old) (e.draft old)) r old mid new (halfway (e.environment mid) (e.draft mid)) (halfway (e.environment old) (e.draft old)) _ _ (reported (e.environment old) (e.draft old)) undrawn (ap (λ (d : Draft). d.line) same) (ap (λ (d : Draft). d.hint) same)
     (ap start_text same)
     (ap (λ w. left w (e.draft mid)) undrawn.frame.environment ∙ ap (λ d. left (e.environment old) d) same)
+    (inr (inr (ap (λ (d : Draft). d.hint) half))) (inl (same_draft (e.draft old) (e.draft mid) same)) (inr (same_draft _ _ half))
     (subst R same (subst Q undrawn.frame.environment does)))
 
 -- the cursor stays, and nothing is drawn
@@ -165,12 +170,28 @@ cursor_stays e editor = record {
 abbrev on_line : Line → Draft → Draft
 on_line line draft = record draft { line = line }
 
+-- a move by way of another place of which the first half went wrong
+pub way_fails : {X T U : Type 0} (e : Ghosts X) (f : ReadlineError) (old new : X) (way : Line) (left : Draft) → MovesTo {T = T} e (Err f) old new MoveCursor way
+    → DoesInTwo {T = U} e nobody (Err f) old new (record (e.draft old) { line = way }) left (cursor_over way) 1
+way_fails e f old new way left moves = record {
+  draft = tt;
+  fault = λ wrong. inl (as_halfway (of_made (e.environment old) (e.draft old) (record (e.draft old) { line = way }) (record (e.draft old) { line = way }) (record (e.draft old) { line = way })
+      (e.draft new) refl (whole_text (record (e.draft old) { line = way })) (inl moves.draft)));
+  start = tt;
+  drew = tt;
+  keeps = tt;
+  change = tt;
+  frame = moves.frame;
+  fails = record { io = λ i sure. moves.fails.io i; faults = moves.fails.faults; quiet = moves.fails.quiet };
+}
+
 -- a move by way of another place
 module _ {X T : Type 0} (e : Ghosts X) (x : T) (old mid : X) (way : Line) (first : MovesTo e (Ok x) old mid MoveCursor way) where
   pub moves_over : {U V : Type 0} (y : U) (z : V) (new : X) (line : Line) → MovesTo e (Ok y) mid new MoveCursor line
-      → Does e (Ok z) old new (record (e.draft old) { line = line }) (cursor_over way) 1
+      → DoesInTwo e nobody (Ok z) old new (record (e.draft old) { line = way }) (record (e.draft old) { line = line }) (cursor_over way) 1
   moves_over y z new line second = record {
     draft = second.draft ∙ ap (λ (d : Draft). on_line line d) first.draft;
+    fault = tt;
     start = second.start ∙ first.start;
     drew = record { way = mid; on_way = ap (λ (d : Draft). d.line) first.draft; frame = first.frame; first = first.drew; second = second.drew };
     keeps = keeps_then e old mid new first.keeps second.keeps;
@@ -179,9 +200,10 @@ module _ {X T : Type 0} (e : Ghosts X) (x : T) (old mid : X) (way : Line) (first
     fails = record { io = tt; faults = tt; quiet = second.fails.quiet ∙ first.fails.quiet };
   }
 
-  pub moves_there : {V : Type 0} (z : V) → Does e (Ok z) old mid (record (e.draft old) { line = way }) (cursor_over way) 1
+  pub moves_there : {V : Type 0} (z : V) → DoesInTwo e nobody (Ok z) old mid (record (e.draft old) { line = way }) (record (e.draft old) { line = way }) (cursor_over way) 1
   moves_there z = record {
     draft = first.draft;
+    fault = tt;
     start = first.start;
     drew = record { way = mid; on_way = ap (λ (d : Draft). d.line) first.draft; frame = first.frame; first = first.drew; second = cursor_stays e mid };
     keeps = first.keeps;
@@ -194,20 +216,20 @@ module _ {X T : Type 0} (e : Ghosts X) (x : T) (old mid : X) (way : Line) (first
 pub first_print_on : {X T U V : Type 0} (e : Ghosts X) (x : T) (y : U) (z : V) (old mid new : X) (way : Line) → MovesTo e (Ok x) old mid MoveCursor way
     → true ≡ begins_blank (after (e.draft mid).line)
     → MovesTo e (Ok y) mid new MoveCursor (moved_to (e.draft mid).line (word_on Start Big (e.draft mid).line 1))
-    → Does e (Ok z) old new (record (e.draft old) { line = to_first_print way }) (cursor_over way) 1
+    → DoesInTwo e nobody (Ok z) old new (record (e.draft old) { line = way }) (record (e.draft old) { line = to_first_print way }) (cursor_over way) 1
 first_print_on e x y z old mid new way first blank second =
     let is : (e.draft mid).line ≡ way = ap (λ (d : Draft). d.line) first.draft in
     let there : begins_blank (after way) ≡ true = sym (blank ∙ ap (λ l. begins_blank (after l)) is) in
     let goes : MovesTo e (Ok y) mid new MoveCursor (moved_to way (word_on Start Big way 1)) =
     subst (λ l. MovesTo e (Ok y) mid new MoveCursor (moved_to l (word_on Start Big l 1))) is second in
-    subst (λ b. Does e (Ok z) old new (on_line (if b then moved_to way (word_on Start Big way 1) else way) (e.draft old)) (cursor_over way) 1) (sym there)
+    subst (λ b. DoesInTwo e nobody (Ok z) old new (record (e.draft old) { line = way }) (on_line (if b then moved_to way (word_on Start Big way 1) else way) (e.draft old)) (cursor_over way) 1) (sym there)
     (moves_over e x old mid way first y z new _ goes)
 
 pub first_print_there : {X T V : Type 0} (e : Ghosts X) (x : T) (z : V) (old mid : X) (way : Line) → MovesTo e (Ok x) old mid MoveCursor way
     → false ≡ begins_blank (after (e.draft mid).line)
-    → Does e (Ok z) old mid (record (e.draft old) { line = to_first_print way }) (cursor_over way) 1
+    → DoesInTwo e nobody (Ok z) old mid (record (e.draft old) { line = way }) (record (e.draft old) { line = to_first_print way }) (cursor_over way) 1
 first_print_there e x z old mid way first print =
     let is : (e.draft mid).line ≡ way = ap (λ (d : Draft). d.line) first.draft in
     let there : begins_blank (after way) ≡ false = sym (print ∙ ap (λ l. begins_blank (after l)) is) in
-    subst (λ b. Does e (Ok z) old mid (on_line (if b then moved_to way (word_on Start Big way 1) else way) (e.draft old)) (cursor_over way) 1) (sym there)
+    subst (λ b. DoesInTwo e nobody (Ok z) old mid (record (e.draft old) { line = way }) (on_line (if b then moved_to way (word_on Start Big way 1) else way) (e.draft old)) (cursor_over way) 1) (sym there)
     (moves_there e x old mid way first z)

@@ -1,15 +1,15 @@
 -- Facts on the parts of a phrase that are read.
-use Rattle.std.proofs.Common.{◌≡◌, ◌++◌, List, [], Result, Ok, Err, true, false, refl, sym, ◌∙◌, ap, arith}
+use Rattle.std.proofs.Common.{◌≡◌, ◌++◌, List, [], Result, Ok, Err, true, false, refl, sym, ◌∙◌, ap, subst, arith}
 use Rattle.line_config.specs.Error.{is_fault, is_io, is_memory}
 use Rattle.line_config.specs.declared.error.ReadlineError.{ReadlineError}
 use Rattle.line_config.specs.declared.error.ReadlineError.TheVariants.{Eof, Interrupted, Io, Memory}
 use Rattle.line_keys.specs.Command.{Command}
 use Rattle.line_keys.specs.Draft.{Draft, KeepsLine, start_text}
 use Rattle.line_keys.specs.Drawing.{Undrawn}
+use Rattle.line_keys.specs.Fault.{IoLeaves}
 use Rattle.line_keys.specs.Item.{Item}
 use Rattle.line_keys.specs.declared.editor_state.EditorState as editors
 use Rattle.line_keys.specs.declared.raw_reader.RawReader as readers
-use Rattle.line_editor.specs.Binding.{all_sure}
 use Rattle.line_editor.specs.Editor.{grouped}
 use Rattle.line_editor.specs.Input.{Input}
 use Rattle.line_editor.specs.Keymap.{KeyState}
@@ -40,6 +40,7 @@ module _ {X Y : Type 0} (e : editors.Ghosts X) (r : readers.Ghosts Y) where
       drew = counts_kept e part.read.read.shown editor mid new line.line hint undrawn.drew part.read.drew;
       hint = λ none. hint ∙ part.read.hint none;
     };
+    fault = tt;
     line = record { line = line.line ∙ part.line.line; saved = line.saved ∙ part.line.saved; index = line.index ∙ part.line.index };
     start = start ∙ part.start;
     redraws = rises_stays _ _ _ _ _ part.redraws undrawn.drew.redraws;
@@ -56,6 +57,7 @@ module _ {X Y : Type 0} (e : editors.Ghosts X) (r : readers.Ghosts Y) where
       → ReadsPart e r Told front other begun command input result editor keys reader editor' reader'
   part_mapped {T = T} Comes Told front from other begun command input result editor keys reader editor' reader' maps same part = record {
     read = mapped result part.read;
+    fault = subst (λ (d : Draft). IoLeaves result (e.environment editor) (e.draft editor) d (e.draft editor')) same part.fault;
     line = part.line;
     start = part.start;
     redraws = part.redraws;
@@ -117,6 +119,7 @@ module _ {X Y : Type 0} (e : editors.Ghosts X) (r : readers.Ghosts Y) where
       drew = part.read.drew;
       hint = part.read.hint;
     };
+    fault = tt;
     line = part.line;
     start = part.start;
     redraws = part.redraws;
@@ -132,6 +135,7 @@ module _ {X Y : Type 0} (e : editors.Ghosts X) (r : readers.Ghosts Y) where
       → ReadsPart e r Comes front from begun' command' input' (Err f) editor keys reader editor' reader'
   failure_retold Comes front from begun begun' command input command' input' f editor keys reader editor' reader' part = record {
     read = part.read;
+    fault = part.fault;
     line = part.line;
     start = part.start;
     redraws = part.redraws;
@@ -160,6 +164,7 @@ module _ {X Y : Type 0} (e : editors.Ghosts X) (r : readers.Ghosts Y) where
       → ReadsPart e r Told front' from' begun' command' input' (Err f) editor keys reader new reader'
   part_then_memory Comes Told front front' from from' begun begun' command input command' input' x f editor keys reader mid new reader' memory undrawn line part = record {
     read = λ no. not_calm f memory no;
+    fault = λ is. not_io f memory is;
     line = record { line = line.line ∙ part.line.line; saved = line.saved ∙ part.line.saved; index = line.index ∙ part.line.index };
     start = λ no. not_calm f memory no;
     redraws = λ no. not_calm f memory no;
@@ -185,6 +190,7 @@ module _ {X Y : Type 0} (e : editors.Ghosts X) (r : readers.Ghosts Y) where
       drew = record { display = refl; redraws = refl };
       hint = λ none. refl;
     };
+    fault = tt;
     line = record { line = refl; saved = refl; index = refl };
     start = refl;
     redraws = λ below. (omega arith, omega arith);

@@ -36,6 +36,7 @@ use Rattle.line_editor.proofs.GroupLemmas.{start_ended}
 use Rattle.line_editor.proofs.KeyFitLemmas.{is-count, is-no-count}
 use Rattle.line_editor.proofs.PartLemmas.{at_once_part, failure_retold, part_mapped, part_retold, part_then_memory}
 use Rattle.line_editor.proofs.PhraseLemmas.{inside-begins, none-counts, nothing-begins, row-read}
+use Rattle.line_editor.proofs.FaultLemmas.{io_ended}
 use Rattle.line_editor.proofs.ReadingLemmas.{count_goes_wrong, counted, frame_stays, key_fails, key_taken, plainly}
 use Rattle.line_editor.proofs.ShownLemmas.{counts_after, counts_kept, so_far_after}
 
@@ -168,6 +169,7 @@ module _ {X Y : Type 0} (e : editors.Ghosts X) (r : readers.Ghosts Y) (editor : 
               drew = d.1.drew;
             },
           );
+      fault = part.fault;
       line = part.line;
       start = part.start;
       redraws = part.redraws;
@@ -200,6 +202,7 @@ module _ {X Y : Type 0} (e : editors.Ghosts X) (r : readers.Ghosts Y) (editor : 
             drew = counts_kept e was.read.shown editor mid new line.line hint undrawn.drew was.drew;
             hint = λ none. hint ∙ was.hint none;
           };
+          fault = tt;
           line = record { line = line.line ∙ part.line.line; saved = line.saved ∙ part.line.saved; index = line.index ∙ part.line.index };
           start = start ∙ part.start;
           redraws = rises_stays _ _ _ _ _ part.redraws undrawn.drew.redraws;
@@ -285,6 +288,7 @@ module _ {X Y : Type 0} (e : editors.Ghosts X) (r : readers.Ghosts Y) (editor mi
             drew = counts_after e editor mid editor' undrawn.frame undrawn.drew was.read.shown was.drew;
             hint = λ none. was.hint none ∙ ap (λ (d : Draft). d.hint) ended;
           };
+          fault = tt;
           line = record { line = part.line.line ∙ kept_line.line; saved = part.line.saved ∙ kept_line.saved; index = part.line.index ∙ kept_line.index };
           start = part.start ∙ ap start_text ended ∙ start_ended (e.draft editor);
           redraws = stays_then _ _ _ _ _ undrawn.drew.redraws part.redraws;
@@ -318,6 +322,8 @@ module _ {X Y : Type 0} (e : editors.Ghosts X) (r : readers.Ghosts Y) (editor mi
               drew = so_far_after e editor mid editor' undrawn.frame undrawn.drew l.shown d.1.drew;
             },
           );
+      fault = io_ended f (e.environment mid) (e.environment editor) (e.draft editor) (e.draft mid) from_key (e.draft editor') undrawn.frame.environment (sym entered_is)
+          (ap (λ (d : Draft). d.hint) ended) part.fault;
       line = record { line = part.line.line ∙ kept_line.line; saved = part.line.saved ∙ kept_line.saved; index = part.line.index ∙ kept_line.index };
       start = λ no. part.start no ∙ ap start_text ended ∙ start_ended (e.draft editor);
       redraws = λ no. stays_then _ _ _ _ _ undrawn.drew.redraws (part.redraws no);

@@ -1,5 +1,5 @@
 -- Facts on a character typed plainly, and on a plain kill.
-use Rattle.std.proofs.Common.{◌≡◌, ◌⊎◌, inl, inr, ℕ, ◌+◌, ◌-◌, ◌≤◌, ◌<◌, nat_lt, nat_le, Bool, true, false, ◌&&◌, ◌==◌, not, List, [], ◌∷◌, ◌++◌, length, take, drop, Option, Some, None, is_some, Result, Ok, Err, refl, sym, ◌∙◌, ap, ap₂, subst, arith, OnOk}
+use Rattle.std.proofs.Common.{◌≡◌, ◌⊎◌, inl, inr, ℕ, ◌+◌, ◌-◌, ◌≤◌, ◌<◌, nat_lt, nat_le, Bool, true, false, ◌&&◌, ◌==◌, not, List, [], ◌∷◌, ◌++◌, length, take, drop, Option, Some, is_some, Result, Ok, Err, refl, sym, ◌∙◌, ap, ap₂, subst, arith, OnOk}
 use Rattle.std.specs.Prelude.{encode_utf8}
 use Rattle.std.specs.List.{list_all, repeat}
 use Rattle.std.proofs.lemmas.Bool.{and_parts}
@@ -22,7 +22,7 @@ use Rattle.line_keys.specs.Frame.{FailsByParty, Frame}
 use Rattle.line_keys.specs.Plainly.{KilledPlainly, TypedPlainly, gives_end, is_bare, leaves_bare, takes_char}
 use Rattle.line_keys.specs.ShownLine.{HasRightLayout, KeepsDrawn}
 use Rattle.line_keys.specs.declared.editor_state.EditorState.{Ghosts}
-use Rattle.line_parts.specs.Asks.{for_hint, nobody}
+use Rattle.line_parts.specs.Asks.{for_hint}
 use Rattle.line_parts.specs.Environment.{Environment}
 use Rattle.line_parts.specs.declared.highlight.CmdKind.TheVariants.{Other}
 use Rattle.line_state.specs.Edited.{Edited, with_copies, without_range}
@@ -31,13 +31,13 @@ use Rattle.line_editor.specs.DraftEdits.{killed_by, range_killed, typed_in}
 use Rattle.line_editor.specs.Drawings.{kill_drawn, typing_drawn}
 use Rattle.line_editor.specs.Editor.{edited_of, with_edited}
 use Rattle.line_editor.specs.Outcomes.{DoesWithKills, editor_of}
-use Rattle.line_editor.proofs.DoneLemmas.{Redrawn, fails_after, line_after, line_reported, nothing_drawn}
-use Rattle.line_editor.proofs.HistoryMoveLemmas.{always}
+use Rattle.line_editor.proofs.FaultLemmas.{but_hinted, fault_shown, unless_memory}
+use Rattle.line_editor.proofs.DoneLemmas.{Redrawn, fails_after, line_after, line_reported}
 use Rattle.line_editor.proofs.DrawnLemmas.{frame_then, hint_trails, right_shown, shown_right}
 
 -- a change of the line's end, of which a part may have been drawn: what it leaves
 module _ {X : Type 0} (e : Ghosts X) (old mid new : X) (undrawn : Undrawn e old mid) (made : Draft) (draft : e.draft mid ≡ made)
-    (first : start_text made ≡ start_text (e.draft old)) (position : Position) (info : (e.display old).layout.has_info ≡ false)
+    (hint : made.hint ≡ (e.draft old).hint) (first : start_text made ≡ start_text (e.draft old)) (position : Position) (info : (e.display old).layout.has_info ≡ false)
     (plainly : leaves_bare (e.environment old) (e.display old) (hinted (e.environment old) made) ≡ true
     → TypedPlainly (e.environment old) (e.display old) (e.draft old) (hinted (e.environment old) made)
     ⊎ KilledPlainly (e.environment old) (e.display old) (e.draft old) (hinted (e.environment old) made)) where
@@ -87,6 +87,7 @@ module _ {X : Type 0} (e : Ghosts X) (old mid new : X) (undrawn : Undrawn e old 
       let part : DrewPart e position old new = part_after drew in
       record {
         draft = same;
+        fault = tt;
         start = ap start_text same ∙ first;
         drew = part;
         keeps = keeps_part part right;
@@ -98,6 +99,7 @@ module _ {X : Type 0} (e : Ghosts X) (old mid new : X) (undrawn : Undrawn e old 
       let line : DrewLine e 1 (hint_shown (e.draft new)) Other old new = line_after e old mid new undrawn 1 (hint_shown (e.draft new)) Other drew in
       record {
         draft = same;
+        fault = tt;
         start = ap start_text same ∙ first;
         drew = line;
         keeps = record { right = λ was. line.right; line = λ was. hint_trails e new line.shows };
@@ -110,6 +112,7 @@ module _ {X : Type 0} (e : Ghosts X) (old mid new : X) (undrawn : Undrawn e old 
       → Does e r old new left (change_drawn bare position) 1
   end_done (Err er) shows right = record {
     draft = tt;
+    fault = fault_shown e er old mid new made _ left undrawn.frame.environment draft hint (but_hinted (e.environment old) made) shows.err;
     start = tt;
     drew = tt;
     keeps = tt;
@@ -185,7 +188,7 @@ module _ {X T : Type 0} (e : Ghosts X) (r : Result T ReadlineError) (old mid new
       let place : columns_on 1 (e.display mid).layout.cursor ≡ columns_on 1 (e.display old).layout.cursor = ap (λ (d : Display). columns_on 1 d.layout.cursor) undrawn.drew.display in
       let drawing = both_true (n == 1) (takes_char (e.display old) (e.draft old) c) (leaves_bare (e.environment old) (e.display old) (typed_in (e.environment old) n c (e.draft old))) parts.0 parts.1 in
       subst (λ (b : Bool). Does e r old new (typed_in (e.environment old) n c (e.draft old)) (change_drawn b (columns_on 1 (e.display old).layout.cursor)) 1) (sym drawing)
-      (end_done e old mid new undrawn typed made begins (columns_on 1 (e.display old).layout.cursor) t.info
+      (end_done e old mid new undrawn typed made refl begins (columns_on 1 (e.display old).layout.cursor) t.info
       (λ bare. inl (record { char = c; plain = ap₂ ◌&&◌ parts.1 bare; line = there }))
       r (subst (λ (p : Position). ShowsEnd e r mid new p) place shows)
       (λ was. right (e.draft old).line t.at_end t.plain (subst (λ (d : Display). IsRight d (e.draft old).line) (sym undrawn.drew.display) was) (ap (λ (d : Draft). d.line) made ∙ there)))
@@ -265,7 +268,7 @@ module _ {X T : Type 0} (e : Ghosts X) (r : Result T ReadlineError) (old mid new
       ap (λ (n : ℕ). columns_back n (e.display mid).layout.end) counted ∙ ap (λ (d : Display). columns_back (length text - from) d.layout.end) undrawn.drew.display in
       let drawing = both_true (to == length text) (gives_end (e.display old) (e.draft old) from) (leaves_bare (e.environment old) (e.display old) left_so) parts.0 parts.1 in
       subst (λ (b : Bool). Does e r old new left_so (change_drawn b end_column) 1) (sym drawing)
-      (end_done e old mid new undrawn killed made_so begins_so end_column t.info
+      (end_done e old mid new undrawn killed made_so refl begins_so end_column t.info
       (λ bare. inr (record { from = from; plain = ap₂ ◌&&◌ parts.1 bare; line = ap (λ (n : ℕ). without (e.draft old).line (Some (from, n))) end }))
       r (subst (λ (p : Position). ShowsEnd e r mid new p) place shows)
       (λ was. right (take from text) (drop from text) (all_before is_plain from text t.plain) t.print (length-drop from text ∙ sym counted)
@@ -295,7 +298,7 @@ module _ {X T : Type 0} (e : Ghosts X) (r : Result T ReadlineError) (old mid new
         → ShowsText (e.display mid) (front ++ gone) → (e.draft mid).line ≡ record { text = front; cursor = length front } → OnOk r (HasRightLayout e new))
         → Leaves r range
     killed_plainly ordered plainly count counted shows right =
-        subst (λ (x : Option (ℕ × ℕ)). Leaves r x) is (record { does = plain_kill ordered plainly count counted shows right; kills_left = always r rung })
+        subst (λ (x : Option (ℕ × ℕ)). Leaves r x) is (record { does = plain_kill ordered plainly count counted shows right; kills_left = unless_memory r rung })
 
     pub killed_full : ((to == length (e.draft old).line.text) && gives_end (e.display old) (e.draft old) from) ≡ false → Redrawn e r mid new → Leaves r range
-    killed_full plainly shows = subst (λ (x : Option (ℕ × ℕ)). Leaves r x) is (record { does = full_kill plainly shows; kills_left = always r rung })
+    killed_full plainly shows = subst (λ (x : Option (ℕ × ℕ)). Leaves r x) is (record { does = full_kill plainly shows; kills_left = unless_memory r rung })

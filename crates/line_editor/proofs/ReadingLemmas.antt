@@ -1,6 +1,6 @@
 -- Facts on phrases that are read.
 use Rattle.std.proofs.Common.{◌≡◌, ◌≢◌, ℕ, Bool, cond, ◌+◌, ◌≤◌, ◌++◌, append_assoc, List, [], ◌∷◌, length, map, Result, Ok, Err, true, false, inl, inr, refl, sym, ◌∙◌, ap, subst, arith}
-use Rattle.std.specs.Prelude.{OnErr, OnOk}
+use Rattle.std.specs.Prelude.{OnOk}
 use Rattle.std.proofs.lemmas.Bool.{cases_lt}
 use Rattle.std.proofs.lemmas.List.{length-append, length-map}
 use Rattle.line_buffer.specs.declared.layout.GraphemeClusterMode.{GraphemeClusterMode}
@@ -33,6 +33,7 @@ use Rattle.line_editor.specs.Reading.{EitherRose, Ends, EndsCount, EndsQuietly, 
 use Rattle.line_editor.specs.ItemShown.{ItemShown, any_drawn, asked_behind, counting_on, kept, last_drawn, none_shown, shown_with, shows_line}
 use Rattle.line_editor.proofs.DrawnLemmas.{frame_then}
 use Rattle.line_editor.proofs.KeyFitLemmas.{enter}
+use Rattle.line_editor.proofs.FaultLemmas.{io_counted, io_cut, io_stays}
 use Rattle.line_editor.proofs.ShownLemmas.{counting-each, counts_then, drew_none, quiet-any, quiet-last, so_far_counting, so_far_none, so_far_kept, so_far_then}
 
 pub on_answer_then : {T E P Q : Type 0} (result : Result T E) → (P → Q) → OnOk result P → OnOk result Q
@@ -104,6 +105,7 @@ module _ {X Y : Type 0} (e : editors.Ghosts X) (r : readers.Ghosts Y) where
           → ReadsPart e r Comes [] from begun command input result editor keys reader editor' reader'
       key_taken result part = record {
         read = taken result part.read;
+        fault = part.fault;
         line = part.line;
         start = part.start;
         redraws = unless_fault_then result (λ drew below. let s = drew (omega (arith, below, size)) in (omega (arith, s.0), omega (arith, s.1, size))) part.redraws;
@@ -176,6 +178,7 @@ module _ {X Y : Type 0} (e : editors.Ghosts X) (r : readers.Ghosts Y) where
               drew = record { display = refl; redraws = refl };
             },
           );
+      fault = io_cut f (e.environment editor) (e.draft editor) from (e.draft editor) (inl refl);
       line = record { line = refl; saved = refl; index = refl };
       start = λ calm. refl;
       redraws = λ calm below. (omega arith, omega arith);
@@ -196,6 +199,7 @@ module _ {X Y : Type 0} (e : editors.Ghosts X) (r : readers.Ghosts Y) where
         → ReadsPart e r Comes (key k ∷ []) from begun command input result editor keys mid editor' reader'
     plainly from editor' reader' result leads part = record {
       read = plain result part.read;
+      fault = part.fault;
       line = part.line;
       start = part.start;
       redraws = unless_fault_then result (λ drew below. let s = drew (omega (arith, below)) in (omega (arith, s.0), omega (arith, s.1))) part.redraws;
@@ -277,6 +281,7 @@ module _ {X Y : Type 0} (e : editors.Ghosts X) (r : readers.Ghosts Y) where
           let started = same_start (e.draft editor) (e.draft editor1) read.text in
           record {
             read = behind result part.read;
+            fault = io_counted result (e.environment editor1) (e.environment editor) (e.draft editor) (e.draft editor1) (e.draft editor') read.keeps.frame.environment read.draft part.fault;
             line = record { line = part.line.line ∙ read.text.line; saved = part.line.saved ∙ read.text.saved; index = part.line.index ∙ read.text.index };
             start = unless_fault_then result (λ same. same ∙ started) part.start;
             redraws = unless_fault_both result (λ drew less below.
@@ -370,6 +375,7 @@ module _ {X Y : Type 0} (e : editors.Ghosts X) (r : readers.Ghosts Y) where
               drew = so_far_counting e k inside.more editor editor' cut.drew;
             },
           );
+      fault = io_cut f (e.environment editor) (e.draft editor) (e.draft editor) (e.draft editor') count.left;
       line = record { line = count.text.line; saved = count.text.saved; index = count.text.index };
       start = λ no. same_start (e.draft editor) (e.draft editor') count.text;
       redraws = λ no.
@@ -395,6 +401,7 @@ module _ {X Y : Type 0} (e : editors.Ghosts X) (r : readers.Ghosts Y) where
       → ReadsPart e r Comes [] (e.draft editor) (λ c d. d) command input result editor keys reader editor reader'
   quiet_part {T = T} Comes editor keys reader reader' command input result takes read = record {
     read = lifted result read;
+    fault = io_stays result (e.environment editor) (e.draft editor) (e.draft editor);
     line = record { line = refl; saved = refl; index = refl };
     start = unless_fault result refl;
     redraws = unless_fault result (λ below. (omega arith, omega arith));

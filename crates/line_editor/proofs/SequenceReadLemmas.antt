@@ -1,5 +1,5 @@
 -- Facts on reading bound sequences.
-use Rattle.std.proofs.Common.{arith, ◌≡◌, ◌≤◌, ◌++◌, append_assoc, true, false, List, [], ◌∷◌, length, map, Some, None, refl, sym, ◌∙◌, ap}
+use Rattle.std.proofs.Common.{arith, ◌≡◌, ◌≤◌, ◌++◌, append_assoc, true, false, List, [], ◌∷◌, length, map, Some, None, sym, ◌∙◌, ap}
 use Rattle.std.specs.Prelude.{slice_get}
 use Rattle.std.proofs.lemmas.List.{append-nil, map-append}
 use Rattle.line_keys.specs.Command.{Command}
@@ -8,7 +8,7 @@ use Rattle.line_keys.specs.declared.keys.KeyEvent.{KeyEvent}
 use Rattle.line_keys.specs.declared.raw_reader.RawReader as readers
 use Rattle.line_editor.specs.Reading.{EndsInSequence, IsAnswered, IsInVain}
 use Rattle.line_editor.specs.Sequence.{IsReadOn, Sequences, sequence_command}
-use Rattle.line_editor.proofs.SequenceLemmas.{is_sequence, none_read, read_further}
+use Rattle.line_editor.proofs.SequenceLemmas.{is_sequence, read_further}
 
 module _ {Y : Type 0} (r : readers.Ghosts Y) (s : Sequences) (first : KeyEvent) (reader : Y) where
   -- the keys that were read so far lead on and have no command

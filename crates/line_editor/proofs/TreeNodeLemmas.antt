@@ -1,11 +1,11 @@
 -- Facts on the nodes of a tree as they stand in a vector.
-use Rattle.std.proofs.Common.{arith, ◌≡◌, ◌⊎◌, inl, inr, ◌<◌, ◌+◌, ◌++◌, ◌==◌, ◌∙◌, ap, sym, refl, subst, ℕ, List, [], ◌∷◌, drop, get_or, set, length, take, true, false, Option, Some, None, is_some, IfNone, IfSome, OnErr, Result, Ok, Err}
+use Rattle.std.proofs.Common.{arith, ◌≡◌, ◌⊎◌, inl, inr, ◌<◌, ◌+◌, ◌++◌, ◌==◌, ◌∙◌, ap, sym, refl, subst, ℕ, List, [], ◌∷◌, drop, get_or, set, length, take, false, Option, Some, None, is_some, IfNone, IfSome, OnErr, Result, Ok, Err}
 use Rattle.std.specs.List.{list_any, starts_with}
 use Rattle.std.proofs.lemmas.List.{drop_more, get_or-map, get_or_append_left, get_or_default, length-map, length-set, map-append, map-set, set-append_left, set-get_or, take_more}
 use Rattle.std.proofs.Common.{get_or-drop, get_or-set_other, get_or-set_same, length-append, length-drop, take_all, take-append-drop}
 use Rattle.line_keys.specs.declared.keys.KeyEvent.{KeyEvent}
 use Rattle.line_editor.specs.Event.{same_key}
-use Rattle.line_editor.specs.KeyTree.{Children, EachLeads, IsKeyTree, IsTree, LeadsTo, Puts, Shape, branch, child_by, held, shape_of, value_of, values_of, paths}
+use Rattle.line_editor.specs.KeyTree.{EachLeads, IsKeyTree, IsTree, LeadsTo, Puts, Shape, branch, child_by, held, shape_of, value_of, values_of, paths}
 use Rattle.line_editor.specs.declared.bindings.tree.Node.{Node}
 use Rattle.line_editor.proofs.TreeGrowthLemmas.{Holds, branch_values, graft-holds}
 use Rattle.line_editor.proofs.TreeHeldLemmas.{puts-push, puts-set}

@@ -1,5 +1,5 @@
 -- Facts on turns of a program's state.
-use Rattle.std.proofs.Common.{◌≡◌, ◌∙◌, ℕ, ◌+◌, ◌-◌, ◌<◌, Bool, true, false, cond, List, [], length, sym, Result, Ok, Err, refl, ap, subst, arith}
+use Rattle.std.proofs.Common.{◌≡◌, inr, ◌∙◌, ℕ, ◌+◌, ◌-◌, ◌<◌, Bool, true, false, cond, List, [], length, sym, Result, Ok, Err, refl, ap, subst, arith}
 use Rattle.line_buffer.specs.KillRing.{Ring}
 use Rattle.line_buffer.specs.Line.{Line}
 use Rattle.line_config.specs.Error.{is_fault, is_io, max_count}
@@ -15,14 +15,15 @@ use Rattle.line_keys.specs.ShownLine.{KeepsDrawn}
 use Rattle.line_keys.specs.declared.cmd.Cmd.{Cmd}
 use Rattle.line_keys.specs.declared.editor_state.EditorState as editors
 use Rattle.line_keys.specs.declared.raw_reader.RawReader as readers
-use Rattle.line_parts.specs.Asks.{for_all, for_hint, is_sure}
+use Rattle.line_parts.specs.Asks.{for_all, is_sure}
 use Rattle.line_editor.proofs.AskedLemmas.{sure_all}
 use Rattle.line_editor.specs.Editor.{Answer, ended, grouped, interrupted, own_ruler, proceeds, ruler_of, submitted}
+use Rattle.line_editor.specs.Input.{Input}
 use Rattle.line_editor.specs.Keymap.{KeyState}
 use Rattle.line_editor.specs.Reading.{KeepsReading, PhraseHere, ReadsCommand, ReadsPart, entered_here}
 use Rattle.line_editor.specs.ItemShown.{DrewCounts, ItemShown, any_drawn, ruler_behind, times_drawn}
 use Rattle.line_editor.specs.Run.{kills_before}
-use Rattle.line_editor.specs.Outcomes.{Advances, AdvancesTo, DrawnAfter, DrewFor, Executed, Executes, TakesTurn, editor_of, session}
+use Rattle.line_editor.specs.Outcomes.{Advances, AdvancesTo, DrawnAfter, DrewFor, Executed, Executes, FailsIn, TakesTurn, editor_of, session}
 use Rattle.line_editor.specs.declared.command.Status.{Status}
 use Rattle.line_editor.specs.declared.run.Turned.{Turned}
 use Rattle.line_editor.specs.declared.run.Turned.TheVariants as turned
@@ -135,6 +136,7 @@ module _ {X Y : Type 0} (e : editors.Ghosts X) (r : readers.Ghosts Y) (old middl
       → Advances e r indent (Ok turned) (session old keys reader kills) (session new keys' reader' kills')
   advanced answer turned executes done quiet as_turned = record {
     turned = as_turned (takes_turn answer done);
+    wrong = tt;
     stays = record {
       keeps = keeps_turn e r old middle new keys keys' reader reader' keeps executes.frame;
       fails = record { io = tt; quiet = (read.fails.quiet.0, quiet ∙ read.fails.quiet.1) };
@@ -145,17 +147,34 @@ module _ {X Y : Type 0} (e : editors.Ghosts X) (r : readers.Ghosts Y) (old middl
   -- executing went wrong
   pub goes_wrong : (f : ReadlineError) → is_fault f ≡ true → Executes e (Err f) middle keys'.input indent ready (command_of c) new kills'
       → Advances e r indent (Err f) (session old keys reader kills) (session new keys' reader' kills')
-  goes_wrong f fault executes = record {
-    turned = tt;
-    stays = record {
-      keeps = keeps_turn e r old middle new keys keys' reader reader' keeps executes.frame;
-      fails = record {
-        io = λ is sure. later_rose _ _ _ _ _ read.fails.quiet.0 read.fails.quiet.1 (executes.io is (sure_all (e.sure middle) _ (ap (λ s. is_sure s for_all) read.keeps.frame.sure ∙ sure.0)));
-        quiet = λ no. (read.fails.quiet.0, executes.quiet no ∙ read.fails.quiet.1);
-      };
-    };
-    faults = fault;
-  }
+  goes_wrong f fault executes =
+      let was = read.read in
+      let F : Input → Command → Ring → Type 0 = λ i command k. FailsIn e f middle i indent k command new kills' in
+      record {
+        turned = tt;
+        wrong = inr (record {
+          items = was.items;
+          read = was.read;
+          cut = was.cut;
+          reads = was.comes;
+          input_left = sym was.input_read;
+          found = middle;
+          as_read = was.begun_there ∙ ap (λ command. grouped command was.read.draft) (sym was.command_read);
+          frame = read.keeps.frame;
+          fails =
+              subst (λ (i : Input). F i was.read.command (kills_before was.read.command kills)) (sym was.input_read)
+              (subst (λ (command : Command). F keys'.input command (kills_before command kills)) (sym was.command_read)
+              (subst (λ (k : Ring). F keys'.input (command_of c) k) reset executes.wrong));
+        });
+        stays = record {
+          keeps = keeps_turn e r old middle new keys keys' reader reader' keeps executes.frame;
+          fails = record {
+            io = λ is sure. later_rose _ _ _ _ _ read.fails.quiet.0 read.fails.quiet.1 (executes.io is (sure_all (e.sure middle) _ (ap (λ s. is_sure s for_all) read.keeps.frame.sure ∙ sure.0)));
+            quiet = λ no. (read.fails.quiet.0, executes.quiet no ∙ read.fails.quiet.1);
+          };
+        };
+        faults = fault;
+      }
 
 -- the items ran out
 pub needs_more : {X Y : Type 0} (e : editors.Ghosts X) (r : readers.Ghosts Y) (old new : X) (keys keys' : KeyState) (indent : ℕ) (reader reader' : Y) (kills : Ring) (f : ReadlineError)
@@ -171,6 +190,7 @@ needs_more e r old new keys keys' indent reader reader' kills f read eof =
         nothing_read = read.dry;
         redraws = λ below. let s = read.phrase.redraws no (omega (arith, below)) in (omega (arith, s.0), omega (arith, s.1));
       };
+      wrong = tt;
       stays = record { keeps = record { both = read.phrase.keeps; bound = read.bound }; fails = record { io = tt; quiet = read.phrase.fails.quiet (ap is_io eof) } };
       faults = tt;
     }

@@ -86,6 +86,7 @@ module _ {X Y : Type 0} (e : editors.Ghosts X) (r : readers.Ghosts Y) (indent : 
       → Runs e r {T = T} indent (Err f) start (session now start.keys start.reader start.kills)
   begins_wrong f now drew = record {
     ran = λ no. absurd (let is = drew.fails.faults in cc);
+    wrong = λ fault. inl (record { draft = drew.err; keys_left = refl; unread = refl; kills_left = refl });
     stays = record {
       keeps = record { both = record { frame = drew.frame; own = refl; counts = omega arith }; bound = refl };
       fails = record {
@@ -162,6 +163,7 @@ module _ {X Y : Type 0} (e : editors.Ghosts X) (r : readers.Ghosts Y) (indent : 
       pub goes_wrong : {T : Type 0} (f : ReadlineError) → Advances e r indent (Err f) now next → Runs e r {T = T} indent (Err f) start next
       goes_wrong f advances = record {
         ran = λ no. absurd (let is = advances.faults in cc);
+        wrong = λ fault. inr (record { found = now; keeps = u.keeps; turns = u.turned; wrong = advances.wrong });
         stays = record {
           keeps = keeps_on advances.stays.keeps;
           fails = record {
@@ -194,6 +196,7 @@ module _ {X Y : Type 0} (e : editors.Ghosts X) (r : readers.Ghosts Y) (indent : 
             redraws = redraws_on turn.fewer turn.redraws;
           },
         );
+        wrong = tt;
         stays = all_stays (Ok tt) tt advances;
       }
 
@@ -209,6 +212,7 @@ module _ {X Y : Type 0} (e : editors.Ghosts X) (r : readers.Ghosts Y) (indent : 
             redraws = redraws_on turn.fewer turn.redraws;
           },
         );
+        wrong = λ fault. absurd (cc);
         stays = all_stays (Err Eof) (λ is. cc) advances;
       }
 
@@ -224,6 +228,7 @@ module _ {X Y : Type 0} (e : editors.Ghosts X) (r : readers.Ghosts Y) (indent : 
             redraws = redraws_on turn.fewer turn.redraws;
           },
         );
+        wrong = λ fault. absurd (cc);
         stays = all_stays (Err Interrupted) (λ is. cc) advances;
       }
 
@@ -266,5 +271,6 @@ module _ {X Y : Type 0} (e : editors.Ghosts X) (r : readers.Ghosts Y) (indent : 
                     (omega (arith, s.0, t.0), omega (arith, s.1, t.1, none, u.fewer));
               },
             );
+            wrong = λ fault. absurd (cc);
             stays = all_stays (Err Eof) (λ is. cc) advances;
           }

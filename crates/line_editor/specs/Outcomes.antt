@@ -1,28 +1,30 @@
 -- Commands, turns and runs of a program's state, input state, reader and kill ring.
-use Rattle.std.specs.Prelude.{◌≡◌, ◌⊎◌, true, ℕ, ◌+◌, ◌-◌, ◌*◌, ◌<◌, List, [], length, Result, IfOk, OnOk, Ok, Err}
+use Rattle.std.specs.Prelude.{◌≡◌, ◌⊎◌, true, ℕ, ◌+◌, ◌-◌, ◌*◌, ◌<◌, List, [], length, Result, IfErr, IfOk, Ok, Err, ◌++◌, false}
 use Rattle.line_buffer.specs.KillRing.{Ring}
-use Rattle.line_config.specs.Error.{FaultsOnly, IoOnlyIf, UnlessFault}
+use Rattle.line_config.specs.Error.{FaultsOnly, IoOnlyIf, UnlessFault, is_fault, is_memory}
 use Rattle.line_config.specs.Failures.{UnlessIo}
 use Rattle.line_config.specs.declared.error.ReadlineError.{ReadlineError}
 use Rattle.line_config.specs.declared.error.ReadlineError.TheVariants.{Eof, Interrupted}
 use Rattle.line_parts.specs.Asks.{for_all}
 use Rattle.line_keys.specs.Command.{Command}
-use Rattle.line_keys.specs.Draft.{hinted, start_text}
-use Rattle.line_keys.specs.Drawing.{Does, Drawing, Drew, DrewNothing, ShowsChange}
+use Rattle.line_keys.specs.Draft.{Draft, hinted, start_text}
+use Rattle.line_keys.specs.Fault.{FaultLeft, IoLeft, UnlessMemory}
+use Rattle.line_keys.specs.Drawing.{DoesInTwo, Drawing, Drew, DrewNothing, ShowsChange, asked_by}
 use Rattle.line_keys.specs.Frame.{Frame, PartyFailed}
 use Rattle.line_keys.specs.ShownLine.{GoesToEnd, HasRightLayout, HasShownEnd, IsAtEnd, IsInPlace, KeepsDrawn, LosesHint, Redraws, ShowsLine, ShowsNoHint}
 use Rattle.line_keys.specs.Item.{Item}
 use Rattle.line_keys.specs.declared.editor_state.EditorState as editors
 use Rattle.line_keys.specs.declared.raw_reader.RawReader as readers
 use Rattle.line_editor.specs.Drawings.{asked_of, drawing_of, draws_in_part, times_of}
-use Rattle.line_editor.specs.Editor.{Answer, Editor, Leaves, Ruler, ended, grouped, interrupted, own_ruler, proceeds, ruler_of, submitted}
+use Rattle.line_editor.specs.Editor.{Answer, Editor, Leaves, Ruler, Step, ended, grouped, interrupted, own_ruler, proceeds, ruler_of, submitted}
 use Rattle.line_editor.specs.Input.{Input}
 use Rattle.line_editor.specs.Keymap.{KeyState, keymap_of}
-use Rattle.line_editor.specs.Reading.{FailsByReading, KeepsReading, OutOfItems}
+use Rattle.line_editor.specs.Read.{Read}
+use Rattle.line_editor.specs.Reading.{FailsByReading, KeepsReading, LeftByCut, OutOfItems, PhraseHere, entered_here}
 use Rattle.line_editor.specs.Run.{End, Run, Turn, Turns, dry, kills_before, stopped}
 use Rattle.line_editor.specs.ItemShown.{DrewCounts, ruler_behind}
 use Rattle.line_editor.specs.Status.{ComesTo}
-use Rattle.line_editor.specs.Step.{step}
+use Rattle.line_editor.specs.Step.{halfway_of, step}
 use Rattle.line_editor.specs.declared.command.Status.{Status}
 use Rattle.line_editor.specs.declared.run.Turned.{Turned}
 use Rattle.line_editor.specs.declared.run.Turned.TheVariants as turned
@@ -43,16 +45,26 @@ module _ {X : Type 0} (e : editors.Ghosts X) where
   abbrev pub editor_of : X → Ring → Editor
   editor_of state kills = record { draft = e.draft state; kills = kills }
 
-  -- what a call leaves that edits the line and kills or yanks: the editor, and what else such an edit leaves
-  pub record DoesWithKills {T : Type 0} (result : Result T ReadlineError) (state : X) (kills : Ring) (state' : X) (kills' : Ring) (left : Editor) (drawing : Drawing) (times : ℕ) : Type 0 where
-    pub does : Does e result state state' left.draft drawing times
-    pub kills_left : OnOk result (kills' ≡ left.kills)
+  -- what a call leaves that edits the line and kills or yanks: the editor, its kill ring after a fault of a party too, and what else
+  -- such an edit leaves
+  pub record DoesInTwoWithKills {T : Type 0} (result : Result T ReadlineError) (state : X) (kills : Ring) (state' : X) (kills' : Ring) (halfway : Draft) (left : Editor) (drawing : Drawing) (times : ℕ) : Type 0 where
+    pub does : DoesInTwo e (asked_by drawing) result state state' halfway left.draft drawing times
+    pub kills_left : UnlessMemory result (kills' ≡ left.kills)
+
+  -- the same of a call that changes the line once
+  abbrev pub DoesWithKills : {T : Type 0} → Result T ReadlineError → X → Ring → X → Ring → Editor → Drawing → ℕ → Type 0
+  DoesWithKills result state kills state' kills' left drawing times =
+      DoesInTwoWithKills result state kills state' kills' (e.draft state) left drawing times
+
+  -- the step of a command from a state, an input and a kill ring
+  abbrev pub step_from : X → Input → ℕ → Ring → Command → Step
+  step_from state input indent kills command =
+      step (ruler_of (e.display state) indent) (e.environment state) input (editor_of state kills) command
 
   -- from a state, an input and a kill ring the command leads to a state and a kill ring with this answer
   abbrev pub StepsTo : X → Input → ℕ → Ring → Command → X → Ring → Answer → Type 0
   StepsTo state input indent kills command state' kills' answer =
-      Leaves (step (ruler_of (e.display state) indent) (e.environment state) input (editor_of state kills) command)
-      (editor_of state' kills') answer
+      Leaves (step_from state input indent kills command) (editor_of state' kills') answer
 
   -- what is drawn after an answer: a submitted line and one that ended the input have no hint, an interrupt goes to the end
   abbrev pub DrawnAfter : Answer → X → X → Type 0
@@ -79,9 +91,16 @@ module _ {X : Type 0} (e : editors.Ghosts X) where
     pub part : draws_in_part (e.display state) (e.environment state) (e.draft state) command ≡ true → e.redraws state' ≡ e.redraws state
     pub start : start_text (e.draft state') ≡ start_text (e.draft state)
 
+  -- what a command leaves that goes wrong: the draft of a moment of its step, and the step's kill ring; or where memory ran out, no changes
+  pub record FailsIn (error : ReadlineError) (state : X) (input : Input) (indent : ℕ) (kills : Ring) (command : Command) (state' : X) (kills' : Ring) : Type 0 where
+    pub draft : FaultLeft error (e.environment state) (e.draft state) (halfway_of (e.environment state) (editor_of state kills) command)
+        (step_from state input indent kills command).editor.draft (e.draft state')
+    pub kills_left : is_memory error ≡ false → kills' ≡ (step_from state input indent kills command).editor.kills
+
   -- what executing a command leaves; an error of input or output comes only where the renderer or one whom the command asks fails
   pub record Executes (result : Result Status ReadlineError) (state : X) (input : Input) (indent : ℕ) (kills : Ring) (command : Command) (state' : X) (kills' : Ring) : Type 0 where
     pub comes : ComesTo result (Executed state input indent kills command state' kills')
+    pub wrong : IfErr result (λ error. FailsIn error state input indent kills command state' kills')
     pub frame : Frame e state state'
     pub io : IoOnlyIf result (PartyFailed e (asked_of (e.display state) (e.environment state) (editor_of state kills) command) state state')
     pub quiet : UnlessIo result (e.failures state' ≡ e.failures state)
@@ -138,9 +157,33 @@ module _ {X Y : Type 0} (e : editors.Ghosts X) (r : readers.Ghosts Y) where
     pub keeps : KeepsReading e r before.state before.keys before.reader after.state after.keys after.reader
     pub fails : FailsByReading e r for_all result before.state before.keys before.reader after.state after.reader
 
+  -- reading went wrong: the draft is the one from before, or the one that the phrase is read on from, but for its hint; what is
+  -- remembered of keys and the kill ring stay
+  pub record FailsInReading (error : ReadlineError) (before after : Session X Y) : Type 0 where
+    pub draft : IoLeft error (e.environment before.state) (e.draft before.state) (entered_here e r before.state before.keys before.reader) (e.draft after.state)
+    pub input_left : after.keys.input ≡ before.keys.input
+    pub kills_left : after.kills ≡ before.kills
+
+  -- a phrase was read, and its command went wrong: its items are read and no more, and what the command leaves is of a moment of it
+  pub record FailsInCommand (indent : ℕ) (error : ReadlineError) (before after : Session X Y) : Type 0 where
+    pub items : List Item
+    pub read : Read
+    pub cut : r.rest before.reader ≡ items ++ r.rest after.reader
+    pub reads : PhraseHere e r before.state before.keys before.reader items read
+    pub input_left : after.keys.input ≡ read.input
+    pub found : X
+    pub as_read : e.draft found ≡ grouped read.command read.draft
+    pub frame : Frame e before.state found
+    pub fails : FailsIn e error found read.input indent (kills_before read.command before.kills) read.command after.state after.kills
+
+  -- how a turn goes wrong
+  abbrev pub FailsInTurn : ℕ → ReadlineError → Session X Y → Session X Y → Type 0
+  FailsInTurn indent error before after = FailsInReading error before after ⊎ FailsInCommand indent error before after
+
   -- what one turn leaves
   pub record Advances (indent : ℕ) (result : Result Turned ReadlineError) (before after : Session X Y) : Type 0 where
     pub turned : IfOk result (AdvancesTo indent before after)
+    pub wrong : IfErr result (λ error. FailsInTurn indent error before after)
     pub stays : Stays result before after
     pub faults : FaultsOnly result
 
@@ -178,6 +221,20 @@ module _ {X Y : Type 0} (e : editors.Ghosts X) (r : readers.Ghosts Y) where
   DrawnAtEnd indent before (stopped interrupted rest) after = IsAtEnd e after.state × IsInPlace e after.state × HasShownEnd e after.state
   DrawnAtEnd indent before (dry inside) after = DrawnDry indent before inside after
 
+  -- the first drawing went wrong: at most the hint is another one
+  pub record FailsAtFirst (before after : Session X Y) : Type 0 where
+    pub draft : LeftByCut (e.environment before.state) (e.draft before.state) (e.draft after.state)
+    pub keys_left : after.keys ≡ before.keys
+    pub unread : after.reader ≡ before.reader
+    pub kills_left : after.kills ≡ before.kills
+
+  -- a turn went wrong, behind turns that proceed
+  pub record FailsLater (indent : ℕ) (error : ReadlineError) (before after : Session X Y) : Type 0 where
+    pub found : Session X Y
+    pub keeps : KeepsReading e r before.state before.keys before.reader found.state found.keys found.reader
+    pub turns : TurnsTo indent before found
+    pub wrong : FailsInTurn indent error found after
+
   -- a run that came to this end: it drew the line at least once, and at most four times more for each item read
   pub record Ran (indent : ℕ) (before after : Session X Y) (end : End) : Type 0 where
     pub run : RunsTo indent before after end
@@ -193,7 +250,9 @@ module _ {X Y : Type 0} (e : editors.Ghosts X) (r : readers.Ghosts Y) where
   EndsAs (Err Interrupted) end rest = end ≡ stopped interrupted rest
   EndsAs (Err _) end rest = ⊥
 
-  -- what a run leaves: unless there is a fault, it came to an end that the result stands for
+  -- what a run leaves: unless there is a fault, it came to an end that the result stands for; after a fault, what the drawing or the turn
+  -- left that went wrong
   pub record Runs {T : Type 0} (indent : ℕ) (result : Result T ReadlineError) (before after : Session X Y) : Type 0 where
     pub ran : UnlessFault result ((end : End) × EndsAs result end (r.rest after.reader) × Ran indent before after end)
+    pub wrong : IfErr result (λ error. is_fault error ≡ true → FailsAtFirst before after ⊎ FailsLater indent error before after)
     pub stays : Stays result before after

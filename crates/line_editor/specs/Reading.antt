@@ -12,6 +12,7 @@ use Rattle.line_keys.specs.Command.{Command, command_of}
 use Rattle.line_keys.specs.Count.{IsCountOf, continues_count, count_of, count_prompt}
 use Rattle.line_keys.specs.Draft.{Draft, KeepsLine, KeepsText, hinted, start_text}
 use Rattle.line_keys.specs.Drawing.{Drew, DrewNothing, behind_prompt, with_hint}
+use Rattle.line_keys.specs.Fault.{IoLeaves}
 use Rattle.line_keys.specs.Frame.{Frame}
 use Rattle.line_keys.specs.ShownLine.{Redraws}
 use Rattle.line_keys.specs.declared.cmd.Cmd.{Cmd}
@@ -103,7 +104,7 @@ module _ {Y : Type 0} (r : readers.Ghosts Y) where
     pub before : r.rest reader ≡ []
     pub behind : r.rest reader' ≡ []
 
--- a phrase that was cut short leaves the draft, with its hint as it was or asked again
+-- reading that was cut short leaves the draft, with its hint as it was or asked again
 abbrev pub LeftByCut : Environment → Draft → Draft → Type 0
 LeftByCut environment draft draft' = (draft' ≡ draft) ⊎ (draft' ≡ hinted environment draft)
 
@@ -180,6 +181,7 @@ module _ {X Y : Type 0} (e : editors.Ghosts X) (r : readers.Ghosts Y) where
   pub record ReadsUnderCount (typed : TypedCount) (result : Result KeyEvent ReadlineError) (editor : X) (reader : Y) (editor' : X) (reader' : Y) : Type 0 where
     pub took : OnRead result (λ k. r.rest reader ≡ key k ∷ r.rest reader') (IsDry r reader reader')
     pub draft : UnlessFault result (e.draft editor' ≡ hinted (e.environment editor) (e.draft editor))
+    pub left : LeftByCut (e.environment editor) (e.draft editor) (e.draft editor')
     pub text : KeepsText (e.draft editor) (e.draft editor')
     pub drew : (keys : List KeyEvent) → IsCountOf typed keys
         → UnlessFault result (Drew e 1 (behind_prompt (count_prompt keys)) editor editor')
@@ -201,6 +203,7 @@ module _ {X Y : Type 0} (e : editors.Ghosts X) (r : readers.Ghosts Y) where
   pub record ReadsCount (style : EditMode) (first : KeyEvent) (result : Result (Count × KeyEvent) ReadlineError) (editor : X) (reader : Y) (editor' : X) (reader' : Y) : Type 0 where
     pub read : OnRead result (λ ended. CountRead style first editor reader editor' reader' ended.0 ended.1) (CutInCount style first editor reader editor' reader')
     pub draft : UnlessFault result (e.draft editor' ≡ hinted (e.environment editor) (e.draft editor))
+    pub left : LeftByCut (e.environment editor) (e.draft editor) (e.draft editor')
     pub text : KeepsText (e.draft editor) (e.draft editor')
     pub keeps : KeepsBoth editor reader editor' reader'
     pub fails : Fails (is_sure (e.sure editor) for_hint ≡ true) result editor reader editor' reader'
@@ -211,9 +214,10 @@ module _ {X Y : Type 0} (e : editors.Ghosts X) (r : readers.Ghosts Y) where
     pub bound : keys'.bound ≡ keys.bound
 
   -- what a call leaves that reads items, behind those in front: what they come to, or the items ran out; at most one full redraw is
-  -- made for each item
+  -- made for each item. After an error of input or output the draft is the one from before, or the one to read on from, but for its hint
   pub record ReadsPart {T : Type 0} (Comes : List Item → Read → Type 0) (front : List Item) (from : Draft) (begun : Command → Draft → Draft) (command : T → Command) (input : T → Input) (result : Result T ReadlineError) (editor : X) (keys : KeyState) (reader : Y) (editor' : X) (reader' : Y) : Type 0 where
     pub read : OnRead result (λ x. Gives Comes front begun (command x) (input x) editor reader editor' reader') (Ends Comes front from editor reader editor' reader')
+    pub fault : IoLeaves result (e.environment editor) (e.draft editor) from (e.draft editor')
     pub line : KeepsLine (e.draft editor) (e.draft editor')
     pub start : UnlessFault result (start_text (e.draft editor') ≡ start_text (e.draft editor))
     pub redraws : UnlessFault result (Redraws e 0 (length front + length (r.rest reader) - length (r.rest reader')) editor editor')

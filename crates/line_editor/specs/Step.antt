@@ -11,11 +11,11 @@ use Rattle.line_keys.specs.Draft.{Draft, hinted, unhinted}
 use Rattle.line_keys.specs.declared.cmd.Anchor.TheVariants.{Before}
 use Rattle.line_parts.specs.Environment.{Environment}
 use Rattle.line_parts.specs.declared.history.SearchDirection.TheVariants.{Forward, Reverse}
-use Rattle.line_state.specs.Moves.{bracket_place}
+use Rattle.line_state.specs.Moves.{bracket_place, on_way}
 use Rattle.line_editor.specs.Accept.{accepted, answer_at_end, validated}
 use Rattle.line_editor.specs.Editor.{Editor, Ruler, Step, interrupted, measuring, proceeding, submitted, with_draft}
 use Rattle.line_editor.specs.DraftEdits.{bracket_killed, bracket_replaced, bracket_text, chars_transposed, char_replaced, completed, copied_to, cursor_moved, kill_popped, kill_yanked, killed_by, lines_shifted, overwritten, movement_replaced, steps_undone, text_of, typed_in, word_changed, words_transposed, yanked_in}
-use Rattle.line_editor.specs.HistoryMoves.{end_shown, first_shown, next_shown, previous_shown, search_shown}
+use Rattle.line_editor.specs.HistoryMoves.{end_shown, first_shown, next_shown, previous_shown, saved_at_end, search_shown}
 use Rattle.line_editor.specs.Input.{Input}
 
 -- the cursor goes up so many lines, or from the first line to the history's line before this one
@@ -59,6 +59,26 @@ edited_by ruler environment input draft complete_hint = completed environment dr
 edited_by ruler environment input draft clear_screen = hinted environment draft
 edited_by ruler environment input draft repaint = hinted environment draft
 edited_by ruler environment input draft _ = draft
+
+-- what such a command leaves halfway: a move in two is on its way; on the way into the history, the line that is being written is saved
+-- first
+abbrev pub edited_halfway : Environment → Draft → Command → Draft
+edited_halfway environment draft (move movement) = record draft { line = on_way movement draft.line }
+edited_halfway environment draft (line_up_or_previous_history n) = saved_at_end environment draft
+edited_halfway environment draft (line_down_or_next_history n) = saved_at_end environment draft
+edited_halfway environment draft previous_history = saved_at_end environment draft
+edited_halfway environment draft next_history = saved_at_end environment draft
+edited_halfway environment draft beginning_of_history = saved_at_end environment draft
+edited_halfway environment draft end_of_history = saved_at_end environment draft
+edited_halfway environment draft _ = draft
+
+-- what a command leaves halfway: of a replacement the kill; of a line that is given a newline, its validation
+abbrev pub halfway_of : Environment → Editor → Command → Draft
+halfway_of environment editor (replace movement text) =
+    (killed_by environment movement editor (killed_range editor.draft.line movement)).draft
+halfway_of environment editor (replace_to_bracket text) = (bracket_killed environment editor).draft
+halfway_of environment editor (accept_or_insert_line in_the_middle) = validated environment (unhinted editor.draft)
+halfway_of environment editor command = edited_halfway environment editor.draft command
 
 -- what a command does: it kills or yanks, ends the run or may end it, or only edits
 abbrev pub step : Ruler → Environment → Input → Editor → Command → Step

@@ -8,11 +8,11 @@ ghost use Rattle.line_editor.specs.DraftEdits.{typed_in};
 ghost use Rattle.line_editor.specs.Input.{Input};
 ghost use Rattle.line_editor.specs.InputState.{input_of};
 ghost use Rattle.line_editor.specs.Outcomes.{Executes};
-ghost use Rattle.line_editor.specs.Step.{edited_by};
+ghost use Rattle.line_editor.specs.Step.{edited_by, edited_halfway};
 ghost use Rattle.line_keys.specs.Command as commands;
 ghost use Rattle.line_keys.specs.Command.{command_of};
 ghost use Rattle.line_keys.specs.Draft.{unhinted};
-ghost use Rattle.line_keys.specs.Drawing.{Does, DoesAsking, with_hint};
+ghost use Rattle.line_keys.specs.Drawing.{Does, DoesInTwo, with_hint};
 ghost use Rattle.line_parts.specs.Verdict.{verdict_of};
 
 use crate::edit::State;
@@ -114,8 +114,8 @@ impl<'out, 'prompt, W: Renderer, H: Helper, P: Prompt, S: History> State<
         ensures { let e = ⟦<Self as EditorState>⟧ in
             let w = e.environment self.old in let d = e.draft self.old in
             let c = command_of cmd in
-            DoesAsking e (edited_asked (e.display self.old) w d c) result self.old self.new
-            (edited_by (ruler_of (e.display self.old) indent_size) w (input_of input_state.now) d c)
+            DoesInTwo e (edited_asked (e.display self.old) w d c) result self.old self.new
+            (edited_halfway w d c) (edited_by (ruler_of (e.display self.old) indent_size) w (input_of input_state.now) d c)
             (edited_drawn (e.display self.old) w d c) (edited_times (e.display self.old) d c) }
     {
         match cmd {

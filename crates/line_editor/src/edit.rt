@@ -293,6 +293,8 @@ impl<'out, 'prompt, W: Renderer, H: Helper, P: Prompt, S: History> State<
     fn leaves_bare(&mut self) -> Result<bool>
         ensures draft { let e = ⟦<Self as EditorState>⟧ in OnOk result
             (e.draft self.new ≡ hinted (e.environment self.old) (e.draft self.old)) }
+        ensures err { let d = ⟦<Self as EditorState>⟧.draft in
+            OnErr result (d self.new ≡ d self.old) }
         ensures answer { let e = ⟦<Self as EditorState>⟧ in IfOk result (λ bare. bare
             ≡ leaves_bare (e.environment self.old) (e.display self.old) (e.draft self.new)) }
         ensures display { let e = ⟦<Self as EditorState>⟧ in

@@ -4,6 +4,7 @@ ghost use Rattle.line_editor.specs.Editor.{with_edited};
 ghost use Rattle.line_editor.specs.DraftEdits.{completed, with_completion_at_end};
 ghost use Rattle.line_keys.specs.Draft.{start_text};
 ghost use Rattle.line_keys.specs.Drawing.{Does, DrewNothing, drawn_if};
+ghost use Rattle.line_keys.specs.Fault.{FaultLeaves};
 ghost use Rattle.line_keys.specs.Frame.{FailsByRenderer, Frame};
 ghost use Rattle.line_parts.specs.Hint.{suggestion_of};
 
@@ -52,6 +53,10 @@ impl<'out, 'prompt, W: Renderer, H: Helper, P: Prompt, S: History> State<
         ensures draft { let e = ⟦<Self as EditorState>⟧ in let d = e.draft self.old in
             OnOk result (e.draft self.new ≡ with_edited d
             (with_completion_at_end (option_and_then (λ hint. hint.completion) d.hint) d)) }
+        ensures fault { let e = ⟦<Self as EditorState>⟧ in let d = e.draft self.old in
+            FaultLeaves result (e.environment self.old) d d (with_edited d
+            (with_completion_at_end (option_and_then (λ hint. hint.completion) d.hint) d))
+            (e.draft self.new) }
         ensures start { let d = ⟦<Self as EditorState>⟧.draft in OnOk result
             (start_text (d self.new) ≡ start_text (d self.old)) }
         ensures drew { DrewNothing ⟦<Self as EditorState>⟧ self.old self.new }

@@ -1,10 +1,11 @@
 //! Moves in the history.
 ghost use Rattle.std.specs.Prelude.{◌≡◌, ◌+◌, ◌≤◌, IsCharBoundary, false, if◌then◌else◌, not, is_some, length, OnOk, OnErr};
+ghost use Rattle.line_buffer.specs.Changes.{no_changes};
 ghost use Rattle.line_buffer.specs.Line.{before};
 ghost use Rattle.line_config.specs.Error.{MemoryOnly};
 ghost use Rattle.line_editor.specs.HistoryMoves.{asked_back, asked_for, asked_in_search, asked_on, asked_to_end, at_index, come_back, end_shown, first_shown, found_shown, line_shown, next_shown, previous_shown, restored, saved_at_end, search_of, search_shown, showing, way_ends};
 ghost use Rattle.line_keys.specs.Draft.{start_text};
-ghost use Rattle.line_keys.specs.Drawing.{Does, DoesAsking, DrewNothing, Paints, Undrawn, drawn_if, with_hint};
+ghost use Rattle.line_keys.specs.Drawing.{Does, DoesAsking, DoesInTwo, DrewNothing, Paints, Undrawn, drawn_if, with_hint};
 ghost use Rattle.line_parts.specs.Asks.{for_line};
 ghost use Rattle.line_parts.specs.History.{starting_with};
 ghost use Rattle.line_parts.specs.declared.history.SearchDirection.TheVariants.{Forward, Reverse};
@@ -46,10 +47,12 @@ impl<'out, 'prompt, W: Renderer, H: Helper, P: Prompt, S: History> State<
     /// Puts the saved line in place of the line, with its cursor. Nothing is drawn.
     ///
     /// # Errors
-    /// That memory ran out.
+    /// That memory ran out. Then the line has no changes.
     pub fn restore(&mut self) -> Result<()>
         ensures draft { let d = ⟦<Self as EditorState>⟧.draft in OnOk result
             (d self.new ≡ restored (d self.old)) }
+        ensures err { let d = ⟦<Self as EditorState>⟧.draft in
+            OnErr result ((d self.new).changes ≡ no_changes) }
         ensures start { let d = ⟦<Self as EditorState>⟧.draft in OnOk result
             (start_text (d self.new) ≡ start_text (d self.old)) }
         ensures undrawn { Undrawn ⟦<Self as EditorState>⟧ self.old self.new }
@@ -68,8 +71,8 @@ impl<'out, 'prompt, W: Renderer, H: Helper, P: Prompt, S: History> State<
         ensures { let e = ⟦<Self as EditorState>⟧ in
             let w = e.environment self.old in let d = e.draft self.old in
             let dir = if prev then Reverse else Forward in
-            DoesAsking e (if prev then asked_back d else asked_on w d) result self.old self.new
-            (if prev then previous_shown w d else next_shown w d)
+            DoesInTwo e (if prev then asked_back d else asked_on w d) result self.old self.new
+            (saved_at_end w d) (if prev then previous_shown w d else next_shown w d)
             (drawn_if (not (way_ends w dir d))) 1 }
     {
         if prev {
@@ -87,8 +90,8 @@ impl<'out, 'prompt, W: Renderer, H: Helper, P: Prompt, S: History> State<
         ensures { let e = ⟦<Self as EditorState>⟧ in
             let w = e.environment self.old in let d = e.draft self.old in
             let dir = if first then Reverse else Forward in
-            DoesAsking e (if first then asked_back d else asked_to_end w d)
-            result self.old self.new
+            DoesInTwo e (if first then asked_back d else asked_to_end w d)
+            result self.old self.new (saved_at_end w d)
             (if first then first_shown w d else end_shown w d)
             (drawn_if (not (way_ends w dir d))) 1 }
     {
@@ -128,11 +131,11 @@ impl<'out, 'prompt, W: Renderer, H: Helper, P: Prompt, S: History> State<
     }
 
     // Shows the line of the history before this one, if there is one.
-    #[tactic(auto, using(crate::proofs::HistoryMoveLemmas::way_stays, crate::proofs::HistoryMoveLemmas::way_goes))]
+    #[tactic(auto, using(crate::proofs::HistoryMoveLemmas::way_stays, crate::proofs::HistoryMoveLemmas::way_goes, crate::proofs::HistoryMoveLemmas::way_goes_once))]
     fn show_previous(&mut self) -> Result<()>
         ensures { let e = ⟦<Self as EditorState>⟧ in
             let w = e.environment self.old in let d = e.draft self.old in
-            DoesAsking e (asked_back d) result self.old self.new (previous_shown w d)
+            DoesInTwo e (asked_back d) result self.old self.new (saved_at_end w d) (previous_shown w d)
             (drawn_if (not (way_ends w Reverse d))) 1 }
     {
         let index = self.place();
@@ -143,11 +146,11 @@ impl<'out, 'prompt, W: Renderer, H: Helper, P: Prompt, S: History> State<
     }
 
     // Shows the line behind this one, if there is one: behind the history's last stands the one that is being written.
-    #[tactic(auto, using(crate::proofs::HistoryMoveLemmas::way_stays, crate::proofs::HistoryMoveLemmas::way_goes))]
+    #[tactic(auto, using(crate::proofs::HistoryMoveLemmas::way_stays, crate::proofs::HistoryMoveLemmas::way_goes, crate::proofs::HistoryMoveLemmas::way_goes_once))]
     fn show_next(&mut self) -> Result<()>
         ensures { let e = ⟦<Self as EditorState>⟧ in
             let w = e.environment self.old in let d = e.draft self.old in
-            DoesAsking e (asked_on w d) result self.old self.new (next_shown w d)
+            DoesInTwo e (asked_on w d) result self.old self.new (saved_at_end w d) (next_shown w d)
             (drawn_if (not (way_ends w Forward d))) 1 }
     {
         let index = self.place();
@@ -162,11 +165,11 @@ impl<'out, 'prompt, W: Renderer, H: Helper, P: Prompt, S: History> State<
     }
 
     // Shows the first line of the history, if it is not shown already.
-    #[tactic(auto, using(crate::proofs::HistoryMoveLemmas::way_stays, crate::proofs::HistoryMoveLemmas::way_goes))]
+    #[tactic(auto, using(crate::proofs::HistoryMoveLemmas::way_stays, crate::proofs::HistoryMoveLemmas::way_goes, crate::proofs::HistoryMoveLemmas::way_goes_once))]
     fn show_first(&mut self) -> Result<()>
         ensures { let e = ⟦<Self as EditorState>⟧ in
             let w = e.environment self.old in let d = e.draft self.old in
-            DoesAsking e (asked_back d) result self.old self.new (first_shown w d)
+            DoesInTwo e (asked_back d) result self.old self.new (saved_at_end w d) (first_shown w d)
             (drawn_if (not (way_ends w Reverse d))) 1 }
     {
         if self.place() == 0 {
@@ -176,11 +179,11 @@ impl<'out, 'prompt, W: Renderer, H: Helper, P: Prompt, S: History> State<
     }
 
     // Comes back to the line that is being written, if it is not shown already.
-    #[tactic(auto, using(crate::proofs::HistoryMoveLemmas::way_stays, crate::proofs::HistoryMoveLemmas::way_goes))]
+    #[tactic(auto, using(crate::proofs::HistoryMoveLemmas::way_stays, crate::proofs::HistoryMoveLemmas::way_goes, crate::proofs::HistoryMoveLemmas::way_goes_once))]
     fn show_end(&mut self) -> Result<()>
         ensures { let e = ⟦<Self as EditorState>⟧ in
             let w = e.environment self.old in let d = e.draft self.old in
-            DoesAsking e (asked_to_end w d) result self.old self.new (end_shown w d)
+            DoesInTwo e (asked_to_end w d) result self.old self.new (saved_at_end w d) (end_shown w d)
             (drawn_if (not (way_ends w Forward d))) 1 }
     {
         if self.place() == self.parties.history().len() {
@@ -201,6 +204,8 @@ impl<'out, 'prompt, W: Renderer, H: Helper, P: Prompt, S: History> State<
     fn save_at_end(&mut self) -> Result<()>
         ensures draft { let e = ⟦<Self as EditorState>⟧ in OnOk result
             (e.draft self.new ≡ saved_at_end (e.environment self.old) (e.draft self.old)) }
+        ensures err { let d = ⟦<Self as EditorState>⟧.draft in
+            OnErr result (d self.new ≡ d self.old) }
         ensures undrawn { Undrawn ⟦<Self as EditorState>⟧ self.old self.new }
         ensures memory { MemoryOnly result }
     {
@@ -214,8 +219,8 @@ impl<'out, 'prompt, W: Renderer, H: Helper, P: Prompt, S: History> State<
     fn leave_for(&mut self, index: usize) -> Result<()>
         requires { index + 1 ≤ length (⟦<Self as EditorState>⟧.environment self.old).lines }
         ensures { let e = ⟦<Self as EditorState>⟧ in let w = e.environment self.old in
-            DoesAsking e for_line result self.old self.new
-            (line_shown w index (saved_at_end w (e.draft self.old))) with_hint 1 }
+            let saved = saved_at_end w (e.draft self.old) in
+            DoesInTwo e for_line result self.old self.new saved (line_shown w index saved) with_hint 1 }
     {
         self.save_at_end()?;
         self.show_line(index)

@@ -5,7 +5,7 @@ ghost use Rattle.line_buffer.specs.KillRing.{yank_popped, yanked_text};
 ghost use Rattle.line_editor.specs.Drawings.{bracket_drawn, kill_drawn, pop_drawn, replacement_drawn, replacement_times, yank_drawn};
 ghost use Rattle.line_editor.specs.DraftEdits.{bracket_killed, bracket_replaced, bracket_text, copied_to, kill_popped, kill_yanked, killed_by, movement_replaced, range_emptied, text_of};
 ghost use Rattle.line_editor.specs.InputState.{input_of};
-ghost use Rattle.line_editor.specs.Outcomes.{DoesWithKills, editor_of};
+ghost use Rattle.line_editor.specs.Outcomes.{DoesInTwoWithKills, DoesWithKills, editor_of};
 ghost use Rattle.line_keys.specs.Drawing.{Does, nothing};
 ghost use Rattle.line_keys.specs.Plainly.{gives_end};
 ghost use Rattle.line_state.specs.Edited.{bracket_range};
@@ -139,7 +139,9 @@ impl<'out, 'prompt, W: Renderer, H: Helper, P: Prompt, S: History> State<
             let d = e.draft self.old in
             let killed = kill_drawn (e.display self.old) (e.environment self.old) d
             (killed_range d.line movement.now) in
-            DoesWithKills e result self.old kill_ring.old self.new kill_ring.new
+            let before = killed_by (e.environment self.old) movement.now
+            (editor_of e self.old kill_ring.old) (killed_range d.line movement.now) in
+            DoesInTwoWithKills e result self.old kill_ring.old self.new kill_ring.new before.draft
             (movement_replaced (e.environment self.old) movement.now put
             (editor_of e self.old kill_ring.old))
             (replacement_drawn killed put) (replacement_times killed put) }
@@ -201,7 +203,9 @@ impl<'out, 'prompt, W: Renderer, H: Helper, P: Prompt, S: History> State<
         ensures does { let e = ⟦<Self as EditorState>⟧ in
             let put = option_map (λ s. s.now) text.entry in
             let killed = bracket_drawn (e.draft self.old).line in
-            DoesWithKills e result self.old kill_ring.old self.new kill_ring.new
+            let before = bracket_killed (e.environment self.old)
+            (editor_of e self.old kill_ring.old) in
+            DoesInTwoWithKills e result self.old kill_ring.old self.new kill_ring.new before.draft
             (bracket_replaced (e.environment self.old) put
             (editor_of e self.old kill_ring.old))
             (replacement_drawn killed put) (replacement_times killed put) }

@@ -7,15 +7,15 @@ ghost use Rattle.line_buffer.specs.Search.{search_place};
 ghost use Rattle.line_buffer.specs.Word.{word_back, word_on};
 ghost use Rattle.line_buffer.specs.declared.movement.Movement.TheVariants.{LineDown, LineUp};
 ghost use Rattle.line_editor.specs.Drawings.{move_drawn};
-ghost use Rattle.line_editor.specs.HistoryMoves.{asked_back, asked_on, next_shown, previous_shown, way_ends};
+ghost use Rattle.line_editor.specs.HistoryMoves.{asked_back, asked_on, next_shown, previous_shown, saved_at_end, way_ends};
 ghost use Rattle.line_keys.specs.Display.{GoesToShownEnd};
-ghost use Rattle.line_keys.specs.Drawing.{Does, DoesAsking, DrawsCursor, MovesTo, Paints, PutsCursorAt, Undrawn, cursor, drawn_if};
+ghost use Rattle.line_keys.specs.Drawing.{DoesInTwo, DrawsCursor, MovesTo, Paints, PutsCursorAt, Undrawn, asked_by, cursor, drawn_if};
 ghost use Rattle.line_keys.specs.ShownLine.{IsAtEnd};
 ghost use Rattle.line_keys.specs.ShownLine.{HasShownEnd, ShowsLine};
 ghost use Rattle.line_parts.specs.Asks.{nobody};
 ghost use Rattle.line_parts.specs.declared.highlight.CmdKind.TheVariants.{MoveCursor};
 ghost use Rattle.line_parts.specs.declared.history.SearchDirection.TheVariants.{Forward, Reverse};
-ghost use Rattle.line_state.specs.Moves.{bracket_place, moved};
+ghost use Rattle.line_state.specs.Moves.{bracket_place, moved, on_way};
 
 use crate::edit::{Info, State};
 use line_buffer::{At, CharSearch, Movement, Position, RepeatCount, Word};
@@ -208,9 +208,11 @@ impl<'out, 'prompt, W: Renderer, H: Helper, P: Prompt, S: History> State<
     // Moves the cursor by a movement. To the first character of a line that is no white space it goes in two moves.
     pub(crate) fn move_by(&mut self, movement: &Movement) -> Result<()>
         ensures { let e = ⟦<Self as EditorState>⟧ in let d = e.draft self.old in
-            Does e result self.old self.new
+            let drawing = move_drawn d.line movement.now in
+            DoesInTwo e (asked_by drawing) result self.old self.new
+            (record d { line = on_way movement.now d.line })
             (record d { line = moved (e.display self.old).layout movement.now d.line })
-            (move_drawn d.line movement.now) 1 }
+            drawing 1 }
     {
         match movement {
             Movement::ViFirstPrint => {
@@ -242,8 +244,8 @@ impl<'out, 'prompt, W: Renderer, H: Helper, P: Prompt, S: History> State<
         ensures { let e = ⟦<Self as EditorState>⟧ in let layout = (e.display self.old).layout in
             let d = e.draft self.old in let found = is_some (up_by layout d.line n) in
             let w = e.environment self.old in
-            DoesAsking e (if found then nobody else asked_back d)
-            result self.old self.new
+            DoesInTwo e (if found then nobody else asked_back d)
+            result self.old self.new (saved_at_end w d)
             (if found then record d { line = moved layout (LineUp n) d.line }
             else previous_shown w d)
             (if found then cursor MoveCursor else drawn_if (not (way_ends w Reverse d))) 1 }
@@ -259,8 +261,8 @@ impl<'out, 'prompt, W: Renderer, H: Helper, P: Prompt, S: History> State<
         ensures { let e = ⟦<Self as EditorState>⟧ in let layout = (e.display self.old).layout in
             let d = e.draft self.old in let found = is_some (down_by layout d.line n) in
             let w = e.environment self.old in
-            DoesAsking e (if found then nobody else asked_on w d)
-            result self.old self.new
+            DoesInTwo e (if found then nobody else asked_on w d)
+            result self.old self.new (saved_at_end w d)
             (if found then record d { line = moved layout (LineDown n) d.line }
             else next_shown w d)
             (if found then cursor MoveCursor else drawn_if (not (way_ends w Forward d))) 1 }

@@ -31,7 +31,7 @@ impl<'out, 'prompt, W: Renderer, H: Helper, P: Prompt, S: History> State<
     /// message where there is something to show or to take away. Returns the verdict; without a helper every line is valid.
     ///
     /// # Errors
-    /// Those of the validator and of the renderer, and that memory ran out.
+    /// Those of the validator and of the renderer, and that memory ran out. The group of changes ends in any case.
     #[tactic(auto, using(crate::proofs::EditLemmas::no_verdict, crate::proofs::EditLemmas::not_validated, crate::proofs::EditLemmas::was_validated))]
     pub fn validate(&mut self) -> Result<ValidationResult>
         ensures verdict { let e = ⟦<Self as EditorState>⟧ in IfOk result (λ r.
@@ -65,9 +65,9 @@ impl<'out, 'prompt, W: Renderer, H: Helper, P: Prompt, S: History> State<
             OnOk result (ShowsNoHint e self.old → ShowsNoHint e self.new) }
     {
         self.edited.begin_group()?;
-        let verdict = self.parties.validate(self.alloc, self.edited.line())?;
+        let verdict = self.parties.validate(self.alloc, self.edited.line());
         let corrected = self.edited.end_groups()?;
-        Ok((verdict, corrected))
+        Ok((verdict?, corrected))
     }
 
     #[tactic(auto, using(crate::proofs::DrawnLemmas::message_trails, crate::proofs::DrawnLemmas::message_behind, crate::proofs::DrawnLemmas::line_stays, crate::proofs::DrawnLemmas::no_hint_stays))]

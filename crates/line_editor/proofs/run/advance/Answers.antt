@@ -31,3 +31,8 @@ pub returns-in-Err-Io-clause-advances : goal.returns-in-Err-Io-clause-advances
 returns-in-Err-Io-clause-advances g c =
     let done = rw c.in-Err-Io.field-0-is at c.in-Err-Io.ensures.executes in
     goes_wrong _ _ _ _ _ _ _ _ _ _ _ _ _ _ c.in-Ok.ensures c.reset_kills.ensures.reset _ refl done
+
+pub returns-in-Err-Memory-clause-advances : goal.returns-in-Err-Memory-clause-advances
+returns-in-Err-Memory-clause-advances g c =
+    let done = rw c.in-Err-Memory.field-0-is at c.in-Err-Memory.ensures.executes in
+    goes_wrong _ _ _ _ _ _ _ _ _ _ _ _ _ _ c.in-Ok.ensures c.reset_kills.ensures.reset _ refl done

@@ -1,4 +1,6 @@
-use Rattle.line_editor.proofs.CommandLemmas.{only_killed, replaced_movement}
+use Rattle.std.proofs.lemmas.Result.{err_from_is_err_and}
+use Rattle.std.proofs.Common.{option_map, refl}
+use Rattle.line_editor.proofs.CommandLemmas.{movement_fails, only_killed, replaced_movement}
 use Rattle.line_buffer.specs.Kill.{killed_range}
 use Rattle.line_editor.proofs.edit.State.replace.Goals as goal
 
@@ -8,4 +10,11 @@ returns-in-Some-clause-does g c =
     rw c.in-Some.is (replaced_movement _ _ c.args.self.now _ _ _ _ c.args.movement.now (killed_range c.args.self.now.edited.line c.args.movement.now) c.in-Some.text.now kill _ c.edit_insert_text.ensures)
 
 pub returns-in-None-clause-does : goal.returns-in-None-clause-does
-returns-in-None-clause-does g c = rw c.in-None.is (only_killed _ _ _ c.args.self.now _ _ _ _ _ c.in_ok-edit_kill.ensures.does)
+returns-in-None-clause-does g c = rw c.in-None.is (only_killed _ _ _ c.args.self.now _ _ _ _ _ _ c.in_ok-edit_kill.ensures.does)
+
+pub returns-in_err-edit_kill-clause-does : goal.returns-in_err-edit_kill-clause-does
+returns-in_err-edit_kill-clause-does g c =
+    let p = err_from_is_err_and c.from_residual.result c.from_residual.ensures.1 in
+    rw (p.1, p.2)
+    (movement_fails _ _ c.args.self.now _ _ _ c.args.movement.now (killed_range c.args.self.now.edited.line c.args.movement.now) _ (option_map (λ s. s.now) c.args.text) _ refl
+    c.in_err-edit_kill.ensures.does)
