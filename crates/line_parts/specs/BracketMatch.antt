@@ -24,6 +24,10 @@ led_away text b place = if is_open b then drop (place + 1) text else reverse (ta
 abbrev pub place_away : ℕ → ℕ → ℕ → ℕ
 place_away b place n = if is_open b then place + 1 + n else place - 1 - n
 
+-- how many of so many bytes lead away from a bracket at a place: those behind an opening one, those before a closing one
+abbrev pub count_away : Bool → ℕ → ℕ → ℕ
+count_away opens place count = if opens then count - (place + 1) else place
+
 -- which of the bytes that lead away from a bracket is the first up to which its own kind is even
 abbrev pub nearest_even : ℕ → List ℕ → Option ℕ
 nearest_even b away = least_below (length away) (λ n. is_even b (b ∷ take (n + 1) away))

@@ -38,6 +38,10 @@ pub record Written : Type 0 where
   pub line : Line
   pub changes : Changes
 
+-- a line with its changes
+abbrev pub written_as : Line → Changes → Written
+written_as line changes = record { line = line; changes = changes }
+
 -- a text in place of what stands from a byte offset to the cursor, recorded as one replacement
 abbrev pub put_to_cursor : Written → ℕ → List ℕ → Written
 put_to_cursor old start text = record {

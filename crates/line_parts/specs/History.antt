@@ -1,10 +1,10 @@
 -- Lines that were entered before, the oldest first.
-use Rattle.std.specs.Prelude.{ℕ, ◌+◌, ◌-◌, ◌==◌, ◌&&◌, ◌||◌, nat_le, min, Bool, true, false}
+use Rattle.std.specs.Prelude.{◌≡◌, ℕ, ◌+◌, ◌-◌, ◌==◌, ◌&&◌, ◌||◌, nat_le, min, Bool, true, false, not}
 use Rattle.std.specs.Prelude.{bytes_eq, chars, String, string_bytes, if◌then◌else◌}
 use Rattle.std.specs.Prelude.{List, [], ◌∷◌, ◌++◌, length, map, take, drop}
-use Rattle.std.specs.Prelude.{Option, Some, None, is_some, option_and_then, option_map}
+use Rattle.std.specs.Prelude.{Option, Some, None, is_some, option_and_then, option_map, Result, IfOk, IfSome}
 use Rattle.std.specs.Char.{is_whitespace}
-use Rattle.std.specs.Cow.{cow_str_bytes}
+use Rattle.std.specs.Cow.{IsBorrowedStr, cow_str_bytes}
 use Rattle.std.specs.List.{list_any, position, range_with_len, slice_get, slice_index_or}
 use Rattle.std.specs.List.{starts_with}
 use Rattle.std.specs.VecDeque.Iter.{deque_iter_rest}
@@ -62,6 +62,10 @@ abbrev pub leaves_out : HistoryRules → List (List ℕ) → List ℕ → Bool
 leaves_out rules lines line = rules.max_len == 0 || length line == 0
     || (rules.ignore_space && begins_blank line) || (rules.ignore_dups && is_newest lines line)
 
+-- an add answers whether the line is taken, unless it fails
+abbrev pub TellsTaken : {E : Type 0} → Result Bool E → HistoryRules → List (List ℕ) → List ℕ → Type 0
+TellsTaken result rules lines line = IfOk result (λ taken. taken ≡ not (leaves_out rules lines line))
+
 -- the lines with one behind them, unless it is left out: the last so many
 abbrev pub added : HistoryRules → List (List ℕ) → List ℕ → List (List ℕ)
 added rules lines line =
@@ -88,6 +92,14 @@ pub record Found : Type 0 where
 -- what a search found, as text
 abbrev pub found_of : SearchResult → Found
 found_of r = record { entry = cow_str_bytes r.entry; index = r.idx; pos = r.pos }
+
+-- a look-up comes to this answer, unless it fails
+abbrev pub Finds : {E : Type 0} → Result (Option SearchResult) E → Option Found → Type 0
+Finds result answer = IfOk result (λ found. option_map found_of found ≡ answer)
+
+-- the line that a look-up finds is borrowed
+abbrev pub FindsBorrowed : {E : Type 0} → Result (Option SearchResult) E → Type 0
+FindsBorrowed result = IfOk result (λ found. IfSome found (λ f. IsBorrowedStr f.entry))
 
 -- the line at an index, if there is one
 abbrev pub entry_at : List (List ℕ) → ℕ → Option Found

@@ -6,8 +6,12 @@ use Rattle.line_parts.specs.Shown.{Shown}
 use Rattle.line_parts.specs.declared.history.SearchDirection.TheVariants.{Reverse}
 
 -- the index from which a hint is looked for: the newest line's where the line is being written
+abbrev pub start_in : ℕ → List (List ℕ) → ℕ
+start_in index lines = if index == length lines then length lines - 1 else index
+
+-- that index, by what is shown
 abbrev pub hint_start : Shown → ℕ
-hint_start shown = if shown.index == length shown.lines then length shown.lines - 1 else shown.index
+hint_start shown = start_in shown.index shown.lines
 
 -- what a line of the history has behind a text, where it is more than the text
 abbrev pub rest_behind : List ℕ → List ℕ → Option (List ℕ)

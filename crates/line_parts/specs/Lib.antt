@@ -3,6 +3,7 @@ pub mod BracketLaws
 pub mod BracketVerdict
 pub mod Brackets
 pub mod Candidate
+pub mod Colored
 pub mod Completed
 pub mod CompletionLaws
 pub mod Consulted

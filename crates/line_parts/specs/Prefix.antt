@@ -1,11 +1,22 @@
 -- What texts begin with in common.
 use Rattle.std.specs.Prelude.{◌≡◌, ℕ, ◌≤◌, List, [], ◌∷◌, ◌++◌, length, Option, Some, None}
+use Rattle.std.specs.Char.{encode_utf8}
 use Rattle.std.specs.List.{AllByRecursion}
 use Rattle.std.specs.Str.{IsUtf8}
 
 -- a text begins with another
 abbrev pub BeginsWith : List ℕ → List ℕ → Type 0
 BeginsWith start text = (rest : List ℕ) × (text ≡ start ++ rest)
+
+-- two texts begin with one character, and these stand behind it
+abbrev pub BeginWithOne : List ℕ → List ℕ → List ℕ → List ℕ → Type 0
+BeginWithOne one other behind more =
+    (c : ℕ) × (one ≡ encode_utf8 c ++ behind) × (other ≡ encode_utf8 c ++ more)
+
+-- two texts begin with no character in common
+abbrev pub BeginWithNone : List ℕ → List ℕ → Type 0
+BeginWithNone one other = (c : ℕ) (behind more : List ℕ)
+    → one ≡ encode_utf8 c ++ behind → other ≡ encode_utf8 c ++ more → ⊥
 
 -- the longest text of whole characters with which all of these begin
 pub record IsLongestCommon (texts : List (List ℕ)) (start : List ℕ) : Type 0 where

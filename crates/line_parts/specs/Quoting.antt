@@ -76,6 +76,11 @@ abbrev pub open_quote : Quote → List ℕ → Option ℕ
 open_quote kind cs =
     least_below (length cs) (λ place. is_closed (take place cs) && is_unclosed kind (drop place cs))
 
+-- a text stands in quotes of a kind up to the first such quote, with this behind that
+abbrev pub ClosesBefore : Quote → ℕ → List ℕ → List ℕ → Type 0
+ClosesBefore kind mark text rest =
+    (body : List ℕ) × (is_inside kind body ≡ true) × (text ≡ body ++ mark ∷ rest)
+
 -- characters that begin with no piece of closed text: with a quote that never closes, or a backslash that stands alone
 abbrev pub IsUnpaired : List ℕ → Type 0
 IsUnpaired cs = (is_unclosed quote.Double cs ≡ true) ⊎ (is_unclosed quote.Single cs ≡ true) ⊎ (cs ≡ backslash ∷ [])

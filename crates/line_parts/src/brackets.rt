@@ -3,7 +3,7 @@ ghost use Rattle.std.specs.Prelude.{◌≡◌, ◌≢◌, ◌<◌, ◌+◌, ◌-
 ghost use Rattle.std.specs.Prelude.{slice_index};
 ghost use Rattle.line_parts.specs.Brackets.{is_bracket, is_close, is_open, partner};
 ghost use Rattle.line_parts.specs.BracketMatch.{bracket_at, has_room, looked_at, match_of};
-ghost use Rattle.line_parts.specs.BracketMatch.{under_or_before};
+ghost use Rattle.line_parts.specs.BracketMatch.{count_away as ways_away, under_or_before};
 
 /// A bracket, and the place where it was seen.
 #[derive(Clone, Copy)]
@@ -110,7 +110,7 @@ pub(crate) fn look_at(line: &[u8], pos: usize) -> Option<Seen>
 // Returns how many of `len` bytes lead away from a bracket.
 fn count_away(opens: bool, place: usize, len: usize) -> usize
     requires { place < len }
-    ensures { result ≡ (if opens then len - (place + 1) else place) }
+    ensures { result ≡ ways_away opens place len }
 {
     if opens { len - 1 - place } else { place }
 }
@@ -118,7 +118,7 @@ fn count_away(opens: bool, place: usize, len: usize) -> usize
 // Returns the place of one of the bytes that lead away from a bracket.
 fn away(opens: bool, place: usize, len: usize, distance: usize) -> usize
     requires place { place < len }
-    requires within { distance < (if opens then len - (place + 1) else place) }
+    requires within { distance < ways_away opens place len }
     ensures place { result ≡ (if opens then place + 1 + distance else place - 1 - distance) }
     ensures within { result < len }
 {

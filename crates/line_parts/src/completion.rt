@@ -71,7 +71,7 @@ impl Candidate for &str {
 /// Completes a part of the line.
 pub trait Completer {
     ghost use Rattle.line_parts.specs.Candidate.{Completion, Written, no_completion, offer_of};
-    ghost use Rattle.line_parts.specs.Candidate.{put_to_cursor};
+    ghost use Rattle.line_parts.specs.Candidate.{put_to_cursor, written_as};
     ghost use Rattle.line_parts.specs.Context.{shown_in};
     ghost use Rattle.line_parts.specs.Shown.{Shown, NotBoth};
 
@@ -132,10 +132,9 @@ pub trait Completer {
     ) -> Result<()>
         requires before { start ≤ line.old.cursor }
         requires boundary { IsCharBoundary line.old.text start }
-        ensures written { let old : Written = record { line = line.old; changes = changes.old } in
+        ensures written { let old = written_as line.old changes.old in
             OnOk result (IsUsualOrOwn (put_to_cursor old start elected.now)
-            (own_update self.now old start elected.now)
-            (record { line = line.new; changes = changes.new })) }
+            (own_update self.now old start elected.now) (written_as line.new changes.new)) }
         ensures told { StillTellsOrGone result changes.old line.old changes.new line.new }
         ensures io { IoOnlyIf result (sure self.now ≡ false) }
         ensures faults { FaultsOnly result }

@@ -5,7 +5,7 @@ ghost use Rattle.std.specs.Prelude.{IfSome};
 ghost use Rattle.std.specs.Cow.{cow_str_bytes};
 ghost use Rattle.line_config.specs.Error.{IoOnlyIf, FaultsOnly, MemoryOnly};
 ghost use Rattle.line_config.specs.declared.config.CompletionType.{CompletionType};
-ghost use Rattle.line_config.specs.Usual.{IsUsualOrOwn};
+ghost use Rattle.line_parts.specs.Colored.{IsShownAs};
 ghost use Rattle.line_parts.specs.BracketMatch.{lit_at, lit_place, remembered, with_match_lit};
 ghost use Rattle.line_parts.specs.declared.highlight.CmdKind.{CmdKind};
 
@@ -53,8 +53,7 @@ pub trait Highlighter {
     /// # Errors
     /// `Io`, only where this highlighter is not sure, and `Memory`.
     fn highlight<'l>(&self, alloc: Global, line: &'l str, pos: usize) -> Result<CowStr<'l>>
-        ensures text { IfOk result (λ t.
-            IsUsualOrOwn line.now (own_line self.now line.now pos) (cow_str_bytes t)) }
+        ensures text { IsShownAs result line.now (own_line self.now line.now pos) }
         ensures io { IoOnlyIf result (sure self.now ≡ false) }
         ensures faults { FaultsOnly result }
     {
@@ -73,8 +72,7 @@ pub trait Highlighter {
         prompt: &'p str,
         default: bool,
     ) -> Result<CowStr<'b>>
-        ensures text { IfOk result (λ t.
-            IsUsualOrOwn prompt.now (own_prompt self.now prompt.now default) (cow_str_bytes t)) }
+        ensures text { IsShownAs result prompt.now (own_prompt self.now prompt.now default) }
         ensures io { IoOnlyIf result (sure self.now ≡ false) }
         ensures faults { FaultsOnly result }
     {
@@ -88,8 +86,7 @@ pub trait Highlighter {
     /// # Errors
     /// `Io`, only where this highlighter is not sure, and `Memory`.
     fn highlight_hint<'h>(&self, alloc: Global, hint: &'h str) -> Result<CowStr<'h>>
-        ensures text { IfOk result (λ t.
-            IsUsualOrOwn hint.now (own_hint self.now hint.now) (cow_str_bytes t)) }
+        ensures text { IsShownAs result hint.now (own_hint self.now hint.now) }
         ensures io { IoOnlyIf result (sure self.now ≡ false) }
         ensures faults { FaultsOnly result }
     {
@@ -107,9 +104,8 @@ pub trait Highlighter {
         candidate: &'c str,
         completion: CompletionType,
     ) -> Result<CowStr<'c>>
-        ensures text { IfOk result (λ t.
-            IsUsualOrOwn candidate.now (own_candidate self.now candidate.now completion)
-            (cow_str_bytes t)) }
+        ensures text { IsShownAs result candidate.now
+            (own_candidate self.now candidate.now completion) }
         ensures io { IoOnlyIf result (sure self.now ≡ false) }
         ensures faults { FaultsOnly result }
     {
@@ -208,8 +204,7 @@ impl Highlighter for MatchingBracketHighlighter {
     fn highlight<'l>(&self, alloc: Global, line: &'l str, _pos: usize) -> Result<CowStr<'l>>
         ensures shown { IfOk result (λ t.
             cow_str_bytes t ≡ unwrap_or (with_match_lit self.now line.now) line.now) }
-        ensures text { IfOk result (λ t.
-            IsUsualOrOwn line.now (with_match_lit self.now line.now) (cow_str_bytes t)) }
+        ensures text { IsShownAs result line.now (with_match_lit self.now line.now) }
         ensures memory { MemoryOnly result }
     {
         match self.lit_place(line) {

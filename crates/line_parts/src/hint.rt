@@ -4,7 +4,7 @@ ghost use Rattle.std.specs.Prelude.{option_map, IfOk, IsOk, string_bytes, IsTrue
 ghost use Rattle.std.specs.Prelude.{◌==◌, ◌<◌, ◌-◌};
 ghost use Rattle.std.specs.List.{starts_with};
 ghost use Rattle.line_config.specs.Error.{IoOnlyIf, FaultsOnly, MemoryOnly};
-ghost use Rattle.line_parts.specs.HistoryHint.{rest_behind};
+ghost use Rattle.line_parts.specs.HistoryHint.{rest_behind, start_in};
 
 use crate::context::Context;
 use crate::history::{History, SearchDirection};
@@ -59,7 +59,7 @@ impl Hint for &str {
 /// Gives hints.
 pub trait Hinter {
     ghost use Rattle.line_parts.specs.Context.{shown_in};
-    ghost use Rattle.line_parts.specs.Hint.{Suggestion, suggestion_of};
+    ghost use Rattle.line_parts.specs.Hint.{Suggestion, Suggests};
     ghost use Rattle.line_parts.specs.Shown.{Shown, NotBoth};
 
     /// The type of the hints.
@@ -82,9 +82,8 @@ pub trait Hinter {
         pos: usize,
         ctx: &Context<'_, S>,
     ) -> Result<Option<Self::Hint>>
-        ensures answer { IfOk result (λ hint.
-            option_map (suggestion_of Self.Hint.Hint) hint
-            ≡ hint_at self.now (shown_in S.History ctx.now line.now pos)) }
+        ensures answer { Suggests Self.Hint.Hint result
+            (hint_at self.now (shown_in S.History ctx.now line.now pos)) }
         ensures io { IoOnlyIf result (NotBoth (sure self.now) (S.sure ctx.now.history)) }
         ensures faults { FaultsOnly result };
 }
@@ -127,7 +126,7 @@ impl Default for HistoryHinter {
 
 impl Hinter for HistoryHinter {
     ghost use Rattle.line_parts.specs.Context.{shown_in};
-    ghost use Rattle.line_parts.specs.Hint.{suggested, suggestion_of};
+    ghost use Rattle.line_parts.specs.Hint.{Suggests, suggested};
     ghost use Rattle.line_parts.specs.HistoryHint.{history_hint};
 
     type Hint = String;
@@ -150,8 +149,8 @@ impl Hinter for HistoryHinter {
         pos: usize,
         ctx: &Context<'_, S>,
     ) -> Result<Option<String>>
-        ensures answer { IfOk result (λ hint. option_map (suggestion_of ⟦<String as Hint>⟧) hint
-            ≡ option_map suggested (history_hint (shown_in S.History ctx.now line.now pos))) }
+        ensures answer { Suggests ⟦<String as Hint>⟧ result
+            (option_map suggested (history_hint (shown_in S.History ctx.now line.now pos))) }
         ensures unasked { line.now ≡ [] → IsOk result }
         ensures inside { pos < length line.now → IsOk result }
         ensures io { IoOnlyIf result (S.sure ctx.now.history ≡ false) }
@@ -172,8 +171,7 @@ impl Hinter for HistoryHinter {
 
 // Returns the index from which a hint is looked for.
 fn start<S: History>(ctx: &Context<'_, S>) -> usize
-    ensures { result ≡ (if ctx.now.index == length (S.lines ctx.now.history)
-        then length (S.lines ctx.now.history) - 1 else ctx.now.index) }
+    ensures { result ≡ start_in ctx.now.index (S.lines ctx.now.history) }
 {
     let newest = ctx.history().len().saturating_sub(1);
     ctx.history_index().min(newest)

@@ -57,8 +57,8 @@ impl<'a> SearchResult<'a> {
 
 /// Lines that were entered before, the oldest first.
 pub trait History {
-    ghost use Rattle.line_parts.specs.History.{HistoryRules, added, entry_at, found_of, last_of};
-    ghost use Rattle.line_parts.specs.History.{leaves_out, search_in, starting_with};
+    ghost use Rattle.line_parts.specs.History.{Finds, HistoryRules, TellsTaken, added, entry_at};
+    ghost use Rattle.line_parts.specs.History.{last_of, search_in, starting_with};
 
     // The lines, the oldest first.
     ghost lines: { Self → List (List ℕ) };
@@ -75,8 +75,7 @@ pub trait History {
     /// # Errors
     /// `Io`, only where the history is not sure, and `Memory`.
     fn get(&self, index: usize, dir: SearchDirection) -> Result<Option<SearchResult<'_>>>
-        ensures answer { IfOk result (λ found.
-            option_map found_of found ≡ entry_at (lines self.now) index) }
+        ensures answer { Finds result (entry_at (lines self.now) index) }
         ensures io { IoOnlyIf result (sure self.now ≡ false) }
         ensures faults { FaultsOnly result };
 
@@ -87,8 +86,7 @@ pub trait History {
     /// # Errors
     /// `Io`, only where the history is not sure, and `Memory`. The lines then stay as they were.
     fn add(&mut self, line: &str) -> Result<bool>
-        ensures answer { IfOk result (λ taken.
-            taken ≡ not (leaves_out (rules self.old) (lines self.old) line.now)) }
+        ensures answer { TellsTaken result (rules self.old) (lines self.old) line.now }
         ensures lines { lines self.new ≡ (if is_ok result
             then added (rules self.old) (lines self.old) line.now else lines self.old) }
         ensures rules { rules self.new ≡ rules self.old }
@@ -101,8 +99,7 @@ pub trait History {
     /// # Errors
     /// `Io`, only where the history is not sure, and `Memory`. The lines then stay as they were.
     fn add_owned(&mut self, line: String) -> Result<bool>
-        ensures answer { IfOk result (λ taken.
-            taken ≡ not (leaves_out (rules self.old) (lines self.old) (string_bytes line))) }
+        ensures answer { TellsTaken result (rules self.old) (lines self.old) (string_bytes line) }
         ensures lines { lines self.new ≡ (if is_ok result
             then added (rules self.old) (lines self.old) (string_bytes line) else lines self.old) }
         ensures rules { rules self.new ≡ rules self.old }
@@ -175,8 +172,7 @@ pub trait History {
         start: usize,
         dir: SearchDirection,
     ) -> Result<Option<SearchResult<'_>>>
-        ensures answer { IfOk result (λ found.
-            option_map found_of found ≡ search_in (lines self.now) term.now start dir) }
+        ensures answer { Finds result (search_in (lines self.now) term.now start dir) }
         ensures io { IoOnlyIf result (sure self.now ≡ false) }
         ensures faults { FaultsOnly result };
 
@@ -192,8 +188,7 @@ pub trait History {
         start: usize,
         dir: SearchDirection,
     ) -> Result<Option<SearchResult<'_>>>
-        ensures answer { IfOk result (λ found.
-            option_map found_of found ≡ starting_with (lines self.now) term.now start dir) }
+        ensures answer { Finds result (starting_with (lines self.now) term.now start dir) }
         ensures io { IoOnlyIf result (sure self.now ≡ false) }
         ensures faults { FaultsOnly result };
 }

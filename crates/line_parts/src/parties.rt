@@ -1,13 +1,12 @@
 //! The parties that are asked about a line: the helper, if there is one, and the history.
-ghost use Rattle.std.specs.Prelude.{◌≡◌, ◌≤◌, ◌&&◌, Bool, true, false, List, Option};
+ghost use Rattle.std.specs.Prelude.{◌≡◌, ◌≤◌, ◌&&◌, true, false};
 ghost use Rattle.std.specs.Prelude.{is_some, length, option_map, IfOk};
 ghost use Rattle.line_config.specs.Error.{FaultsOnly, IoOnlyIf};
 ghost use Rattle.line_parts.specs.Asks.{for_hint, for_look_up, for_verdict, is_sure};
 ghost use Rattle.line_parts.specs.Consulted.{Unchanged};
-ghost use Rattle.line_parts.specs.Context.{shown_in};
 ghost use Rattle.line_parts.specs.Environment.{Environment, hint_for, verdict_on};
-ghost use Rattle.line_parts.specs.Helped.{environment_by, hint_by, hints_surely_by, is_sure_by, lights_by, sure_by, verdict_by};
-ghost use Rattle.line_parts.specs.Hint.{suggestion_of, visible};
+ghost use Rattle.line_parts.specs.Helped.{environment_by, sure_by};
+ghost use Rattle.line_parts.specs.Hint.{Suggests, suggestion_of, visible};
 ghost use Rattle.line_parts.specs.Verdict.{verdict_of};
 
 use crate::consulted::Consulted;
@@ -44,27 +43,6 @@ impl<'out, H: Helper, S: History> Consulted for Parties<'out, H, S> {
         sure_by H.Hinter.sure H.Validator.sure (S.sure p.ctx.history) p.helper };
 }
 
-// Returns the helper's hint for the line.
-#[tactic(auto, unfolding(crate::specs::Helped::hint_by, crate::specs::Helped::hints_surely_by))]
-fn helper_hint<'a, 'out, H: Helper, S: History>(
-    alloc: Global,
-    helper: &'a Option<&'out mut H>,
-    line: &LineBuffer,
-    ctx: &Context<'_, S>,
-) -> Result<Option<H::Hint>>
-    ensures answer { IfOk result (λ hint. option_map (suggestion_of H.Hint.Hint) hint
-        ≡ hint_by H.hint_at helper.now
-        (shown_in S.History ctx.now line.now.text line.now.cursor)) }
-    ensures io { IoOnlyIf result
-        (hints_surely_by H.Hinter.sure (S.sure ctx.now.history) helper.now ≡ false) }
-    ensures faults { FaultsOnly result }
-{
-    match helper {
-        Some(h) => h.hint(alloc, line.as_str(), line.pos(), ctx),
-        None => Ok(None),
-    }
-}
-
 // Returns the hint, or None where it displays nothing.
 fn visible_hint<T: Hint + Drop>(hint: Option<T>) -> Option<T>
     ensures { option_map (suggestion_of T.Hint) result
@@ -73,68 +51,6 @@ fn visible_hint<T: Hint + Drop>(hint: Option<T>) -> Option<T>
     match hint {
         Some(h) if h.display().is_empty() => None,
         other => other,
-    }
-}
-
-// Returns whether there is a helper.
-#[tactic(auto, unfolding(crate::specs::Helped::verdict_by))]
-fn has_helper<'a, 'out, H: Helper>(helper: &'a Option<&'out mut H>) -> bool
-    ensures { result ≡ is_some (verdict_by H.verdict_at helper.now) }
-{
-    helper.is_some()
-}
-
-// Returns the helper's verdict on a text, if there is a helper.
-#[tactic(auto, unfolding(crate::specs::Helped::is_sure_by, crate::specs::Helped::verdict_by))]
-fn helper_verdict<'a, 'out, H: Helper>(
-    alloc: Global,
-    helper: &'a Option<&'out mut H>,
-    text: &str,
-) -> Result<Option<ValidationResult>>
-    ensures answer { IfOk result (λ r. option_map verdict_of r
-        ≡ option_map (λ verdict. verdict text.now) (verdict_by H.verdict_at helper.now)) }
-    ensures io { IoOnlyIf result (is_sure_by H.Validator.sure helper.now ≡ false) }
-    ensures faults { FaultsOnly result }
-{
-    match helper {
-        Some(h) => Ok(Some(h.validate(alloc, &ValidationContext::new(text))?)),
-        None => Ok(None),
-    }
-}
-
-// Asks the helper whether the line has to be drawn in full.
-#[tactic(auto, unfolding(crate::specs::Helped::hint_by, crate::specs::Helped::hints_surely_by, crate::specs::Helped::is_sure_by, crate::specs::Helped::lights_by, crate::specs::Helped::verdict_by))]
-fn helper_lights<'out, H: Helper>(
-    helper: &mut Option<&'out mut H>,
-    line: &LineBuffer,
-    kind: CmdKind,
-) -> bool
-    ensures lit { result ≡ lights_by H.lights helper.old line.now.text line.now.cursor kind }
-    ensures hints { hint_by H.hint_at helper.new ≡ hint_by H.hint_at helper.old }
-    ensures verdicts { verdict_by H.verdict_at helper.new ≡ verdict_by H.verdict_at helper.old }
-    ensures lights { lights_by H.lights helper.new ≡ lights_by H.lights helper.old }
-    ensures hinter { (history : Bool) → hints_surely_by H.Hinter.sure history helper.new
-        ≡ hints_surely_by H.Hinter.sure history helper.old }
-    ensures validator { is_sure_by H.Validator.sure helper.new
-        ≡ is_sure_by H.Validator.sure helper.old }
-{
-    match helper {
-        Some(h) => h.highlight_char(line.as_str(), line.pos(), kind),
-        None => false,
-    }
-}
-
-// Returns the helper as a highlighter where colors are on.
-#[tactic(auto, unfolding(crate::specs::Helped::verdict_by))]
-fn highlighter_of<'a, 'out, H: Helper>(
-    helper: &'a Option<&'out mut H>,
-    colors: bool,
-) -> Option<&'a H>
-    ensures { is_some result ≡ (colors && is_some (verdict_by H.verdict_at helper.now)) }
-{
-    match helper {
-        Some(h) if colors => Some(h),
-        _ => None,
     }
 }
 
@@ -151,60 +67,74 @@ impl<'out, H: Helper, S: History> Parties<'out, H, S> {
     }
 
     /// Returns the helper's hint for `line`, or None where there is no hint or it displays nothing.
-    /// Without a helper there is none, and the history is not asked.
+    /// Without a helper there is none.
     ///
     /// # Errors
     /// `Io`, only where the hinter or the history is not sure, and `Memory`.
+    #[tactic(auto, unfolding(crate::specs::Helped::hint_by, crate::specs::Helped::hints_surely_by))]
     pub fn hint(&self, alloc: Global, line: &LineBuffer) -> Result<Option<H::Hint>>
-        ensures answer { let p = ⟦<Self as Consulted>⟧ in IfOk result (λ hint.
-            option_map (suggestion_of H.Hint.Hint) hint ≡ hint_for (p.environment self.now)
-            line.now.text line.now.cursor (p.index self.now)) }
-        ensures io { let sure = ⟦<Self as Consulted>⟧.sure self.now in
-            IoOnlyIf result (is_sure sure for_hint ≡ false) }
+        ensures answer { let p = ⟦<Self as Consulted>⟧ in Suggests H.Hint.Hint result
+            (hint_for (p.environment self.now) line.now.text line.now.cursor (p.index self.now)) }
+        ensures io { IoOnlyIf result (is_sure (⟦<Self as Consulted>⟧.sure self.now) for_hint ≡ false) }
         ensures faults { FaultsOnly result }
     {
-        Ok(visible_hint(helper_hint(alloc, &self.helper, line, &self.ctx)?))
+        match &self.helper {
+            Some(h) => Ok(visible_hint(h.hint(alloc, line.as_str(), line.pos(), &self.ctx)?)),
+            None => Ok(None),
+        }
     }
 
     /// Returns whether there is a helper, which validates lines.
+    #[tactic(auto, unfolding(crate::specs::Helped::verdict_by))]
     pub fn has_validator(&self) -> bool
         ensures { result ≡ is_some (⟦<Self as Consulted>⟧.environment self.now).verdict_at }
     {
-        has_helper(&self.helper)
+        self.helper.is_some()
     }
 
     /// Returns the helper's verdict on the text of `line`. Without a helper the text is valid.
     ///
     /// # Errors
     /// `Io`, only where the validator is not sure, and `Memory`.
+    #[tactic(auto, unfolding(crate::specs::Helped::is_sure_by, crate::specs::Helped::verdict_by))]
     pub fn validate(&self, alloc: Global, line: &LineBuffer) -> Result<ValidationResult>
         ensures answer { IfOk result (λ r. verdict_of r
             ≡ verdict_on (⟦<Self as Consulted>⟧.environment self.now) line.now.text) }
-        ensures io { let sure = ⟦<Self as Consulted>⟧.sure self.now in
-            IoOnlyIf result (is_sure sure for_verdict ≡ false) }
+        ensures io { IoOnlyIf result
+            (is_sure (⟦<Self as Consulted>⟧.sure self.now) for_verdict ≡ false) }
         ensures faults { FaultsOnly result }
     {
-        let verdict = helper_verdict(alloc, &self.helper, line.as_str())?;
-        Ok(verdict.unwrap_or(ValidationResult::Valid(None)))
+        match &self.helper {
+            Some(h) => h.validate(alloc, &ValidationContext::new(line.as_str())),
+            None => Ok(ValidationResult::Valid(None)),
+        }
     }
 
     /// Returns whether the helper asks for a full drawing of `line` for its colors. `kind` says why
     /// it is asked. Without a helper the answer is false. No hint, no verdict and no later answer
     /// of this call changes.
+    #[tactic(auto, unfolding(crate::specs::Helped::hint_by, crate::specs::Helped::hints_surely_by, crate::specs::Helped::is_sure_by, crate::specs::Helped::lights_by, crate::specs::Helped::verdict_by))]
     pub fn highlight_char(&mut self, line: &LineBuffer, kind: CmdKind) -> bool
         ensures lit { result ≡ (⟦<Self as Consulted>⟧.environment self.old).lights
             line.now.text line.now.cursor kind }
         ensures unchanged { Unchanged ⟦<Self as Consulted>⟧ self.old self.new }
     {
-        helper_lights(&mut self.helper, line, kind)
+        match &mut self.helper {
+            Some(h) => h.highlight_char(line.as_str(), line.pos(), kind),
+            None => false,
+        }
     }
 
     /// Returns the helper if there is one and colors are on.
+    #[tactic(auto, unfolding(crate::specs::Helped::verdict_by))]
     pub fn highlighter(&self, colors: bool) -> Option<&H>
         ensures { is_some result
             ≡ (colors && is_some (⟦<Self as Consulted>⟧.environment self.now).verdict_at) }
     {
-        highlighter_of(&self.helper, colors)
+        match &self.helper {
+            Some(h) if colors => Some(h),
+            _ => None,
+        }
     }
 
     /// Returns the history.

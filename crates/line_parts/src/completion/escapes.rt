@@ -10,8 +10,8 @@ ghost use Rattle.std.specs.List.{flat_map};
 ghost use Rattle.std.specs.Str.{IsUtf8};
 ghost use Rattle.std.specs.Str.Iter.{chars_rest};
 ghost use Rattle.line_config.specs.Error.{MemoryOnly};
-ghost use Rattle.line_parts.specs.Escape.{AnswersBy, escaped, escaped_char, is_escape, offset_at};
-ghost use Rattle.line_parts.specs.Escape.{on_chars, unescaped, word_start};
+ghost use Rattle.line_parts.specs.Escape.{EndsInEscape, EndsInNoEscape, ForTest, escaped, escaped_char};
+ghost use Rattle.line_parts.specs.Escape.{is_escape, kept_of, on_chars, unescaped, word_offset};
 
 use crate::completion::chars::split_last;
 use line_config::Result;
@@ -50,9 +50,8 @@ fn escape_chars<F: Fn(char) -> bool>(
     is_break_char: F,
 ) -> Result<String>
     requires { F.IsAlwaysCallable is_break_char }
-    ensures text { IfOk result (λ text. (is_break : ℕ → Bool)
-        → AnswersBy F.Fn is_break_char is_break → string_bytes text
-        ≡ on_chars (flat_map (escaped_char esc_char is_break)) (string_bytes input.now)) }
+    ensures text { IfOk result (λ text. ForTest F.Fn is_break_char (λ is_break. string_bytes text
+        ≡ on_chars (flat_map (escaped_char esc_char is_break)) (string_bytes input.now))) }
     ensures faults { MemoryOnly result }
 {
     let mut text = String::new(*input.allocator());
@@ -74,9 +73,8 @@ pub fn escape<F: Fn(char) -> bool>(
     quote: Quote,
 ) -> Result<String>
     requires { F.IsAlwaysCallable is_break_char }
-    ensures text { IfOk result (λ text. (is_break : ℕ → Bool)
-        → AnswersBy F.Fn is_break_char is_break → string_bytes text
-        ≡ on_chars (escaped esc_char is_break quote) (string_bytes input)) }
+    ensures text { IfOk result (λ text. ForTest F.Fn is_break_char (λ is_break. string_bytes text
+        ≡ on_chars (escaped esc_char is_break quote) (string_bytes input))) }
     ensures faults { MemoryOnly result }
 {
     match (esc_char, quote) {
@@ -89,10 +87,8 @@ pub fn escape<F: Fn(char) -> bool>(
 // Takes the next character that unescaping keeps, if there is one.
 fn next_kept(rest: &mut Chars<'_>, esc_char: char) -> Option<char>
     requires { IsUtf8 (chars_rest rest.old) }
-    ensures kept { MatchOption result
-        (unescaped (Some esc_char) (chars (chars_rest rest.old)) ≡ [])
-        (λ c. unescaped (Some esc_char) (chars (chars_rest rest.old))
-        ≡ c ∷ unescaped (Some esc_char) (chars (chars_rest rest.new))) }
+    ensures kept { let old = kept_of esc_char (chars_rest rest.old) in
+        MatchOption result (old ≡ []) (λ c. old ≡ c ∷ kept_of esc_char (chars_rest rest.new)) }
     ensures utf8 { IfSome result (λ _. IsUtf8 (chars_rest rest.new)) }
     ensures shorter { IfSome result
         (λ _. length (chars_rest rest.new) < length (chars_rest rest.old)) }
@@ -147,11 +143,8 @@ fn is_escape(esc_char: Option<char>, c: char) -> bool
 
 // Returns a text without the escape character at its end, if it stands there.
 fn strip_escape(text: &str, esc_char: Option<char>) -> Option<&str>
-    ensures stripped { MatchOption result
-        ((c : ℕ) (front : List ℕ) → IsUtf8 front → text.now ≡ front ++ encode_utf8 c
-        → is_escape esc_char c ≡ false)
-        (λ front. (c : ℕ) × (text.now ≡ front.now ++ encode_utf8 c)
-        × (is_escape esc_char c ≡ true)) }
+    ensures stripped { MatchOption result (EndsInNoEscape esc_char text.now)
+        (λ front. EndsInEscape esc_char text.now front.now) }
     ensures utf8 { IfSome result (λ front. IsUtf8 front.now) }
 {
     match split_last(text) {
@@ -165,8 +158,8 @@ fn strip_escape(text: &str, esc_char: Option<char>) -> Option<&str>
 fn last_word<F: Fn(char) -> bool>(text: &str, esc_char: Option<char>, is_break_char: F) -> usize
     requires { F.IsAlwaysCallable is_break_char }
     ensures boundary { IsCharBoundary text.now result }
-    ensures start { (is_break : ℕ → Bool) → AnswersBy F.Fn is_break_char is_break
-        → result ≡ offset_at (chars text.now) (word_start esc_char is_break (chars text.now)) }
+    ensures start { ForTest F.Fn is_break_char (λ is_break. result
+        ≡ word_offset esc_char is_break (chars text.now)) }
 {
     let mut rest = text;
     while let Some((before, c)) = split_last(rest) {
@@ -196,9 +189,8 @@ pub fn extract_word<F: Fn(char) -> bool>(
     requires callable { F.IsAlwaysCallable is_break_char }
     ensures within { (result.0 ≤ pos) × IsCharBoundary line.now result.0 }
     ensures text { result.1.now ≡ drop result.0 (take pos line.now) }
-    ensures start { (is_break : ℕ → Bool) → AnswersBy F.Fn is_break_char is_break
-        → result.0 ≡ (let cs = chars (take pos line.now) in
-        offset_at cs (word_start esc_char is_break cs)) }
+    ensures start { ForTest F.Fn is_break_char (λ is_break. result.0
+        ≡ word_offset esc_char is_break (chars (take pos line.now))) }
 {
     let before = &line[..pos];
     let start = last_word(before, esc_char, is_break_char);

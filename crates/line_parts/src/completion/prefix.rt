@@ -1,20 +1,16 @@
 //! What candidates begin with in common.
-ghost use Rattle.std.specs.Prelude.{◌≡◌, ◌++◌, ◌∷◌, [], ℕ, List, map, option_map};
+ghost use Rattle.std.specs.Prelude.{◌≡◌, ◌∷◌, [], map, option_map};
 ghost use Rattle.std.specs.Prelude.{IfSome, MatchOption};
-ghost use Rattle.std.specs.Char.{encode_utf8};
 ghost use Rattle.std.specs.Str.{IsUtf8};
-ghost use Rattle.line_parts.specs.Prefix.{IsCommonStart, IsLongestCommon, some_text};
+ghost use Rattle.line_parts.specs.Prefix.{BeginWithNone, BeginWithOne, IsCommonStart, IsLongestCommon, some_text};
 
 use crate::completion::Candidate;
 use crate::completion::chars::split_first;
 
 // Returns what stands behind the first character of two texts, where that is the same.
 fn strip_same<'a, 'b>(one: &'a str, other: &'b str) -> Option<(&'a str, &'b str)>
-    ensures same { MatchOption result
-        ((c : ℕ) (behind more : List ℕ) → one.now ≡ encode_utf8 c ++ behind
-        → other.now ≡ encode_utf8 c ++ more → ⊥)
-        (λ rests. (c : ℕ) × (one.now ≡ encode_utf8 c ++ rests.0.now)
-        × (other.now ≡ encode_utf8 c ++ rests.1.now)) }
+    ensures same { MatchOption result (BeginWithNone one.now other.now)
+        (λ rests. BeginWithOne one.now other.now rests.0.now rests.1.now) }
     ensures utf8 { IfSome result (λ rests. IsUtf8 rests.0.now × IsUtf8 rests.1.now) }
 {
     match split_first(one) {

@@ -1,10 +1,9 @@
 //! A history that counts its new lines.
 ghost use Rattle.std.specs.Prelude.{◌≡◌, ◌-◌, ◌<◌, ◌≤◌, true, [], length, min, not, is_ok, option_map};
 ghost use Rattle.std.specs.Prelude.{string_bytes, IfSome, IsOk, if◌then◌else◌, IfOk};
-ghost use Rattle.std.specs.Cow.{IsBorrowedStr};
 ghost use Rattle.line_config.specs.Error.{MemoryOnly};
-ghost use Rattle.line_parts.specs.History.{entry_at, filed, filed_with_limit};
-ghost use Rattle.line_parts.specs.History.{found_of, line_at, lines_to_come, leaves_out, rules_of};
+ghost use Rattle.line_parts.specs.History.{Finds, FindsBorrowed, TellsTaken, entry_at, filed};
+ghost use Rattle.line_parts.specs.History.{filed_with_limit, line_at, lines_to_come, rules_of};
 ghost use Rattle.line_parts.specs.History.{search_in, settled, starting_with, usual_rules};
 
 use crate::history::{History, MemHistory, SearchDirection, SearchResult};
@@ -104,17 +103,15 @@ impl History for FileHistory {
 
     fn get(&self, index: usize, dir: SearchDirection) -> Result<Option<SearchResult<'_>>>
         ensures ok { IsOk result }
-        ensures answer { IfOk result (λ found.
-            option_map found_of found ≡ entry_at self.now.lines index) }
-        ensures borrowed { IfOk result (λ found. IfSome found (λ f. IsBorrowedStr f.entry)) }
+        ensures answer { Finds result (entry_at self.now.lines index) }
+        ensures borrowed { FindsBorrowed result }
     {
         self.mem.get(index, dir)
     }
 
     #[tactic(auto, using(crate::proofs::HistoryLemmas::added_fits, crate::proofs::HistoryLemmas::added_left_out))]
     fn add(&mut self, line: &str) -> Result<bool>
-        ensures answer { IfOk result (λ taken.
-            taken ≡ not (leaves_out self.old.rules self.old.lines line.now)) }
+        ensures answer { TellsTaken result self.old.rules self.old.lines line.now }
         ensures filed { self.new ≡ (if is_ok result then filed self.old line.now else self.old) }
         ensures faults { MemoryOnly result }
     {
@@ -127,8 +124,7 @@ impl History for FileHistory {
 
     #[tactic(auto, using(crate::proofs::HistoryLemmas::added_fits, crate::proofs::HistoryLemmas::added_left_out))]
     fn add_owned(&mut self, line: String) -> Result<bool>
-        ensures answer { IfOk result (λ taken.
-            taken ≡ not (leaves_out self.old.rules self.old.lines (string_bytes line))) }
+        ensures answer { TellsTaken result self.old.rules self.old.lines (string_bytes line) }
         ensures filed { self.new
             ≡ (if is_ok result then filed self.old (string_bytes line) else self.old) }
         ensures faults { MemoryOnly result }
@@ -188,9 +184,8 @@ impl History for FileHistory {
         dir: SearchDirection,
     ) -> Result<Option<SearchResult<'_>>>
         ensures ok { IsOk result }
-        ensures answer { IfOk result (λ found.
-            option_map found_of found ≡ search_in self.now.lines term.now start dir) }
-        ensures borrowed { IfOk result (λ found. IfSome found (λ f. IsBorrowedStr f.entry)) }
+        ensures answer { Finds result (search_in self.now.lines term.now start dir) }
+        ensures borrowed { FindsBorrowed result }
     {
         self.mem.search(term, start, dir)
     }
@@ -202,9 +197,8 @@ impl History for FileHistory {
         dir: SearchDirection,
     ) -> Result<Option<SearchResult<'_>>>
         ensures ok { IsOk result }
-        ensures answer { IfOk result (λ found.
-            option_map found_of found ≡ starting_with self.now.lines term.now start dir) }
-        ensures borrowed { IfOk result (λ found. IfSome found (λ f. IsBorrowedStr f.entry)) }
+        ensures answer { Finds result (starting_with self.now.lines term.now start dir) }
+        ensures borrowed { FindsBorrowed result }
     {
         self.mem.starts_with(term, start, dir)
     }

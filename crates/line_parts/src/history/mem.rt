@@ -1,9 +1,8 @@
 //! A history that is kept in memory.
 ghost use Rattle.std.specs.Prelude.{◌≡◌, ◌<◌, ◌≤◌, true, [], ◌∷◌, ◌++◌, length, map, is_ok};
 ghost use Rattle.std.specs.Prelude.{option_map, string_bytes, IfSome, IsOk, if◌then◌else◌, IfOk};
-ghost use Rattle.std.specs.Cow.{IsBorrowedStr};
 ghost use Rattle.line_config.specs.Error.{MemoryOnly};
-ghost use Rattle.line_parts.specs.History.{entry_at, found_of, last_of, line_at};
+ghost use Rattle.line_parts.specs.History.{Finds, FindsBorrowed, entry_at, last_of, line_at};
 ghost use Rattle.line_parts.specs.History.{lines_to_come, leaves_out, rules_of, search_in};
 ghost use Rattle.line_parts.specs.History.{starting_with, usual_rules, is_newest, begins_blank};
 
@@ -150,9 +149,8 @@ impl History for MemHistory {
 
     fn get(&self, index: usize, _dir: SearchDirection) -> Result<Option<SearchResult<'_>>>
         ensures ok { IsOk result }
-        ensures answer { IfOk result (λ found.
-            option_map found_of found ≡ entry_at self.now.lines index) }
-        ensures borrowed { IfOk result (λ found. IfSome found (λ f. IsBorrowedStr f.entry)) }
+        ensures answer { Finds result (entry_at self.now.lines index) }
+        ensures borrowed { FindsBorrowed result }
     {
         match self.entries.get(index) {
             Some(entry) => Ok(Some(SearchResult {
@@ -229,9 +227,8 @@ impl History for MemHistory {
         dir: SearchDirection,
     ) -> Result<Option<SearchResult<'_>>>
         ensures ok { IsOk result }
-        ensures answer { IfOk result (λ found.
-            option_map found_of found ≡ search_in self.now.lines term.now start dir) }
-        ensures borrowed { IfOk result (λ found. IfSome found (λ f. IsBorrowedStr f.entry)) }
+        ensures answer { Finds result (search_in self.now.lines term.now start dir) }
+        ensures borrowed { FindsBorrowed result }
     {
         Ok(nearest_match(&self.entries, Place::Inside, term, start, dir))
     }
@@ -243,9 +240,8 @@ impl History for MemHistory {
         dir: SearchDirection,
     ) -> Result<Option<SearchResult<'_>>>
         ensures ok { IsOk result }
-        ensures answer { IfOk result (λ found.
-            option_map found_of found ≡ starting_with self.now.lines term.now start dir) }
-        ensures borrowed { IfOk result (λ found. IfSome found (λ f. IsBorrowedStr f.entry)) }
+        ensures answer { Finds result (starting_with self.now.lines term.now start dir) }
+        ensures borrowed { FindsBorrowed result }
     {
         Ok(nearest_match(&self.entries, Place::Start, term, start, dir))
     }

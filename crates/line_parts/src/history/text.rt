@@ -10,7 +10,7 @@ ghost use Rattle.line_config.specs.Error.{is_fault, is_io};
 ghost use Rattle.line_config.specs.declared.error.ReadlineError.TheVariants.{Io, Memory};
 ghost use Rattle.line_parts.specs.declared.escaped_line.Escapes.TheVariants.{V2, V3};
 ghost use Rattle.std.specs.Io.KnownBytes.{append_known, Appends};
-ghost use Rattle.line_parts.specs.History.{filed, leaves_out};
+ghost use Rattle.line_parts.specs.History.{TellsTaken, filed};
 ghost use Rattle.line_parts.specs.HistoryText.{header, lines_of, written};
 ghost use Rattle.line_parts.specs.HistoryText.{AddsLines, AddsBeginning, AddsSome, ReadsHeader, FilesSome};
 ghost use Rattle.line_parts.specs.HistoryText.{GoesOn, Loads, LoadsBeginning, Saves, StopsReading};
@@ -192,8 +192,7 @@ impl FileHistory {
 impl FileHistory {
     // Adds a line that was read, which has to be UTF-8.
     fn add_bytes(&mut self, line: &[u8]) -> Result<bool>
-        ensures answer { IfOk result (λ taken.
-            taken ≡ not (leaves_out self.old.rules self.old.lines line.now)) }
+        ensures answer { TellsTaken result self.old.rules self.old.lines line.now }
         ensures filed { OnOk result (self.new ≡ filed self.old line.now) }
         ensures unchanged { OnErr result (self.new ≡ self.old) }
         ensures io { IoOnlyIf result (¬ (IsUtf8 line.now)) }
