@@ -1,18 +1,23 @@
 -- The lines of a text, added one after another.
-use Rattle.std.proofs.Common.{◌≡◌, ◌≢◌, ℕ, suc, ◌-◌, ◌<◌, ◌≤◌, Bool, true, false, true≢false, not, ◌&&◌, ◌⊎◌, inl, inr, if◌then◌else◌, List, [], ◌∷◌, ◌++◌, length, take, All, Option, None, Some, MatchOption, is_some, ap, sym, ◌∙◌, refl, arith, append_assoc, append-nil, eqb, ⊎_elim}
+use Rattle.std.proofs.Common.{◌≡◌, ◌≢◌, ℕ, suc, ◌+◌, ◌-◌, ◌<◌, ◌≤◌, Bool, true, false, true≢false, not, ◌&&◌, ◌⊎◌, inl, inr, if◌then◌else◌, List, [], ◌∷◌, ◌++◌, length, take, All, Option, None, Some, MatchOption, is_some, ap, sym, ◌∙◌, refl, arith, append_assoc, append-nil, length-append, add-zero, eqb, ⊎_elim}
 use Rattle.std.specs.Prelude.{filter, bytes_eq, IfOk, IfSome, Result, Ok, Err, OnErr, OnOk}
 use Rattle.std.specs.Bool.{⊤}
 use Rattle.std.specs.Io.KnownBytes.{IsAtEnd, prepend_known}
 use Rattle.std.specs.Io.Buffered.{reader_remaining, reader_inner, reader_buffer, reader_capacity}
 use Rattle.std.specs.declared.io.buffered.BufReader.{BufReader}
+use Rattle.std.specs.Str.{IsUtf8}
+use Rattle.line_parts.specs.declared.history.lines.Stop.{Stop}
+use Rattle.line_parts.specs.declared.history.lines.Stop.TheVariants as stop
 use Rattle.std.specs.Io.BufRead.{take_through, DropsThrough, ends_with_byte, strip_last}
 use Rattle.std.specs.List.{AllZip}
 use Rattle.std.proofs.lemmas.Bool.{cases_Bool, both_ways}
 use Rattle.std.proofs.lemmas.List.Elements.{filter-append, All-cons, All-nil, All-append}
 use Rattle.std.proofs.lemmas.Slice.Eq.{bytes_eq-Decides}
+use Rattle.line_config.specs.Error.{max_count}
 use Rattle.line_parts.specs.History.{FiledHistory, all_filed, all_taken, filed, leaves_out, settled}
 use Rattle.line_parts.specs.EscapedLine.{Unescapes, escape_table, escaped_byte, escaped_line}
 use Rattle.line_parts.specs.HistoryText.{header, is_some_text, lines_of, takes_all, AddsLines, AddsBeginning, AddsSome, ReadsHeader, GoesOn, IsHistoryText, Loads, LoadsBeginning, Says, SaysLines, unescaped, as_it_stands, with_header, without_header}
+use Rattle.line_parts.specs.LoadStop.{AddsToNoText, HasTooManyLines, LoadsToNoText, SaysNoText, StopsOnlyIf}
 use Rattle.line_parts.proofs.LinesLemmas.{lines_of-first, trimmed}
 use Rattle.line_parts.proofs.EscapeLemmas.{Written, by_letter, byte_in, none_is_not_some, plainly, undo, undo-says, undone, written-by}
 use Rattle.line_parts.specs.declared.escaped_line.Escapes.{Escapes}
@@ -163,6 +168,24 @@ pub adds_kept : {E : Type 0} (r : Result Bool E) (escapes : Escapes) (w : List �
 adds_kept (Ok taken) escapes w old new lt bad t e = adds_as_it_stands escapes w old new taken lt bad e t
 adds_kept (Err e) escapes w old new lt bad t f = tt
 
+-- ---- a line that is not UTF-8
+
+pub no_text_plain : (w : List ℕ) → 0 < length w → ¬ (IsUtf8 w) → SaysNoText None w
+no_text_plain w lt bad = (w, rw (some_text w lt) refl, bad)
+
+pub no_text_unescaped : (escapes : Escapes) (w text : List ℕ) → 0 < length w → Unescapes escapes w text → ¬ (IsUtf8 text) → SaysNoText (Some escapes) w
+no_text_unescaped escapes w text lt says bad = (text, rw (some_text w lt) (unescaped says, tt), bad)
+
+pub no_text_kept : (escapes : Escapes) (w : List ℕ) → 0 < length w → ((other : List ℕ) → ¬ (Unescapes escapes w other)) → ¬ (IsUtf8 w) → SaysNoText (Some escapes) w
+no_text_kept escapes w lt other bad = (w, rw (some_text w lt) (as_it_stands other refl, tt), bad)
+
+pub stops_as : {T : Type 0} (r : Result T Stop) (P Q R S : Type 0) → (P → R) → (Q → S) → StopsOnlyIf r P Q → StopsOnlyIf r R S
+stops_as (Ok _) P Q R S f g h = tt
+stops_as (Err (stop.Reader fault)) P Q R S f g h = h
+stops_as (Err stop.NotText) P Q R S f g h = f h
+stops_as (Err stop.TooLong) P Q R S f g h = g h
+stops_as (Err stop.Memory) P Q R S f g h = tt
+
 -- ---- a line that was read
 
 pub read_none : (old new : Option (List ℕ)) → IsAtEnd old → DropsThrough old new 10 → GoesOn old new []
@@ -187,9 +210,10 @@ trimmed_cut piece mid line e is cut = cut ∙ ap (strip_last 13) is ∙ ap (λ b
 
 -- ---- the lines of a text, read one after another
 
--- these lines of a text were added, and it goes on with the rest
-pub record Loading (headed : Option Escapes) (text rest : Option (List ℕ)) (old now : FiledHistory) (taken : Bool) : Type 0 where
+-- these lines of a text were added, at least so many, and it goes on with the rest
+pub record Loading (headed : Option Escapes) (text rest : Option (List ℕ)) (old now : FiledHistory) (taken : Bool) (count : ℕ) : Type 0 where
   pub written : List (List ℕ)
+  pub counted : count ≤ length written
   pub adds : AddsLines headed written old now taken
   pub goes_on : GoesOn text rest written
 
@@ -203,28 +227,53 @@ goes_on-more (Some t) None rest vs ws h k = absurd h
 goes_on-more (Some t) (Some m) None vs ws h k = absurd k
 goes_on-more (Some t) (Some m) (Some r) vs ws h k = rw (h, k) (sym (append_assoc vs ws (lines_of r)))
 
-pub loading_none : (headed : Option Escapes) (text : Option (List ℕ)) (h : FiledHistory) → Loading headed text text h h true
-loading_none headed text h = record { written = []; adds = adds_none headed h; goes_on = goes_on-none text }
+one_more : (n : ℕ) (xs : List (List ℕ)) (x : List ℕ) → n ≤ length xs → n + 1 ≤ length (xs ++ x ∷ [])
+one_more n xs x h = simp length-append (omega arith)
 
-pub loading_more : (headed : Option Escapes) (text mid rest : Option (List ℕ)) (old now new : FiledHistory) (line : List ℕ) (t u : Bool) → Loading headed text mid old now t → GoesOn mid rest (line ∷ []) → AddsLines headed (line ∷ []) now new u → Loading headed text rest old new (t && u)
-loading_more headed text mid rest old now new line t u l k a = record {
+pub loading_none : (headed : Option Escapes) (text : Option (List ℕ)) (h : FiledHistory) → Loading headed text text h h true 0
+loading_none headed text h = record { written = []; counted = omega arith; adds = adds_none headed h; goes_on = goes_on-none text }
+
+pub loading_more : (headed : Option Escapes) (text mid rest : Option (List ℕ)) (old now new : FiledHistory) (line : List ℕ) (t u : Bool) (n : ℕ) → Loading headed text mid old now t n → GoesOn mid rest (line ∷ []) → AddsLines headed (line ∷ []) now new u → Loading headed text rest old new (t && u) (n + 1)
+loading_more headed text mid rest old now new line t u n l k a = record {
   written = l.written ++ line ∷ [];
+  counted = one_more n l.written line l.counted;
   adds = adds_more headed l.written (line ∷ []) old now new t u l.adds a;
   goes_on = goes_on-more text mid rest l.written (line ∷ []) l.goes_on k;
 }
 
-pub loading_ended : (headed : Option Escapes) (text rest : Option (List ℕ)) (old now : FiledHistory) (t : Bool) → Loading headed text rest old now t → IfSome rest (λ r. lines_of r ≡ []) → IfSome text (λ x. AddsLines headed (lines_of x) old now t)
-loading_ended headed None rest old now t l ends = tt
-loading_ended headed (Some x) None old now t l ends = absurd l.goes_on
-loading_ended headed (Some x) (Some r) old now t l ends = rw (l.goes_on, ends, append-nil l.written) l.adds
+pub loading_ended : (headed : Option Escapes) (text rest : Option (List ℕ)) (old now : FiledHistory) (t : Bool) (n : ℕ) → Loading headed text rest old now t n → IfSome rest (λ r. lines_of r ≡ []) → IfSome text (λ x. AddsLines headed (lines_of x) old now t)
+loading_ended headed None rest old now t n l ends = tt
+loading_ended headed (Some x) None old now t n l ends = absurd l.goes_on
+loading_ended headed (Some x) (Some r) old now t n l ends = rw (l.goes_on, ends, append-nil l.written) l.adds
 
-pub loading_beginning : (headed : Option Escapes) (text rest : Option (List ℕ)) (old now : FiledHistory) (t : Bool) → Loading headed text rest old now t → IfSome text (λ x. AddsBeginning headed (lines_of x) old now)
-loading_beginning headed None rest old now t l = tt
-loading_beginning headed (Some x) None old now t l = absurd l.goes_on
-loading_beginning headed (Some x) (Some r) old now t l = rw l.goes_on (adds_beginning headed l.written (lines_of r) old now t l.adds)
+pub loading_beginning : (headed : Option Escapes) (text rest : Option (List ℕ)) (old now : FiledHistory) (t : Bool) (n : ℕ) → Loading headed text rest old now t n → IfSome text (λ x. AddsBeginning headed (lines_of x) old now)
+loading_beginning headed None rest old now t n l = tt
+loading_beginning headed (Some x) None old now t n l = absurd l.goes_on
+loading_beginning headed (Some x) (Some r) old now t n l = rw l.goes_on (adds_beginning headed l.written (lines_of r) old now t l.adds)
 
-pub loading_some : (headed : Option Escapes) (text rest : Option (List ℕ)) (old now : FiledHistory) (t : Bool) → Loading headed text rest old now t → AddsSome old now
-loading_some headed text rest old now t l = record { lines = l.adds.lines; added = l.adds.added }
+pub loading_some : (headed : Option Escapes) (text rest : Option (List ℕ)) (old now : FiledHistory) (t : Bool) (n : ℕ) → Loading headed text rest old now t n → AddsSome old now
+loading_some headed text rest old now t n l = record { lines = l.adds.lines; added = l.adds.added }
+
+pub loading_no_text : (headed : Option Escapes) (text mid rest : Option (List ℕ)) (old now new : FiledHistory) (line : List ℕ) (t : Bool) (n : ℕ) → Loading headed text mid old now t n → GoesOn mid rest (line ∷ []) → new ≡ now → SaysNoText headed line → IfSome text (λ x. AddsToNoText headed (lines_of x) old new)
+loading_no_text headed None mid rest old now new line t n l k e bad = tt
+loading_no_text headed (Some x) None rest old now new line t n l k e bad = absurd l.goes_on
+loading_no_text headed (Some x) (Some m) None old now new line t n l k e bad = absurd k
+loading_no_text headed (Some x) (Some m) (Some r) old now new line t n l k e bad = let more = says_lines headed (lines_of r) in
+    rw (l.goes_on, k) (record {
+      lines = l.adds.lines;
+      unread = bad.0 ∷ more.0;
+      says = SaysLines-append headed l.written (line ∷ lines_of r) l.adds.lines (bad.0 ∷ more.0) l.adds.says
+          (SaysLines-append headed (line ∷ []) (lines_of r) (bad.0 ∷ []) more.0 bad.1 more.1);
+      added = e ∙ l.adds.added;
+    }, bad.2)
+
+as_long : (n m : ℕ) (xs ys : List (List ℕ)) → m ≤ n → n ≤ length xs → m ≤ length (xs ++ ys)
+as_long n m xs ys h k = simp length-append (omega arith)
+
+pub loading_too_many : (headed : Option Escapes) (text rest : Option (List ℕ)) (old now : FiledHistory) (t : Bool) (n : ℕ) → Loading headed text rest old now t n → max_count ≤ n → IfSome text HasTooManyLines
+loading_too_many headed None rest old now t n l many = tt
+loading_too_many headed (Some x) None old now t n l many = absurd l.goes_on
+loading_too_many headed (Some x) (Some r) old now t n l many = rw l.goes_on (as_long n max_count l.written (lines_of r) many l.counted)
 
 -- ---- the header, or the first line
 
@@ -313,6 +362,17 @@ begins_line text rest line old new k other lt e = record {
   added = λ _. rw (some_text line lt) e;
 }
 
+pub first_no_text : (text rest : Option (List ℕ)) (line : List ℕ) (old new : FiledHistory) → GoesOn text rest (line ∷ []) → ((escapes : Escapes) → line ≢ header escapes) → 0 < length line → new ≡ old → ¬ (IsUtf8 line) → IfSome text (λ t. LoadsToNoText t old new)
+first_no_text None rest line old new k other lt e bad = tt
+first_no_text (Some t) None line old new k other lt e bad = absurd k
+first_no_text (Some t) (Some r) line old new k other lt e bad = (record {
+  headed = None;
+  lines = [];
+  unread = line ∷ filter is_some_text (lines_of r);
+  says = without_header refl (no_first (Some t) (Some r) line k other) (rw (k, some_text line lt) refl);
+  added = e;
+}, bad)
+
 -- an empty line is no header
 empty_is_none : (escapes : Escapes) → ◌≢◌ {A = List ℕ} [] (header escapes)
 empty_is_none V2 e = nil_is_not_cons e
@@ -384,6 +444,21 @@ begins_all text (Some r) None old mid new b a = let firsts = filter is_some_text
 pub begins_known : (text rest : Option (List ℕ)) (headed : Option Escapes) (old mid new : FiledHistory) → ReadsHeader text rest old mid headed → IfSome rest (λ r. AddsBeginning headed (lines_of r) mid new) → IfSome text (λ t. LoadsBeginning t old new)
 begins_known None rest headed old mid new b a = tt
 begins_known (Some t) rest headed old mid new b a = begins_all t rest headed old mid new b a
+
+pub rest_no_text : (text rest : Option (List ℕ)) (headed : Option Escapes) (old mid new : FiledHistory) → ReadsHeader text rest old mid headed → IfSome rest (λ r. AddsToNoText headed (lines_of r) mid new) → IfSome text (λ t. LoadsToNoText t old new)
+unfolding begins_all
+rest_no_text None rest headed old mid new b a = tt
+rest_no_text (Some t) None headed old mid new b a = absurd b.goes_on
+rest_no_text (Some t) (Some r) (Some escapes) old mid new b a = (begins_all t (Some r) (Some escapes) old mid new b a.0, a.1)
+rest_no_text (Some t) (Some r) None old mid new b a = (begins_all t (Some r) None old mid new b a.0, a.1)
+
+rest_as_long : (m : ℕ) (xs ys : List (List ℕ)) → m ≤ length ys → m ≤ length (xs ++ ys)
+rest_as_long m xs ys h = simp length-append (omega arith)
+
+pub rest_too_many : (text rest : Option (List ℕ)) (headed : Option Escapes) (old mid : FiledHistory) → ReadsHeader text rest old mid headed → IfSome rest HasTooManyLines → IfSome text HasTooManyLines
+rest_too_many None rest headed old mid b many = tt
+rest_too_many (Some t) None headed old mid b many = absurd b.goes_on
+rest_too_many (Some t) (Some r) headed old mid b many = rw b.goes_on (rest_as_long max_count b.firsts (lines_of r) many)
 
 -- each text says something
 pub reading : (text : List ℕ) → (headed : Option Escapes) × (lines : List (List ℕ)) × IsHistoryText text headed lines

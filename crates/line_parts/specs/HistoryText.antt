@@ -4,8 +4,7 @@ use Rattle.std.specs.Prelude.{List, [], ◌∷◌, ◌++◌, filter, length, map
 use Rattle.std.specs.Char.{is_newline}
 use Rattle.std.specs.Io.KnownBytes.{Appends}
 use Rattle.std.specs.List.{AllZip, flat_map, slice_split}
-use Rattle.std.specs.declared.io.ErrorKind.{ErrorKind}
-use Rattle.std.specs.declared.io.ErrorKind.TheVariants.{Interrupted, OutOfMemory}
+use Rattle.std.specs.declared.io.ErrorKind.TheVariants.{OutOfMemory}
 use Rattle.line_config.specs.Error.{FaultsOnly, IoOnlyOfKind}
 use Rattle.line_config.specs.declared.error.ReadlineError.{ReadlineError}
 use Rattle.line_parts.specs.EscapedLine.{Unescapes, escaped_line}
@@ -125,10 +124,6 @@ pub record ReadsHeader (text rest : Option (List ℕ)) (old new : FiledHistory) 
   pub no_header : headed ≡ None
       → IfSome text (λ t. (escapes : Escapes) (more : List (List ℕ)) → lines_of t ≢ header escapes ∷ more)
   pub added : headed ≡ None → new ≡ all_filed old (filter is_some_text firsts)
-
--- faults of this kind stop the reading: no want of memory, and no interruption, after which it goes on
-abbrev pub StopsReading : ErrorKind → Type 0
-StopsReading kind = (kind ≢ OutOfMemory) × (kind ≢ Interrupted)
 
 -- the text that a save writes: all lines behind the header, or the new ones to be appended
 abbrev pub to_save : Escapes → Bool → FiledHistory → List ℕ

@@ -19,6 +19,7 @@ pub mod HistoryLaws
 pub mod HistoryPlace
 pub mod HistoryText
 pub mod HistoryTextLaws
+pub mod LoadStop
 pub mod BracketMatch
 pub mod Pieces
 pub mod Prefix

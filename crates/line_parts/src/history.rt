@@ -4,6 +4,7 @@ ghost use Rattle.std.specs.Prelude.{IsTrue, is_ok, option_map, string_bytes, IfO
 ghost use Rattle.line_config.specs.Error.{FaultsOnly, IoOnlyIf, MemoryOnly};
 
 mod file;
+mod lines;
 mod mem;
 mod search;
 mod text;

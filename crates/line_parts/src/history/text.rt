@@ -13,49 +13,15 @@ ghost use Rattle.std.specs.Io.KnownBytes.{append_known, Appends};
 ghost use Rattle.line_parts.specs.History.{TellsTaken, filed};
 ghost use Rattle.line_parts.specs.HistoryText.{header, lines_of, written};
 ghost use Rattle.line_parts.specs.HistoryText.{AddsLines, AddsBeginning, AddsSome, ReadsHeader, FilesSome};
-ghost use Rattle.line_parts.specs.HistoryText.{GoesOn, Loads, LoadsBeginning, Saves, StopsReading};
+ghost use Rattle.line_parts.specs.HistoryText.{Loads, LoadsBeginning, Saves};
+ghost use Rattle.line_parts.specs.LoadStop.{AddsToNoText, HasTooManyLines, LoadsToNoText, SaysNoText, StopsBy, StopsOnlyIf, StopsReading};
 
 use crate::escaped_line::{Escapes, push_escaped_line, unescape_line};
+use crate::history::lines::{Loaded, Stop, read_line};
 use crate::history::{FileHistory, History};
 use line_config::{ReadlineError, Result};
 use std::io::{BufRead, BufReader, Read, Write};
 use std::{io, str};
-
-/// Takes the last byte off, where it is `byte`, and returns whether it was.
-fn pop_if_last(bytes: &mut Vec<u8>, byte: u8) -> bool
-    ensures popped { result ≡ ends_with_byte byte bytes.old.items }
-    ensures rest { bytes.new.items ≡ strip_last byte bytes.old.items }
-{
-    if bytes.last() != Some(&byte) {
-        return false;
-    }
-    bytes.pop();
-    true
-}
-
-/// Reads the next line into `line`, without its line feed and one carriage return before that.
-/// Returns whether there was one.
-#[tactic(auto, using(crate::proofs::LoadLemmas::read_none, crate::proofs::LoadLemmas::ended_none, crate::proofs::LoadLemmas::read_one, crate::proofs::LoadLemmas::trimmed_kept, crate::proofs::LoadLemmas::trimmed_cut))]
-fn read_line<B: BufRead>(reader: &mut B, line: &mut Vec<u8>) -> Result<bool>
-    ensures goes_on { IfOk result (λ more. GoesOn (B.remaining reader.old) (B.remaining reader.new)
-        (if more then line.new.items ∷ [] else [])) }
-    ensures ended { IfOk result (λ more. more ≡ false
-        → IfSome (B.remaining reader.old) (λ text. lines_of text ≡ [])) }
-    ensures kind { IoOnlyOfKind result StopsReading }
-    ensures faults { FaultsOnly result }
-{
-    line.clear();
-    match reader.read_until(b'\n', line) {
-        Ok(0) => return Ok(false),
-        Ok(_) => {}
-        Err(cause) => return Err(stream_fault(cause)),
-    }
-    if !pop_if_last(line, b'\n') {
-        return Ok(true);
-    }
-    pop_if_last(line, b'\r');
-    Ok(true)
-}
 
 // Returns the first line of a text with these escapes.
 fn header_of(escapes: Escapes) -> &'static [u8]
@@ -95,6 +61,18 @@ fn stream_fault(cause: io::Error) -> ReadlineError
         return ReadlineError::Memory;
     }
     ReadlineError::Io(cause)
+}
+
+// Returns the error of a load that stops so.
+fn load_fault(stop: Stop) -> ReadlineError
+    ensures { StopsBy stop result }
+{
+    match stop {
+        Stop::Reader(fault) => stream_fault(fault.cause()),
+        Stop::NotText => ReadlineError::from(io::ErrorKind::InvalidData),
+        Stop::TooLong => ReadlineError::from(io::ErrorKind::FileTooLarge),
+        Stop::Memory => ReadlineError::Memory,
+    }
 }
 
 // Writes a text, and empties it.
@@ -191,17 +169,15 @@ impl FileHistory {
 
 impl FileHistory {
     // Adds a line that was read, which has to be UTF-8.
-    fn add_bytes(&mut self, line: &[u8]) -> Result<bool>
+    fn add_bytes(&mut self, line: &[u8]) -> Loaded<bool>
         ensures answer { TellsTaken result self.old.rules self.old.lines line.now }
         ensures filed { OnOk result (self.new ≡ filed self.old line.now) }
         ensures unchanged { OnErr result (self.new ≡ self.old) }
-        ensures io { IoOnlyIf result (¬ (IsUtf8 line.now)) }
-        ensures kind { IoOnlyOfKind result (λ kind. kind ≡ InvalidData) }
-        ensures faults { FaultsOnly result }
+        ensures stops { StopsOnlyIf result (¬ (IsUtf8 line.now)) ⊥ }
     {
         match str::from_utf8(line) {
-            Ok(line) => self.add(line),
-            Err(_) => Err(ReadlineError::from(io::ErrorKind::InvalidData)),
+            Ok(line) => self.add(line).map_err(|_| Stop::Memory),
+            Err(_) => Err(Stop::NotText),
         }
     }
 
@@ -212,11 +188,10 @@ impl FileHistory {
         line: &[u8],
         headed: Option<Escapes>,
         text: &mut Vec<u8>,
-    ) -> Result<bool>
+    ) -> Loaded<bool>
         ensures adds { IfOk result (AddsLines headed (line.now ∷ []) self.old self.new) }
         ensures unchanged { OnErr result (self.new ≡ self.old) }
-        ensures kind { IoOnlyOfKind result (λ kind. kind ≡ InvalidData) }
-        ensures faults { FaultsOnly result }
+        ensures stops { StopsOnlyIf result (SaysNoText headed line.now) ⊥ }
     {
         if line.is_empty() {
             return Ok(true);
@@ -224,20 +199,21 @@ impl FileHistory {
         let Some(escapes) = headed else {
             return self.add_bytes(line);
         };
-        if unescape_line(line, escapes, text)? {
-            return self.add_bytes(text.as_slice());
+        match unescape_line(line, escapes, text) {
+            Ok(true) => self.add_bytes(text.as_slice()),
+            Ok(false) => self.add_bytes(line),
+            Err(_) => Err(Stop::Memory),
         }
-        self.add_bytes(line)
     }
 
     // Reads a header, or else the first line, and adds that. Returns the escapes of the header.
     #[tactic(auto, using(crate::proofs::LoadLemmas::begins_empty, crate::proofs::LoadLemmas::begins_header, crate::proofs::LoadLemmas::begins_line, crate::proofs::LoadLemmas::begins_blank))]
-    fn load_first<B: BufRead>(&mut self, reader: &mut B) -> Result<Option<Escapes>>
+    fn load_first<B: BufRead>(&mut self, reader: &mut B) -> Loaded<Option<Escapes>>
         ensures begins { IfOk result
             (ReadsHeader (B.remaining reader.old) (B.remaining reader.new) self.old self.new) }
         ensures unchanged { OnErr result (self.new ≡ self.old) }
-        ensures kind { IoOnlyOfKind result StopsReading }
-        ensures faults { FaultsOnly result }
+        ensures stops { StopsOnlyIf result (IfSome (B.remaining reader.old)
+            (λ text. LoadsToNoText text self.old self.new)) ⊥ }
     {
         let mut line = Vec::new(self.alloc());
         if !read_line(reader, &mut line)? {
@@ -254,14 +230,15 @@ impl FileHistory {
 
     // Reads the lines behind the first one and adds them. Returns whether all were taken.
     #[tactic(auto, using(crate::proofs::LoadLemmas::loading_none, crate::proofs::LoadLemmas::loading_more, crate::proofs::LoadLemmas::loading_ended, crate::proofs::LoadLemmas::loading_beginning, crate::proofs::LoadLemmas::loading_some))]
-    fn load_rest<B: BufRead>(&mut self, reader: &mut B, headed: Option<Escapes>) -> Result<bool>
+    fn load_rest<B: BufRead>(&mut self, reader: &mut B, headed: Option<Escapes>) -> Loaded<bool>
         ensures all { IfOk result (λ taken. IfSome (B.remaining reader.old)
             (λ text. AddsLines headed (lines_of text) self.old self.new taken)) }
         ensures beginning { OnErr result (IfSome (B.remaining reader.old)
             (λ text. AddsBeginning headed (lines_of text) self.old self.new)) }
         ensures some { AddsSome self.old self.new }
-        ensures kind { IoOnlyOfKind result StopsReading }
-        ensures faults { FaultsOnly result }
+        ensures stops { let text = B.remaining reader.old in StopsOnlyIf result
+            (IfSome text (λ t. AddsToNoText headed (lines_of t) self.old self.new))
+            (IfSome text HasTooManyLines) }
     {
         let mut line = Vec::new(self.alloc());
         let mut text = Vec::new(self.alloc());
@@ -273,19 +250,19 @@ impl FileHistory {
             let added = self.load_line(line.as_slice(), headed, &mut text)?;
             taken = taken && added;
         }
-        Err(ReadlineError::from(io::ErrorKind::FileTooLarge))
+        Err(Stop::TooLong)
     }
 
     // Reads a whole text and adds its lines, as `load_from` says.
     #[tactic(auto, using(crate::proofs::LoadLemmas::loads_headed, crate::proofs::LoadLemmas::loads_bare, crate::proofs::LoadLemmas::adds_some_none, crate::proofs::LoadLemmas::adds_some_more))]
-    fn load_text<B: BufRead>(&mut self, reader: &mut B) -> Result<bool>
+    fn load_text<B: BufRead>(&mut self, reader: &mut B) -> Loaded<bool>
         ensures loads { IfOk result (λ answer. IfSome (B.remaining reader.old)
             (λ text. Loads text self.old self.new answer)) }
         ensures beginning { OnErr result (IfSome (B.remaining reader.old)
             (λ text. LoadsBeginning text self.old self.new)) }
         ensures adds { FilesSome result self.old self.new }
-        ensures kind { IoOnlyOfKind result StopsReading }
-        ensures faults { FaultsOnly result }
+        ensures stops { let text = B.remaining reader.old in StopsOnlyIf result
+            (IfSome text (λ t. LoadsToNoText t self.old self.new)) (IfSome text HasTooManyLines) }
     {
         let headed = self.load_first(reader)?;
         let taken = self.load_rest(reader, headed)?;
@@ -317,7 +294,7 @@ impl FileHistory {
         ensures faults { FaultsOnly result }
     {
         match BufReader::new(self.alloc(), reader) {
-            Ok(mut reader) => self.load_text(&mut reader),
+            Ok(mut reader) => self.load_text(&mut reader).map_err(load_fault),
             Err(cause) => Err(stream_fault(cause)),
         }
     }

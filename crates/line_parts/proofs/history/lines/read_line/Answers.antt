@@ -1,7 +1,7 @@
 use Rattle.std.proofs.Common.{arith, ◌≡◌, ◌<◌, true, false, length}
 use Rattle.std.specs.Io.BufRead.{ends_with_byte}
 use Rattle.line_parts.proofs.LoadLemmas.{read_one, trimmed_kept, trimmed_cut}
-use Rattle.line_parts.proofs.history.text.read_line.Goals as goal
+use Rattle.line_parts.proofs.history.lines.read_line.Goals as goal
 
 pub returns-then-not-pop_if_last-clause-goes_on : goal.returns-then-not-pop_if_last-clause-goes_on
 returns-then-not-pop_if_last-clause-goes_on g c =
