@@ -1,5 +1,5 @@
 -- Completions, as text.
-use Rattle.std.specs.Prelude.{ℕ, List, [], slice_range, string_bytes}
+use Rattle.std.specs.Prelude.{ℕ, ◌≤◌, List, [], IsCharBoundary, slice_range, string_bytes}
 use Rattle.line_buffer.specs.Changes.{Changes, with_entries, with_replace}
 use Rattle.line_buffer.specs.Line.{Line, replaced_in}
 use Rattle.line_parts.specs.declared.completion.Candidate.{Ghosts}
@@ -28,6 +28,10 @@ pair_offer pair = record {
 pub record Completion : Type 0 where
   pub start : ℕ
   pub offers : List Offer
+
+-- a part of a line that ends at the cursor begins on a character boundary, no further on
+abbrev pub BeginsIn : List ℕ → ℕ → ℕ → Type 0
+BeginsIn line cursor start = (start ≤ cursor) × IsCharBoundary line start
 
 -- nothing is offered
 abbrev pub no_completion : Completion

@@ -98,6 +98,10 @@ path_completion listing text =
     let found = path_before cs in
     record { start = offset_at cs found.start; offers = offered_at listing found.quote found.path }
 
+-- how a completer of names completes the path before a cursor; the listing says which names each folder has
+abbrev pub completed_by : {L : Type 0} → (L → List ℕ → Option (List Listed)) → FilenameCompleter L → List ℕ → ℕ → Completion
+completed_by listing completer text cursor = path_completion (listing completer.lister) (take cursor text)
+
 -- whether a candidate shows a text that comes before another's, in the order of their bytes
 abbrev pub is_before : Offer → Offer → Bool
 is_before one other = is_lt (slice_cmp nat_cmp one.display other.display)

@@ -1,6 +1,6 @@
 -- The text in which the lines of a history are kept.
 use Rattle.std.specs.Prelude.{◌≡◌, ◌≢◌, ℕ, ◌-◌, ◌==◌, ◌&&◌, nat_lt, Bool, false, bytes_eq, if◌then◌else◌}
-use Rattle.std.specs.Prelude.{List, [], ◌∷◌, ◌++◌, filter, length, map, take, Option, Some, None, is_some, IfSome, MatchOption, OnErr, OnOk, Result, Ok, Err}
+use Rattle.std.specs.Prelude.{List, [], ◌∷◌, ◌++◌, filter, length, map, take, Option, Some, None, is_some, IfOk, IfSome, MatchOption, OnErr, OnOk, Result, Ok, Err}
 use Rattle.std.specs.Char.{is_newline}
 use Rattle.std.specs.Io.KnownBytes.{Appends}
 use Rattle.std.specs.List.{AllZip, flat_map, slice_split}
@@ -85,6 +85,14 @@ pub record LoadsBeginning (text : List ℕ) (old new : FiledHistory) : Type 0 wh
   pub unread : List (List ℕ)
   pub says : IsHistoryText text headed (lines ++ unread)
   pub added : new ≡ all_filed old lines
+
+-- a text that is known is loaded, unless that fails
+abbrev pub LoadsWhole : {E : Type 0} → Result Bool E → Option (List ℕ) → FiledHistory → FiledHistory → Type 0
+LoadsWhole result text old new = IfOk result (λ answer. IfSome text (λ t. Loads t old new answer))
+
+-- a load of a text that is known, if it fails, has added some of its first lines
+abbrev pub LoadsFirst : {E : Type 0} → Result Bool E → Option (List ℕ) → FiledHistory → FiledHistory → Type 0
+LoadsFirst result text old new = OnErr result (IfSome text (λ t. LoadsBeginning t old new))
 
 -- a history after what written lines say was added, and whether all of it was taken
 pub record AddsLines (headed : Option Escapes) (written : List (List ℕ)) (old new : FiledHistory) (taken : Bool) : Type 0 where

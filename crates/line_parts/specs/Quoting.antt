@@ -76,6 +76,10 @@ abbrev pub open_quote : Quote → List ℕ → Option ℕ
 open_quote kind cs =
     least_below (length cs) (λ place. is_closed (take place cs) && is_unclosed kind (drop place cs))
 
+-- no quote of a kind closes what stands behind it
+abbrev pub NeverCloses : Quote → ℕ → List ℕ → Type 0
+NeverCloses kind mark text = is_unclosed kind (mark ∷ text) ≡ true
+
 -- a text stands in quotes of a kind up to the first such quote, with this behind that
 abbrev pub ClosesBefore : Quote → ℕ → List ℕ → List ℕ → Type 0
 ClosesBefore kind mark text rest =

@@ -1,5 +1,5 @@
 //! Brackets in the bytes of a text.
-ghost use Rattle.std.specs.Prelude.{◌≡◌, ◌≢◌, ◌<◌, ◌+◌, ◌-◌, true, length, IfSome, if◌then◌else◌};
+ghost use Rattle.std.specs.Prelude.{◌≡◌, ◌<◌, ◌+◌, ◌-◌, true, length, IfSome, if◌then◌else◌};
 ghost use Rattle.std.specs.Prelude.{slice_index};
 ghost use Rattle.line_parts.specs.Brackets.{is_bracket, is_close, is_open, partner};
 ghost use Rattle.line_parts.specs.BracketMatch.{bracket_at, has_room, looked_at, match_of};

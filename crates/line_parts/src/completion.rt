@@ -70,7 +70,7 @@ impl Candidate for &str {
 
 /// Completes a part of the line.
 pub trait Completer {
-    ghost use Rattle.line_parts.specs.Candidate.{Completion, Written, no_completion, offer_of};
+    ghost use Rattle.line_parts.specs.Candidate.{BeginsIn, Completion, Written, no_completion, offer_of};
     ghost use Rattle.line_parts.specs.Candidate.{put_to_cursor, written_as};
     ghost use Rattle.line_parts.specs.Context.{shown_in};
     ghost use Rattle.line_parts.specs.Shown.{Shown, NotBoth};
@@ -101,7 +101,7 @@ pub trait Completer {
         ctx: &Context<'_, S>,
     ) -> Result<(usize, Vec<Self::Candidate>)>
         requires { IsCharBoundary line.now pos }
-        ensures start { IfOk result (λ r. (r.0 ≤ pos) × IsCharBoundary line.now r.0) }
+        ensures start { IfOk result (λ r. BeginsIn line.now pos r.0) }
         ensures answer { IfOk result (λ r. IsUsualOrOwn no_completion
             (own_completion self.now (shown_in S.History ctx.now line.now pos))
             (record {

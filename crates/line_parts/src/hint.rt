@@ -1,7 +1,7 @@
 //! Hints: texts that are shown behind the line as its likely end.
 ghost use Rattle.std.specs.Prelude.{◌≡◌, ℕ, Bool, true, false, List, [], Option, Some, None};
-ghost use Rattle.std.specs.Prelude.{option_map, IfOk, IsOk, string_bytes, IsTrue, if◌then◌else◌, length};
-ghost use Rattle.std.specs.Prelude.{◌==◌, ◌<◌, ◌-◌};
+ghost use Rattle.std.specs.Prelude.{option_map, IfOk, IsOk, string_bytes, IsTrue, length};
+ghost use Rattle.std.specs.Prelude.{◌==◌, ◌<◌};
 ghost use Rattle.std.specs.List.{starts_with};
 ghost use Rattle.line_config.specs.Error.{IoOnlyIf, FaultsOnly, MemoryOnly};
 ghost use Rattle.line_parts.specs.HistoryHint.{rest_behind, start_in};

@@ -1,6 +1,6 @@
 //! The lines that were entered before.
-ghost use Rattle.std.specs.Prelude.{◌≡◌, ℕ, Bool, false, List, [], length, not, if◌then◌else◌, ◌↔◌};
-ghost use Rattle.std.specs.Prelude.{IsTrue, is_ok, option_map, string_bytes, IfOk};
+ghost use Rattle.std.specs.Prelude.{◌≡◌, ℕ, Bool, false, List, [], length, if◌then◌else◌, ◌↔◌};
+ghost use Rattle.std.specs.Prelude.{IsTrue, is_ok, string_bytes, IfOk};
 ghost use Rattle.line_config.specs.Error.{FaultsOnly, IoOnlyIf, MemoryOnly};
 
 mod file;

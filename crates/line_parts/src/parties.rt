@@ -4,7 +4,7 @@ ghost use Rattle.std.specs.Prelude.{is_some, length, option_map, IfOk};
 ghost use Rattle.line_config.specs.Error.{FaultsOnly, IoOnlyIf};
 ghost use Rattle.line_parts.specs.Asks.{for_hint, for_look_up, for_verdict, is_sure};
 ghost use Rattle.line_parts.specs.Consulted.{Unchanged};
-ghost use Rattle.line_parts.specs.Environment.{Environment, hint_for, verdict_on};
+ghost use Rattle.line_parts.specs.Environment.{hint_for, verdict_on};
 ghost use Rattle.line_parts.specs.Helped.{environment_by, sure_by};
 ghost use Rattle.line_parts.specs.Hint.{Suggests, suggestion_of, visible};
 ghost use Rattle.line_parts.specs.Verdict.{verdict_of};

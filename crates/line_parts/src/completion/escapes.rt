@@ -1,15 +1,13 @@
 //! Words of a line, and escapes in them.
-ghost use Rattle.std.specs.Prelude.{◌≡◌, ℕ, ◌≤◌, ◌++◌, ◌∷◌, [], Bool, List};
-ghost use Rattle.std.specs.Prelude.{IfOk, IsCharBoundary, OnOk};
-ghost use Rattle.std.specs.Prelude.{chars, drop, encode_utf8_all, false, if◌then◌else◌};
-ghost use Rattle.std.specs.Prelude.{string_bytes, take, true};
-ghost use Rattle.std.specs.Prelude.{length, IfSome, MatchOption, ◌<◌};
-ghost use Rattle.std.specs.Char.{encode_utf8};
+ghost use Rattle.std.specs.Prelude.{◌≡◌, ◌++◌, ◌∷◌, [], ◌<◌, IfOk, IsCharBoundary, OnOk};
+ghost use Rattle.std.specs.Prelude.{chars, drop, encode_utf8_all, if◌then◌else◌};
+ghost use Rattle.std.specs.Prelude.{string_bytes, take, length, IfSome, MatchOption};
 ghost use Rattle.std.specs.Cow.{cow_str_bytes};
 ghost use Rattle.std.specs.List.{flat_map};
 ghost use Rattle.std.specs.Str.{IsUtf8};
 ghost use Rattle.std.specs.Str.Iter.{chars_rest};
 ghost use Rattle.line_config.specs.Error.{MemoryOnly};
+ghost use Rattle.line_parts.specs.Candidate.{BeginsIn};
 ghost use Rattle.line_parts.specs.Escape.{EndsInEscape, EndsInNoEscape, ForTest, escaped, escaped_char};
 ghost use Rattle.line_parts.specs.Escape.{is_escape, kept_of, on_chars, unescaped, word_offset};
 
@@ -187,7 +185,7 @@ pub fn extract_word<F: Fn(char) -> bool>(
 ) -> (usize, &str)
     requires cursor { IsCharBoundary line.now pos }
     requires callable { F.IsAlwaysCallable is_break_char }
-    ensures within { (result.0 ≤ pos) × IsCharBoundary line.now result.0 }
+    ensures within { BeginsIn line.now pos result.0 }
     ensures text { result.1.now ≡ drop result.0 (take pos line.now) }
     ensures start { ForTest F.Fn is_break_char (λ is_break. result.0
         ≡ word_offset esc_char is_break (chars (take pos line.now))) }

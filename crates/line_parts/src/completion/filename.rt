@@ -1,9 +1,9 @@
 //! Completion of the names of files and folders.
-ghost use Rattle.std.specs.Prelude.{◌≡◌, ◌≤◌, ℕ, Bool, false, List, Option, Some, chars, map, option_map, take, IfOk};
+ghost use Rattle.std.specs.Prelude.{◌≡◌, ℕ, Bool, false, List, Option, Some, chars, map, option_map, IfOk};
 ghost use Rattle.std.specs.Prelude.{IsCharBoundary, string_bytes};
 ghost use Rattle.std.specs.Cmp.Lexicographic.{slice_cmp};
 ghost use Rattle.std.specs.Ordering.{nat_cmp};
-ghost use Rattle.line_parts.specs.Candidate.{pair_offer};
+ghost use Rattle.line_parts.specs.Candidate.{BeginsIn, pair_offer};
 ghost use Rattle.line_config.specs.Error.{FaultsOnly, IoOnlyIf};
 
 use crate::completion::Completer;
@@ -54,7 +54,7 @@ pub struct FilenameCompleter<L> {
 }
 
 impl<L: Lister> FilenameCompleter<L> {
-    ghost use Rattle.line_parts.specs.Completed.{InOrder, lister_of, offered_at, path_completion};
+    ghost use Rattle.line_parts.specs.Completed.{InOrder, completed_by, lister_of, offered_at};
 
     /// Returns a completer that asks `lister` for the names in a folder.
     pub fn new(lister: L) -> Self
@@ -72,9 +72,8 @@ impl<L: Lister> FilenameCompleter<L> {
     /// `Io`, only where the lister is not sure, and `Memory`.
     pub fn complete_path(&self, alloc: Global, line: &str, pos: usize) -> Result<(usize, Vec<Pair>)>
         requires { IsCharBoundary line.now pos }
-        ensures start { IfOk result (λ r. (r.0 ≤ pos) × IsCharBoundary line.now r.0) }
-        ensures answer { let found =
-            path_completion (L.listing (lister_of self.now)) (take pos line.now) in
+        ensures start { IfOk result (λ r. BeginsIn line.now pos r.0) }
+        ensures answer { let found = completed_by L.listing self.now line.now pos in
             IfOk result (λ r. (r.0 ≡ found.start)
             × InOrder found.offers (map pair_offer r.1.items)) }
         ensures io { IoOnlyIf result (L.sure (lister_of self.now) ≡ false) }
@@ -101,10 +100,10 @@ impl<L: Lister> FilenameCompleter<L> {
         pos: usize,
     ) -> Result<(usize, Vec<Pair>)>
         requires { IsCharBoundary line.now pos }
-        ensures start { IfOk result (λ r. (r.0 ≤ pos) × IsCharBoundary line.now r.0) }
+        ensures start { IfOk result (λ r. BeginsIn line.now pos r.0) }
         ensures answer { IfOk result (λ r.
             record { start = r.0; offers = map pair_offer r.1.items }
-            ≡ path_completion (L.listing (lister_of self.now)) (take pos line.now)) }
+            ≡ completed_by L.listing self.now line.now pos) }
         ensures io { IoOnlyIf result (L.sure (lister_of self.now) ≡ false) }
         ensures faults { FaultsOnly result }
     {
@@ -129,14 +128,14 @@ impl<L: Lister> FilenameCompleter<L> {
 }
 
 impl<L: Lister> Completer for FilenameCompleter<L> {
-    ghost use Rattle.line_parts.specs.Completed.{lister_of, ordered, path_completion};
+    ghost use Rattle.line_parts.specs.Completed.{completed_by, lister_of, ordered};
 
     type Candidate = Pair;
 
     ghost sure = { λ completer. L.sure (lister_of completer) };
 
-    ghost own_completion = { λ completer shown. Some (ordered
-        (path_completion (L.listing (lister_of completer)) (take shown.cursor shown.text))) };
+    ghost own_completion = { λ completer shown.
+        Some (ordered (completed_by L.listing completer shown.text shown.cursor)) };
 
     fn complete<S: History>(
         &self,
@@ -146,9 +145,8 @@ impl<L: Lister> Completer for FilenameCompleter<L> {
         _ctx: &Context<'_, S>,
     ) -> Result<(usize, Vec<Pair>)>
         requires { IsCharBoundary line.now pos }
-        ensures start { IfOk result (λ r. (r.0 ≤ pos) × IsCharBoundary line.now r.0) }
-        ensures answer { let found =
-            ordered (path_completion (L.listing (lister_of self.now)) (take pos line.now)) in
+        ensures start { IfOk result (λ r. BeginsIn line.now pos r.0) }
+        ensures answer { let found = ordered (completed_by L.listing self.now line.now pos) in
             IfOk result (λ r. found ≡ record { start = r.0; offers = map pair_offer r.1.items }) }
         ensures io { IoOnlyIf result (L.sure (lister_of self.now) ≡ false) }
         ensures faults { FaultsOnly result }

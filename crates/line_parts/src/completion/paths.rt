@@ -1,10 +1,10 @@
 //! The path that ends at a cursor, and the names in a folder that complete it.
-ghost use Rattle.std.specs.Prelude.{◌≡◌, ◌≤◌, ◌==◌, ◌++◌, List, Some, chars, drop, encode_utf8_all, length, map, take};
-ghost use Rattle.std.specs.Prelude.{IfOk, IsCharBoundary};
+ghost use Rattle.std.specs.Prelude.{◌≡◌, ◌==◌, Some, chars, drop, encode_utf8_all, length, map, take};
+ghost use Rattle.std.specs.Prelude.{IfOk};
 ghost use Rattle.std.specs.Cow.{cow_str_bytes};
 ghost use Rattle.line_config.specs.Error.{MemoryOnly};
-ghost use Rattle.line_parts.specs.Candidate.{pair_offer};
-ghost use Rattle.line_parts.specs.Completed.{breaks_in, breaks_word, is_special, listed_of, name_start, offered, offered_for, path_before};
+ghost use Rattle.line_parts.specs.Candidate.{BeginsIn, pair_offer};
+ghost use Rattle.line_parts.specs.Completed.{breaks_in, breaks_word, listed_of, name_start, offered, offered_for, path_before};
 ghost use Rattle.line_parts.specs.Escape.{offset_at};
 
 use crate::completion::escapes::{Quote, escape, extract_word, unescape};
@@ -59,7 +59,7 @@ pub(crate) fn path_before(alloc: Global, text: &str) -> Result<(usize, CowStr<'_
     ensures path { IfOk result (λ r. let found = path_before (chars text.now) in
         (r.0 ≡ offset_at (chars text.now) found.start)
         × (cow_str_bytes r.1 ≡ encode_utf8_all found.path) × (r.2 ≡ found.quote)) }
-    ensures within { IfOk result (λ r. (r.0 ≤ length text.now) × IsCharBoundary text.now r.0) }
+    ensures within { IfOk result (λ r. BeginsIn text.now (length text.now) r.0) }
     ensures memory { MemoryOnly result }
 {
     let Some((quote, path)) = find_unclosed_quote(text) else {

@@ -1,7 +1,7 @@
 //! Quotes in a text, and the one that stands open at its end.
-ghost use Rattle.std.specs.Prelude.{◌≡◌, ◌∷◌, chars, IfSome, MatchOption, None, true};
+ghost use Rattle.std.specs.Prelude.{◌≡◌, ◌∷◌, chars, IfSome, MatchOption, None};
 ghost use Rattle.std.specs.Str.{IsUtf8};
-ghost use Rattle.line_parts.specs.Quoting.{BeginsClosed, ClosesBefore, IsUnpaired, OpensAt, double, is_unclosed, open_quote, single};
+ghost use Rattle.line_parts.specs.Quoting.{BeginsClosed, ClosesBefore, IsUnpaired, NeverCloses, OpensAt, double, open_quote, single};
 ghost use Rattle.line_parts.specs.declared.completion.escapes.Quote.TheVariants as quote;
 
 use crate::completion::chars::split_first;
@@ -9,7 +9,7 @@ use crate::completion::escapes::Quote;
 
 // Returns what stands behind the double quote that closes, in a text that stands in double quotes.
 fn behind_double(text: &str) -> Option<&str>
-    ensures closed { MatchOption result (is_unclosed quote.Double (double ∷ chars text.now) ≡ true)
+    ensures closed { MatchOption result (NeverCloses quote.Double double (chars text.now))
         (λ rest. ClosesBefore quote.Double double (chars text.now) (chars rest.now)) }
     ensures utf8 { IfSome result (λ rest. IsUtf8 rest.now) }
 {
@@ -26,7 +26,7 @@ fn behind_double(text: &str) -> Option<&str>
 
 // Returns what stands behind the single quote that closes, in a text that stands in single quotes.
 fn behind_single(text: &str) -> Option<&str>
-    ensures closed { MatchOption result (is_unclosed quote.Single (single ∷ chars text.now) ≡ true)
+    ensures closed { MatchOption result (NeverCloses quote.Single single (chars text.now))
         (λ rest. ClosesBefore quote.Single single (chars text.now) (chars rest.now)) }
     ensures utf8 { IfSome result (λ rest. IsUtf8 rest.now) }
 {

@@ -1,6 +1,6 @@
 //! A history that counts its new lines.
-ghost use Rattle.std.specs.Prelude.{◌≡◌, ◌-◌, ◌<◌, ◌≤◌, true, [], length, min, not, is_ok, option_map};
-ghost use Rattle.std.specs.Prelude.{string_bytes, IfSome, IsOk, if◌then◌else◌, IfOk};
+ghost use Rattle.std.specs.Prelude.{◌≡◌, ◌-◌, ◌<◌, ◌≤◌, true, [], length, is_ok};
+ghost use Rattle.std.specs.Prelude.{string_bytes, IsOk, if◌then◌else◌};
 ghost use Rattle.line_config.specs.Error.{MemoryOnly};
 ghost use Rattle.line_parts.specs.History.{Finds, FindsBorrowed, TellsTaken, entry_at, filed};
 ghost use Rattle.line_parts.specs.History.{filed_with_limit, line_at, lines_to_come, rules_of};

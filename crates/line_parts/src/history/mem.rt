@@ -1,6 +1,6 @@
 //! A history that is kept in memory.
 ghost use Rattle.std.specs.Prelude.{◌≡◌, ◌<◌, ◌≤◌, true, [], ◌∷◌, ◌++◌, length, map, is_ok};
-ghost use Rattle.std.specs.Prelude.{option_map, string_bytes, IfSome, IsOk, if◌then◌else◌, IfOk};
+ghost use Rattle.std.specs.Prelude.{string_bytes, IsOk, if◌then◌else◌};
 ghost use Rattle.line_config.specs.Error.{MemoryOnly};
 ghost use Rattle.line_parts.specs.History.{Finds, FindsBorrowed, entry_at, last_of, line_at};
 ghost use Rattle.line_parts.specs.History.{lines_to_come, leaves_out, rules_of, search_in};

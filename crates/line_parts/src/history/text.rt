@@ -1,11 +1,10 @@
 //! The text in which a history is saved and loaded.
-ghost use Rattle.std.specs.Prelude.{◌≡◌, ◌≢◌, ◌≤◌, ◌∷◌, [], length, drop, true, false, not};
-ghost use Rattle.std.specs.Prelude.{if◌then◌else◌, List, ℕ, OnOk, OnErr, IfOk, IfSome, MatchOption};
-ghost use Rattle.std.specs.Io.BufRead.{ends_with_byte, strip_last};
+ghost use Rattle.std.specs.Prelude.{◌≡◌, ◌≢◌, ◌≤◌, ◌∷◌, [], length, drop, true};
+ghost use Rattle.std.specs.Prelude.{OnOk, OnErr, IfOk, IfSome, MatchOption};
 ghost use Rattle.std.specs.Str.{IsUtf8};
 ghost use Rattle.std.specs.IoError.{error_kind};
 ghost use Rattle.std.specs.declared.io.ErrorKind.TheVariants.{InvalidData, OutOfMemory};
-ghost use Rattle.line_config.specs.Error.{FaultsOnly, IoOnlyIf, IoOnlyOfKind};
+ghost use Rattle.line_config.specs.Error.{FaultsOnly, IoOnlyOfKind};
 ghost use Rattle.line_config.specs.Error.{is_fault, is_io};
 ghost use Rattle.line_config.specs.declared.error.ReadlineError.TheVariants.{Io, Memory};
 ghost use Rattle.line_parts.specs.declared.escaped_line.Escapes.TheVariants.{V2, V3};
@@ -13,7 +12,7 @@ ghost use Rattle.std.specs.Io.KnownBytes.{append_known, Appends};
 ghost use Rattle.line_parts.specs.History.{TellsTaken, filed};
 ghost use Rattle.line_parts.specs.HistoryText.{header, lines_of, written};
 ghost use Rattle.line_parts.specs.HistoryText.{AddsLines, AddsBeginning, AddsSome, ReadsHeader, FilesSome};
-ghost use Rattle.line_parts.specs.HistoryText.{Loads, LoadsBeginning, Saves};
+ghost use Rattle.line_parts.specs.HistoryText.{LoadsFirst, LoadsWhole, Saves};
 ghost use Rattle.line_parts.specs.LoadStop.{AddsToNoText, HasTooManyLines, LoadsToNoText, SaysNoText, StopsBy, StopsOnlyIf, StopsReading};
 
 use crate::escaped_line::{Escapes, push_escaped_line, unescape_line};
@@ -256,10 +255,8 @@ impl FileHistory {
     // Reads a whole text and adds its lines, as `load_from` says.
     #[tactic(auto, using(crate::proofs::LoadLemmas::loads_headed, crate::proofs::LoadLemmas::loads_bare, crate::proofs::LoadLemmas::adds_some_none, crate::proofs::LoadLemmas::adds_some_more))]
     fn load_text<B: BufRead>(&mut self, reader: &mut B) -> Loaded<bool>
-        ensures loads { IfOk result (λ answer. IfSome (B.remaining reader.old)
-            (λ text. Loads text self.old self.new answer)) }
-        ensures beginning { OnErr result (IfSome (B.remaining reader.old)
-            (λ text. LoadsBeginning text self.old self.new)) }
+        ensures loads { LoadsWhole result (B.remaining reader.old) self.old self.new }
+        ensures beginning { LoadsFirst result (B.remaining reader.old) self.old self.new }
         ensures adds { FilesSome result self.old self.new }
         ensures stops { let text = B.remaining reader.old in StopsOnlyIf result
             (IfSome text (λ t. LoadsToNoText t self.old self.new)) (IfSome text HasTooManyLines) }
@@ -285,10 +282,8 @@ impl FileHistory {
     /// fault are then there, and count as new.
     #[tactic(auto, using(crate::proofs::LoadLemmas::nothing_read, crate::proofs::LoadLemmas::adds_some_none, crate::proofs::LoadLemmas::reader_known))]
     pub fn load_from<T: Read + Drop>(&mut self, reader: T) -> Result<bool>
-        ensures loads { IfOk result (λ answer. IfSome (T.remaining reader)
-            (λ text. Loads text self.old self.new answer)) }
-        ensures beginning { OnErr result (IfSome (T.remaining reader)
-            (λ text. LoadsBeginning text self.old self.new)) }
+        ensures loads { LoadsWhole result (T.remaining reader) self.old self.new }
+        ensures beginning { LoadsFirst result (T.remaining reader) self.old self.new }
         ensures adds { FilesSome result self.old self.new }
         ensures kind { IoOnlyOfKind result StopsReading }
         ensures faults { FaultsOnly result }
