@@ -259,13 +259,16 @@ loading_no_text headed None mid rest old now new line t n l k e bad = tt
 loading_no_text headed (Some x) None rest old now new line t n l k e bad = absurd l.goes_on
 loading_no_text headed (Some x) (Some m) None old now new line t n l k e bad = absurd k
 loading_no_text headed (Some x) (Some m) (Some r) old now new line t n l k e bad = let more = says_lines headed (lines_of r) in
-    rw (l.goes_on, k) (record {
-      lines = l.adds.lines;
-      unread = bad.0 ∷ more.0;
-      says = SaysLines-append headed l.written (line ∷ lines_of r) l.adds.lines (bad.0 ∷ more.0) l.adds.says
-          (SaysLines-append headed (line ∷ []) (lines_of r) (bad.0 ∷ []) more.0 bad.1 more.1);
-      added = e ∙ l.adds.added;
-    }, bad.2)
+    rw (l.goes_on, k) (
+      record {
+        lines = l.adds.lines;
+        unread = bad.0 ∷ more.0;
+        says = SaysLines-append headed l.written (line ∷ lines_of r) l.adds.lines (bad.0 ∷ more.0) l.adds.says
+            (SaysLines-append headed (line ∷ []) (lines_of r) (bad.0 ∷ []) more.0 bad.1 more.1);
+        added = e ∙ l.adds.added;
+      },
+      bad.2,
+    )
 
 as_long : (n m : ℕ) (xs ys : List (List ℕ)) → m ≤ n → n ≤ length xs → m ≤ length (xs ++ ys)
 as_long n m xs ys h k = simp length-append (omega arith)
@@ -365,13 +368,16 @@ begins_line text rest line old new k other lt e = record {
 pub first_no_text : (text rest : Option (List ℕ)) (line : List ℕ) (old new : FiledHistory) → GoesOn text rest (line ∷ []) → ((escapes : Escapes) → line ≢ header escapes) → 0 < length line → new ≡ old → ¬ (IsUtf8 line) → IfSome text (λ t. LoadsToNoText t old new)
 first_no_text None rest line old new k other lt e bad = tt
 first_no_text (Some t) None line old new k other lt e bad = absurd k
-first_no_text (Some t) (Some r) line old new k other lt e bad = (record {
-  headed = None;
-  lines = [];
-  unread = line ∷ filter is_some_text (lines_of r);
-  says = without_header refl (no_first (Some t) (Some r) line k other) (rw (k, some_text line lt) refl);
-  added = e;
-}, bad)
+first_no_text (Some t) (Some r) line old new k other lt e bad = (
+  record {
+    headed = None;
+    lines = [];
+    unread = line ∷ filter is_some_text (lines_of r);
+    says = without_header refl (no_first (Some t) (Some r) line k other) (rw (k, some_text line lt) refl);
+    added = e;
+  },
+  bad,
+)
 
 -- an empty line is no header
 empty_is_none : (escapes : Escapes) → ◌≢◌ {A = List ℕ} [] (header escapes)

@@ -1,7 +1,5 @@
 -- Completions, as text.
-use Rattle.std.specs.Prelude.{ℕ, ◌≤◌, List, [], IsCharBoundary, slice_range, string_bytes}
-use Rattle.line_buffer.specs.Changes.{Changes, with_entries, with_replace}
-use Rattle.line_buffer.specs.Line.{Line, replaced_in}
+use Rattle.std.specs.Prelude.{ℕ, ◌≤◌, List, [], IsCharBoundary, string_bytes}
 use Rattle.line_parts.specs.declared.completion.Candidate.{Ghosts}
 use Rattle.line_parts.specs.declared.completion.pair.Pair.{Pair}
 
@@ -36,20 +34,3 @@ BeginsIn line cursor start = (start ≤ cursor) × IsCharBoundary line start
 -- nothing is offered
 abbrev pub no_completion : Completion
 no_completion = record { start = 0; offers = [] }
-
--- a line, and its changes
-pub record Written : Type 0 where
-  pub line : Line
-  pub changes : Changes
-
--- a line with its changes
-abbrev pub written_as : Line → Changes → Written
-written_as line changes = record { line = line; changes = changes }
-
--- a text in place of what stands from a byte offset to the cursor, recorded as one replacement
-abbrev pub put_to_cursor : Written → ℕ → List ℕ → Written
-put_to_cursor old start text = record {
-  line = replaced_in old.line start old.line.cursor text;
-  changes = with_entries old.changes (with_replace start
-      (slice_range old.line.text start old.line.cursor) text old.changes.entries);
-}

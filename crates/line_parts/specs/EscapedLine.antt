@@ -37,3 +37,7 @@ pub record Unescapes (escapes : Escapes) (line text : List ℕ) : Type 0 where
   pub pieces : List (List ℕ)
   pub whole : line ≡ flat_map (λ piece. piece) pieces
   pub each : AllZip (StandsFor escapes) pieces text
+
+-- no text stands in a line by these escapes
+abbrev pub HasBadEscape : Escapes → List ℕ → Type 0
+HasBadEscape escapes line = (text : List ℕ) → ¬ (Unescapes escapes line text)

@@ -7,7 +7,7 @@ use Rattle.std.specs.List.{AllZip, flat_map, slice_split}
 use Rattle.std.specs.declared.io.ErrorKind.TheVariants.{OutOfMemory}
 use Rattle.line_config.specs.Error.{FaultsOnly, IoOnlyOfKind}
 use Rattle.line_config.specs.declared.error.ReadlineError.{ReadlineError}
-use Rattle.line_parts.specs.EscapedLine.{Unescapes, escaped_line}
+use Rattle.line_parts.specs.EscapedLine.{HasBadEscape, Unescapes, escaped_line}
 use Rattle.line_parts.specs.History.{FiledHistory, all_filed, all_taken, last_of, settled}
 use Rattle.line_parts.specs.declared.escaped_line.Escapes.{Escapes}
 use Rattle.line_parts.specs.declared.escaped_line.Escapes.TheVariants.{V2, V3}
@@ -43,8 +43,7 @@ lines_of text = let pieces = slice_split is_newline text in
 -- a line says the text that stands in it by its escapes; where there is none, it says itself
 pub data Says (escapes : Escapes) (line text : List ℕ) : Type 0 where
   unescaped : Unescapes escapes line text → Says escapes line text
-  as_it_stands : ((other : List ℕ) → ¬ (Unescapes escapes line other)) → text ≡ line
-      → Says escapes line text
+  as_it_stands : HasBadEscape escapes line → text ≡ line → Says escapes line text
 
 -- what the written lines say: by escapes, or without any each as it stands; empty ones nothing
 abbrev pub SaysLines : Option Escapes → List (List ℕ) → List (List ℕ) → Type 0
@@ -107,6 +106,14 @@ pub record AddsBeginning (headed : Option Escapes) (written : List (List ℕ)) (
   pub unread : List (List ℕ)
   pub says : SaysLines headed written (lines ++ unread)
   pub added : new ≡ all_filed old lines
+
+-- all that the lines of a text say was added, where the text is known, unless that fails
+abbrev pub AddsWhole : {E : Type 0} → Result Bool E → Option Escapes → Option (List ℕ) → FiledHistory → FiledHistory → Type 0
+AddsWhole result headed text old new = IfOk result (λ taken. IfSome text (λ t. AddsLines headed (lines_of t) old new taken))
+
+-- where that fails, the first of it was added
+abbrev pub AddsFirst : {E : Type 0} → Result Bool E → Option Escapes → Option (List ℕ) → FiledHistory → FiledHistory → Type 0
+AddsFirst result headed text old new = OnErr result (IfSome text (λ t. AddsBeginning headed (lines_of t) old new))
 
 -- a history after some lines were added
 pub record AddsSome (old new : FiledHistory) : Type 0 where

@@ -26,6 +26,7 @@ pub mod Prefix
 pub mod Quoting
 pub mod Shown
 pub mod Verdict
+pub mod Written
 pub use Rattle.line_config.specs.Error
 pub use Rattle.line_config.specs.Settings
 pub use Rattle.line_config.specs.Usual

@@ -4,6 +4,7 @@ ghost use Rattle.std.specs.Prelude.{map, IfOk, IsOk, OnOk, IsCharBoundary, strin
 ghost use Rattle.line_buffer.specs.Undo.{StillTellsOrGone};
 ghost use Rattle.line_config.specs.Error.{IoOnlyIf, FaultsOnly};
 ghost use Rattle.line_config.specs.Usual.{IsUsualOrOwn};
+ghost use Rattle.line_parts.specs.Written.{PutsToCursor, put_to_cursor, written_as};
 
 mod chars;
 mod escapes;
@@ -70,8 +71,8 @@ impl Candidate for &str {
 
 /// Completes a part of the line.
 pub trait Completer {
-    ghost use Rattle.line_parts.specs.Candidate.{BeginsIn, Completion, Written, no_completion, offer_of};
-    ghost use Rattle.line_parts.specs.Candidate.{put_to_cursor, written_as};
+    ghost use Rattle.line_parts.specs.Candidate.{BeginsIn, Completion, no_completion, offer_of};
+    ghost use Rattle.line_parts.specs.Written.{Written};
     ghost use Rattle.line_parts.specs.Context.{shown_in};
     ghost use Rattle.line_parts.specs.Shown.{Shown, NotBoth};
 
@@ -139,9 +140,23 @@ pub trait Completer {
         ensures io { IoOnlyIf result (sure self.now ≡ false) }
         ensures faults { FaultsOnly result }
     {
-        let end = line.pos();
-        Ok(line.replace(start..end, elected, changes)?)
+        put_to_cursor(line, start, elected, changes)
     }
+}
+
+// Replaces what stands from `start` to the cursor by a text, as `Completer::update` does.
+fn put_to_cursor(
+    line: &mut LineBuffer,
+    start: usize,
+    text: &str,
+    changes: &mut Changeset,
+) -> Result<()>
+    requires before { start ≤ line.old.cursor }
+    requires boundary { IsCharBoundary line.old.text start }
+    ensures { PutsToCursor result start text.now line.old changes.old line.new changes.new }
+{
+    let end = line.pos();
+    Ok(line.replace(start..end, text, changes)?)
 }
 
 impl Completer for () {

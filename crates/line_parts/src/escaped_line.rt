@@ -3,7 +3,7 @@ ghost use Rattle.std.specs.Prelude.{◌≡◌, ◌≢◌, ◌+◌, ◌<◌, ℕ,
 ghost use Rattle.std.specs.Prelude.{◌++◌, ◌∷◌, [], true, false, List, OnOk, IfOk, IfSome, MatchOption};
 ghost use Rattle.line_config.specs.Error.{MemoryOnly};
 ghost use Rattle.memchr.specs.Find.{is_byte2};
-ghost use Rattle.line_parts.specs.EscapedLine.{escaped_byte, escaped_line, Unescapes};
+ghost use Rattle.line_parts.specs.EscapedLine.{HasBadEscape, Unescapes, escaped_byte, escaped_line};
 
 use line_config::Result;
 use memchr::{memchr2, memchr3};
@@ -112,7 +112,7 @@ fn read_escape(line: &[u8], at: usize, escapes: Escapes) -> Option<u8>
 pub fn unescape_line(line: &[u8], escapes: Escapes, text: &mut Vec<u8>) -> Result<bool>
     ensures good { IfOk result (λ good. good ≡ true → Unescapes escapes line.now text.new.items) }
     ensures bad { IfOk result (λ good. good ≡ false
-        → (other : List ℕ) → ¬ (Unescapes escapes line.now other)) }
+        → HasBadEscape escapes line.now) }
     ensures faults { MemoryOnly result }
 {
     text.clear();

@@ -101,7 +101,9 @@ impl Hinter for () {
         _line: &str,
         _pos: usize,
         _ctx: &Context<'_, S>,
-    ) -> Result<Option<String>> {
+    ) -> Result<Option<String>>
+        ensures { result ≡ Ok None }
+    {
         Ok(None)
     }
 }

@@ -1,5 +1,5 @@
 //! Whether a line may be submitted.
-ghost use Rattle.std.specs.Prelude.{◌≡◌, ℕ, Bool, true, false, List, Option, None};
+ghost use Rattle.std.specs.Prelude.{◌≡◌, ℕ, Bool, true, false, List, None};
 ghost use Rattle.std.specs.Prelude.{◌<◌, IfOk, IsTrue, string_bytes};
 ghost use Rattle.line_config.specs.Error.{IoOnlyIf, FaultsOnly, MemoryOnly};
 ghost use Rattle.line_parts.specs.Brackets.{IsVerdict, unclosed_message, unpaired_message};
@@ -90,12 +90,15 @@ impl Validator for () {
 
     ghost verdict_at = { λ _ _. valid None };
 
-    fn validate(&self, _alloc: Global, _ctx: &ValidationContext<'_>) -> Result<ValidationResult> {
+    fn validate(&self, _alloc: Global, _ctx: &ValidationContext<'_>) -> Result<ValidationResult>
+        ensures { result ≡ Ok (ValidationResult.Valid None) }
+    {
         Ok(ValidationResult::Valid(None))
     }
 }
 
-/// Refuses a text whose brackets, round, square and curly, are not balanced.
+/// Validates a text by its brackets, round, square and curly: it is taken where they are balanced, incomplete where closing
+/// ones can still balance them, and else refused.
 #[derive(Drop)]
 pub struct MatchingBracketValidator {}
 

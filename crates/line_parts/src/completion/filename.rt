@@ -1,17 +1,19 @@
 //! Completion of the names of files and folders.
-ghost use Rattle.std.specs.Prelude.{◌≡◌, ℕ, Bool, false, List, Option, Some, chars, map, option_map, IfOk};
+ghost use Rattle.std.specs.Prelude.{◌≡◌, ◌≤◌, ℕ, Bool, false, List, Option, Some, chars, map, option_map, IfOk};
 ghost use Rattle.std.specs.Prelude.{IsCharBoundary, string_bytes};
 ghost use Rattle.std.specs.Cmp.Lexicographic.{slice_cmp};
 ghost use Rattle.std.specs.Ordering.{nat_cmp};
 ghost use Rattle.line_parts.specs.Candidate.{BeginsIn, pair_offer};
+ghost use Rattle.line_parts.specs.Written.{PutsToCursor};
 ghost use Rattle.line_config.specs.Error.{FaultsOnly, IoOnlyIf};
 
-use crate::completion::Completer;
 use crate::completion::escapes::Quote;
 use crate::completion::pair::Pair;
 use crate::completion::paths::{candidates, path_before, split_path};
+use crate::completion::{Completer, put_to_cursor};
 use crate::context::Context;
 use crate::history::History;
+use line_buffer::{Changeset, LineBuffer};
 use line_config::Result;
 use std::alloc::Global;
 
@@ -152,5 +154,25 @@ impl<L: Lister> Completer for FilenameCompleter<L> {
         ensures faults { FaultsOnly result }
     {
         self.complete_path(alloc, line, pos)
+    }
+
+    /// Replaces what stands from `start` to the cursor by the text of the elected candidate. The
+    /// cursor then stands behind that text.
+    ///
+    /// # Errors
+    /// `Memory`, where an allocation fails. The changes then tell of the line still, or there are
+    /// none.
+    fn update(
+        &self,
+        line: &mut LineBuffer,
+        start: usize,
+        elected: &str,
+        changes: &mut Changeset,
+    ) -> Result<()>
+        requires before { start ≤ line.old.cursor }
+        requires boundary { IsCharBoundary line.old.text start }
+        ensures { PutsToCursor result start elected.now line.old changes.old line.new changes.new }
+    {
+        put_to_cursor(line, start, elected, changes)
     }
 }

@@ -11,7 +11,7 @@ ghost use Rattle.line_parts.specs.declared.escaped_line.Escapes.TheVariants.{V2,
 ghost use Rattle.std.specs.Io.KnownBytes.{append_known, Appends};
 ghost use Rattle.line_parts.specs.History.{TellsTaken, filed};
 ghost use Rattle.line_parts.specs.HistoryText.{header, lines_of, written};
-ghost use Rattle.line_parts.specs.HistoryText.{AddsLines, AddsBeginning, AddsSome, ReadsHeader, FilesSome};
+ghost use Rattle.line_parts.specs.HistoryText.{AddsFirst, AddsLines, AddsSome, AddsWhole, ReadsHeader, FilesSome};
 ghost use Rattle.line_parts.specs.HistoryText.{LoadsFirst, LoadsWhole, Saves};
 ghost use Rattle.line_parts.specs.LoadStop.{AddsToNoText, HasTooManyLines, LoadsToNoText, SaysNoText, StopsBy, StopsOnlyIf, StopsReading};
 
@@ -230,10 +230,8 @@ impl FileHistory {
     // Reads the lines behind the first one and adds them. Returns whether all were taken.
     #[tactic(auto, using(crate::proofs::LoadLemmas::loading_none, crate::proofs::LoadLemmas::loading_more, crate::proofs::LoadLemmas::loading_ended, crate::proofs::LoadLemmas::loading_beginning, crate::proofs::LoadLemmas::loading_some))]
     fn load_rest<B: BufRead>(&mut self, reader: &mut B, headed: Option<Escapes>) -> Loaded<bool>
-        ensures all { IfOk result (λ taken. IfSome (B.remaining reader.old)
-            (λ text. AddsLines headed (lines_of text) self.old self.new taken)) }
-        ensures beginning { OnErr result (IfSome (B.remaining reader.old)
-            (λ text. AddsBeginning headed (lines_of text) self.old self.new)) }
+        ensures all { AddsWhole result headed (B.remaining reader.old) self.old self.new }
+        ensures beginning { AddsFirst result headed (B.remaining reader.old) self.old self.new }
         ensures some { AddsSome self.old self.new }
         ensures stops { let text = B.remaining reader.old in StopsOnlyIf result
             (IfSome text (λ t. AddsToNoText headed (lines_of t) self.old self.new))
@@ -277,9 +275,10 @@ impl FileHistory {
     /// began so, and every line was taken. After that no line counts as new.
     ///
     /// # Errors
-    /// `Io`, where the reader fails, a line is not UTF-8 (of kind `InvalidData`), or there are more
-    /// lines than a `u64` can count (of kind `FileTooLarge`), and `Memory`. The lines before the
-    /// fault are then there, and count as new.
+    /// `Io`, where the reader fails, by its own error; where what a line says is not UTF-8, of kind
+    /// `InvalidData`; and where there are more lines than a `u64` can count, of kind `FileTooLarge`.
+    /// `Memory`, also where the reader tells of the want of it. The lines before the fault are then
+    /// there, and count as new.
     #[tactic(auto, using(crate::proofs::LoadLemmas::nothing_read, crate::proofs::LoadLemmas::adds_some_none, crate::proofs::LoadLemmas::reader_known))]
     pub fn load_from<T: Read + Drop>(&mut self, reader: T) -> Result<bool>
         ensures loads { LoadsWhole result (T.remaining reader) self.old self.new }
