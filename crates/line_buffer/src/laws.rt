@@ -12,8 +12,7 @@ pub fn taking_all_back()
     ensures { TakingAllBack }
 {}
 
-/// Returns where no group is open, taking so many steps back at once is taking one step back as
-/// often.
+/// Where no group is open, taking so many steps back at once is taking one step back as often.
 pub fn undoing_step_by_step()
     ensures { UndoingStepByStep }
 {}
@@ -23,14 +22,12 @@ pub fn killed_is_yanked()
     ensures { KilledIsYanked }
 {}
 
-/// Returns a place by clusters or words lies between clusters of the text on that side of the
-/// cursor.
+/// A place by clusters or words lies between clusters of the text on that side of the cursor.
 pub fn places_are_between_clusters()
     ensures { PlacesAreBetweenClusters }
 {}
 
-/// Returns where groups fit, as `Changeset::len` says that they do, and none is counted as open,
-/// none is open.
+/// Where groups fit, as `Changeset::len` says that they do, and none is counted as open, none is open.
 pub fn none_counted_none_open()
     ensures { NoneCountedNoneOpen }
 {}
@@ -50,8 +47,7 @@ pub fn yank_pops_come_round()
     ensures { YankPopsComeRound }
 {}
 
-/// Returns a group with an entry of text, begun where none was open and closed, is one step of
-/// undo.
+/// A group with an entry of text, begun where none was open and closed, is one step of undo.
 pub fn closed_group_is_one_step()
     ensures { ClosedGroupIsOneStep }
 {}

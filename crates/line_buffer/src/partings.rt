@@ -6,8 +6,9 @@ ghost use Rattle.line_buffer.specs.Printable.{meets_plain};
 
 use crate::printable::is_plain_byte;
 
-/// Returns a place where the clusters of the text part, in bytes, or its length where none is known: of the characters in
-/// front that are such ones, the last, and else the first place where two of them meet.
+/// Returns a place where the clusters of the text part, in bytes: of the characters in front that are such ones, the last,
+/// and else the first place where two of them meet. It is the text's length where none is known, and where all are such
+/// ones.
 pub fn first_parting(text: &str) -> usize
     ensures place { IsCharBoundary text.now result }
     ensures some { 0 < length text.now → 0 < result }

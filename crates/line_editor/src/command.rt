@@ -42,7 +42,9 @@ pub enum Status {
 /// # Errors
 /// `Eof` for the end of the input on an empty line alone, and `Interrupted` for an interrupt alone, with the drawn cursor at
 /// the end of what is shown. Another error is one of input or output, where the renderer or a party has failed, or that
-/// memory ran out; then the line is text with its cursor on a boundary, and the changes tell of it.
+/// memory ran out. Then the line, its cursor, changes and place in the history are those of one moment of the command:
+/// before it, halfway or behind it; or, where memory ran out, the line has no changes. The kill ring is the one that the
+/// command leaves, unless memory ran out.
 pub fn execute<'out, 'prompt, W: Renderer, H: Helper, P: Prompt, S: History>(
     cmd: Cmd,
     state: &mut State<'out, 'prompt, W, H, P, S>,

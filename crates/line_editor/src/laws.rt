@@ -63,7 +63,7 @@ pub fn enough_undo_gives_the_start()
 {}
 
 /// In Vi's command mode, with no group of changes open and none of these keys bound: one of the keys a, A, i and I, then
-/// characters alone, at least one, and Esc, and then u leave the text that was there before.
+/// keys of characters without modifiers, at least one, and Esc, and then u leave the text that was there before.
 pub fn an_insertion_is_one_step()
     ensures { InsertionIsOneStep }
 {}

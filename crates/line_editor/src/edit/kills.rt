@@ -34,8 +34,9 @@ impl<'out, 'prompt, W: Renderer, H: Helper, P: Prompt, S: History> State<
     /// than its first column. Else the line is drawn again. Where there is nothing to kill, nothing happens.
     ///
     /// # Errors
-    /// Those of the parties and of the renderer, and that memory ran out. The line is text with its cursor on a boundary,
-    /// and the changes tell of it.
+    /// Those of the parties and of the renderer, and that memory ran out. The line, its cursor and its changes are those from
+    /// before the kill or from behind it, and `kill_ring` has the killed text; or, where memory ran out, the line has no
+    /// changes.
     pub fn edit_kill(&mut self, movement: &Movement, kill_ring: &mut KillRing) -> Result<()>
         ensures does { let e = ⟦<Self as EditorState>⟧ in
             let range = killed_range (e.draft self.old).line movement.now in
