@@ -1,5 +1,5 @@
 -- The lines of a text, added one after another.
-use Rattle.std.proofs.Common.{◌≡◌, ◌≢◌, ℕ, suc, ◌+◌, ◌-◌, ◌<◌, ◌≤◌, Bool, true, false, true≢false, not, ◌&&◌, ◌⊎◌, inl, inr, if◌then◌else◌, List, [], ◌∷◌, ◌++◌, length, take, All, Option, None, Some, MatchOption, is_some, ap, sym, ◌∙◌, refl, arith, append_assoc, append-nil, length-append, add-zero, eqb, ⊎_elim}
+use Rattle.std.proofs.Common.{◌≡◌, ◌≢◌, ℕ, suc, ◌+◌, ◌-◌, ◌<◌, ◌≤◌, Bool, true, false, true≢false, not, ◌&&◌, ◌⊎◌, inl, inr, if◌then◌else◌, List, [], ◌∷◌, ◌++◌, length, take, All, Option, None, Some, MatchOption, is_some, ap, sym, ◌∙◌, refl, arith, append_assoc, append-nil, length-append, eqb, ⊎_elim}
 use Rattle.std.specs.Prelude.{filter, bytes_eq, IfOk, IfSome, Result, Ok, Err, OnErr, OnOk}
 use Rattle.std.specs.Bool.{⊤}
 use Rattle.std.specs.Io.KnownBytes.{IsAtEnd, prepend_known}
@@ -172,9 +172,6 @@ adds_kept (Err e) escapes w old new lt bad t f = tt
 
 pub no_text_plain : (w : List ℕ) → 0 < length w → ¬ (IsUtf8 w) → SaysNoText None w
 no_text_plain w lt bad = (w, rw (some_text w lt) refl, bad)
-
-pub no_text_unescaped : (escapes : Escapes) (w text : List ℕ) → 0 < length w → Unescapes escapes w text → ¬ (IsUtf8 text) → SaysNoText (Some escapes) w
-no_text_unescaped escapes w text lt says bad = (text, rw (some_text w lt) (unescaped says, tt), bad)
 
 pub no_text_kept : (escapes : Escapes) (w : List ℕ) → 0 < length w → ((other : List ℕ) → ¬ (Unescapes escapes w other)) → ¬ (IsUtf8 w) → SaysNoText (Some escapes) w
 no_text_kept escapes w lt other bad = (w, rw (some_text w lt) (as_it_stands other refl, tt), bad)

@@ -1,5 +1,5 @@
 -- Brackets match each other.
-use Rattle.std.proofs.Common.{◌≡◌, ◌<◌, ◌≤◌, ◌+◌, ◌-◌, ◌==◌, ◌⊎◌, inl, inr, ⊎_elim, ℕ, zero, suc, Bool, true, false, cond, List, [], ◌∷◌, length, take, get_or, Option, Some, None, option_map, ap, sym, ◌∙◌, refl, subst, arith}
+use Rattle.std.proofs.Common.{◌≡◌, ◌<◌, ◌≤◌, ◌+◌, ◌-◌, ◌==◌, inl, inr, ⊎_elim, ℕ, zero, suc, Bool, true, false, cond, List, [], ◌∷◌, length, take, get_or, Option, Some, None, option_map, ap, sym, ◌∙◌, refl, subst, arith}
 use Rattle.std.proofs.Math.Numerals.{add-one}
 use Rattle.std.specs.List.{count_by, range_with_len, slice_get}
 use Rattle.std.proofs.lemmas.Bool.{cases_Bool, cases_lt, eqb-false, eqb-true, ne_eqb}
@@ -13,7 +13,6 @@ use Rattle.line_parts.proofs.MatchLemmas.{Counts, bracket_is, count-no, count-ye
 use Rattle.line_parts.specs.Brackets.{is_bracket, is_close, is_open, partner}
 use Rattle.line_parts.specs.BracketLaws.{MatchIsMutual}
 use Rattle.line_parts.specs.BracketMatch.{is_even, led_away, matching_bracket, nearest_even, place_away}
-use Rattle.line_parts.specs.History.{least_below}
 
 -- ---- the partner of a bracket
 

@@ -5,7 +5,7 @@ use Rattle.std.specs.List.{AllByRecursion}
 use Rattle.std.specs.Str.{IsCharBoundary, IsUtf8}
 use Rattle.std.proofs.lemmas.List.{length-drop, length-map, map-append, take-append-drop, take-append-le, take_more}
 use Rattle.std.proofs.Math.Seq.{take-append_seam}
-use Rattle.std.proofs.lemmas.Str.{IsCharBoundary-at_seam, IsCharBoundary-from_take, IsUtf8-append, IsUtf8-drop, IsUtf8-encode, IsUtf8-nil, encode_same, len_utf8_bounds, length-encode}
+use Rattle.std.proofs.lemmas.Str.{IsCharBoundary-at_seam, IsCharBoundary-from_take, IsUtf8-append, IsUtf8-drop, IsUtf8-encode, encode_same, len_utf8_bounds, length-encode}
 use Rattle.line_parts.proofs.WordLemmas.{next_char}
 use Rattle.line_parts.specs.Prefix.{BeginsWith, IsCommonStart, IsLongestCommon, some_text}
 

@@ -153,7 +153,7 @@ impl Hinter for HistoryHinter {
     ) -> Result<Option<String>>
         ensures answer { Suggests ⟦<String as Hint>⟧ result
             (option_map suggested (history_hint (shown_in S.History ctx.now line.now pos))) }
-        ensures unasked { line.now ≡ [] → IsOk result }
+        ensures empty { line.now ≡ [] → IsOk result }
         ensures inside { pos < length line.now → IsOk result }
         ensures io { IoOnlyIf result (S.sure ctx.now.history ≡ false) }
         ensures faults { FaultsOnly result }

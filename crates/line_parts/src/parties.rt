@@ -75,7 +75,8 @@ impl<'out, H: Helper, S: History> Parties<'out, H, S> {
     pub fn hint(&self, alloc: Global, line: &LineBuffer) -> Result<Option<H::Hint>>
         ensures answer { let p = ⟦<Self as Consulted>⟧ in Suggests H.Hint.Hint result
             (hint_for (p.environment self.now) line.now.text line.now.cursor (p.index self.now)) }
-        ensures io { IoOnlyIf result (is_sure (⟦<Self as Consulted>⟧.sure self.now) for_hint ≡ false) }
+        ensures io { IoOnlyIf result
+            (is_sure (⟦<Self as Consulted>⟧.sure self.now) for_hint ≡ false) }
         ensures faults { FaultsOnly result }
     {
         match &self.helper {

@@ -217,6 +217,8 @@ pub(super) const CASES: &[Case] = &[
         "",
         Asked::Path(0, "", "b,a/,a,B", 0, "B → B, a → a/, a → a, b → b"),
     ),
+    // Three names.
+    ("", Asked::Path(0, "", "b,c/,a", 0, "a → a, b → b, c → c/")),
     // The text of the folder stands before the name, as it was typed but for its escapes.
     (
         "ls src/li",

@@ -253,6 +253,9 @@ const LOADS: &[Load] = &[
     (HEADED_RETURN, 0, 8, None, "", b""),
     (HEADED_RETURN, 9, 12, None, "a\rb|", b"a\\rb\n"),
     (HEADED_RETURN, 13, 14, None, "a\rb|cd|", b"a\\rb\ncd\n"),
+    // a line with a NUL, and one with a backslash that begins no escape
+    (b"#V2\na\0b\n", WHOLE, WHOLE, Some(true), "a\0b|", b""),
+    (b"#V2\na\\b\n", WHOLE, WHOLE, Some(true), "a\\b|", b""),
     // without a header
     (PLAIN, 0, 2, None, "", b""),
     (PLAIN, 3, 4, None, "a|", b"a\n"),
@@ -423,7 +426,7 @@ fn writes_much(
 
 #[test]
 fn that_are_written_at_length(rt: HostRuntime) -> result::Result<(), Fail> {
-    for place in [0, 1, 8_191, 8_192, 8_193, 9_001, 9_500, 18_001] {
+    for place in [0, 1, 8_191, 8_192, 8_193, 9_001, 9_500, 18_001, WHOLE] {
         for escapes in [V2, V3] {
             for append in [false, true] {
                 writes_much(&rt, rt.alloc(), escapes, append, place)?;

@@ -1,16 +1,17 @@
-//! A history that fails in one look-up: the error is handed on, and no other look-up is made.
+//! A history that fails in one look-up: the error is handed on, and no other look-up is made, also none whose answer is
+//! dropped.
 
 use super::{Hinted, LINES, fill, hints_from};
 use line_config::Result;
-use line_parts::HistoryHinter;
+use line_parts::{History, HistoryHinter, SearchDirection};
 use std::alloc::Global;
 use std::result;
 use std::test::Fail;
 use tests_parties::fault::{FAULTS, Fault};
 use tests_parties::shelf::{Call, Failing, Shelf};
 
-/// The lines of a history and the index in it; which look-up fails: the one of this number, those that are named, or
-/// both; the line and the hint; and whether the fault comes instead.
+/// The lines of a history and the index in it; which look-up fails: the one of this number, which is then the first behind
+/// the hint, and those that are named; the line and the hint; and whether the fault comes instead.
 type Case = (
     (&'static str, usize),
     (u64, Option<Failing>),
@@ -27,6 +28,9 @@ fn asks(alloc: Global, case: &Case, fault: Fault) -> Result<bool> {
         history.fail_in(failing, fault);
     }
     let outcome = hints_from(alloc, &HistoryHinter::default(), &history, index, hinted);
+    if number > 0 && history.get(0, SearchDirection::Reverse).is_ok() {
+        return Ok(false);
+    }
     if faulty {
         fault.is_answer(alloc, &outcome)
     } else {
@@ -156,11 +160,15 @@ const CASES: &[Case] = &[
     ((LINES, 0), (2, None), ("git", 3, Some(" status")), false),
     ((LINES, 0), (2, None), ("c", 1, None), false),
     // Where there is no hint by the line alone, the history is not asked.
-    ((LINES, 4), (1, Some(Failing::All)), ("", 0, None), false),
-    ((LINES, 4), (1, Some(Failing::All)), ("git", 0, None), false),
-    ((LINES, 4), (1, Some(Failing::All)), ("git", 2, None), false),
+    ((LINES, 4), (1, None), ("", 0, None), false),
+    ((LINES, 4), (1, None), ("git", 0, None), false),
+    ((LINES, 4), (1, None), ("git", 2, None), false),
+    ((LINES, 4), (0, Some(Failing::All)), ("", 0, None), false),
+    ((LINES, 4), (0, Some(Failing::All)), ("git", 0, None), false),
+    ((LINES, 4), (0, Some(Failing::All)), ("git", 2, None), false),
     // A history without lines.
     (("", 0), (0, Some(Failing::All)), ("a", 1, None), true),
+    (("", 0), (2, None), ("a", 1, None), false),
     (("", 0), (0, Some(Failing::All)), ("", 0, None), false),
     (("", 0), (0, Some(Failing::All)), ("a", 0, None), false),
 ];
