@@ -1,5 +1,5 @@
 -- Clusters that are passed over up to the one that holds a byte.
-use Rattle.std.proofs.Common.{◌≡◌, inl, inr, ℕ, ◌+◌, ◌<◌, ◌≤◌, zero, suc, nat_le, Bool, true, false, List, [], ◌∷◌, length, drop, take, refl, sym, ap, ◌∙◌, arith, length-append}
+use Rattle.std.proofs.Common.{◌≡◌, inl, inr, ℕ, ◌+◌, ◌<◌, ◌≤◌, zero, suc, nat_le, Bool, true, false, List, [], ◌∷◌, length, drop, take, sym, ap, ◌∙◌, arith, length-append}
 use Rattle.std.proofs.lemmas.Bool.{cases_lt}
 use Rattle.std.specs.List.{concat}
 use Rattle.line_buffer.proofs.FittingLemmas.{last_fitting-no, last_fitting-yes, le_test, lt_test}

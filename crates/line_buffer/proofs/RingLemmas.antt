@@ -1,7 +1,8 @@
 -- Slots of a kill ring.
-use Rattle.std.proofs.Common.{◌≡◌, ℕ, ◌<◌, ◌≢◌, List, [], length, map, get_or, set, String, sym, ap, ◌∙◌, arith}
+use Rattle.std.proofs.Common.{◌≡◌, ℕ, ◌<◌, ◌≢◌, List, [], length, map, get_or, set, String, Result, Ok, Err, sym, ap, ◌∙◌, arith}
+use Rattle.std.specs.Prelude.{OnErr}
 use Rattle.std.proofs.lemmas.Bool.Decides.{nat_tests}
-use Rattle.std.proofs.lemmas.List.{map-set, get_or-map, length-map}
+use Rattle.std.proofs.lemmas.List.{map-set, get_or-map, length-map, set-get_or}
 use Rattle.std.specs.String.{string_bytes}
 use Rattle.std.specs.declared.alloc.Global.{Global}
 use Rattle.line_buffer.specs.KillRing.{Ring, with_slot, joined}
@@ -33,3 +34,20 @@ joined_slot r slots mode more old new e h o n =
     map-set string_bytes slots r.current new ∙ ap (λ s. set s r.current (string_bytes new)) (sym e)
     ∙ ap (set r.slots r.current) (n ∙ ap (λ t. joined mode t more) (sym read)) in
     ap (λ s. made r s r.current) written
+
+-- the current slot holds the text that it held
+pub kept_slot : (r : Ring) (slots : List (String Global)) (old new : String Global) → r.slots ≡ map string_bytes slots → r.current < length slots
+    → old ≡ get_or slots r.current old → string_bytes new ≡ string_bytes old
+    → made r (map string_bytes (set slots r.current new)) r.current ≡ r
+kept_slot r slots old new e h o n =
+    let read : get_or r.slots r.current [] ≡ string_bytes old =
+    ap (λ s. get_or s r.current []) e ∙ get_or-map string_bytes slots r.current old [] h ∙ ap string_bytes (sym o) in
+    let written : map string_bytes (set slots r.current new) ≡ r.slots =
+    map-set string_bytes slots r.current new ∙ ap (λ s. set s r.current (string_bytes new)) (sym e)
+    ∙ ap (set r.slots r.current) (n ∙ sym read) ∙ set-get_or r.slots r.current [] in
+    ap (λ s. made r s r.current) written
+
+-- what holds in any case holds after an error
+pub on_err : {T E : Type 0} (r : Result T E) (P : Type 0) → P → OnErr r P
+on_err (Ok x) P p = tt
+on_err (Err x) P p = p

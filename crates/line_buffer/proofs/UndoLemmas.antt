@@ -2,8 +2,7 @@
 use Rattle.std.proofs.Common.{replicate, nat_le, max, ◌≡◌, ℕ, ◌+◌, ◌-◌, ◌<◌, ◌≤◌, ◌≢◌, zero, suc, Bool, true, false, cond, ◌||◌, List, [], ◌∷◌, ◌++◌, length, take, drop, filter, Some, None, unwrap_or, refl, sym, ap, ap₂, ◌∙◌, subst, arith, add-one}
 use Rattle.std.specs.List.{range_with_len, slice_get, list_any, count_by}
 use Rattle.std.proofs.lemmas.List.Folds.{list_any-append}
-use Rattle.std.proofs.lemmas.List.Sums.{sum_by_push, count_by-le-length}
-use Rattle.std.proofs.lemmas.List.{length-take}
+use Rattle.std.proofs.lemmas.List.Sums.{sum_by_push}
 use Rattle.line_buffer.specs.declared.undo.list.Change.{Change}
 use Rattle.line_buffer.specs.Changes.{Entry, Changes, with_entries, closed, ended, begins, ends, inserted, deleted, replaced}
 use Rattle.line_buffer.specs.Line.{Line}

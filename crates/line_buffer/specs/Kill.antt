@@ -1,7 +1,7 @@
 -- What a kill takes from the line, and what it leaves.
 use Rattle.std.specs.Prelude.{◌≡◌, ℕ, List, Result, ◌≤◌, length, IfOk, OnOk, OnErr, Option, Some, None, option_map, slice_range, String, string_bytes}
 use Rattle.line_buffer.specs.Changes.{Changes, with_entries, with_delete}
-use Rattle.line_buffer.specs.KillRing.{Ring, with_kept}
+use Rattle.line_buffer.specs.KillRing.{LeavesRing, Ring, with_kept}
 use Rattle.line_buffer.specs.Line.{Line}
 use Rattle.line_buffer.specs.Range.{range_of, unless_empty}
 use Rattle.line_buffer.specs.Word.{or_else}
@@ -63,9 +63,11 @@ ring_with_killed l m (Some r) ring = with_kept ring (slice_range l.text r.0 r.1)
 abbrev pub in_bytes : {Z : Type 0} → ℕ × String Z × Direction → ℕ × List ℕ × Direction
 in_bytes answer = (answer.0, string_bytes answer.1, answer.2)
 
--- a kill by a movement, which takes a range: what it answers, and what the ring keeps; after an error too the ring has no more than its slots
+-- a kill by a movement, which takes a range: what it answers, and what the ring keeps; after an error the ring has no more than its
+-- slots, and is the one from before but for its last action, or the one that the kill leaves
 pub record Kills {E Z : Type 0} (result : Result (Option (ℕ × String Z × Direction)) E) (l : Line) (m : Movement) (range : Option (ℕ × ℕ)) (old new : Ring) : Type 0 where
   pub answer : IfOk result (λ r. option_map in_bytes r ≡ kill_answer l m range)
   pub ring : OnOk result (new ≡ ring_with_killed l m range old)
   pub size : new.size ≡ old.size
   pub bound : OnErr result (length new.slots ≤ new.size)
+  pub err : OnErr result (LeavesRing old (ring_with_killed l m range old) new)

@@ -1,5 +1,5 @@
 -- The texts that were killed.
-use Rattle.std.specs.Prelude.{◌≡◌, ◌≤◌, ℕ, ◌+◌, ◌-◌, Bool, true, false, ◌==◌, ◌||◌, ◌&&◌, not, List, [], ◌∷◌, ◌++◌, length, slice_set, slice_index_or, Option, option_map, Some, None, is_some, if◌then◌else◌}
+use Rattle.std.specs.Prelude.{◌≡◌, ◌⊎◌, ◌≤◌, ℕ, ◌+◌, ◌-◌, Bool, true, false, ◌==◌, ◌||◌, ◌&&◌, not, List, [], ◌∷◌, ◌++◌, length, slice_set, slice_index_or, Option, option_map, Some, None, is_some, if◌then◌else◌}
 use Rattle.line_buffer.specs.declared.kill_ring.Mode.{Mode}
 use Rattle.line_buffer.specs.declared.kill_ring.Mode.TheVariants.{Append, Prepend}
 
@@ -62,6 +62,10 @@ with_joined r text mode =
 -- the text takes the next slot, which becomes the current one
 abbrev pub with_next : Ring → List ℕ → Ring
 with_next r text = record { size = r.size; slots = with_slot (next_slot r) text r.slots; current = next_slot r; last = killed }
+
+-- what a kill leaves of a ring that finds no memory: what it was, but that a kill was done last; or the ring that it leaves else
+abbrev pub LeavesRing : Ring → Ring → Ring → Type 0
+LeavesRing before left ring = (ring ≡ with_last before killed) ⊎ (ring ≡ left)
 
 -- whether the last action was a kill
 abbrev pub is_kill : LastAction → Bool

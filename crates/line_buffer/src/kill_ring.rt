@@ -1,5 +1,5 @@
-ghost use Rattle.std.specs.Prelude.{◌≡◌, ◌<◌, ◌≤◌, length, slice_set, string_bytes, is_some, option_copied, option_map, OnOk};
-ghost use Rattle.line_buffer.specs.KillRing.{KeepsSize, with_current, with_current_text, other, empty_ring, with_last, after_kill, joined, current_text, with_slot, next_slot, with_kept, yanked_text, after_yank, after_yank_pop, back_one, yank_pop_size, yank_popped};
+ghost use Rattle.std.specs.Prelude.{◌≡◌, ◌<◌, ◌≤◌, length, slice_set, string_bytes, is_some, option_copied, option_map, OnErr, OnOk};
+ghost use Rattle.line_buffer.specs.KillRing.{KeepsSize, with_current, with_current_text, killed, other, empty_ring, with_last, after_kill, joined, current_text, with_slot, next_slot, with_kept, yanked_text, after_yank, after_yank_pop, back_one, yank_pop_size, yank_popped};
 
 use crate::line_buffer::OutOfMemory;
 use std::alloc::Global;
@@ -39,9 +39,15 @@ impl Model for KillRing {
 
     ghost use Rattle.line_buffer.specs.RingAction.{action_of};
 
-    ghost view = { λ r. record { size = r.size; slots = map string_bytes r.slots.items; current = r.current; last = action_of r.last } };
+    ghost view = { λ r. record {
+      size = r.size;
+      slots = map string_bytes r.slots.items;
+      current = r.current;
+      last = action_of r.last;
+    } };
 
-    ghost invariant = { λ r. (length r.slots.items ≤ r.size) × (0 < length r.slots.items → r.current < length r.slots.items) };
+    ghost invariant = { λ r. (length r.slots.items ≤ r.size)
+        × (0 < length r.slots.items → r.current < length r.slots.items) };
 }
 
 impl KillRing {
@@ -73,9 +79,11 @@ impl KillRing {
     ///
     /// # Errors
     ///
-    /// `OutOfMemory` where an allocation fails; then the ring still has at most `size` slots.
+    /// `OutOfMemory` where an allocation fails; then the ring is as it was, but that a kill was done
+    /// last.
     pub fn kill(&mut self, text: &str, mode: Mode) -> Result<(), OutOfMemory>
         ensures ring { OnOk result (self.new ≡ after_kill self.old text.now mode) }
+        ensures err { OnErr result (self.new ≡ with_last self.old killed) }
         ensures fits { KeepsSize self.old self.new }
     {
         let joins = self.last == Action::Kill && !self.slots.is_empty();
@@ -156,6 +164,7 @@ impl KillRing {
     /// Keeps a text that was killed, if there is a mode by which to keep it.
     pub(crate) fn keep(&mut self, text: &str, mode: Option<Mode>) -> Result<(), OutOfMemory>
         ensures ring { OnOk result (self.new ≡ with_kept self.old text.now mode) }
+        ensures err { OnErr result (self.new ≡ with_last self.old killed) }
         ensures fits { KeepsSize self.old self.new }
     {
         self.slots_fit();
@@ -177,6 +186,7 @@ impl KillRing {
         requires { 0 < length self.old.slots }
         ensures ring { OnOk result (self.new
             ≡ with_current_text self.old (joined mode (current_text self.old) text.now)) }
+        ensures err { OnErr result (self.new ≡ self.old) }
         ensures fits { KeepsSize self.old self.new }
     {
         let slot = &mut self.slots[self.current];
@@ -189,6 +199,7 @@ impl KillRing {
         requires { 0 < self.old.size }
         ensures ring { OnOk result (self.new
             ≡ with_current self.old (next_slot self.old) text.now) }
+        ensures err { OnErr result (self.new ≡ self.old) }
         ensures fits { KeepsSize self.old self.new }
     {
         let next = self.next_slot();
@@ -214,6 +225,7 @@ impl KillRing {
         requires within { slot ≤ length self.old.slots }
         requires fits { slot < self.old.size }
         ensures ring { OnOk result (self.new ≡ with_current self.old slot (string_bytes text)) }
+        ensures err { OnErr result (self.new ≡ self.old) }
         ensures fits { KeepsSize self.old self.new }
     {
         if slot == self.slots.len() {
@@ -229,7 +241,9 @@ impl KillRing {
 
 /// Puts a text behind another or before it.
 fn join_text(text: &mut String, more: &str, mode: Mode) -> Result<(), OutOfMemory>
-    ensures { OnOk result (string_bytes text.new ≡ joined mode (string_bytes text.old) more.now) }
+    ensures text { OnOk result
+        (string_bytes text.new ≡ joined mode (string_bytes text.old) more.now) }
+    ensures err { OnErr result (string_bytes text.new ≡ string_bytes text.old) }
 {
     match mode {
         Mode::Append => Ok(text.push_str(more)?),

@@ -3,6 +3,7 @@ ghost use Rattle.std.specs.Prelude.{◌≡◌, IsCharBoundary, ◌≤◌, [], fa
 ghost use Rattle.std.specs.List.{list_any};
 ghost use Rattle.line_buffer.specs.Changes.{adds_end, begun, ended, last_insert_of, no_changes};
 ghost use Rattle.line_buffer.specs.Kill.{killed_range, ring_with_killed};
+ghost use Rattle.line_buffer.specs.KillRing.{LeavesRing};
 ghost use Rattle.line_buffer.specs.Offset.{IsRangeIfAny};
 ghost use Rattle.line_buffer.specs.Range.{range_of, text_in, unless_empty};
 ghost use Rattle.line_buffer.specs.Undo.{is_change, newest_steps};
@@ -97,6 +98,9 @@ impl EditedLine {
             (kill_ring.new ≡ ring_with_killed self.old.line movement.now range kill_ring.old) }
         ensures size { kill_ring.new.size ≡ kill_ring.old.size }
         ensures bound { OnErr result (length kill_ring.new.slots ≤ kill_ring.new.size) }
+        ensures err { let range = killed_range self.old.line movement.now in
+            OnErr result (LeavesRing kill_ring.old
+            (ring_with_killed self.old.line movement.now range kill_ring.old) kill_ring.new) }
     {
         self.line.cut(movement, &mut self.changes, kill_ring)?;
         Ok(())

@@ -1,6 +1,7 @@
 //! Calls that take text out of the line.
 ghost use Rattle.line_buffer.specs.Edit.{Edits, EditsIfOk};
 ghost use Rattle.line_buffer.specs.Kill.{Kills};
+ghost use Rattle.line_buffer.specs.KillRing.{LeavesRing};
 ghost use Rattle.line_buffer.specs.Offset.{IsRangeIfAny, IsSpan};
 ghost use Rattle.std.specs.Prelude.{◌≡◌, ◌≤◌, ◌<◌, List, length, string_bytes, option_map, is_some, slice_range, Option, Some, None, IfOk, IfSome, OnOk, OnErr, IsCharBoundary};
 ghost use Rattle.line_buffer.specs.Changes.{with_entries, with_delete};
@@ -25,7 +26,8 @@ impl LineBuffer {
     /// # Errors
     ///
     /// `OutOfMemory` where an allocation fails; then the list of changes is empty with no open
-    /// group, and the line is text with its cursor on a boundary.
+    /// group, the line is text with its cursor on a boundary, and the kill ring is as before but for
+    /// its last action, or as the kill leaves it.
     pub fn kill(
         &mut self,
         mvt: &Movement,
@@ -69,7 +71,8 @@ impl LineBuffer {
     /// # Errors
     ///
     /// `OutOfMemory` where an allocation fails; then the list of changes is empty with no open
-    /// group, and the line is text with its cursor on a boundary.
+    /// group, the line is text with its cursor on a boundary, and the kill ring is as before but for
+    /// its last action, or as the kill leaves it.
     pub fn cut(
         &mut self,
         mvt: &Movement,
@@ -83,6 +86,9 @@ impl LineBuffer {
             (kill_ring.new ≡ ring_with_killed self.old mvt.now range kill_ring.old) }
         ensures size { kill_ring.new.size ≡ kill_ring.old.size }
         ensures bound { OnErr result (length kill_ring.new.slots ≤ kill_ring.new.size) }
+        ensures err { let range = killed_range self.old mvt.now in
+            OnErr result (LeavesRing kill_ring.old
+            (ring_with_killed self.old mvt.now range kill_ring.old) kill_ring.new) }
     {
         let outcome = match self.killed_range(mvt) {
             Some((from, to)) => self.cut_range(from, to, mvt, changes, kill_ring),
@@ -106,6 +112,8 @@ impl LineBuffer {
             (kill_ring.new ≡ ring_with_killed self.old mvt.now (Some (from, to)) kill_ring.old) }
         ensures size { kill_ring.new.size ≡ kill_ring.old.size }
         ensures bound { OnErr result (length kill_ring.new.slots ≤ kill_ring.new.size) }
+        ensures err { OnErr result (LeavesRing kill_ring.old
+            (ring_with_killed self.old mvt.now (Some (from, to)) kill_ring.old) kill_ring.new) }
     {
         let killed = &self.buf.as_str()[from..to];
         kill_ring.keep(killed, ring_mode(mvt))?;

@@ -153,7 +153,8 @@ impl Model for ChangeList {
 
     ghost use Rattle.line_buffer.specs.KeptChanges.{entries_of};
 
-    ghost view = { λ c. record { entries = entries_of c.changes.items; open_groups = c.open_groups } };
+    ghost view = { λ c.
+        record { entries = entries_of c.changes.items; open_groups = c.open_groups } };
 }
 
 impl ChangeList {
