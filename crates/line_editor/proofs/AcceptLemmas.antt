@@ -160,7 +160,7 @@ pub drop_fails : {X T : Type 0} (e : Ghosts X) (f : ReadlineError) (old new : X)
     → Executes e (Err f) old input indent kills command new kills
 drop_fails {T = T} e f old new input indent kills command drawing same does =
     executed_wrong e old new input indent kills kills command {T = T} f
-    (fault_unhinted f (e.environment old) (e.draft old) _ _ (e.draft new) does.fault) (λ no. same)
+    (fault_unhinted f (e.environment old) (e.draft old) _ _ (e.draft new) does.fault) (inl same)
     (fails_more e {T = T} (Err f) nobody _ old new (λ sure. refl) does.fails) does.frame
 
 -- whoever is asked for a reply is asked for a verdict
@@ -191,7 +191,7 @@ module _ {X T U : Type 0} (e : Ghosts X) (x : T) (f : ReadlineError) (old mid ne
       executed_wrong e old new input indent kills kills accept_line {T = U} f
       (fault_from f (e.environment mid) (e.environment old) (e.draft old) (e.draft mid) (e.draft mid) (e.draft old) _ _ (e.draft new) drop.frame.environment left_bare
       (inr (inl bare_hint)) (inr (inl bare_hint)) (inl bare_text) (inl bare_text) asked.fault)
-      (λ no. refl) asked_fails (frame_then e old mid new drop.frame asked.frame)
+      (inl refl) asked_fails (frame_then e old mid new drop.frame asked.frame)
 
   -- or for one that may be given a newline
   pub inserting_fails : (in_the_middle : Bool) (input : Input) (indent : ℕ) (kills : Ring) → Executes e (Err f) old input indent kills (accept_or_insert_line in_the_middle) new kills
@@ -199,7 +199,7 @@ module _ {X T U : Type 0} (e : Ghosts X) (x : T) (f : ReadlineError) (old mid ne
       executed_wrong e old new input indent kills kills (accept_or_insert_line in_the_middle) {T = U} f
       (fault_halfway f (e.environment mid) (e.environment old) (e.draft old) (e.draft mid) _ (validated (e.environment old) (unhinted (e.draft old))) _ (e.draft new)
       drop.frame.environment left_bare (inr (inl bare_hint)) bare_text asked.fault)
-      (λ no. refl)
+      (inl refl)
       (fails_more e {T = U} (Err f) for_verdict (asked_of (e.display old) (e.environment old) (editor_of e old kills) (accept_or_insert_line in_the_middle)) old new
       (λ sure. sure_verdict (e.sure old) _ sure) asked_fails) (frame_then e old mid new drop.frame asked.frame)
 
@@ -380,7 +380,7 @@ module _ {X T U : Type 0} (e : Ghosts X) (x : T) (y : U) (old mid new : X)
         (ap (λ w. typed_in w 1 10 (e.draft new)) all.environment ∙ ap (λ d. typed_in (e.environment old) 1 10 d) left_is ∙ ap (λ (p : Draft × Answer). p.0) (left_by GoesOn is))
         (inr (inr (ap (λ (d : Draft). d.hint) left_is))) (inr (inr (ap (λ (d : Draft). d.hint) left_is)))
         (inr (same_draft left (e.draft new) left_is)) (inr (same_draft left (e.draft new) left_is)) typed.fault)
-        (λ no. refl)
+        (inl refl)
         (fails_more e (Err f) for_hint asks old last
         (λ sure. sure_all (e.sure old) for_hint (sym (ap (λ r. is_sure (e.sure old) (asked_for_reply r)) (reply_is ∙ is)) ∙ sure))
         (fails_then e for_hint (Err f) old new last all typed.frame (asked.fails.quiet ∙ drop.fails.quiet) typed.fails))

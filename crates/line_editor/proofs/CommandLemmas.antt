@@ -8,7 +8,7 @@ use Rattle.line_buffer.specs.Line.{Line, ends_in_white_space, moved_to}
 use Rattle.line_buffer.specs.declared.movement.Movement.{Movement}
 use Rattle.line_buffer.specs.declared.movement.Movement.TheVariants as By
 use Rattle.line_config.specs.declared.error.ReadlineError.{ReadlineError}
-use Rattle.line_config.specs.Error.{Rose, is_memory, max_count}
+use Rattle.line_config.specs.Error.{Rose, max_count}
 use Rattle.line_keys.specs.Command.{Command, accept_line, accept_or_insert_line, command_of, end_of_file, interrupt, kill, kill_to_bracket, move, move_to_bracket, newline, replace, replace_to_bracket, self_insert, vi_yank_to, yank, yank_pop, yank_to_bracket}
 use Rattle.line_keys.specs.declared.cmd.Anchor.{Anchor}
 use Rattle.line_keys.specs.declared.cmd.Cmd.{Cmd}
@@ -21,7 +21,7 @@ use Rattle.line_keys.specs.Plainly.{KilledPlainly, TypedPlainly, has_highlightin
 use Rattle.line_keys.specs.Frame.{FailsByParty, Frame}
 use Rattle.line_keys.specs.ShownLine.{Redraws}
 use Rattle.line_keys.specs.declared.editor_state.EditorState.{Ghosts}
-use Rattle.line_parts.specs.Asks.{Asks, Sureness, for_hint, is_sure, nobody}
+use Rattle.line_parts.specs.Asks.{Asks, for_hint, is_sure, nobody}
 use Rattle.line_parts.specs.Environment.{Environment, verdict_on}
 use Rattle.line_parts.specs.declared.highlight.CmdKind.{CmdKind}
 use Rattle.line_parts.specs.declared.highlight.CmdKind.TheVariants.{ForcedRefresh, MoveCursor, Other}
@@ -33,7 +33,7 @@ use Rattle.line_editor.specs.Drawings.{any_plain_kill, asked_of, bracket_drawn, 
 use Rattle.line_editor.specs.Editor.{Answer, Editor, Ruler, Step, proceeds, edited_of, measuring, proceeding, ruler_of, with_draft}
 use Rattle.line_editor.specs.DraftEdits.{after_edit, bracket_replaced, kill_popped, kill_yanked, killed_by, movement_replaced, popped_in, text_inserted, yanked_in}
 use Rattle.line_editor.specs.Input.{Input}
-use Rattle.line_editor.specs.Outcomes.{DoesInTwoWithKills, DoesWithKills, DrewFor, Executed, Executes, StepsTo, editor_of, step_from}
+use Rattle.line_editor.specs.Outcomes.{DoesInTwoWithKills, DoesWithKills, DrewFor, Executed, Executes, KillsLeft, StepsTo, editor_of, step_from}
 use Rattle.line_editor.specs.Status.{answer_of}
 use Rattle.line_editor.specs.Step.{edited_by, edited_halfway, halfway_of, step}
 use Rattle.line_editor.specs.declared.command.Reply.{Reply}
@@ -42,7 +42,7 @@ use Rattle.line_editor.specs.declared.command.Status.{Status}
 use Rattle.line_editor.specs.declared.command.Status.TheVariants.{Proceed}
 use Rattle.line_editor.proofs.AskedLemmas.{fails_more}
 use Rattle.line_editor.proofs.CountLemmas.{rises_more, rises_stays, rises_twice, rises_up_to, rises_within, stays_rises}
-use Rattle.line_editor.proofs.FaultLemmas.{but_hint, fault_from, fault_halfway, fault_redrawn, fault_unhinted, same_draft, unless_memory, whole_text}
+use Rattle.line_editor.proofs.FaultLemmas.{but_hint, fault_from, fault_redrawn, fault_unhinted, leaves_kills, same_draft}
 use Rattle.line_editor.proofs.DrawnLemmas.{frame_then, hint_trails, keeps_then}
 
 abbrev pub editor_with : Draft → Ring → Editor
@@ -383,12 +383,12 @@ killed_as found plainly position = if found then change_drawn plainly position e
 
 -- that is what is drawn of any kill
 pub record KilledAs (drawing : Drawing) : Type 0 where
-  found : Bool
-  plainly : Bool
-  position : Position
-  same : killed_as found plainly position ≡ drawing
+  pub found : Bool
+  pub plainly : Bool
+  pub position : Position
+  pub same : killed_as found plainly position ≡ drawing
 
-kill_as : (display : Display) (environment : Environment) (draft : Draft) (range : Option (ℕ × ℕ)) → KilledAs (kill_drawn display environment draft range)
+pub kill_as : (display : Display) (environment : Environment) (draft : Draft) (range : Option (ℕ × ℕ)) → KilledAs (kill_drawn display environment draft range)
 kill_as display environment draft None = record { found = false; plainly = false; position = corner; same = refl }
 kill_as display environment draft (Some range) = record {
   found = true;
@@ -530,7 +530,7 @@ module _ {X T : Type 0} (e : Ghosts X) (x : T) (old mid new : X) (kills kills' :
   pub replaced : {U : Type 0} (r : Result U ReadlineError)
       → Does e r mid new (text_inserted (e.environment mid) text (e.draft mid)) (drawn_if (not (length text == 0))) 1
       → DoesInTwoWithKills e r old kills new kills' before.draft (with_draft before put_in) (replacement_drawn killed_drawn (Some text)) (replacement_times killed_drawn (Some text))
-  replaced r put = record { does = puts r put; kills_left = unless_memory r killed.kills_left }
+  replaced r put = record { does = puts r put; kills_left = leaves_kills r kills before.kills kills' killed.kills_left }
 
 -- the same of a movement that is killed
 pub replaced_movement : {X T U : Type 0} (e : Ghosts X) (x : T) (old mid new : X) (kills kills' : Ring) (movement : Movement) (range : Option (ℕ × ℕ)) (text : List ℕ)
@@ -544,49 +544,6 @@ pub replaced_movement : {X T U : Type 0} (e : Ghosts X) (x : T) (old mid new : X
 replaced_movement e x old mid new kills kills' movement range text killed r put =
     replaced e x old mid new kills kills' (killed_by (e.environment old) movement (editor_of e old kills) range) (kill_drawn (e.display old) (e.environment old) (e.draft old) range)
     (kill_as (e.display old) (e.environment old) (e.draft old) range) text killed r put
-
--- whoever is asked for a replacement is asked for its kill
-sure_killed : (sure : Sureness) (drawing : Drawing) (text : Bool) → KilledAs drawing → is_sure sure (asked_by (if text then with_hint else drawing)) ≡ true
-    → is_sure sure (asked_by drawing) ≡ true
-sure_killed sure drawing false as_kill all = all
-sure_killed sure drawing true as_kill all =
-    subst (λ (d : Drawing). is_sure sure (asked_by d) ≡ true) as_kill.same (by_kill as_kill.found as_kill.plainly as_kill.position)
-  where
-    by_kill : (found plainly : Bool) (position : Position) → is_sure sure (asked_by (killed_as found plainly position)) ≡ true
-    by_kill false plainly position = refl
-    by_kill true true position = all
-    by_kill true false position = all
-
--- a kill that went wrong, before a text could come in its place
-pub kill_fails : {X T U : Type 0} (e : Ghosts X) (f : ReadlineError) (old new : X) (kills kills' : Ring) (left left' : Editor) (drawing : Drawing) (as_kill : KilledAs drawing) (text : Option (List ℕ)) (times : ℕ)
-    → left'.kills ≡ left.kills → DoesWithKills e {T = T} (Err f) old kills new kills' left drawing 1
-    → DoesInTwoWithKills e {T = U} (Err f) old kills new kills' left.draft left' (replacement_drawn drawing text) times
-kill_fails {U = U} e f old new kills kills' left left' drawing as_kill text times same killed = record {
-  does = record {
-    draft = tt;
-    fault = fault_halfway f (e.environment old) (e.environment old) (e.draft old) (e.draft old) left.draft left.draft left'.draft (e.draft new) refl refl (inl refl)
-        (whole_text (e.draft old)) killed.does.fault;
-    start = tt;
-    drew = tt;
-    keeps = tt;
-    change = tt;
-    frame = killed.does.frame;
-    fails = fails_more e {T = U} (Err f) (asked_by drawing) (asked_by (replacement_drawn drawing text)) old new
-        (λ sure. sure_killed (e.sure old) drawing (has_text text) as_kill sure)
-        (record { io = killed.does.fails.io; faults = killed.does.fails.faults; quiet = killed.does.fails.quiet });
-  };
-  kills_left = λ calm. killed.kills_left calm ∙ sym same;
-}
-
--- the same of a movement that could not be killed
-pub movement_fails : {X T U : Type 0} (e : Ghosts X) (f : ReadlineError) (old new : X) (kills kills' : Ring) (movement : Movement) (range : Option (ℕ × ℕ)) (left' : Editor) (text : Option (List ℕ)) (times : ℕ)
-    → left'.kills ≡ (killed_by (e.environment old) movement (editor_of e old kills) range).kills
-    → DoesWithKills e {T = T} (Err f) old kills new kills' (killed_by (e.environment old) movement (editor_of e old kills) range) (kill_drawn (e.display old) (e.environment old) (e.draft old) range) 1
-    → DoesInTwoWithKills e {T = U} (Err f) old kills new kills' (killed_by (e.environment old) movement (editor_of e old kills) range).draft left'
-    (replacement_drawn (kill_drawn (e.display old) (e.environment old) (e.draft old) range) text) times
-movement_fails e f old new kills kills' movement range left' text times same killed =
-    kill_fails e f old new kills kills' (killed_by (e.environment old) movement (editor_of e old kills) range) left' (kill_drawn (e.display old) (e.environment old) (e.draft old) range)
-    (kill_as (e.display old) (e.environment old) (e.draft old) range) text times same killed
 
 -- a kill with nothing in its place
 pub only_killed : {X T U : Type 0} (e : Ghosts X) (x : T) (y : U) (old new : X) (kills kills' : Ring) (left : Editor) (drawing : Drawing)
@@ -627,7 +584,7 @@ pub yanked_by : {X T : Type 0} (e : Ghosts X) (r : Result T ReadlineError) (old 
     → DoesWithKills e r old kills new kills' (kill_yanked (e.environment old) input anchor n yanked (editor_of e old kills)) (yank_drawn yanked) 1
 yanked_by e r old new kills kills' input anchor n yanked text is ring does =
     subst (λ (y : Option (List ℕ)). DoesWithKills e r old kills new kills' (kill_yanked (e.environment old) input anchor n y (editor_of e old kills)) (yank_drawn y) 1) is
-    (record { does = does; kills_left = unless_memory r ring })
+    (record { does = does; kills_left = leaves_kills r kills _ kills' ring })
 
 -- a text that takes the place of a yanked one
 pub popped_by : {X T : Type 0} (e : Ghosts X) (r : Result T ReadlineError) (old new : X) (kills kills' : Ring) (popped : Option (ℕ × List ℕ)) (size : ℕ) (text : List ℕ)
@@ -636,7 +593,7 @@ pub popped_by : {X T : Type 0} (e : Ghosts X) (r : Result T ReadlineError) (old 
     → DoesWithKills e r old kills new kills' (kill_popped (e.environment old) popped (editor_of e old kills)) (pop_drawn (e.draft old).line popped) 1
 popped_by e r old new kills kills' popped size text is ring does =
     subst (λ p. DoesWithKills e r old kills new kills' (kill_popped (e.environment old) p (editor_of e old kills)) (pop_drawn (e.draft old).line p) 1) is
-    (record { does = does; kills_left = unless_memory r ring })
+    (record { does = does; kills_left = leaves_kills r kills _ kills' ring })
 
 module _ {X : Type 0} (e : Ghosts X) where
   -- the cursor is drawn with one full redraw at most
@@ -732,7 +689,7 @@ module _ {X : Type 0} (e : Ghosts X) (old new : X) (input : Input) (indent : ℕ
   pub executed_wrong : {T : Type 0} (f : ReadlineError)
       → FaultLeft f (e.environment old) (e.draft old) (halfway_of (e.environment old) (editor_of e old kills) command)
       (step_from e old input indent kills command).editor.draft (e.draft new)
-      → (is_memory f ≡ false → kills' ≡ (step_from e old input indent kills command).editor.kills)
+      → KillsLeft f kills (step_from e old input indent kills command).editor.kills kills'
       → FailsByParty {T = T} e (asked_of (e.display old) (e.environment old) (editor_of e old kills) command) (Err f) old new → Frame e old new → Executes e (Err f) old input indent kills command new kills'
   executed_wrong f fault kept fails frame =
       record { comes = λ no. absurd (let is = fails.faults in cc); wrong = record { draft = fault; kills_left = kept }; frame = frame; io = fails.io; quiet = fails.quiet }
@@ -779,7 +736,7 @@ module _ {X : Type 0} (e : Ghosts X) (old new : X) (input : Input) (indent : ℕ
       executed_wrong {T = T} f
       (subst (λ (d : Draft). FaultLeft f (e.environment old) (e.draft old) d (step_from e old input indent kills command).editor.draft (e.draft new)) (sym half)
       (subst (λ (s : Step). FaultLeft f (e.environment old) (e.draft old) halfway s.editor.draft (e.draft new)) (sym steps) done.does.fault))
-      (subst (λ (s : Step). is_memory f ≡ false → kills' ≡ s.editor.kills) (sym steps) done.kills_left)
+      (subst (λ (s : Step). KillsLeft f kills s.editor.kills kills') (sym steps) done.kills_left)
       (rw asks done.does.fails) done.does.frame
 
   -- an edit that proceeds
@@ -805,7 +762,7 @@ module _ {X : Type 0} (e : Ghosts X) (old new : X) (input : Input) (indent : ℕ
       (subst (λ (d : Draft). FaultLeft f (e.environment old) (e.draft old) d (step_from e old input indent kills command).editor.draft (e.draft new))
       (sym (edit_halfway (e.environment old) (editor_of e old kills) command only))
       (subst (λ (s : Step). FaultLeft f (e.environment old) (e.draft old) (edited_halfway (e.environment old) (e.draft old) command) s.editor.draft (e.draft new)) (sym steps) does.fault))
-      (λ no. same ∙ ap (λ (s : Step). s.editor.kills) (sym steps))
+      (inl (same ∙ ap (λ (s : Step). s.editor.kills) (sym steps)))
       (fails_more e (Err f) (edited_asked (e.display old) (e.environment old) (e.draft old) command) (asked_of (e.display old) (e.environment old) (editor_of e old kills) command) old new
       (λ sure. ap (λ a. is_sure (e.sure old) a) (sym (edit_asks (e.display old) (e.environment old) (editor_of e old kills) command only)) ∙ sure) does.fails)
       does.frame

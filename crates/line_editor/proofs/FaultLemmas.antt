@@ -1,14 +1,15 @@
 -- Facts on what is left of a draft after a fault.
 use Rattle.std.proofs.Common.{◌≡◌, ◌⊎◌, inl, inr, true, Result, Ok, Err, refl, sym, ◌∙◌, ap, subst}
-use Rattle.line_buffer.specs.Changes.{no_changes}
+use Rattle.line_buffer.specs.KillRing.{Ring}
 use Rattle.line_buffer.specs.Line.{Line}
 use Rattle.line_config.specs.Error.{is_memory}
 use Rattle.line_config.specs.declared.error.ReadlineError.{ReadlineError}
 use Rattle.line_keys.specs.Draft.{Draft, KeepsText, hinted, unhinted}
 use Rattle.line_keys.specs.Drawing.{KeepsDraftOnErr}
-use Rattle.line_keys.specs.Fault.{FaultLeaves, FaultLeft, IoLeaves, IoLeft, IsEarlierHint, IsOf, IsOfMoment, UnlessMemory, as_before, as_halfway, as_left}
+use Rattle.line_keys.specs.Fault.{FaultLeaves, FaultLeft, HasLostChanges, IoLeaves, IoLeft, IsEarlierHint, IsOf, IsOfMoment, LosesChanges, as_before, as_halfway, as_left}
 use Rattle.line_keys.specs.declared.editor_state.EditorState.{Ghosts}
 use Rattle.line_parts.specs.Environment.{Environment, hint_for}
+use Rattle.line_editor.specs.Outcomes.{LeavesKills}
 
 -- all of a draft is that of itself
 pub whole_text : (draft : Draft) → KeepsText draft draft
@@ -76,10 +77,29 @@ module _ {X : Type 0} (e : Ghosts X) where
   fault_stays er old new halfway left draft =
       λ fault. inl (as_before (of_made (e.environment old) (e.draft old) halfway (e.draft old) (e.draft old) (e.draft new) refl (whole_text (e.draft old)) (inl draft)))
 
--- what holds in any case holds unless memory ran out
-pub unless_memory : {T P : Type 0} (r : Result T ReadlineError) → P → UnlessMemory r P
-unless_memory (Ok x) p = p
-unless_memory (Err er) p = λ no. p
+-- the kill ring of the editor that comes in any case
+pub leaves_kills : {T : Type 0} (r : Result T ReadlineError) (before left kills : Ring) → kills ≡ left → LeavesKills r before left kills
+leaves_kills (Ok x) before left kills same = same
+leaves_kills (Err f) before left kills same = inl same
+
+-- a draft that has lost its changes in a moment has so in one before it, from which the text was kept
+loses : (from moment draft : Draft) → KeepsText from moment → LosesChanges moment draft → LosesChanges from draft
+loses from moment draft text lost = record { changes = lost.changes; saved = lost.saved ∙ text.saved; index = lost.index ∙ text.index }
+
+-- where a call begins with the text of another, or with what that one leaves halfway, a moment of it is a moment of that one
+lost_from : (before mid halfway' halfway left draft : Draft) → KeepsText before mid ⊎ KeepsText halfway mid → KeepsText before halfway' ⊎ KeepsText halfway halfway'
+    → HasLostChanges mid halfway' left draft → HasLostChanges before halfway left draft
+lost_from before mid halfway' halfway left draft is is' (inl lost) = begun mid is lost
+  where
+    begun : (from : Draft) → KeepsText before from ⊎ KeepsText halfway from → LosesChanges from draft → HasLostChanges before halfway left draft
+    begun from (inl same) l = inl (loses before from draft same l)
+    begun from (inr same) l = inr (inl (loses halfway from draft same l))
+lost_from before mid halfway' halfway left draft is is' (inr (inl lost)) = begun halfway' is' lost
+  where
+    begun : (from : Draft) → KeepsText before from ⊎ KeepsText halfway from → LosesChanges from draft → HasLostChanges before halfway left draft
+    begun from (inl same) l = inl (loses before from draft same l)
+    begun from (inr same) l = inr (inl (loses halfway from draft same l))
+lost_from before mid halfway' halfway left draft is is' (inr (inr lost)) = inr (inr lost)
 
 -- what was an earlier hint of a call is one of a call that began before it
 earlier : (environment : Environment) (before mid halfway' halfway draft : Draft) → IsEarlierHint before halfway mid.hint → IsEarlierHint before halfway halfway'.hint
@@ -119,10 +139,10 @@ pub fault_from : (er : ReadlineError) (environment environment' : Environment) (
     → FaultLeft er environment mid halfway' left draft → FaultLeft er environment' before halfway left' draft
 fault_from er environment environment' before mid halfway' halfway left left' draft same leaves hint hint' is is' fault =
     λ wrong.
-    elim (subst (λ (w : Environment). IsOfMoment w mid halfway' left' draft ⊎ ((is_memory er ≡ true) × (draft.changes ≡ no_changes))) same
-    (subst (λ (d : Draft). IsOfMoment environment mid halfway' d draft ⊎ ((is_memory er ≡ true) × (draft.changes ≡ no_changes))) leaves (fault wrong))) [
+    elim (subst (λ (w : Environment). IsOfMoment w mid halfway' left' draft ⊎ ((is_memory er ≡ true) × HasLostChanges mid halfway' left' draft)) same
+    (subst (λ (d : Draft). IsOfMoment environment mid halfway' d draft ⊎ ((is_memory er ≡ true) × HasLostChanges mid halfway' d draft)) leaves (fault wrong))) [
       | inl moment ↦ inl (moment_from environment' before mid halfway' halfway left' draft hint hint' is is' moment)
-      | inr none ↦ inr none
+      | inr none ↦ inr (none.0, lost_from before mid halfway' halfway left' draft is is' none.1)
     ]
 
 -- a call that leaves nothing halfway may be said to
@@ -137,7 +157,7 @@ pub fault_unhinted : (er : ReadlineError) (environment : Environment) (before ha
     → FaultLeft er environment before before (unhinted before) draft → FaultLeft er environment before halfway left draft
 fault_unhinted er environment before halfway left draft fault = λ wrong. elim (fault wrong) [
   | inl moment ↦ inl (as_before (begun moment))
-  | inr none ↦ inr none
+  | inr none ↦ inr (none.0, inl (lost none.1))
 ]
   where
     of_hint : IsEarlierHint before before draft.hint ⊎ (draft.hint ≡ (hinted environment draft).hint)
@@ -146,6 +166,11 @@ fault_unhinted er environment before halfway left draft fault = λ wrong. elim (
     of_hint (inl (inl same)) = inl (inl same)
     of_hint (inl (inr (inl none))) = inl (inr (inl none))
     of_hint (inl (inr (inr same))) = inl (inl same)
+
+    lost : HasLostChanges before before (unhinted before) draft → LosesChanges before draft
+    lost (inl l) = l
+    lost (inr (inl l)) = l
+    lost (inr (inr l)) = record { changes = l.changes; saved = l.saved; index = l.index }
 
     begun : IsOfMoment environment before before (unhinted before) draft → IsOf environment before halfway before draft
     begun (as_before at) = record { text = at.text; hint = of_hint at.hint }
@@ -160,9 +185,14 @@ pub fault_other : (er : ReadlineError) (environment : Environment) (before halfw
     → FaultLeft er environment before halfway left draft → FaultLeft er environment before halfway left' draft
 fault_other er environment before halfway left left' draft text fault = λ wrong. elim (fault wrong) [
   | inl moment ↦ inl (there moment)
-  | inr none ↦ inr none
+  | inr none ↦ inr (none.0, lost none.1)
 ]
   where
+    lost : HasLostChanges before halfway left draft → HasLostChanges before halfway left' draft
+    lost (inl l) = inl l
+    lost (inr (inl l)) = inr (inl l)
+    lost (inr (inr l)) = inr (inr (loses left' left draft text l))
+
     there : IsOfMoment environment before halfway left draft → IsOfMoment environment before halfway left' draft
     there (as_before at) = as_before at
     there (as_halfway at) = as_halfway at
@@ -174,11 +204,16 @@ pub fault_within : (er : ReadlineError) (environment environment' : Environment)
     → FaultLeft er environment mid mid left draft → FaultLeft er environment' before halfway left' draft
 fault_within er environment environment' before mid halfway left left' draft same hint text text' fault =
     λ wrong.
-    elim (subst (λ (w : Environment). IsOfMoment w mid mid left draft ⊎ ((is_memory er ≡ true) × (draft.changes ≡ no_changes))) same (fault wrong)) [
+    elim (subst (λ (w : Environment). IsOfMoment w mid mid left draft ⊎ ((is_memory er ≡ true) × HasLostChanges mid mid left draft)) same (fault wrong)) [
       | inl moment ↦ inl (as_left (there moment))
-      | inr none ↦ inr none
+      | inr none ↦ inr (none.0, inr (inr (lost none.1)))
     ]
   where
+    lost : HasLostChanges mid mid left draft → LosesChanges left' draft
+    lost (inl l) = loses left' mid draft text l
+    lost (inr (inl l)) = loses left' mid draft text l
+    lost (inr (inr l)) = loses left' left draft text' l
+
     there : IsOfMoment environment' mid mid left draft → IsOf environment' before halfway left' draft
     there (as_before at) = record { text = but_hint left' mid draft text at.text; hint = earlier environment' before mid mid halfway draft hint hint at.hint }
     there (as_halfway at) = record { text = but_hint left' mid draft text at.text; hint = earlier environment' before mid mid halfway draft hint hint at.hint }
@@ -190,12 +225,17 @@ pub fault_halfway : (er : ReadlineError) (environment environment' : Environment
     → FaultLeft er environment mid mid half draft → FaultLeft er environment' before halfway left draft
 fault_halfway er environment environment' before mid half halfway left draft same is hint text fault =
     λ wrong.
-    elim (subst (λ (w : Environment). IsOfMoment w mid mid halfway draft ⊎ ((is_memory er ≡ true) × (draft.changes ≡ no_changes))) same
-    (subst (λ (d : Draft). IsOfMoment environment mid mid d draft ⊎ ((is_memory er ≡ true) × (draft.changes ≡ no_changes))) is (fault wrong))) [
+    elim (subst (λ (w : Environment). IsOfMoment w mid mid halfway draft ⊎ ((is_memory er ≡ true) × HasLostChanges mid mid halfway draft)) same
+    (subst (λ (d : Draft). IsOfMoment environment mid mid d draft ⊎ ((is_memory er ≡ true) × HasLostChanges mid mid d draft)) is (fault wrong))) [
       | inl moment ↦ inl (there moment)
-      | inr none ↦ inr none
+      | inr none ↦ inr (none.0, lost none.1)
     ]
   where
+    lost : HasLostChanges mid mid halfway draft → HasLostChanges before halfway left draft
+    lost (inl l) = inl (loses before mid draft text l)
+    lost (inr (inl l)) = inl (loses before mid draft text l)
+    lost (inr (inr l)) = inr (inl l)
+
     there : IsOfMoment environment' mid mid halfway draft → IsOfMoment environment' before halfway left draft
     there (as_before at) = as_before (record { text = but_hint before mid draft text at.text; hint = earlier environment' before mid mid halfway draft hint hint at.hint })
     there (as_halfway at) = as_before (record { text = but_hint before mid draft text at.text; hint = earlier environment' before mid mid halfway draft hint hint at.hint })

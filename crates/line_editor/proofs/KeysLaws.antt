@@ -1,13 +1,16 @@
 -- A run executes at most as many commands as it reads keys.
-use Rattle.std.proofs.Common.{arith, ◌≡◌, ◌+◌, ◌≤◌, cond, List, [], ◌∷◌, ◌++◌, map, ◌∙◌, ap}
+use Rattle.std.proofs.Common.{arith, ◌≡◌, ℕ, ◌+◌, ◌≤◌, cond, List, [], ◌∷◌, ◌++◌, map, ◌∙◌, ap}
 use Rattle.std.proofs.lemmas.List.Sums.{sum_by-append}
 use Rattle.line_parts.specs.Environment.{Environment}
 use Rattle.line_keys.specs.Draft.{Draft}
 use Rattle.line_keys.specs.Item.{Item, key}
+use Rattle.line_keys.specs.declared.editor_state.EditorState as editors
+use Rattle.line_keys.specs.declared.raw_reader.RawReader as readers
 use Rattle.line_editor.specs.Editor.{Editor, Answer, Ruler}
 use Rattle.line_editor.specs.Input.{Input}
 use Rattle.line_editor.specs.Keymap.{Keymap}
-use Rattle.line_editor.specs.Laws.{ExecutesNoMoreThanKeys}
+use Rattle.line_editor.specs.Laws.{ExecutesNoMoreThanKeys, TurnsReadKeys}
+use Rattle.line_editor.specs.Outcomes.{Session, TakesTurns, and_turn, no_turn, turns_in}
 use Rattle.line_editor.specs.Phrase.{Phrase, behind_key, of_mode}
 use Rattle.line_editor.specs.Read.{Read}
 use Rattle.line_editor.specs.Run.{End, Run, Turn, goes_on, ends, runs_dry, commands_in, is_key, keys_in, unread}
@@ -52,3 +55,16 @@ module _ (keymap : Keymap) (ruler : Ruler) (environment : Environment) where
 pub few-commands : ExecutesNoMoreThanKeys
 few-commands keymap ruler environment editor last input i items end run =
     no-more keymap ruler environment editor last input i items end run
+
+module _ {X Y : Type 0} (e : editors.Ghosts X) (r : readers.Ghosts Y) (indent : ℕ) where
+  take-keys : (before after : Session X Y) (turns : TakesTurns e r indent before after)
+      → turns_in e r turns + keys_in (r.rest after.reader) ≤ keys_in (r.rest before.reader)
+  take-keys before after no_turn = omega arith
+  take-keys before after (and_turn {found = found} turns turn) =
+      let one = reads-key _ turn.turned.ruler _ _ _ _ _ _ _ _ turn.turned.turn in
+      let rest = take-keys before found turns in
+      omega (arith, one, rest)
+
+-- so do turns, one after another
+pub keys-taken : {X Y : Type 0} (e : editors.Ghosts X) (r : readers.Ghosts Y) → TurnsReadKeys e r
+keys-taken e r indent before after turns = take-keys e r indent before after turns

@@ -25,6 +25,7 @@ pub mod EditLemmas
 pub mod HistoryMoveLemmas
 pub mod HistoryWayLaws
 pub mod KeysLaws
+pub mod KillFaultLemmas
 pub mod MatchWayLaws
 pub mod MoveLemmas
 pub mod GroupLemmas

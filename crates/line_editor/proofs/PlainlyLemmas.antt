@@ -31,7 +31,7 @@ use Rattle.line_editor.specs.DraftEdits.{killed_by, range_killed, typed_in}
 use Rattle.line_editor.specs.Drawings.{kill_drawn, typing_drawn}
 use Rattle.line_editor.specs.Editor.{edited_of, with_edited}
 use Rattle.line_editor.specs.Outcomes.{DoesWithKills, editor_of}
-use Rattle.line_editor.proofs.FaultLemmas.{but_hinted, fault_shown, unless_memory}
+use Rattle.line_editor.proofs.FaultLemmas.{but_hinted, fault_shown, leaves_kills}
 use Rattle.line_editor.proofs.DoneLemmas.{Redrawn, fails_after, line_after, line_reported}
 use Rattle.line_editor.proofs.DrawnLemmas.{frame_then, hint_trails, right_shown, shown_right}
 
@@ -298,7 +298,7 @@ module _ {X T : Type 0} (e : Ghosts X) (r : Result T ReadlineError) (old mid new
         → ShowsText (e.display mid) (front ++ gone) → (e.draft mid).line ≡ record { text = front; cursor = length front } → OnOk r (HasRightLayout e new))
         → Leaves r range
     killed_plainly ordered plainly count counted shows right =
-        subst (λ (x : Option (ℕ × ℕ)). Leaves r x) is (record { does = plain_kill ordered plainly count counted shows right; kills_left = unless_memory r rung })
+        subst (λ (x : Option (ℕ × ℕ)). Leaves r x) is (record { does = plain_kill ordered plainly count counted shows right; kills_left = leaves_kills r kills _ kills' rung })
 
     pub killed_full : ((to == length (e.draft old).line.text) && gives_end (e.display old) (e.draft old) from) ≡ false → Redrawn e r mid new → Leaves r range
-    killed_full plainly shows = subst (λ (x : Option (ℕ × ℕ)). Leaves r x) is (record { does = full_kill plainly shows; kills_left = unless_memory r rung })
+    killed_full plainly shows = subst (λ (x : Option (ℕ × ℕ)). Leaves r x) is (record { does = full_kill plainly shows; kills_left = leaves_kills r kills _ kills' rung })

@@ -160,6 +160,7 @@ module _ {X Y : Type 0} (e : editors.Ghosts X) (r : readers.Ghosts Y) (old middl
           input_left = sym was.input_read;
           found = middle;
           as_read = was.begun_there ∙ ap (λ command. grouped command was.read.draft) (sym was.command_read);
+          counted = was.drew;
           frame = read.keeps.frame;
           fails =
               subst (λ (i : Input). F i was.read.command (kills_before was.read.command kills)) (sym was.input_read)

@@ -10,8 +10,7 @@ use Rattle.line_parts.specs.Environment.{Environment}
 use Rattle.line_keys.specs.Display.{Display, IsRight, Surface}
 use Rattle.line_keys.specs.Draft.{Draft, hinted, start_text}
 use Rattle.line_keys.specs.Drawing.{Refreshes, with_hint}
-use Rattle.line_keys.specs.ShownLine.{HasRightLayout, Redraws}
-use Rattle.line_keys.specs.ShownLine.{ShowsLine}
+use Rattle.line_keys.specs.ShownLine.{Redraws}
 use Rattle.line_keys.specs.declared.editor_state.EditorState as editors
 use Rattle.line_keys.specs.declared.raw_reader.RawReader as readers
 use Rattle.line_editor.specs.Binding.{Bound, all_sure}
@@ -21,9 +20,10 @@ use Rattle.line_editor.specs.Reading.{KeepsReading}
 use Rattle.line_editor.specs.ItemShown.{ItemShown, any_drawn, asked_behind, ruler_behind}
 use Rattle.line_editor.specs.Run.{CutShort, End, Run, Turns, stopped, dry}
 use Rattle.line_editor.specs.Run as runs
-use Rattle.line_editor.specs.Outcomes.{Advances, NeedsMoreItems, Runs, RunsTo, Session, Stays, TakesTurn, TurnsTo, editor_of, items_read, session}
+use Rattle.line_editor.specs.Outcomes.{Advances, HasProceeded, NeedsMoreItems, Runs, RunsTo, Session, Stays, TakesTurn, and_turn, editor_of, items_read, no_turn, session}
 use Rattle.line_editor.specs.Editor.{Answer, Editor, Ruler, proceeds, submitted, ended, interrupted, own_ruler, ruler_of}
 use Rattle.line_editor.specs.declared.run.Turned.{Turned}
+use Rattle.line_editor.specs.declared.run.Turned.TheVariants as turned
 use Rattle.line_editor.proofs.AskedLemmas.{sure_all}
 use Rattle.line_editor.proofs.DrawnLemmas.{frame_then, hint_trails, line_stays}
 use Rattle.line_editor.proofs.GroupLemmas.{start_there}
@@ -52,12 +52,9 @@ module _ {X Y : Type 0} (e : editors.Ghosts X) (r : readers.Ghosts Y) (indent : 
         → Run (keymap_of start.keys (r.own_binding start.reader)) (own_ruler (e.display start.state) indent) (e.environment start.state) (editor_of e now.state now.kills) now.keys.input (r.rest now.reader) last i end
         → Run (keymap_of start.keys (r.own_binding start.reader)) (own_ruler (e.display start.state) indent) (e.environment start.state)
         (record { draft = hinted (e.environment start.state) (e.draft start.state); kills = start.kills }) start.keys.input (r.rest start.reader) last i end
-    pub turned : TurnsTo e r indent start now
-    pub keeps : KeepsReading e r start.state start.keys start.reader now.state now.keys now.reader
+    pub proceeded : HasProceeded e r indent start now
     pub unread : r.failures now.reader ≡ r.failures start.reader
     pub undrawn : e.failures now.state ≡ e.failures start.state
-    pub right : HasRightLayout e now.state
-    pub shown : ShowsLine e now.state
     pub first : start_text (e.draft now.state) ≡ start_text (e.draft start.state)
     pub redraws : Redraws e 1 (1 + 4 * items_read e r start now) start.state now.state
     pub fewer : length (r.rest now.reader) ≤ length (r.rest start.reader)
@@ -67,15 +64,20 @@ module _ {X Y : Type 0} (e : editors.Ghosts X) (r : readers.Ghosts Y) (indent : 
       → Underway (session now start.keys start.reader start.kills)
   begins now drew = record {
     goes_on = λ last i end run. subst (λ (d : Draft). Run (keymap_of start.keys (r.own_binding start.reader)) (own_ruler (e.display start.state) indent) (e.environment start.state) (record { draft = d; kills = start.kills }) start.keys.input (r.rest start.reader) last i end) drew.draft run;
-    turned =
+    proceeded =
         let P : Draft → Type 0 = λ d. Turns (keymap_of start.keys (r.own_binding start.reader)) (own_ruler (e.display start.state) indent) (e.environment start.state)
         (record { draft = d; kills = start.kills }) start.keys.input (r.rest start.reader) (editor_of e now start.kills) start.keys.input (r.rest start.reader) in
-        subst P drew.draft runs.none;
-    keeps = record { both = record { frame = drew.frame; own = refl; counts = omega arith }; bound = refl };
+        record {
+          drawn = now;
+          first = drew;
+          taken = no_turn;
+          turns = subst P drew.draft runs.none;
+          keeps = record { both = record { frame = drew.frame; own = refl; counts = omega arith }; bound = refl };
+          right = drew.drew.right;
+          shown = hint_trails e now drew.drew.shows;
+        };
     unread = refl;
     undrawn = drew.fails.quiet;
-    right = drew.drew.right;
-    shown = hint_trails e now drew.drew.shows;
     first = ap start_text drew.draft;
     redraws = λ below. let s = drew.drew.redraws (omega (arith, below)) in (omega (arith, s.0), omega (arith, s.1));
     fewer = omega arith;
@@ -100,15 +102,15 @@ module _ {X Y : Type 0} (e : editors.Ghosts X) (r : readers.Ghosts Y) (indent : 
     same_keymap : keymap_of now.keys (r.own_binding now.reader) ≡ keymap_of start.keys (r.own_binding start.reader)
     same_keymap =
         let f : Bound → Keymap = λ b. record { bound = b; own = r.own_binding start.reader } in
-        ap (λ own. keymap_of now.keys own) u.keeps.both.own ∙ ap f u.keeps.bound
+        ap (λ own. keymap_of now.keys own) u.proceeded.keeps.both.own ∙ ap f u.proceeded.keeps.bound
 
     -- behind the own prompt the ruler is the same all the way
     same_ruler : ruler_of (e.display now.state) indent ≡ own_ruler (e.display start.state) indent
     same_ruler =
         let f : ℕ → Ruler = λ n. record { prompt_column = n; cluster_mode = (e.display now.state).layout.grapheme_cluster_mode; indent_size = indent } in
         let h : GraphemeClusterMode → Ruler = λ m. record { prompt_column = (e.display start.state).prompt_end.col; cluster_mode = m; indent_size = indent } in
-        ap f (ap (λ (p : Position). p.col) (u.right.drawn.prompt ∙ u.keeps.both.frame.prompt_end))
-        ∙ ap h (u.right.drawn.mode ∙ ap (λ (f : Surface). f.mode) u.keeps.both.frame.surface)
+        ap f (ap (λ (p : Position). p.col) (u.proceeded.right.drawn.prompt ∙ u.proceeded.keeps.both.frame.prompt_end))
+        ∙ ap h (u.proceeded.right.drawn.mode ∙ ap (λ (f : Surface). f.mode) u.proceeded.keeps.both.frame.surface)
 
     -- so is that of a turn, whether a count is typed or not
     turn_ruler : (shown : List ItemShown) (ruler : Ruler) → ruler ≡ ruler_behind shown (e.display now.state) indent → ruler ≡ own_ruler (e.display start.state) indent
@@ -119,7 +121,7 @@ module _ {X Y : Type 0} (e : editors.Ghosts X) (r : readers.Ghosts Y) (indent : 
         by_any true =
             let f : ℕ → Ruler = λ n. record { prompt_column = n; cluster_mode = (e.display now.state).surface.mode; indent_size = indent } in
             let h : GraphemeClusterMode → Ruler = λ m. record { prompt_column = (e.display start.state).prompt_end.col; cluster_mode = m; indent_size = indent } in
-            ap f (ap (λ (p : Position). p.col) u.keeps.both.frame.prompt_end) ∙ ap h (ap (λ (s : Surface). s.mode) u.keeps.both.frame.surface)
+            ap f (ap (λ (p : Position). p.col) u.proceeded.keeps.both.frame.prompt_end) ∙ ap h (ap (λ (s : Surface). s.mode) u.proceeded.keeps.both.frame.surface)
 
     module _ (next : Session X Y) where
       -- what stays to here and on from here stays
@@ -127,11 +129,11 @@ module _ {X Y : Type 0} (e : editors.Ghosts X) (r : readers.Ghosts Y) (indent : 
           → KeepsReading e r start.state start.keys start.reader next.state next.keys next.reader
       keeps_on k = record {
         both = record {
-          frame = frame_then e start.state now.state next.state u.keeps.both.frame k.both.frame;
-          own = k.both.own ∙ u.keeps.both.own;
-          counts = omega (arith, u.keeps.both.counts, k.both.counts);
+          frame = frame_then e start.state now.state next.state u.proceeded.keeps.both.frame k.both.frame;
+          own = k.both.own ∙ u.proceeded.keeps.both.own;
+          counts = omega (arith, u.proceeded.keeps.both.counts, k.both.counts);
         };
-        bound = k.bound ∙ u.keeps.bound;
+        bound = k.bound ∙ u.proceeded.keeps.bound;
       }
 
       -- the redraws of a turn come to those of the run: at most four for each item, where one was read
@@ -145,15 +147,20 @@ module _ {X Y : Type 0} (e : editors.Ghosts X) (r : readers.Ghosts Y) (indent : 
           (omega (arith, s.0, t.0), omega (arith, s.1, t.1, less, u.fewer))
 
       -- a turn that proceeds
-      pub proceeds_on : {turned : Turned} → Advances e r indent (Ok turned) now next → TakesTurn e r indent now next proceeds → Underway next
+      pub proceeds_on : Advances e r indent (Ok turned.Proceeds) now next → TakesTurn e r indent now next proceeds → Underway next
       proceeds_on advances turn = record {
-        goes_on = λ last i end run. u.goes_on last i end (run-goes _ _ _ _ _ _ same_keymap (turn_ruler turn.turn.read.shown turn.ruler turn.measured) u.keeps.both.frame.environment _ _ _ _ _ _ _ _ end proceeds refl turn.turn run);
-        turned = turns-on _ _ _ _ _ _ same_keymap (turn_ruler turn.turn.read.shown turn.ruler turn.measured) u.keeps.both.frame.environment _ _ _ _ _ _ _ _ _ u.turned turn.turn;
-        keeps = keeps_on advances.stays.keeps;
+        goes_on = λ last i end run. u.goes_on last i end (run-goes _ _ _ _ _ _ same_keymap (turn_ruler turn.turn.read.shown turn.ruler turn.measured) u.proceeded.keeps.both.frame.environment _ _ _ _ _ _ _ _ end proceeds refl turn.turn run);
+        proceeded = record {
+          drawn = u.proceeded.drawn;
+          first = u.proceeded.first;
+          taken = and_turn u.proceeded.taken advances;
+          turns = turns-on _ _ _ _ _ _ same_keymap (turn_ruler turn.turn.read.shown turn.ruler turn.measured) u.proceeded.keeps.both.frame.environment _ _ _ _ _ _ _ _ _ u.proceeded.turns turn.turn;
+          keeps = keeps_on advances.stays.keeps;
+          right = turn.drawn.right u.proceeded.right;
+          shown = turn.drawn.line u.proceeded.shown;
+        };
         unread = advances.stays.fails.quiet.0 ∙ u.unread;
         undrawn = advances.stays.fails.quiet.1 ∙ u.undrawn;
-        right = turn.drawn.right u.right;
-        shown = turn.drawn.line u.shown;
         first = turn.start ∙ u.first;
         redraws = redraws_on turn.fewer turn.redraws;
         fewer = omega (arith, u.fewer, turn.fewer);
@@ -163,13 +170,13 @@ module _ {X Y : Type 0} (e : editors.Ghosts X) (r : readers.Ghosts Y) (indent : 
       pub goes_wrong : {T : Type 0} (f : ReadlineError) → Advances e r indent (Err f) now next → Runs e r {T = T} indent (Err f) start next
       goes_wrong f advances = record {
         ran = λ no. absurd (let is = advances.faults in cc);
-        wrong = λ fault. inr (record { found = now; keeps = u.keeps; turns = u.turned; wrong = advances.wrong });
+        wrong = λ fault. inr (record { found = now; underway = u.proceeded; wrong = advances.wrong });
         stays = record {
           keeps = keeps_on advances.stays.keeps;
           fails = record {
             io = λ is sure below other.
                 let m = u.unread in let n = u.undrawn in
-                let rose = advances.stays.fails.io is (ap (λ s. is_sure s for_all) u.keeps.both.frame.sure ∙ sure.0, ap (λ b. all_sure b) u.keeps.bound ∙ sure.1) (omega (arith, below, m)) (omega (arith, other, n)) in
+                let rose = advances.stays.fails.io is (ap (λ s. is_sure s for_all) u.proceeded.keeps.both.frame.sure ∙ sure.0, ap (λ b. all_sure b) u.proceeded.keeps.bound ∙ sure.1) (omega (arith, below, m)) (omega (arith, other, n)) in
                 omega (arith, rose, m, n);
             quiet = λ no. let q = advances.stays.fails.quiet no in (q.0 ∙ u.unread, q.1 ∙ u.undrawn);
           };
@@ -178,7 +185,7 @@ module _ {X Y : Type 0} (e : editors.Ghosts X) (r : readers.Ghosts Y) (indent : 
 
       -- a turn that does not proceed ends the run
       stops : (answer : Answer) → answer ≢ proceeds → TakesTurn e r indent now next answer → RunsTo e r indent start next (stopped answer (r.rest next.reader))
-      stops answer other turn = u.goes_on _ _ _ (run-ends _ _ _ _ _ _ same_keymap (turn_ruler turn.turn.read.shown turn.ruler turn.measured) u.keeps.both.frame.environment _ _ _ _ _ _ answer _ refl other turn.turn)
+      stops answer other turn = u.goes_on _ _ _ (run-ends _ _ _ _ _ _ same_keymap (turn_ruler turn.turn.read.shown turn.ruler turn.measured) u.proceeded.keeps.both.frame.environment _ _ _ _ _ _ answer _ refl other turn.turn)
 
       all_stays : {T : Type 0} (result : Result T ReadlineError) {turned : Turned} → IoOnlyIf result ⊥ → Advances e r indent (Ok turned) now next → Stays e r result start next
       all_stays result none advances =
@@ -191,7 +198,10 @@ module _ {X Y : Type 0} (e : editors.Ghosts X) (r : readers.Ghosts Y) (indent : 
           refl,
           record {
             run = stops submitted (λ no. cc) turn;
-            drawn = (turn.drawn.right u.right, turn.drawn.no_hint u.shown);
+            found = now;
+            underway = u.proceeded;
+            last = turn;
+            drawn = (turn.drawn.right u.proceeded.right, turn.drawn.no_hint u.proceeded.shown);
             start = turn.start ∙ u.first;
             redraws = redraws_on turn.fewer turn.redraws;
           },
@@ -207,7 +217,10 @@ module _ {X Y : Type 0} (e : editors.Ghosts X) (r : readers.Ghosts Y) (indent : 
           inl refl,
           record {
             run = stops ended (λ no. cc) turn;
-            drawn = (turn.drawn.right u.right, turn.drawn.no_hint u.shown);
+            found = now;
+            underway = u.proceeded;
+            last = turn;
+            drawn = (turn.drawn.right u.proceeded.right, turn.drawn.no_hint u.proceeded.shown);
             start = turn.start ∙ u.first;
             redraws = redraws_on turn.fewer turn.redraws;
           },
@@ -223,7 +236,10 @@ module _ {X Y : Type 0} (e : editors.Ghosts X) (r : readers.Ghosts Y) (indent : 
           refl,
           record {
             run = stops interrupted (λ no. cc) turn;
-            drawn = (turn.drawn.at_end, turn.drawn.in_place u.right.drawn.position, turn.drawn.ends u.shown);
+            found = now;
+            underway = u.proceeded;
+            last = turn;
+            drawn = (turn.drawn.at_end, turn.drawn.in_place u.proceeded.right.drawn.position, turn.drawn.ends u.proceeded.shown);
             start = turn.start ∙ u.first;
             redraws = redraws_on turn.fewer turn.redraws;
           },
@@ -245,22 +261,16 @@ module _ {X Y : Type 0} (e : editors.Ghosts X) (r : readers.Ghosts Y) (indent : 
               dry (r.rest now.reader),
               inr (r.rest now.reader, refl, dry_up.out.empty),
               record {
-                run = u.goes_on _ _ _ (subst Q (sym dry_up.input_left) (run-dry _ _ _ _ _ _ same_keymap same_ruler u.keeps.both.frame.environment _ _ _ _ dry_up.out.lacks short));
-                drawn = record {
-                  found = now;
-                  keeps = u.keeps;
-                  turns = u.turned;
-                  unread = refl;
-                  right = u.right;
-                  shown = u.shown;
-                  needs = dry_up;
-                  empty = λ none.
-                      let n = dry_up.nothing_read none in (
-                        subst S (sym n.0) (subst R (sym n.1.display) u.right),
-                        line_stays e now.state next.state advances.stays.keeps.both.frame.environment (ap (λ (d : Draft). d.line.text) n.0) (ap (λ (d : Draft). d.hint) n.0) n.1
-                            (ap (λ (d : Draft). d.line) n.0) u.shown,
-                      );
-                };
+                run = u.goes_on _ _ _ (subst Q (sym dry_up.input_left) (run-dry _ _ _ _ _ _ same_keymap same_ruler u.proceeded.keeps.both.frame.environment _ _ _ _ dry_up.out.lacks short));
+                found = now;
+                underway = u.proceeded;
+                last = (dry_up, refl);
+                drawn = λ none.
+                    let n = dry_up.nothing_read none in (
+                      subst S (sym n.0) (subst R (sym n.1.display) u.proceeded.right),
+                      line_stays e now.state next.state advances.stays.keeps.both.frame.environment (ap (λ (d : Draft). d.line.text) n.0) (ap (λ (d : Draft). d.hint) n.0) n.1
+                          (ap (λ (d : Draft). d.line) n.0) u.proceeded.shown,
+                    );
                 start = start_of_cut (e.environment now.state) dry_up.out.lacks.shown _ _ dry_up.out.draft
                     ∙ start_there (keymap_of now.keys (r.own_binding now.reader)) (e.draft now.state) now.keys.input (r.rest now.reader) ∙ u.first;
                 redraws =

@@ -20,7 +20,7 @@ use Rattle.line_editor.specs.Phrase.{Phrase, count_in_front, entered}
 use Rattle.line_editor.specs.Read.{Read}
 use Rattle.line_editor.specs.Reading.{LeftByCut}
 use Rattle.line_editor.specs.Run.{End, Run, Turn, Turns, commands_in, keys_in, ready, stopped, unread}
-use Rattle.line_editor.specs.Outcomes.{RunsTo, Session, editor_of}
+use Rattle.line_editor.specs.Outcomes.{RunsTo, Session, TakesTurns, editor_of, turns_in}
 use Rattle.line_editor.specs.Step.{step}
 use Rattle.line_editor.specs.Editor.{Editor, Answer, Ruler}
 
@@ -148,6 +148,11 @@ ComingBack = (ruler : Ruler) (environment : Environment) (editor : Editor) (firs
     → ((k : ℕ) → k ≤ length between → is_own_line environment (after_commands ruler environment editor (first ∷ take k between)).draft ≡ false)
     → is_own_line environment (after_commands ruler environment editor (first ∷ between ++ last ∷ [])).draft ≡ true
     → (after_commands ruler environment editor (first ∷ between ++ last ∷ [])).draft.line ≡ editor.draft.line
+
+-- turns that proceed read at least a key each
+abbrev pub TurnsReadKeys : {X Y : Type 0} → editors.Ghosts X → readers.Ghosts Y → Type 0
+TurnsReadKeys {X} {Y} e r = (indent : ℕ) (before after : Session X Y) (turns : TakesTurns e r indent before after)
+    → turns_in e r turns + keys_in (r.rest after.reader) ≤ keys_in (r.rest before.reader)
 
 module _ {X Y X' Y' : Type 0} (e : editors.Ghosts X) (r : readers.Ghosts Y) (e' : editors.Ghosts X') (r' : readers.Ghosts Y') where
   -- two programs start alike, over two renderers and two readers: the prompts end alike and clusters are counted alike, and what is

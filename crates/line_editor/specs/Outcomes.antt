@@ -1,15 +1,15 @@
 -- Commands, turns and runs of a program's state, input state, reader and kill ring.
-use Rattle.std.specs.Prelude.{◌≡◌, ◌⊎◌, true, ℕ, ◌+◌, ◌-◌, ◌*◌, ◌<◌, List, [], length, Result, IfErr, IfOk, Ok, Err, ◌++◌, false}
-use Rattle.line_buffer.specs.KillRing.{Ring}
+use Rattle.std.specs.Prelude.{◌≡◌, ◌⊎◌, true, ℕ, ◌+◌, ◌-◌, ◌*◌, ◌<◌, List, [], length, Result, IfErr, IfOk, Ok, Err, ◌++◌}
+use Rattle.line_buffer.specs.KillRing.{Ring, killed, with_last}
 use Rattle.line_config.specs.Error.{FaultsOnly, IoOnlyIf, UnlessFault, is_fault, is_memory}
 use Rattle.line_config.specs.Failures.{UnlessIo}
 use Rattle.line_config.specs.declared.error.ReadlineError.{ReadlineError}
 use Rattle.line_config.specs.declared.error.ReadlineError.TheVariants.{Eof, Interrupted}
 use Rattle.line_parts.specs.Asks.{for_all}
 use Rattle.line_keys.specs.Command.{Command}
-use Rattle.line_keys.specs.Draft.{Draft, hinted, start_text}
-use Rattle.line_keys.specs.Fault.{FaultLeft, IoLeft, UnlessMemory}
-use Rattle.line_keys.specs.Drawing.{DoesInTwo, Drawing, Drew, DrewNothing, ShowsChange, asked_by}
+use Rattle.line_keys.specs.Draft.{Draft, KeepsLine, hinted, start_text}
+use Rattle.line_keys.specs.Fault.{FaultLeft, IoLeft}
+use Rattle.line_keys.specs.Drawing.{DoesInTwo, Drawing, Drew, DrewNothing, Refreshes, ShowsChange, asked_by, with_hint}
 use Rattle.line_keys.specs.Frame.{Frame, PartyFailed}
 use Rattle.line_keys.specs.ShownLine.{GoesToEnd, HasRightLayout, HasShownEnd, IsAtEnd, IsInPlace, KeepsDrawn, LosesHint, Redraws, ShowsLine, ShowsNoHint}
 use Rattle.line_keys.specs.Item.{Item}
@@ -36,6 +36,17 @@ pub record Session (X Y : Type 0) : Type 0 where
   pub reader : Y
   pub kills : Ring
 
+-- a fault leaves the kill ring that the call leaves without one; or, where memory ran out, the one from before, or that one but that a
+-- kill was done last
+abbrev pub KillsLeft : ReadlineError → Ring → Ring → Ring → Type 0
+KillsLeft error before left kills =
+    (kills ≡ left) ⊎ ((is_memory error ≡ true) × ((kills ≡ before) ⊎ (kills ≡ with_last before killed)))
+
+-- the kill ring that a call leaves, also where it goes wrong
+abbrev pub LeavesKills : {T : Type 0} → Result T ReadlineError → Ring → Ring → Ring → Type 0
+LeavesKills (Ok _) before left kills = kills ≡ left
+LeavesKills (Err error) before left kills = KillsLeft error before left kills
+
 -- a session of these four
 abbrev pub session : {X Y : Type 0} → X → KeyState → Y → Ring → Session X Y
 session state keys reader kills = record { state = state; keys = keys; reader = reader; kills = kills }
@@ -45,11 +56,10 @@ module _ {X : Type 0} (e : editors.Ghosts X) where
   abbrev pub editor_of : X → Ring → Editor
   editor_of state kills = record { draft = e.draft state; kills = kills }
 
-  -- what a call leaves that edits the line and kills or yanks: the editor, its kill ring after a fault of a party too, and what else
-  -- such an edit leaves
+  -- what a call leaves that edits the line and kills or yanks: what an edit leaves, and the kill ring
   pub record DoesInTwoWithKills {T : Type 0} (result : Result T ReadlineError) (state : X) (kills : Ring) (state' : X) (kills' : Ring) (halfway : Draft) (left : Editor) (drawing : Drawing) (times : ℕ) : Type 0 where
     pub does : DoesInTwo e (asked_by drawing) result state state' halfway left.draft drawing times
-    pub kills_left : UnlessMemory result (kills' ≡ left.kills)
+    pub kills_left : LeavesKills result kills left.kills kills'
 
   -- the same of a call that changes the line once
   abbrev pub DoesWithKills : {T : Type 0} → Result T ReadlineError → X → Ring → X → Ring → Editor → Drawing → ℕ → Type 0
@@ -66,7 +76,8 @@ module _ {X : Type 0} (e : editors.Ghosts X) where
   StepsTo state input indent kills command state' kills' answer =
       Leaves (step_from state input indent kills command) (editor_of state' kills') answer
 
-  -- what is drawn after an answer: a submitted line and one that ended the input have no hint, an interrupt goes to the end
+  -- what is drawn once a command has answered: where it proceeds, what is drawn stays good; a submitted line and the end of the input
+  -- are drawn without a hint; an interrupt takes the cursor to the end
   abbrev pub DrawnAfter : Answer → X → X → Type 0
   DrawnAfter proceeds state state' = KeepsDrawn e state state'
   DrawnAfter submitted state state' = LosesHint e state state'
@@ -79,8 +90,8 @@ module _ {X : Type 0} (e : editors.Ghosts X) where
       Drew e (times_of (e.display old) (e.environment old) editor command)
       (drawing_of (e.display old) (e.environment old) editor command) old new
 
-  -- a command that was executed and answered: its step and its drawing; what is drawn stays good, and a changed text is drawn; at most
-  -- three full redraws are made, and none by plain typing, a plain kill or a move that draws the cursor alone; and what all changes taken
+  -- a command that was executed and answered: the editor and the answer are those of its step, and what it draws was drawn; a changed
+  -- text is drawn; at most three full redraws are made, and none where the command draws in part; and the text that all changes taken
   -- back give stays
   pub record Executed (state : X) (input : Input) (indent : ℕ) (kills : Ring) (command : Command) (state' : X) (kills' : Ring) (answer : Answer) : Type 0 where
     pub steps : StepsTo state input indent kills command state' kills' answer
@@ -91,13 +102,15 @@ module _ {X : Type 0} (e : editors.Ghosts X) where
     pub part : draws_in_part (e.display state) (e.environment state) (e.draft state) command ≡ true → e.redraws state' ≡ e.redraws state
     pub start : start_text (e.draft state') ≡ start_text (e.draft state)
 
-  -- what a command leaves that goes wrong: the draft of a moment of its step, and the step's kill ring; or where memory ran out, no changes
+  -- what a command leaves that goes wrong: after a fault the draft of a moment of its step, or, where memory ran out, one that has lost
+  -- its changes; and the kill ring of its step, or, where memory ran out, the one from before
   pub record FailsIn (error : ReadlineError) (state : X) (input : Input) (indent : ℕ) (kills : Ring) (command : Command) (state' : X) (kills' : Ring) : Type 0 where
     pub draft : FaultLeft error (e.environment state) (e.draft state) (halfway_of (e.environment state) (editor_of state kills) command)
         (step_from state input indent kills command).editor.draft (e.draft state')
-    pub kills_left : is_memory error ≡ false → kills' ≡ (step_from state input indent kills command).editor.kills
+    pub kills_left : KillsLeft error kills (step_from state input indent kills command).editor.kills kills'
 
-  -- what executing a command leaves; an error of input or output comes only where the renderer or one whom the command asks fails
+  -- what executing a command leaves; an error of input or output comes only where the renderer failed, or where one whom the command
+  -- asks is not sure
   pub record Executes (result : Result Status ReadlineError) (state : X) (input : Input) (indent : ℕ) (kills : Ring) (command : Command) (state' : X) (kills' : Ring) : Type 0 where
     pub comes : ComesTo result (Executed state input indent kills command state' kills')
     pub wrong : IfErr result (λ error. FailsIn error state input indent kills command state' kills')
@@ -135,7 +148,8 @@ module _ {X Y : Type 0} (e : editors.Ghosts X) (r : readers.Ghosts Y) where
     pub redraws : Redraws e 0 (3 + items_read before after) before.state after.state
     pub fewer : length (r.rest after.reader) < length (r.rest before.reader)
 
-  -- the items run dry before a phrase or inside of one: the kills and the input value stay, and where none was read all stays
+  -- the items run dry before a phrase or inside of one: the kill ring and what is remembered of keys stay; and where there was no item
+  -- to read, the draft and all that is drawn stay
   pub record NeedsMoreItems (before after : Session X Y) : Type 0 where
     pub out : OutOfItems e r before.state before.keys before.reader after.state after.reader
     pub input_left : after.keys.input ≡ before.keys.input
@@ -157,14 +171,17 @@ module _ {X Y : Type 0} (e : editors.Ghosts X) (r : readers.Ghosts Y) where
     pub keeps : KeepsReading e r before.state before.keys before.reader after.state after.keys after.reader
     pub fails : FailsByReading e r for_all result before.state before.keys before.reader after.state after.reader
 
-  -- reading went wrong: the draft is the one from before, or the one that the phrase is read on from, but for its hint; what is
-  -- remembered of keys and the kill ring stay
+  -- reading went wrong: the line, the saved line, the history index, what is remembered of keys and the kill ring stay; after an error of
+  -- input or output the draft is the one from before, or the one that the phrase is read on from, but for its hint
   pub record FailsInReading (error : ReadlineError) (before after : Session X Y) : Type 0 where
-    pub draft : IoLeft error (e.environment before.state) (e.draft before.state) (entered_here e r before.state before.keys before.reader) (e.draft after.state)
+    pub line : KeepsLine (e.draft before.state) (e.draft after.state)
+    pub draft : IoLeft error (e.environment before.state) (e.draft before.state)
+        (entered_here e r before.state before.keys before.reader) (e.draft after.state)
     pub input_left : after.keys.input ≡ before.keys.input
     pub kills_left : after.kills ≡ before.kills
 
-  -- a phrase was read, and its command went wrong: its items are read and no more, and what the command leaves is of a moment of it
+  -- a phrase was read, its counts were drawn, and its command went wrong: the items of the phrase are read and no more, and of the rest
+  -- the command leaves what one leaves that goes wrong
   pub record FailsInCommand (indent : ℕ) (error : ReadlineError) (before after : Session X Y) : Type 0 where
     pub items : List Item
     pub read : Read
@@ -173,6 +190,7 @@ module _ {X Y : Type 0} (e : editors.Ghosts X) (r : readers.Ghosts Y) where
     pub input_left : after.keys.input ≡ read.input
     pub found : X
     pub as_read : e.draft found ≡ grouped read.command read.draft
+    pub counted : DrewCounts e read.shown before.state found
     pub frame : Frame e before.state found
     pub fails : FailsIn e error found read.input indent (kills_before read.command before.kills) read.command after.state after.kills
 
@@ -186,6 +204,17 @@ module _ {X Y : Type 0} (e : editors.Ghosts X) (r : readers.Ghosts Y) where
     pub wrong : IfErr result (λ error. FailsInTurn indent error before after)
     pub stays : Stays result before after
     pub faults : FaultsOnly result
+
+  -- turns that proceed lead from a session to another: each begins with the session that the one before it left, and counts no failure
+  pub data TakesTurns (indent : ℕ) : Session X Y → Session X Y → Type 0 where
+    no_turn : {now : Session X Y} → TakesTurns indent now now
+    and_turn : {before found after : Session X Y} → TakesTurns indent before found → Advances indent (Ok turned.Proceeds) found after
+        → TakesTurns indent before after
+
+  -- how many turns these are
+  abbrev pub turns_in : {indent : ℕ} {before after : Session X Y} → TakesTurns indent before after → ℕ
+  turns_in no_turn = 0
+  turns_in (and_turn turns _) = turns_in turns + 1
 
   -- once the hint was asked, there is a run with this end
   abbrev pub RunsTo : ℕ → Session X Y → Session X Y → End → Type 0
@@ -201,44 +230,52 @@ module _ {X Y : Type 0} (e : editors.Ghosts X) (r : readers.Ghosts Y) where
       (record { draft = hinted (e.environment before.state) (e.draft before.state); kills = before.kills }) before.keys.input (r.rest before.reader)
       (editor_of e after.state after.kills) after.keys.input (r.rest after.reader)
 
-  -- what is drawn where the items ran dry inside these: turns had led to where the line was shown and the layout right, and from
-  -- there more items were needed
-  pub record DrawnDry (indent : ℕ) (before : Session X Y) (inside : List Item) (after : Session X Y) : Type 0 where
-    pub found : Session X Y
-    pub keeps : KeepsReading e r before.state before.keys before.reader found.state found.keys found.reader
+  -- a run that is underway: it drew the line once with its hint, and then took turns that proceed, the first of them from there; what is
+  -- drawn is right
+  pub record HasProceeded (indent : ℕ) (before found : Session X Y) : Type 0 where
+    pub drawn : X
+    pub first : Refreshes {T = Unit {0}} e (Ok tt) before.state drawn (hinted (e.environment before.state) (e.draft before.state)) with_hint
+    pub taken : TakesTurns indent (session drawn before.keys before.reader before.kills) found
     pub turns : TurnsTo indent before found
-    pub unread : r.rest found.reader ≡ inside
+    pub keeps : KeepsReading e r before.state before.keys before.reader found.state found.keys found.reader
     pub right : HasRightLayout e found.state
     pub shown : ShowsLine e found.state
-    pub needs : NeedsMoreItems found after
-    pub empty : inside ≡ [] → HasRightLayout e after.state × ShowsLine e after.state
 
-  -- what is drawn at the end of a run: the line without a hint; the cursor at the end of what is shown; or where the items ran dry
-  abbrev pub DrawnAtEnd : ℕ → Session X Y → End → Session X Y → Type 0
-  DrawnAtEnd indent before (stopped proceeds rest) after = ⊥
-  DrawnAtEnd indent before (stopped submitted rest) after = HasRightLayout e after.state × ShowsNoHint e after.state
-  DrawnAtEnd indent before (stopped ended rest) after = HasRightLayout e after.state × ShowsNoHint e after.state
-  DrawnAtEnd indent before (stopped interrupted rest) after = IsAtEnd e after.state × IsInPlace e after.state × HasShownEnd e after.state
-  DrawnAtEnd indent before (dry inside) after = DrawnDry indent before inside after
+  -- what a run that is underway ends with: its last turn; or that the items ran dry, inside these
+  abbrev pub EndsWith : ℕ → Session X Y → End → Session X Y → Type 0
+  EndsWith indent found (stopped answer rest) after = TakesTurn indent found after answer
+  EndsWith indent found (dry inside) after = NeedsMoreItems found after × (r.rest found.reader ≡ inside)
 
-  -- the first drawing went wrong: at most the hint is another one
+  -- what is drawn at the end of a run: the line without a hint; the cursor at the end of what is shown; or, where the items ran dry before
+  -- a phrase, the line
+  abbrev pub DrawnAtEnd : End → Session X Y → Type 0
+  DrawnAtEnd (stopped proceeds rest) after = ⊥
+  DrawnAtEnd (stopped submitted rest) after = HasRightLayout e after.state × ShowsNoHint e after.state
+  DrawnAtEnd (stopped ended rest) after = HasRightLayout e after.state × ShowsNoHint e after.state
+  DrawnAtEnd (stopped interrupted rest) after = IsAtEnd e after.state × IsInPlace e after.state × HasShownEnd e after.state
+  DrawnAtEnd (dry inside) after = inside ≡ [] → HasRightLayout e after.state × ShowsLine e after.state
+
+  -- the first drawing of a run went wrong: nothing was read, and of the draft at most the hint is another one
   pub record FailsAtFirst (before after : Session X Y) : Type 0 where
     pub draft : LeftByCut (e.environment before.state) (e.draft before.state) (e.draft after.state)
     pub keys_left : after.keys ≡ before.keys
     pub unread : after.reader ≡ before.reader
     pub kills_left : after.kills ≡ before.kills
 
-  -- a turn went wrong, behind turns that proceed
+  -- a turn went wrong in a run that was underway
   pub record FailsLater (indent : ℕ) (error : ReadlineError) (before after : Session X Y) : Type 0 where
     pub found : Session X Y
-    pub keeps : KeepsReading e r before.state before.keys before.reader found.state found.keys found.reader
-    pub turns : TurnsTo indent before found
+    pub underway : HasProceeded indent before found
     pub wrong : FailsInTurn indent error found after
 
-  -- a run that came to this end: it drew the line at least once, and at most four times more for each item read
+  -- a run that came to this end: it was underway, and ended so from there; it drew the line in full at least once, and at most four times
+  -- more for each item read
   pub record Ran (indent : ℕ) (before after : Session X Y) (end : End) : Type 0 where
     pub run : RunsTo indent before after end
-    pub drawn : DrawnAtEnd indent before end after
+    pub found : Session X Y
+    pub underway : HasProceeded indent before found
+    pub last : EndsWith indent found end after
+    pub drawn : DrawnAtEnd end after
     pub start : start_text (e.draft after.state) ≡ start_text (e.draft before.state)
     pub redraws : Redraws e 1 (1 + 4 * items_read before after) before.state after.state
 
@@ -250,8 +287,8 @@ module _ {X Y : Type 0} (e : editors.Ghosts X) (r : readers.Ghosts Y) where
   EndsAs (Err Interrupted) end rest = end ≡ stopped interrupted rest
   EndsAs (Err _) end rest = ⊥
 
-  -- what a run leaves: unless there is a fault, it came to an end that the result stands for; after a fault, what the drawing or the turn
-  -- left that went wrong
+  -- what a run leaves: without a fault it came to an end that the result stands for; with one, what the first drawing leaves that goes
+  -- wrong, or a turn that goes wrong behind turns that proceed
   pub record Runs {T : Type 0} (indent : ℕ) (result : Result T ReadlineError) (before after : Session X Y) : Type 0 where
     pub ran : UnlessFault result ((end : End) × EndsAs result end (r.rest after.reader) × Ran indent before after end)
     pub wrong : IfErr result (λ error. is_fault error ≡ true → FailsAtFirst before after ⊎ FailsLater indent error before after)

@@ -30,7 +30,7 @@ down_or_next ruler environment n draft =
     if is_some (down_by (measuring ruler) draft.line n) then cursor_moved ruler (LineDown n) draft
     else next_shown environment draft
 
--- what a command does to the draft that proceeds and leaves the kill ring; those that are left to the program above do nothing
+-- what a command does to the draft that only edits, draws or moves; commands that are left to the program above do nothing
 abbrev pub edited_by : Ruler → Environment → Input → Draft → Command → Draft
 edited_by ruler environment input draft (self_insert n c) = typed_in environment n c draft
 edited_by ruler environment input draft newline = typed_in environment 1 10 (unhinted draft)
@@ -60,19 +60,16 @@ edited_by ruler environment input draft clear_screen = hinted environment draft
 edited_by ruler environment input draft repaint = hinted environment draft
 edited_by ruler environment input draft _ = draft
 
--- what such a command leaves halfway: a move in two is on its way; on the way into the history, the line that is being written is saved
--- first
+-- what such a command may leave that goes wrong halfway: of a move in two steps the first; of one that leaves the line that is being
+-- written, that line saved
 abbrev pub edited_halfway : Environment → Draft → Command → Draft
 edited_halfway environment draft (move movement) = record draft { line = on_way movement draft.line }
 edited_halfway environment draft (line_up_or_previous_history n) = saved_at_end environment draft
-edited_halfway environment draft (line_down_or_next_history n) = saved_at_end environment draft
 edited_halfway environment draft previous_history = saved_at_end environment draft
-edited_halfway environment draft next_history = saved_at_end environment draft
 edited_halfway environment draft beginning_of_history = saved_at_end environment draft
-edited_halfway environment draft end_of_history = saved_at_end environment draft
 edited_halfway environment draft _ = draft
 
--- what a command leaves halfway: of a replacement the kill; of a line that is given a newline, its validation
+-- what a command may leave that goes wrong halfway: of a replacement the kill; of a newline in an incomplete line, its validation
 abbrev pub halfway_of : Environment → Editor → Command → Draft
 halfway_of environment editor (replace movement text) =
     (killed_by environment movement editor (killed_range editor.draft.line movement)).draft

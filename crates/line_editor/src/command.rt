@@ -40,9 +40,9 @@ pub enum Status {
 /// QuotedInsert, ReverseSearchHistory and Suspend do nothing here: they are left to the program above.
 ///
 /// # Errors
-/// `Eof` for the end of the input on an empty line alone, and `Interrupted` for an interrupt alone, with the drawn cursor at
-/// the end of what is shown. Another error is one of input or output, where the renderer or a party has failed, or that
-/// memory ran out. Then the line, its cursor, changes and place in the history are those of one moment of the command:
+/// `Eof` for the end of the input on an empty line alone, and `Interrupted` for an interrupt alone, with the kept cursor at
+/// the kept end. Another error is one of input or output, where the renderer has failed or a party was asked that may fail,
+/// or that memory ran out. Then the line, its cursor, changes and place in the history are those of one moment of the command:
 /// before it, halfway or behind it; or, where memory ran out, the line has no changes. The kill ring is the one that the
 /// command leaves, unless memory ran out.
 pub fn execute<'out, 'prompt, W: Renderer, H: Helper, P: Prompt, S: History>(
@@ -117,7 +117,8 @@ impl<'out, 'prompt, W: Renderer, H: Helper, P: Prompt, S: History> State<
             let w = e.environment self.old in let d = e.draft self.old in
             let c = command_of cmd in
             DoesInTwo e (edited_asked (e.display self.old) w d c) result self.old self.new
-            (edited_halfway w d c) (edited_by (ruler_of (e.display self.old) indent_size) w (input_of input_state.now) d c)
+            (edited_halfway w d c)
+            (edited_by (ruler_of (e.display self.old) indent_size) w (input_of input_state.now) d c)
             (edited_drawn (e.display self.old) w d c) (edited_times (e.display self.old) d c) }
     {
         match cmd {

@@ -1,6 +1,6 @@
 //! Laws of the definitions that the contracts cite. No call of the editor is made here.
 ghost use Rattle.line_editor.specs.BracketLaws.{GoingToTheMatchTwice, KilledToTheMatchComesBack};
-ghost use Rattle.line_editor.specs.Laws.{ComingBack, ComparesEvents, EnoughUndo, ExecutesNoMoreThanKeys, HasOneEnd, InsertionIsOneStep, IsPrefixFree, ReadFromTheCut, ReadingAgain, TurnsAndRun, TwoRenderers, TurnsBeforeMore, TurnsFollow};
+ghost use Rattle.line_editor.specs.Laws.{ComingBack, ComparesEvents, EnoughUndo, ExecutesNoMoreThanKeys, HasOneEnd, InsertionIsOneStep, IsPrefixFree, ReadFromTheCut, ReadingAgain, TurnsAndRun, TwoRenderers, TurnsBeforeMore, TurnsFollow, TurnsReadKeys};
 
 use crate::edit::State;
 use line_config::Prompt;
@@ -27,6 +27,19 @@ pub fn runs_have_one_end()
 /// A run executes at most as many commands as it reads keys.
 pub fn a_run_executes_no_more_commands_than_keys()
     ensures { ExecutesNoMoreThanKeys }
+{}
+
+/// Turns that proceed read at least one key each. So a run that a fault ends has executed at most as many commands as it
+/// read keys, too.
+pub fn turns_read_keys<
+    'out,
+    'prompt,
+    W: Renderer + 'out,
+    H: Helper + 'out,
+    P: Prompt + 'prompt,
+    S: History + 'out,
+>()
+    ensures { TurnsReadKeys ⟦<State<'out, 'prompt, W, H, P, S> as EditorState>⟧ W.Reader.RawReader }
 {}
 
 /// Turns that proceed, and more such turns behind them, are one list of turns.

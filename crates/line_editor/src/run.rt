@@ -51,10 +51,9 @@ fn reset_kills(command: &Cmd, kill_ring: &mut KillRing)
 /// behind them.
 ///
 /// # Errors
-/// An error of input or output, where the reader, the renderer or a party has failed, or that memory ran out. Where reading
-/// failed, what is remembered of the keys and the kill ring are as they were, and after an error of input or output so are
-/// the line and its cursor. Where the command failed, its keys are read and no item more, and the line is left as `execute`
-/// leaves it.
+/// An error of input or output, where the reader or the renderer has failed or a party was asked that may fail, or that
+/// memory ran out. Where reading failed, the line and its cursor, what is remembered of the keys and the kill ring are as
+/// they were. Where the command failed, its keys are read and no item more, and the line is left as `execute` leaves it.
 pub fn advance<'out, 'prompt, W: Renderer, H: Helper, P: Prompt, S: History>(
     state: &mut State<'out, 'prompt, W, H, P, S>,
     input_state: &mut InputState<'_>,
@@ -90,9 +89,9 @@ pub fn advance<'out, 'prompt, W: Renderer, H: Helper, P: Prompt, S: History>(
 ///
 /// # Errors
 /// `Eof` where the items end, or for the end of the input on an empty line; `Interrupted` for an interrupt, with the drawn
-/// cursor at the end of what is shown. Another error is one of input or output, where the reader, the renderer or a party
-/// has failed, or that memory ran out. Then either the first drawing failed, and nothing was read and the line is as it was;
-/// or turns were taken up to one that failed, and all is left as `advance` leaves it.
+/// cursor at the end of what is shown. Another error is one of input or output, where the reader or the renderer has failed
+/// or a party was asked that may fail, or that memory ran out. Then either the first drawing failed, and nothing was read
+/// and the line is as it was; or turns were taken up to one that failed, and all is left as `advance` leaves it.
 pub fn run<'out, 'prompt, W: Renderer, H: Helper, P: Prompt, S: History>(
     state: &mut State<'out, 'prompt, W, H, P, S>,
     input_state: &mut InputState<'_>,

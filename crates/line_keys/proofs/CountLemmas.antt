@@ -7,8 +7,7 @@ use Rattle.std.proofs.lemmas.List.Elements.{filter_map-append}
 use Rattle.std.proofs.lemmas.List.Folds.{find-append}
 use Rattle.std.proofs.lemmas.List.Sums.{fold-append}
 use Rattle.std.proofs.lemmas.Bool.Decides.{nat_tests}
-use Rattle.line_keys.specs.Count.{IsCountOf, beginnings, count_by, count_of, digit_of, digits_of, is_minus, magnitude, number_of, decimal_value}
-use Rattle.line_keys.specs.declared.count.Count.{Count}
+use Rattle.line_keys.specs.Count.{IsCountOf, beginnings, digit_of, digits_of, magnitude, number_of, decimal_value}
 use Rattle.line_keys.specs.declared.count.TypedCount.{TypedCount}
 use Rattle.std.specs.List.{cons_option}
 use Rattle.std.proofs.lemmas.List.{append-nil}

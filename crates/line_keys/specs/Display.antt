@@ -25,14 +25,14 @@ pub record Screen : Type 0 where
   pub text : List ℕ
   pub origin : Position
 
--- what a screen was asked to do beside drawing the line: whether what is drawn is held back, how many texts were written by themselves,
--- and how many beeps were given
+-- what a screen was asked to do beside drawing the line: whether it holds back what is drawn, how many texts it wrote that are not the
+-- line, and how many beeps it gave
 pub record Beside : Type 0 where
   pub held : Bool
   pub written : ℕ
   pub beeps : ℕ
 
--- a screen that keeps no count of what it was asked beside drawing
+-- nothing was asked of a screen beside drawing; so says a screen that keeps no count of it
 abbrev pub uncounted : Beside
 uncounted = record { held = false; written = 0; beeps = 0 }
 

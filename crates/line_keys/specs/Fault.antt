@@ -1,16 +1,11 @@
 -- What is left of a line where a call fails by a fault.
-use Rattle.std.specs.Prelude.{◌≡◌, ◌⊎◌, true, false, Option, None, Result, Ok, Err}
+use Rattle.std.specs.Prelude.{◌≡◌, ◌⊎◌, true, Option, None, Result, Ok, Err}
 use Rattle.line_buffer.specs.Changes.{no_changes}
 use Rattle.line_config.specs.Error.{is_fault, is_io, is_memory}
 use Rattle.line_config.specs.declared.error.ReadlineError.{ReadlineError}
 use Rattle.line_keys.specs.Draft.{Draft, KeepsText, hinted}
 use Rattle.line_parts.specs.Environment.{Environment}
 use Rattle.line_parts.specs.Hint.{Suggestion}
-
--- unless memory ran out, this holds
-abbrev pub UnlessMemory : {T : Type 0} → Result T ReadlineError → Type 0 → Type 0
-UnlessMemory (Ok _) P = P
-UnlessMemory (Err e) P = is_memory e ≡ false → P
 
 -- a hint from before a call or from halfway, or none
 abbrev pub IsEarlierHint : Draft → Draft → Option Suggestion → Type 0
@@ -21,27 +16,37 @@ pub record IsOf (environment : Environment) (before halfway moment draft : Draft
   pub text : KeepsText moment draft
   pub hint : IsEarlierHint before halfway draft.hint ⊎ (draft.hint ≡ (hinted environment draft).hint)
 
--- the moments of a call that edits the line: before it, halfway, and behind it
+-- a draft is that of one moment of a call that edits the line: before it, halfway, or behind it
 pub data IsOfMoment (environment : Environment) (before halfway left draft : Draft) : Type 0 where
   as_before : IsOf environment before halfway before draft → IsOfMoment environment before halfway left draft
   as_halfway : IsOf environment before halfway halfway draft → IsOfMoment environment before halfway left draft
   as_left : IsOf environment before halfway left draft → IsOfMoment environment before halfway left draft
 
--- what an error leaves of a draft that is a fault: one that is of one moment; or where memory ran out, a line without changes
+-- a draft has lost its changes; its saved line and its history index are those of a moment
+pub record LosesChanges (moment draft : Draft) : Type 0 where
+  pub changes : draft.changes ≡ no_changes
+  pub saved : draft.saved ≡ moment.saved
+  pub index : draft.index ≡ moment.index
+
+-- a draft has lost its changes in one of the moments of a call
+abbrev pub HasLostChanges : Draft → Draft → Draft → Draft → Type 0
+HasLostChanges before halfway left draft = LosesChanges before draft ⊎ LosesChanges halfway draft ⊎ LosesChanges left draft
+
+-- a fault leaves a draft that is of one moment of the call; or, where memory ran out, one that has lost its changes
 abbrev pub FaultLeft : ReadlineError → Environment → Draft → Draft → Draft → Draft → Type 0
 FaultLeft e environment before halfway left draft =
-    is_fault e ≡ true → IsOfMoment environment before halfway left draft ⊎ ((is_memory e ≡ true) × (draft.changes ≡ no_changes))
+    is_fault e ≡ true → IsOfMoment environment before halfway left draft ⊎ ((is_memory e ≡ true) × HasLostChanges before halfway left draft)
 
--- what a fault leaves of a draft
+-- the same of a call's result
 abbrev pub FaultLeaves : {T : Type 0} → Result T ReadlineError → Environment → Draft → Draft → Draft → Draft → Type 0
 FaultLeaves (Ok _) environment before halfway left draft = Unit {0}
 FaultLeaves (Err e) environment before halfway left draft = FaultLeft e environment before halfway left draft
 
--- what an error leaves of a draft that is one of input or output: one that is of one of two moments
+-- an error of input or output leaves a draft that is of a moment: before the call, or behind it
 abbrev pub IoLeft : ReadlineError → Environment → Draft → Draft → Draft → Type 0
 IoLeft e environment before left draft = is_io e ≡ true → IsOfMoment environment before left left draft
 
--- what an error of input or output leaves of a draft
+-- the same of a call's result
 abbrev pub IoLeaves : {T : Type 0} → Result T ReadlineError → Environment → Draft → Draft → Draft → Type 0
 IoLeaves (Ok _) environment before left draft = Unit {0}
 IoLeaves (Err e) environment before left draft = IoLeft e environment before left draft

@@ -42,7 +42,8 @@ impl Invoke for &str {
 /// Every call leaves the text, the cursor and the history index.
 ///
 /// # Errors
-/// An error of input or output, where the renderer failed or a party is not sure; or that memory ran out.
+/// An error of input or output, where the renderer failed or a party was asked that may fail; or that memory ran out. A call
+/// that draws then leaves the kept layout, and the hint is the one from before or the one that was to be drawn.
 pub trait Refresher: EditorState {
     /// Asks for the hint and draws all again.
     fn refresh_line(&mut self) -> Result<()>

@@ -216,7 +216,8 @@ impl<R: RawReader> ScreenState for Plain<R> {
       mode = Unicode;
     } };
 
-    ghost screen = { λ p. record { position = p.place; text = string_bytes p.text; origin = p.origin } };
+    ghost screen = { λ p.
+        record { position = p.place; text = string_bytes p.text; origin = p.origin } };
 
     ghost beside = { λ _. uncounted };
 

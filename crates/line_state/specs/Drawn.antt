@@ -61,7 +61,7 @@ pub record DrawsNoneInFull {X T : Type 0} (d : Ghosts X) (result : Result T Read
 abbrev pub cleared : Layout → Layout
 cleared layout = ending_at corner layout
 
--- after an error the kept layout stays, but for its cursor, which is where it was last drawn
+-- after an error the kept layout stays but for its cursor
 abbrev pub KeepsEnd : {X T : Type 0} → Ghosts X → Result T ReadlineError → X → X → Type 0
 KeepsEnd d result old new = OnErr result ((d.display new).layout ≡ record (d.display old).layout { cursor = (d.display new).layout.cursor })
 

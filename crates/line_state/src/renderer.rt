@@ -15,7 +15,8 @@ use line_parts::Highlighter;
 
 /// Draws the prompt, the line and the cursor, and tells where a text ends.
 ///
-/// Only a `refresh_line` that succeeds changes the count of full redraws, by one.
+/// Only a `refresh_line` that succeeds changes the count of full redraws, by one. A beep, a text that `write_and_flush`
+/// writes, and a synchronized update are what a renderer does beside drawing; each call says which of them it may do.
 ///
 /// # Errors
 /// An error of input or output, and then the count of failures has risen; or that memory ran out.

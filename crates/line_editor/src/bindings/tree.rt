@@ -52,7 +52,8 @@ impl<V> Model for KeyTree<V> {
         held (paths (shape_of tree.nodes.items) (length (shape_of tree.nodes.items)))
         (values_of tree.nodes.items) };
 
-    ghost invariant = { λ tree. IsKeyTree (shape_of tree.nodes.items) (values_of tree.nodes.items) };
+    ghost invariant = { λ tree.
+        IsKeyTree (shape_of tree.nodes.items) (values_of tree.nodes.items) };
 }
 
 impl<V: Drop> KeyTree<V> {

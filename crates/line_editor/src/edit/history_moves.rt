@@ -1,11 +1,11 @@
 //! Moves in the history.
 ghost use Rattle.std.specs.Prelude.{◌≡◌, ◌+◌, ◌≤◌, IsCharBoundary, false, if◌then◌else◌, not, is_some, length, OnOk, OnErr};
-ghost use Rattle.line_buffer.specs.Changes.{no_changes};
 ghost use Rattle.line_buffer.specs.Line.{before};
 ghost use Rattle.line_config.specs.Error.{MemoryOnly};
 ghost use Rattle.line_editor.specs.HistoryMoves.{asked_back, asked_for, asked_in_search, asked_on, asked_to_end, at_index, come_back, end_shown, first_shown, found_shown, line_shown, next_shown, previous_shown, restored, saved_at_end, search_of, search_shown, showing, way_ends};
 ghost use Rattle.line_keys.specs.Draft.{start_text};
 ghost use Rattle.line_keys.specs.Drawing.{Does, DoesAsking, DoesInTwo, DrewNothing, Paints, Undrawn, drawn_if, with_hint};
+ghost use Rattle.line_keys.specs.Fault.{LosesChanges};
 ghost use Rattle.line_parts.specs.Asks.{for_line};
 ghost use Rattle.line_parts.specs.History.{starting_with};
 ghost use Rattle.line_parts.specs.declared.history.SearchDirection.TheVariants.{Forward, Reverse};
@@ -47,12 +47,14 @@ impl<'out, 'prompt, W: Renderer, H: Helper, P: Prompt, S: History> State<
     /// Puts the saved line in place of the line, with its cursor. Nothing is drawn.
     ///
     /// # Errors
-    /// That memory ran out. Then the line has no changes.
+    /// That memory ran out. Then the line has no changes; the saved line, the history index and the hint stay.
     pub fn restore(&mut self) -> Result<()>
         ensures draft { let d = ⟦<Self as EditorState>⟧.draft in OnOk result
             (d self.new ≡ restored (d self.old)) }
         ensures err { let d = ⟦<Self as EditorState>⟧.draft in
-            OnErr result ((d self.new).changes ≡ no_changes) }
+            OnErr result (LosesChanges (d self.old) (d self.new)) }
+        ensures hint { let d = ⟦<Self as EditorState>⟧.draft in
+            OnErr result ((d self.new).hint ≡ (d self.old).hint) }
         ensures start { let d = ⟦<Self as EditorState>⟧.draft in OnOk result
             (start_text (d self.new) ≡ start_text (d self.old)) }
         ensures undrawn { Undrawn ⟦<Self as EditorState>⟧ self.old self.new }
@@ -72,7 +74,8 @@ impl<'out, 'prompt, W: Renderer, H: Helper, P: Prompt, S: History> State<
             let w = e.environment self.old in let d = e.draft self.old in
             let dir = if prev then Reverse else Forward in
             DoesInTwo e (if prev then asked_back d else asked_on w d) result self.old self.new
-            (saved_at_end w d) (if prev then previous_shown w d else next_shown w d)
+            (if prev then saved_at_end w d else d)
+            (if prev then previous_shown w d else next_shown w d)
             (drawn_if (not (way_ends w dir d))) 1 }
     {
         if prev {
@@ -91,7 +94,7 @@ impl<'out, 'prompt, W: Renderer, H: Helper, P: Prompt, S: History> State<
             let w = e.environment self.old in let d = e.draft self.old in
             let dir = if first then Reverse else Forward in
             DoesInTwo e (if first then asked_back d else asked_to_end w d)
-            result self.old self.new (saved_at_end w d)
+            result self.old self.new (if first then saved_at_end w d else d)
             (if first then first_shown w d else end_shown w d)
             (drawn_if (not (way_ends w dir d))) 1 }
     {
@@ -135,7 +138,8 @@ impl<'out, 'prompt, W: Renderer, H: Helper, P: Prompt, S: History> State<
     fn show_previous(&mut self) -> Result<()>
         ensures { let e = ⟦<Self as EditorState>⟧ in
             let w = e.environment self.old in let d = e.draft self.old in
-            DoesInTwo e (asked_back d) result self.old self.new (saved_at_end w d) (previous_shown w d)
+            DoesInTwo e (asked_back d) result self.old self.new
+            (saved_at_end w d) (previous_shown w d)
             (drawn_if (not (way_ends w Reverse d))) 1 }
     {
         let index = self.place();
@@ -150,7 +154,7 @@ impl<'out, 'prompt, W: Renderer, H: Helper, P: Prompt, S: History> State<
     fn show_next(&mut self) -> Result<()>
         ensures { let e = ⟦<Self as EditorState>⟧ in
             let w = e.environment self.old in let d = e.draft self.old in
-            DoesInTwo e (asked_on w d) result self.old self.new (saved_at_end w d) (next_shown w d)
+            DoesAsking e (asked_on w d) result self.old self.new (next_shown w d)
             (drawn_if (not (way_ends w Forward d))) 1 }
     {
         let index = self.place();
@@ -183,7 +187,7 @@ impl<'out, 'prompt, W: Renderer, H: Helper, P: Prompt, S: History> State<
     fn show_end(&mut self) -> Result<()>
         ensures { let e = ⟦<Self as EditorState>⟧ in
             let w = e.environment self.old in let d = e.draft self.old in
-            DoesInTwo e (asked_to_end w d) result self.old self.new (saved_at_end w d) (end_shown w d)
+            DoesAsking e (asked_to_end w d) result self.old self.new (end_shown w d)
             (drawn_if (not (way_ends w Forward d))) 1 }
     {
         if self.place() == self.parties.history().len() {
@@ -220,7 +224,8 @@ impl<'out, 'prompt, W: Renderer, H: Helper, P: Prompt, S: History> State<
         requires { index + 1 ≤ length (⟦<Self as EditorState>⟧.environment self.old).lines }
         ensures { let e = ⟦<Self as EditorState>⟧ in let w = e.environment self.old in
             let saved = saved_at_end w (e.draft self.old) in
-            DoesInTwo e for_line result self.old self.new saved (line_shown w index saved) with_hint 1 }
+            DoesInTwo e for_line result self.old self.new
+            saved (line_shown w index saved) with_hint 1 }
     {
         self.save_at_end()?;
         self.show_line(index)

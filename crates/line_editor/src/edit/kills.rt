@@ -35,7 +35,7 @@ impl<'out, 'prompt, W: Renderer, H: Helper, P: Prompt, S: History> State<
     ///
     /// # Errors
     /// Those of the parties and of the renderer, and that memory ran out. The line, its cursor and its changes are those from
-    /// before the kill or from behind it, and `kill_ring` has the killed text; or, where memory ran out, the line has no
+    /// before the kill or from behind it, and `kill_ring` is as the kill leaves it; or, where memory ran out, the line has no
     /// changes.
     pub fn edit_kill(&mut self, movement: &Movement, kill_ring: &mut KillRing) -> Result<()>
         ensures does { let e = ⟦<Self as EditorState>⟧ in

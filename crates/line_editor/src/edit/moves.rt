@@ -9,7 +9,7 @@ ghost use Rattle.line_buffer.specs.declared.movement.Movement.TheVariants.{LineD
 ghost use Rattle.line_editor.specs.Drawings.{move_drawn};
 ghost use Rattle.line_editor.specs.HistoryMoves.{asked_back, asked_on, next_shown, previous_shown, saved_at_end, way_ends};
 ghost use Rattle.line_keys.specs.Display.{GoesToShownEnd};
-ghost use Rattle.line_keys.specs.Drawing.{DoesInTwo, DrawsCursor, MovesTo, Paints, PutsCursorAt, Undrawn, asked_by, cursor, drawn_if};
+ghost use Rattle.line_keys.specs.Drawing.{DoesAsking, DoesInTwo, DrawsCursor, MovesTo, Paints, PutsCursorAt, Undrawn, asked_by, cursor, drawn_if};
 ghost use Rattle.line_keys.specs.ShownLine.{IsAtEnd};
 ghost use Rattle.line_keys.specs.ShownLine.{HasShownEnd, ShowsLine};
 ghost use Rattle.line_parts.specs.Asks.{nobody};
@@ -261,8 +261,8 @@ impl<'out, 'prompt, W: Renderer, H: Helper, P: Prompt, S: History> State<
         ensures { let e = ⟦<Self as EditorState>⟧ in let layout = (e.display self.old).layout in
             let d = e.draft self.old in let found = is_some (down_by layout d.line n) in
             let w = e.environment self.old in
-            DoesInTwo e (if found then nobody else asked_on w d)
-            result self.old self.new (saved_at_end w d)
+            DoesAsking e (if found then nobody else asked_on w d)
+            result self.old self.new
             (if found then record d { line = moved layout (LineDown n) d.line }
             else next_shown w d)
             (if found then cursor MoveCursor else drawn_if (not (way_ends w Forward d))) 1 }

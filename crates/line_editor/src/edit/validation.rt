@@ -31,7 +31,8 @@ impl<'out, 'prompt, W: Renderer, H: Helper, P: Prompt, S: History> State<
     /// message where there is something to show or to take away. Returns the verdict; without a helper every line is valid.
     ///
     /// # Errors
-    /// Those of the validator and of the renderer, and that memory ran out. The group of changes ends in any case.
+    /// Those of the validator and of the renderer, and that memory ran out. The groups of changes are then as before, or have
+    /// ended.
     #[tactic(auto, using(crate::proofs::EditLemmas::no_verdict, crate::proofs::EditLemmas::not_validated, crate::proofs::EditLemmas::was_validated))]
     pub fn validate(&mut self) -> Result<ValidationResult>
         ensures verdict { let e = ⟦<Self as EditorState>⟧ in IfOk result (λ r.

@@ -5,6 +5,7 @@ ghost use Rattle.line_editor.specs.InputState.{behind_input, input_of, keys_of};
 ghost use Rattle.line_editor.specs.Operation.{Operated, Reaches, motion_behind, operated_if};
 ghost use Rattle.line_editor.specs.Reading.{EndsQuietly, GivesQuietly, OnRead, ReadsPart, TakesItems};
 ghost use Rattle.line_keys.specs.Command.{command_of};
+ghost use Rattle.line_keys.specs.Draft.{Draft};
 ghost use Rattle.line_keys.specs.Item.{key};
 ghost use Rattle.line_keys.specs.Row.{motion_value};
 
@@ -59,25 +60,18 @@ impl InputState<'_> {
             wrt.old k rdr.old wrt.new rdr.new }
     {
         if !begins_count(EditMode::Vi, InputMode::Command, first) {
-            return self.reach(rdr, wrt, operator, motion_at_once(operator, first, n));
+            return self.reach(rdr, operator, motion_at_once(operator, first, n));
         }
         let (count, key) = self.read_count(rdr, wrt, EditMode::Vi, first)?;
         let motion = motion_of_key(operator, key, multiplied(n, count.n));
-        self.reach(rdr, wrt, operator, motion)
+        self.reach(rdr, operator, motion)
     }
 
     // Reads what belongs to the key of a motion, and returns the operator's command.
-    fn reach<R: RawReader, W: Refresher>(
-        &self,
-        rdr: &mut R,
-        _wrt: &W,
-        operator: Operator,
-        motion: Motion,
-    ) -> Result<Behind>
+    fn reach<R: RawReader>(&self, rdr: &mut R, operator: Operator, motion: Motion) -> Result<Behind>
         ensures reads { let k =
             keys_of ⟦<dyn ConditionalEventHandler as ConditionalEventHandler>⟧ self.now in
-            let draft = W.draft _wrt.now in
-            (i : Input) → i.last_search ≡ k.input.last_search →
+            (draft : Draft) (i : Input) → i.last_search ≡ k.input.last_search →
             let Comes = Reaches draft i operator (motion_value motion) in
             OnRead result (λ b. GivesQuietly R.RawReader Comes draft (behind_input b i)
             (command_of b.command) rdr.old rdr.new)
