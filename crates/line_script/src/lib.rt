@@ -1,7 +1,8 @@
 //! Scripts of keys: how one is read, runs through the line editor, and what is printed of the line.
 #![tactic(auto)]
 
-ghost use Rattle.std.specs.Prelude.{◌≤◌};
+ghost use Rattle.std.specs.Prelude.{◌≡◌, ◌≤◌};
+ghost use Rattle.line_script.specs.Outcome.{Reports};
 
 pub mod helper;
 pub mod names;
@@ -15,8 +16,9 @@ use line_editor::Bindings;
 use line_editor::edit::State;
 use line_editor::input_state::InputState;
 use line_editor::run::run;
+use line_keys::editor_state::EditorState;
 use line_keys::refresher::Refresher;
-use line_parts::Context;
+use line_parts::{Context, FileHistory};
 use line_screen::Plain;
 pub use names::key_named;
 pub use report::{Ending, Outcome, Report, exit_status};
@@ -91,14 +93,27 @@ pub fn edit<O: Write>(
         &mut kill_ring,
         &config,
     );
-    let report = Report {
-        outcome: Outcome::of(answer),
+    let report = report_of(&state, Outcome::of(answer));
+    report.write_to(out)?;
+    Ok(report.outcome)
+}
+
+/// What became of a line whose run ended so.
+fn report_of<'s, 'out, 'prompt, 'text>(
+    state: &'s State<'out, 'prompt, Plain<Script>, ScriptHelper, &'text str, FileHistory>,
+    outcome: Outcome,
+) -> Report<'s>
+    ensures outcome { result.outcome ≡ outcome }
+    ensures reports { Reports
+        ⟦<State<'out, 'prompt, Plain<Script>, ScriptHelper, &'text str, FileHistory> as EditorState>⟧
+        state.now result }
+{
+    Report {
+        outcome,
         line: state.line(),
         cursor: state.pos(),
         place: state.place(),
         at: state.layout().cursor,
         redraws: state.out().redraws(),
-    };
-    report.write_to(out)?;
-    Ok(report.outcome)
+    }
 }

@@ -1,5 +1,8 @@
 //! The script: lines of text that stand for settings and for what a person types.
-ghost use Rattle.std.specs.Prelude.{◌≡◌, ◌<◌, IfSome};
+ghost use Rattle.std.specs.Prelude.{◌≡◌, ◌<◌, IfOk, IfSome, string_bytes};
+ghost use Rattle.line_parts.specs.EscapedLine.{Unescapes};
+ghost use Rattle.line_parts.specs.declared.escaped_line.Escapes.TheVariants.{V2};
+ghost use Rattle.line_script.specs.Script.{AddsKey, AddsLine, AddsPasted, AddsTyped};
 
 use crate::helper::ScriptHelper;
 use crate::names::key_named;
@@ -159,11 +162,9 @@ fn switch_on(name: &str, helper: &mut ScriptHelper) -> bool {
 }
 
 /// Adds the text to the history, which may leave it out. False where an escape is bad.
-fn push_history(
-    alloc: Global,
-    text: &str,
-    history: &mut FileHistory,
-) -> Result<bool, ReadlineError> {
+fn push_history(alloc: Global, text: &str, history: &mut FileHistory) -> Result<bool, ReadlineError>
+    ensures { AddsLine result text.now history.old history.new }
+{
     let Some(line) = unescape(alloc, text)? else {
         return Ok(false);
     };
@@ -226,7 +227,9 @@ fn set_edit_mode(name: &str, edit_mode: &mut EditMode) -> bool {
 }
 
 /// Adds the mark before a pasted text, and the text. False where an escape is bad.
-fn push_pasted(alloc: Global, text: &str, items: &mut Script) -> Result<bool, ReadlineError> {
+fn push_pasted(alloc: Global, text: &str, items: &mut Script) -> Result<bool, ReadlineError>
+    ensures { AddsPasted result text.now items.old items.new }
+{
     let Some(pasted) = unescape(alloc, text)? else {
         return Ok(false);
     };
@@ -235,7 +238,9 @@ fn push_pasted(alloc: Global, text: &str, items: &mut Script) -> Result<bool, Re
 }
 
 /// Adds a key for each character of the text, as it is. False where an escape is bad.
-fn push_typed(alloc: Global, text: &str, items: &mut Script) -> Result<bool, ReadlineError> {
+fn push_typed(alloc: Global, text: &str, items: &mut Script) -> Result<bool, ReadlineError>
+    ensures { AddsTyped result text.now items.old items.new }
+{
     let Some(typed) = unescape(alloc, text)? else {
         return Ok(false);
     };
@@ -244,7 +249,9 @@ fn push_typed(alloc: Global, text: &str, items: &mut Script) -> Result<bool, Rea
 }
 
 /// Adds the key of this name. False where no key has the name.
-fn push_key(name: &str, items: &mut Script) -> Result<bool, ReadlineError> {
+fn push_key(name: &str, items: &mut Script) -> Result<bool, ReadlineError>
+    ensures { AddsKey result items.old items.new }
+{
     let Some(key) = key_named(name) else {
         return Ok(false);
     };
@@ -257,7 +264,10 @@ fn push_key(name: &str, items: &mut Script) -> Result<bool, ReadlineError> {
 /// # Errors
 ///
 /// `Memory` where an allocation failed.
-pub fn unescape(alloc: Global, text: &str) -> Result<Option<String>, ReadlineError> {
+pub fn unescape(alloc: Global, text: &str) -> Result<Option<String>, ReadlineError>
+    ensures { IfOk result (λ plain.
+        IfSome plain (λ plain. Unescapes V2 text.now (string_bytes plain))) }
+{
     let mut plain = Vec::new(alloc);
     if unescape_line(text.as_bytes(), Escapes::V2, &mut plain)? {
         Ok(String::from_utf8(plain).ok())
