@@ -9,6 +9,3 @@ use std::process::ExitCode;
 fn main(rt: HostRuntime) -> ExitCode {
     ExitCode::from(play(rt.alloc(), rt.reader(), &mut io::writer(&rt)))
 }
-
-#[cfg(test)]
-mod tests;

@@ -1,10 +1,12 @@
-//! The tests of `line_screen`, and the programs of the documents that stand on it.
+//! The tests of `line_screen`, the programs of the documents that stand on it, scripts of `line_script`, and hostile use.
 #![tactic(auto)]
 
 #[cfg(test)]
 mod by_keys;
 #[cfg(test)]
 mod caller;
+#[cfg(test)]
+mod hostile;
 #[cfg(test)]
 mod key_queue;
 #[cfg(test)]
@@ -15,3 +17,5 @@ mod plain;
 mod programs;
 #[cfg(test)]
 mod read_line;
+#[cfg(test)]
+mod scripts;

@@ -1,0 +1,294 @@
+use Rattle.line_editor.specs.Operation.{by_movement, nowhere}
+use Rattle.line_editor.specs.Phrase.{of_mode}
+use Rattle.line_editor.specs.Tail.{alone, by_motion}
+use Rattle.line_keys.specs.Item.{key}
+use Rattle.std.proofs.Common.{[], refl, ◌∷◌}
+use Rattle.tests_editor.specs.Spoken.{plain}
+use Rattle.tests_editor.proofs.vi_phrases.counts_and_operators.Goals as goal
+
+pub returns-clause-zero : goal.returns-clause-zero
+returns-clause-zero c = λ environment. (
+  _,
+  of_mode (record {
+    typed = [];
+    last = plain 48;
+    tail = [];
+    cut = refl;
+    counted = refl;
+    behind = _;
+    keyed = (_, alone _, refl);
+    told = refl;
+  }),
+  refl,
+  refl,
+)
+
+pub returns-clause-multiplied : goal.returns-clause-multiplied
+returns-clause-multiplied c = λ environment. (
+  _,
+  of_mode (record {
+    typed = plain 50 ∷ [];
+    last = plain 100;
+    tail = key (plain 51) ∷ key (plain 119) ∷ [];
+    cut = refl;
+    counted = refl;
+    behind = _;
+    keyed = (
+      _,
+      by_motion _ _ _ _ (record {
+        typed = plain 51 ∷ [];
+        last = plain 119;
+        tail = [];
+        cut = refl;
+        counted = refl;
+        behind = _;
+        reaches = by_movement _;
+        told = refl;
+      }),
+      refl,
+    );
+    told = refl;
+  }),
+  refl,
+  refl,
+)
+
+pub returns-clause-saturated : goal.returns-clause-saturated
+returns-clause-saturated c = λ environment. (
+  _,
+  of_mode (record {
+    typed = plain 49 ∷ plain 50 ∷ plain 51 ∷ plain 52 ∷ plain 53 ∷ [];
+    last = plain 100;
+    tail = key (plain 57) ∷ key (plain 57) ∷ key (plain 57) ∷ key (plain 57) ∷ key (plain 108) ∷ [];
+    cut = refl;
+    counted = refl;
+    behind = _;
+    keyed = (
+      _,
+      by_motion _ _ _ _ (record {
+        typed = plain 57 ∷ plain 57 ∷ plain 57 ∷ plain 57 ∷ [];
+        last = plain 108;
+        tail = [];
+        cut = refl;
+        counted = refl;
+        behind = _;
+        reaches = by_movement _;
+        told = refl;
+      }),
+      refl,
+    );
+    told = refl;
+  }),
+  refl,
+  refl,
+)
+
+pub returns-clause-whole : goal.returns-clause-whole
+returns-clause-whole c = λ environment. (
+  _,
+  of_mode (record {
+    typed = plain 51 ∷ [];
+    last = plain 100;
+    tail = key (plain 100) ∷ [];
+    cut = refl;
+    counted = refl;
+    behind = _;
+    keyed = (
+      _,
+      by_motion _ _ _ _ (record {
+        typed = [];
+        last = plain 100;
+        tail = [];
+        cut = refl;
+        counted = refl;
+        behind = _;
+        reaches = by_movement _;
+        told = refl;
+      }),
+      refl,
+    );
+    told = refl;
+  }),
+  refl,
+  refl,
+)
+
+pub returns-clause-counted : goal.returns-clause-counted
+returns-clause-counted c = λ environment. (
+  _,
+  of_mode (record {
+    typed = [];
+    last = plain 100;
+    tail = key (plain 50) ∷ key (plain 100) ∷ [];
+    cut = refl;
+    counted = refl;
+    behind = _;
+    keyed = (
+      _,
+      by_motion _ _ _ _ (record {
+        typed = plain 50 ∷ [];
+        last = plain 100;
+        tail = [];
+        cut = refl;
+        counted = refl;
+        behind = _;
+        reaches = nowhere;
+        told = refl;
+      }),
+      refl,
+    );
+    told = refl;
+  }),
+  refl,
+  refl,
+)
+
+pub returns-clause-other : goal.returns-clause-other
+returns-clause-other c = λ environment. (
+  _,
+  of_mode (record {
+    typed = [];
+    last = plain 100;
+    tail = key (plain 99) ∷ [];
+    cut = refl;
+    counted = refl;
+    behind = _;
+    keyed = (
+      _,
+      by_motion _ _ _ _ (record {
+        typed = [];
+        last = plain 99;
+        tail = [];
+        cut = refl;
+        counted = refl;
+        behind = _;
+        reaches = nowhere;
+        told = refl;
+      }),
+      refl,
+    );
+    told = refl;
+  }),
+  refl,
+  refl,
+)
+
+pub returns-clause-vi_word : goal.returns-clause-vi_word
+returns-clause-vi_word c = λ environment. (
+  _,
+  of_mode (record {
+    typed = [];
+    last = plain 99;
+    tail = key (plain 119) ∷ [];
+    cut = refl;
+    counted = refl;
+    behind = _;
+    keyed = (
+      _,
+      by_motion _ _ _ _ (record {
+        typed = [];
+        last = plain 119;
+        tail = [];
+        cut = refl;
+        counted = refl;
+        behind = _;
+        reaches = by_movement _;
+        told = refl;
+      }),
+      refl,
+    );
+    told = refl;
+  }),
+  refl,
+  refl,
+)
+
+pub returns-clause-big_word : goal.returns-clause-big_word
+returns-clause-big_word c = λ environment. (
+  _,
+  of_mode (record {
+    typed = [];
+    last = plain 99;
+    tail = key (plain 87) ∷ [];
+    cut = refl;
+    counted = refl;
+    behind = _;
+    keyed = (
+      _,
+      by_motion _ _ _ _ (record {
+        typed = [];
+        last = plain 87;
+        tail = [];
+        cut = refl;
+        counted = refl;
+        behind = _;
+        reaches = by_movement _;
+        told = refl;
+      }),
+      refl,
+    );
+    told = refl;
+  }),
+  refl,
+  refl,
+)
+
+pub returns-clause-killed : goal.returns-clause-killed
+returns-clause-killed c = λ environment. (
+  _,
+  of_mode (record {
+    typed = [];
+    last = plain 100;
+    tail = key (plain 87) ∷ [];
+    cut = refl;
+    counted = refl;
+    behind = _;
+    keyed = (
+      _,
+      by_motion _ _ _ _ (record {
+        typed = [];
+        last = plain 87;
+        tail = [];
+        cut = refl;
+        counted = refl;
+        behind = _;
+        reaches = by_movement _;
+        told = refl;
+      }),
+      refl,
+    );
+    told = refl;
+  }),
+  refl,
+  refl,
+)
+
+pub returns-clause-changes_nothing : goal.returns-clause-changes_nothing
+returns-clause-changes_nothing c = λ environment. (
+  _,
+  of_mode (record {
+    typed = [];
+    last = plain 99;
+    tail = key (plain 113) ∷ [];
+    cut = refl;
+    counted = refl;
+    behind = _;
+    keyed = (
+      _,
+      by_motion _ _ _ _ (record {
+        typed = [];
+        last = plain 113;
+        tail = [];
+        cut = refl;
+        counted = refl;
+        behind = _;
+        reaches = nowhere;
+        told = refl;
+      }),
+      refl,
+    );
+    told = refl;
+  }),
+  refl,
+  refl,
+)

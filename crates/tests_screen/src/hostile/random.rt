@@ -1,0 +1,261 @@
+//! Lists of keys and pasted texts that are made from a number, in both styles, with bindings, hints and brackets, on narrow and
+//! wide screens. What is promised of each turn is looked at on the desk; a run leaves what turns leave, and so do items that come
+//! one by one; and where all is taken back the text is that of the start.
+
+use super::bench::{CODES, Desk, Item, Left, Mode, SETS, To, Way, Work, left_by};
+use line_buffer::{Movement, Unit};
+use line_keys::keys::{KeyCode as K, KeyEvent, Modifiers as M};
+use std::alloc::Global;
+use std::process::Abort;
+use std::test::Fail;
+
+/// Numbers that look mixed, each from the one before by a linear congruence, of which the upper bits are taken; and how many digits
+/// were made.
+#[derive(Clone, Copy)]
+struct Dice {
+    last: usize,
+    digits: usize,
+}
+
+impl Dice {
+    fn new(seed: usize) -> Dice {
+        let mut dice = Dice {
+            last: seed,
+            digits: 0,
+        };
+        for _ in 0..4 {
+            let _ = dice.below(1);
+        }
+        dice
+    }
+
+    /// A number below this one.
+    fn below(&mut self, limit: usize) -> usize {
+        self.last = self
+            .last
+            .wrapping_mul(1_664_525)
+            .wrapping_add(1_013_904_223);
+        (self.last >> 24).checked_rem(limit).unwrap_or(0)
+    }
+
+    /// One of these, or this one where there is none.
+    fn pick<T: Copy>(&mut self, all: &[T], other: T) -> T {
+        match all.get(self.below(all.len())) {
+            Some(one) => *one,
+            None => other,
+        }
+    }
+}
+
+const ENTER: KeyEvent = KeyEvent(K::Enter, M::NONE);
+
+const ESC: KeyEvent = KeyEvent(K::Esc, M::NONE);
+
+const PASTED: &[&str] = &[
+    "",
+    "a",
+    "ab c",
+    "é日",
+    "\n",
+    "\r\n",
+    "e\u{301}\u{301}",
+    "\u{1f1e9}\u{1f1ea}",
+    "\u{1f469}\u{200d}\u{1f469}",
+    "(]{",
+    "one two\nthree",
+    "\t \u{3000}",
+    "\u{200d}",
+    "\u{7f}\u{9b}",
+];
+
+/// What people type: letters, brackets, blanks, and characters that are wide or join others.
+const TYPED: &[char] = &[
+    'a',
+    'b',
+    'l',
+    'i',
+    'n',
+    'e',
+    'g',
+    't',
+    ' ',
+    '(',
+    ')',
+    '[',
+    ']',
+    '-',
+    '_',
+    '.',
+    'é',
+    '日',
+    '\u{301}',
+    '\n',
+    '\t',
+    '\u{1f1e9}',
+    '\u{200d}',
+];
+
+const DIGITS: &[char] = &['0', '1', '2', '3', '5', '9'];
+
+/// Characters of Emacs that come with Ctrl, and with Alt.
+const WITH_CTRL: &[char] = &[
+    'A', 'B', 'C', 'D', 'E', 'F', 'G', 'H', 'J', 'K', 'L', 'M', 'N', 'P', 'T', 'U', 'W', 'X', 'Y',
+    ']', '_',
+];
+
+const WITH_ALT: &[char] = &['b', 'c', 'd', 'f', 'l', 't', 'u', 'y', '<', '>', '-'];
+
+const OF_VI: &[char] = &[
+    'h', 'l', 'j', 'k', 'w', 'W', 'b', 'B', 'e', 'E', '$', '^', '%', '%', '%', 'f', 'F', 't', 'T',
+    ';', ',', '.', 'a', 'A', 'i', 'I', 'c', 'C', 's', 'S', 'R', 'd', 'd', 'y', 'y', '<', '>', 'D',
+    'x', 'X', 'p', 'P', 'r', 'u', '+', '-',
+];
+
+/// Keys without a character.
+const OTHERS: &[K] = &[
+    K::Left,
+    K::Right,
+    K::Up,
+    K::Down,
+    K::Home,
+    K::End,
+    K::Backspace,
+    K::Delete,
+    K::F(4),
+    K::F(5),
+];
+
+/// A key: often one of a table of the style, at times any one. The mark before a pasted text comes without one then.
+fn key(dice: &mut Dice, mode: Mode) -> KeyEvent {
+    match dice.below(16) {
+        0..=4 => KeyEvent(K::Char(dice.pick(TYPED, 'a')), M::NONE),
+        5..=9 => own_key(dice, mode),
+        10..=11 => KeyEvent(dice.pick(OTHERS, K::Left), M::NONE),
+        12 => digit(dice, mode),
+        13 => ESC,
+        14 if dice.below(6) == 0 => ENTER,
+        _ => KeyEvent(dice.pick(CODES, K::Tab), dice.pick(SETS, M::NONE)),
+    }
+}
+
+/// A key of the style's own table.
+fn own_key(dice: &mut Dice, mode: Mode) -> KeyEvent {
+    if mode == Mode::Insert {
+        KeyEvent(K::Char(dice.pick(OF_VI, 'w')), M::NONE)
+    } else if dice.below(3) == 0 {
+        KeyEvent(K::Char(dice.pick(WITH_ALT, 'b')), M::ALT)
+    } else {
+        KeyEvent(K::Char(dice.pick(WITH_CTRL, 'A')), M::CTRL)
+    }
+}
+
+/// A digit, mostly one of a count. A list has two at most, so that no text grows without end.
+fn digit(dice: &mut Dice, mode: Mode) -> KeyEvent {
+    if dice.digits == 2 {
+        return ESC;
+    }
+    dice.digits = dice.digits.saturating_add(1);
+    let digit = K::Char(dice.pick(DIGITS, '2'));
+    let with_alt = (mode == Mode::Emacs) != (dice.below(4) == 0);
+    KeyEvent(digit, if with_alt { M::ALT } else { M::NONE })
+}
+
+/// Up to 32 items, one in twelve a pasted text.
+fn items_of(alloc: Global, dice: &mut Dice, mode: Mode) -> line_config::Result<Vec<Item>> {
+    let mut items = Vec::new(alloc);
+    for _ in 0..dice.below(32).saturating_add(1) {
+        if dice.below(12) == 0 {
+            items.push(Item::Paste(dice.pick(PASTED, "")))?;
+        } else {
+            items.push(Item::Key(key(dice, mode)))?;
+        }
+    }
+    Ok(items)
+}
+
+const COLUMNS: &[Unit] = &[1, 2, 3, 4, 7, 10, 40, 80, 80, 80, 65535];
+
+const PROMPTS: &[&str] = &["> ", "> ", "", "日> ", "0123456789"];
+
+const STARTS: &[(&str, usize)] = &[
+    ("", 0),
+    ("", 0),
+    ("line", 4),
+    ("ab (c\né日] d", 3),
+    ("f(a[日\n{b}])", 1),
+    ("e\u{301}x\n\n  y", 4),
+    ("git", 3),
+];
+
+const ENTRIES: &[&[&str]] = &[
+    &[],
+    &["line1", "line2", "line1 more"],
+    &["a\nb", "日", "(", "git status"],
+];
+
+/// A key is bound to a text that comes again, one and a sequence that begins with it to an undo and to a yank, and a sequence
+/// of C-X to a move.
+const BOUND: &[(&str, To)] = &[
+    ("⑤", To::PutsAgain),
+    ("④④", To::Undoes(1)),
+    ("④a", To::Yanks(2)),
+    ("⌃Xa", To::Moves(Movement::BeginningOfLine)),
+];
+
+fn laid(dice: &mut Dice, mode: Mode) -> Desk {
+    Desk {
+        mode,
+        columns: dice.pick(COLUMNS, 80),
+        prompt: dice.pick(PROMPTS, "> "),
+        start: dice.pick(STARTS, ("", 0)),
+        killed: "",
+        bound: if dice.below(2) == 0 { BOUND } else { &[] },
+        hints: dice.below(2) == 0,
+        brackets: dice.below(2) == 0,
+        entries: dice.pick(ENTRIES, &[]),
+    }
+}
+
+/// What is the same in all ways, with what was amiss.
+fn same(left: &Left) -> (&str, usize, Option<&str>, &str, &str) {
+    (
+        left.line.as_str(),
+        left.place,
+        left.yanked.as_deref(),
+        left.end,
+        left.amiss,
+    )
+}
+
+/// The list of this number, read in each way: nothing is amiss, each leaves the same, and a run draws as often as turns.
+fn plays(rt: &impl Abort, alloc: Global, mode: Mode, seed: usize) -> Result<(), Fail> {
+    let mut dice = Dice::new(seed);
+    let desk = laid(&mut dice, mode);
+    let items = items_of(alloc, &mut dice, mode)?;
+    let items = items.as_slice();
+    let by_turns = left_by(alloc, &desk, Work::Reads(Way::Turns, items))?;
+    assert_eq!(rt; by_turns.amiss, "", "{seed} {items:?}");
+    for way in [Way::Run, Way::OneByOne] {
+        let left = left_by(alloc, &desk, Work::Reads(way, items))?;
+        assert_eq!(rt; same(&left), same(&by_turns), "{seed} {way:?} {items:?}");
+        let draws_alike = way != Way::Run || left.redraws == by_turns.redraws;
+        assert!(rt; draws_alike, "{seed} {items:?}");
+    }
+    Ok(())
+}
+
+#[test]
+fn keep_what_is_promised_in_emacs(rt: HostRuntime) -> Result<(), Fail> {
+    for seed in 0..1000 {
+        plays(&rt, rt.alloc(), Mode::Emacs, seed)?;
+    }
+    Ok(())
+}
+
+#[test]
+fn keep_what_is_promised_in_vi(rt: HostRuntime) -> Result<(), Fail> {
+    for seed in 1000..2000 {
+        plays(&rt, rt.alloc(), Mode::Insert, seed)?;
+    }
+    Ok(())
+}

@@ -1,0 +1,434 @@
+//! Scripts that keys alone can't say: bad ones, statuses, streams that fail, and want of memory.
+
+mod names;
+mod script;
+
+use line_buffer::Position;
+use line_script::play;
+use line_script::report::{Outcome, Report};
+use std::alloc::Global;
+use std::io::{self, Read, Write};
+use std::process::Abort;
+use std::result::Result;
+use std::test::Fail;
+
+/// A script, what is printed, and the status.
+type Case = (&'static str, &'static str, u8);
+
+/// Plays a script, at once and byte by byte: each prints the same and ends with the same status.
+fn prints(rt: &impl Abort, alloc: Global, case: Case) -> Result<(), Fail> {
+    let (script, printed, status) = case;
+    let mut out = Vec::new(alloc);
+    let ended = play(alloc, script.as_bytes(), &mut out);
+    let shown = str::from_utf8(&out)?;
+    assert_eq!(rt; (shown, ended), (printed, status), "{script}");
+    prints_by_bytes(rt, alloc, case);
+    Ok(())
+}
+
+/// Each outcome, bad lines, and what stands behind a submit, which has to be good too.
+const SCRIPTS: &[Case] = &[
+    (
+        "type ab\nkey Left\ntype c\nkey Enter\n",
+        "outcome submitted\nline acb\ncursor 2\nplace 0\nat 0 4\nredraws 2\n",
+        0,
+    ),
+    (
+        "",
+        "outcome eof\nline \ncursor 0\nplace 0\nat 0 2\nredraws 1\n",
+        1,
+    ),
+    (
+        "type ab\nkey C-a\nkey C-c\n",
+        "outcome interrupted\nline ab\ncursor 0\nplace 0\nat 0 4\nredraws 1\n",
+        2,
+    ),
+    (
+        "key PasteStart\nkey C-d\n",
+        "outcome fault\nline \ncursor 0\nplace 0\nat 0 2\nredraws 1\n",
+        3,
+    ),
+    ("type a\nkey Left\nkey Foo\n", "bad script line 3\n", 4),
+    ("type a\nhistory a\n", "bad script line 2\n", 4),
+    ("load x\\q\n", "bad script line 1\n", 4),
+    ("type a\n\nkey Enter\nkey\n", "bad script line 4\n", 4),
+    (
+        "paste a\\nb\n",
+        "outcome eof\nline a\\nb\ncursor 3\nplace 0\nat 1 1\nredraws 2\n",
+        1,
+    ),
+];
+
+#[test]
+fn prints_what_became_of_the_line(rt: HostRuntime) -> Result<(), Fail> {
+    for case in SCRIPTS {
+        prints(&rt, rt.alloc(), *case)?;
+    }
+    Ok(())
+}
+
+/// Kills the numbers from 1 on, each by itself, yanks, and goes back in the kill ring.
+fn goes_back(rt: &impl Abort, alloc: Global, case: (usize, usize, &str)) -> Result<(), Fail> {
+    let (kills, turns, printed) = case;
+    let mut script = Vec::new(alloc);
+    for number in 1..=kills {
+        write!(script, "type {number}\nkey C-u\n")?;
+    }
+    writeln!(script, "key C-y")?;
+    for _ in 0..turns {
+        writeln!(script, "key M-y")?;
+    }
+    let mut out = Vec::new(alloc);
+    let ended = play(alloc, script.as_slice(), &mut out);
+    let shown = str::from_utf8(&out)?;
+    assert_eq!(rt; (shown, ended), (printed, 1), "{kills} {turns}");
+    Ok(())
+}
+
+/// So many kills and so many steps back, and what is printed. The ring has 60 slots: the 61st kill takes the place of
+/// the first, and the 60th step comes back to where it began.
+const RING: &[(usize, usize, &str)] = &[
+    (
+        4,
+        3,
+        "outcome eof\nline 1\ncursor 1\nplace 0\nat 0 3\nredraws 5\n",
+    ),
+    (
+        60,
+        59,
+        "outcome eof\nline 1\ncursor 1\nplace 0\nat 0 3\nredraws 61\n",
+    ),
+    (
+        61,
+        59,
+        "outcome eof\nline 2\ncursor 1\nplace 0\nat 0 3\nredraws 61\n",
+    ),
+    (
+        61,
+        60,
+        "outcome eof\nline 61\ncursor 2\nplace 0\nat 0 4\nredraws 62\n",
+    ),
+];
+
+#[test]
+fn keeps_sixty_killed_texts(rt: HostRuntime) -> Result<(), Fail> {
+    for case in RING {
+        goes_back(&rt, rt.alloc(), *case)?;
+    }
+    Ok(())
+}
+
+/// Plays a script without a bad line, and finds none. So it is with any one allocation refused, which is a fault.
+fn has_no_bad_line(rt: &impl Abort, alloc: Global, script: &'static str) {
+    let mut out = Vec::new(alloc);
+    let ended = play(alloc, script.as_bytes(), &mut out);
+    assert!(rt; ended < 4, "{ended} of {script}");
+    assert!(rt; !out.starts_with(b"bad"), "{script}");
+}
+
+const GOOD: &[&str] = &[
+    "columns 40\nhistory git status\nhistory a\\nb\nprompt lang: \nhints\nbrackets\ntype a\nkey Up\nkey Enter\n",
+    "type 日本日本日本日本日本\npaste one\\ntwo\nkey M-3\nkey C-b\nkey C-k\nkey C-y\nkey C-c\n",
+    "mode vi\nhistory one two\nkey Up\nkey Esc\ntype 0cwx\nkey Esc\ntype w.3p2y\nkey Esc\nkey Enter\n",
+];
+
+#[test]
+fn takes_no_refused_allocation_for_a_bad_line(rt: HostRuntime) {
+    for script in GOOD {
+        has_no_bad_line(&rt, rt.alloc(), script);
+    }
+}
+
+/// A stream that gives so many bytes a call, and at the end can't be read, or ends.
+#[derive(Drop)]
+struct Cut {
+    rest: &'static [u8],
+    at_once: usize,
+    fails: bool,
+}
+
+impl Read for Cut {
+    fn read(&mut self, buf: &mut [u8]) -> io::Result<usize> {
+        if self.fails && self.rest.is_empty() {
+            return Err(io::Error::from(io::ErrorKind::Other));
+        }
+        let count = self.at_once.min(buf.len());
+        self.rest.read(&mut buf[..count])
+    }
+}
+
+/// Plays a script that its stream cuts short behind so many bytes: nothing is printed, and the status is that of a fault.
+fn is_cut(rt: &impl Abort, alloc: Global, script: &'static str, at: usize, at_once: usize) {
+    let mut out = Vec::new(alloc);
+    let input = Cut {
+        rest: script.as_bytes().get(..at).unwrap_or(&[]),
+        at_once,
+        fails: true,
+    };
+    assert_eq!(rt; play(alloc, input, &mut out), 3, "{script} at {at}");
+    assert_eq!(rt; out.len(), 0, "{script} at {at}");
+}
+
+/// Scripts that are good or bad by where they are cut.
+const CUT: &[&str] = &["", "history é\n\ntype a\nkey Enter\n", "key\n"];
+
+/// Cuts a script behind each of its bytes, which come together or one by one.
+fn is_cut_at_each_byte(rt: &impl Abort, alloc: Global, script: &'static str) {
+    for at in 0..=script.len() {
+        is_cut(rt, alloc, script, at, script.len());
+        is_cut(rt, alloc, script, at, 1);
+    }
+}
+
+#[test]
+fn ends_with_the_fault_of_its_input(rt: HostRuntime) {
+    for script in CUT {
+        is_cut_at_each_byte(&rt, rt.alloc(), script);
+    }
+}
+
+/// A stream that takes one byte a call. One write of it fails, or each from one on, or each flush.
+#[derive(Drop)]
+struct Faulty {
+    bytes: Vec<u8>,
+    writes: usize,
+    failing: usize,
+    goes_on: bool,
+    flushes: bool,
+}
+
+impl Write for Faulty {
+    fn write(&mut self, buf: &[u8]) -> io::Result<usize> {
+        let failed = self.writes == self.failing;
+        if failed && !self.goes_on {
+            return Err(io::Error::from(io::ErrorKind::Other));
+        }
+        self.writes = self.writes.saturating_add(1);
+        if failed {
+            return Err(io::Error::from(io::ErrorKind::Other));
+        }
+        match buf.first() {
+            Some(byte) => {
+                self.bytes.push(*byte)?;
+                Ok(1)
+            }
+            None => Ok(0),
+        }
+    }
+
+    fn flush(&mut self) -> io::Result<()> {
+        if self.flushes {
+            Ok(())
+        } else {
+            Err(io::Error::from(io::ErrorKind::Other))
+        }
+    }
+}
+
+/// Plays a script that comes byte by byte, to a stream that takes it so: nothing else is printed, and the status is the same.
+fn prints_by_bytes(rt: &impl Abort, alloc: Global, case: Case) {
+    let (script, printed, status) = case;
+    let input = Cut {
+        rest: script.as_bytes(),
+        at_once: 1,
+        fails: false,
+    };
+    let mut out = Faulty {
+        bytes: Vec::new(alloc),
+        writes: 0,
+        failing: usize::MAX,
+        goes_on: false,
+        flushes: true,
+    };
+    let ended = play(alloc, input, &mut out);
+    assert_eq!(rt;
+        (out.bytes.as_slice(), ended),
+        (printed.as_bytes(), status),
+        "{script}"
+    );
+}
+
+/// How each of the six lines begins.
+const HEADS: &[&str] = &["outcome ", "line ", "cursor ", "place ", "at ", "redraws "];
+
+/// Whether a text is a beginning of the six lines that are printed.
+fn is_beginning(printed: &str) -> bool {
+    let mut lines = printed.lines();
+    for head in HEADS {
+        let Some(line) = lines.next() else {
+            return true;
+        };
+        if !line.starts_with(head) {
+            return head.starts_with(line) && lines.next().is_none();
+        }
+    }
+    lines.next().is_none()
+}
+
+/// Plays a script. With ample memory it prints these lines and ends with this status. Where an allocation is refused the
+/// status may be that of a fault, and what is printed is then a beginning of these lines or of those of a fault.
+fn prints_all_or_a_beginning(rt: &impl Abort, alloc: Global, case: Case) {
+    let (script, whole, status) = case;
+    let mut out = Vec::new(alloc);
+    let ended = play(alloc, script.as_bytes(), &mut out);
+    let Ok(shown) = str::from_utf8(&out) else {
+        panic!(rt; "no text after {script}");
+    };
+    if ended == 3 {
+        let is_of_these = whole.starts_with(shown) || shown.starts_with("outcome fault\n");
+        assert!(rt; is_of_these && is_beginning(shown), "{shown:?} of {script}");
+    } else {
+        assert_eq!(rt; (shown, ended), (whole, status), "{script}");
+    }
+}
+
+/// Scripts of which no outcome is a fault.
+const NO_FAULTS: &[Case] = &[
+    (
+        "hints\nhistory git status\ntype git\nkey Right\nkey Enter\n",
+        "outcome submitted\nline git status\ncursor 10\nplace 1\nat 0 12\nredraws 5\n",
+        0,
+    ),
+    (
+        "paste a\\nb\n",
+        "outcome eof\nline a\\nb\ncursor 3\nplace 0\nat 1 1\nredraws 2\n",
+        1,
+    ),
+    (
+        "history rustc\nhistory cargo\ntype a\nkey M-<\nkey M->\nkey Enter\n",
+        "outcome submitted\nline a\ncursor 1\nplace 2\nat 0 3\nredraws 3\n",
+        0,
+    ),
+];
+
+#[test]
+fn prints_a_beginning_without_memory(rt: HostRuntime) {
+    for case in NO_FAULTS {
+        prints_all_or_a_beginning(&rt, rt.alloc(), *case);
+    }
+}
+
+/// A script and what is printed where nothing fails, with the status.
+const WHOLE: &[Case] = &[
+    (
+        "type a\nkey Enter\n",
+        "outcome submitted\nline a\ncursor 1\nplace 0\nat 0 3\nredraws 1\n",
+        0,
+    ),
+    ("key\n", "bad script line 1\n", 4),
+];
+
+/// Plays to a stream of which the write after `failing` bytes fails, once or for good, or whose flush does: what is
+/// printed is a beginning of the whole, and the status is that of a fault.
+fn faults(
+    rt: &impl Abort,
+    alloc: Global,
+    case: Case,
+    failing: usize,
+    goes_on: bool,
+    flushes: bool,
+) {
+    let (script, whole, status) = case;
+    let mut out = Faulty {
+        bytes: Vec::new(alloc),
+        writes: 0,
+        failing,
+        goes_on,
+        flushes,
+    };
+    let ended = play(alloc, script.as_bytes(), &mut out);
+    let printed = failing.min(whole.len());
+    let wanted = if failing < whole.len() || !flushes {
+        3
+    } else {
+        status
+    };
+    assert_eq!(rt;
+        (out.bytes.as_slice(), ended),
+        (&whole.as_bytes()[..printed], wanted),
+        "{failing}"
+    );
+}
+
+/// Which writes fail, from one on or that one alone, and whether a flush does.
+const STREAMS: &[(bool, bool)] = &[(false, true), (true, true), (false, false)];
+
+#[test]
+fn ends_with_the_fault_of_its_output(rt: HostRuntime) {
+    for (goes_on, flushes) in STREAMS {
+        for (script, whole, status) in WHOLE {
+            for failing in 0..=whole.len() {
+                faults(
+                    &rt,
+                    rt.alloc(),
+                    (script, whole, *status),
+                    failing,
+                    *goes_on,
+                    *flushes,
+                );
+            }
+        }
+    }
+}
+
+fn names_outcome(rt: &impl Abort, alloc: Global, case: (Outcome, &str)) -> Result<(), Fail> {
+    let (outcome, name) = case;
+    let shown = format!(in alloc; "{outcome}")?;
+    assert_eq!(rt; shown.as_str(), name);
+    Ok(())
+}
+
+const OUTCOMES: &[(Outcome, &str)] = &[
+    (Outcome::Submitted, "submitted"),
+    (Outcome::Eof, "eof"),
+    (Outcome::Interrupted, "interrupted"),
+    (Outcome::Fault, "fault"),
+];
+
+#[test]
+fn names_each_outcome(rt: HostRuntime) -> Result<(), Fail> {
+    for case in OUTCOMES {
+        names_outcome(&rt, rt.alloc(), *case)?;
+    }
+    Ok(())
+}
+
+fn writes(rt: &impl Abort, alloc: Global, case: (&str, &str)) -> Result<(), Fail> {
+    let (line, printed) = case;
+    let report = Report {
+        outcome: Outcome::Eof,
+        line,
+        cursor: 3,
+        place: 7,
+        at: Position { row: 2, col: 5 },
+        redraws: 9,
+    };
+    let mut out = Vec::new(alloc);
+    report.write_to(&mut out)?;
+    assert_eq!(rt; out.as_slice(), printed.as_bytes(), "{line:?}");
+    Ok(())
+}
+
+const LINES: &[(&str, &str)] = &[
+    (
+        "",
+        "outcome eof\nline \ncursor 3\nplace 7\nat 2 5\nredraws 9\n",
+    ),
+    (
+        "a\\\n世",
+        "outcome eof\nline a\\\\\\n世\ncursor 3\nplace 7\nat 2 5\nredraws 9\n",
+    ),
+    // other control characters stand as they are
+    (
+        "\r\t\u{1}\\n\0",
+        "outcome eof\nline \r\t\u{1}\\\\n\0\ncursor 3\nplace 7\nat 2 5\nredraws 9\n",
+    ),
+];
+
+#[test]
+fn escapes_the_line(rt: HostRuntime) -> Result<(), Fail> {
+    for case in LINES {
+        writes(&rt, rt.alloc(), *case)?;
+    }
+    Ok(())
+}
