@@ -2,6 +2,7 @@
 
 mod copies;
 
+use crate::holds;
 use line_buffer::{GraphemeClusterMode, OutOfMemory};
 use line_config::{
     Behavior, BellStyle, Builder, ColorMode, CompletionType, Config, Configurer, EditMode,
@@ -9,7 +10,6 @@ use line_config::{
 };
 use std::alloc::{AllocError, AllocFailed, Global};
 use std::io::{self, ErrorKind};
-use std::process::Abort;
 use std::test::Fail;
 use std::{fmt, result};
 
@@ -203,13 +203,11 @@ const HOLDERS: &[(Made, Settings)] = &[
 fn are_read_back(rt: HostRuntime) -> result::Result<(), Fail> {
     for (index, (how, wanted)) in HOLDERS.iter().enumerate() {
         let config = config_by(how)?;
-        assert_eq!(&rt; settings(&config), *wanted, "{index}");
-        assert_eq!(&rt; config, config_by(how)?, "{index}");
+        holds(&rt, settings(&config) == *wanted, "settings", index);
+        holds(&rt, config == config_by(how)?, "again", index);
     }
-    assert_eq!(rt;
-        (BellStyle::default(), Behavior::default()),
-        (BellStyle::Audible, Behavior::Stdio)
-    );
+    assert!(&rt; BellStyle::default() == BellStyle::Audible);
+    assert!(&rt; Behavior::default() == Behavior::Stdio);
     Ok(())
 }
 
@@ -224,11 +222,12 @@ const COLORS: &[(ColorMode, Option<&str>, ColorMode)] = &[
 
 #[test]
 fn colors_and_timeouts(rt: HostRuntime) {
-    for (set, value, shown) in COLORS {
-        let config = Config::builder(GraphemeClusterMode::Unicode)
+    for (index, (set, value, shown)) in COLORS.iter().enumerate() {
+        let found = Config::builder(GraphemeClusterMode::Unicode)
             .color_mode(*set)
-            .build();
-        assert_eq!(&rt; config.color_mode(*value), *shown);
+            .build()
+            .color_mode(*value);
+        holds(&rt, found == *shown, "color", index);
     }
     // the style sets the timeout
     let before = Config::builder(GraphemeClusterMode::Unicode)
@@ -240,12 +239,9 @@ fn colors_and_timeouts(rt: HostRuntime) {
     let back = Config::builder(GraphemeClusterMode::Unicode)
         .edit_mode(EditMode::Vi)
         .edit_mode(EditMode::Emacs);
-    let found = (
-        before.build().keyseq_timeout(),
-        behind.build().keyseq_timeout(),
-        back.build().keyseq_timeout(),
-    );
-    assert_eq!(rt; found, (Some(500), Some(7), None));
+    assert!(&rt; before.build().keyseq_timeout() == Some(500));
+    assert!(&rt; behind.build().keyseq_timeout() == Some(7));
+    assert!(&rt; back.build().keyseq_timeout() == None);
 }
 
 /// Where an error comes from.
@@ -315,7 +311,7 @@ const ERRORS: &[Error] = &[
 
 #[test]
 fn errors_by_their_cause(rt: HostRuntime) -> result::Result<(), Fail> {
-    for (cause, text, name, kind) in ERRORS {
+    for (index, (cause, text, name, kind)) in ERRORS.iter().enumerate() {
         let error = error_of(cause);
         let shown = format!(in rt.alloc(); "{error}")?;
         let named = format!(in rt.alloc(); "{error:?}")?;
@@ -324,12 +320,12 @@ fn errors_by_their_cause(rt: HostRuntime) -> result::Result<(), Fail> {
             _ => None,
         };
         let (shown, named) = (shown.as_str(), named.as_str());
-        let wanted = (text.unwrap_or(shown), name.unwrap_or(named), *kind);
-        assert_eq!(&rt; (shown, named, found), wanted);
+        let texts = shown == text.unwrap_or(shown) && named == name.unwrap_or(named);
+        holds(&rt, texts && found == *kind, named, index);
     }
     let error = OutOfMemory;
     let shown = format!(in rt.alloc(); "{error}")?;
-    assert_eq!(rt; shown.as_str(), "out of memory");
+    holds(&rt, shown.as_str() == "out of memory", shown.as_str(), 0);
     Ok(())
 }
 

@@ -1,5 +1,6 @@
 //! Types that are compared, ordered, copied and shown: no two values of a list are equal, and `Debug` names each.
 
+use crate::holds;
 use line_buffer::{
     At, Changeset, CharSearch, Direction, GraphemeClusterMode, KillRing, Layout, LineBuffer, Mode,
     Movement, OutOfMemory, Position, Word, WordAction,
@@ -15,19 +16,27 @@ use std::io;
 use std::process::Abort;
 use std::test::Fail;
 
+/// The text that `Debug` shows.
+fn debug_text<T: Debug + Drop>(alloc: Global, value: T) -> Result<String, Fail> {
+    Ok(format!(in alloc; "{value:?}")?)
+}
+
+/// Both comparisons say whether two values are the same.
+pub(super) fn compare<T: PartialEq>(one: &T, other: &T, same: bool) -> bool {
+    (*one == *other) == same && (*one != *other) != same
+}
+
 /// Each value is shown by its name, and is equal, a copy of it included, where it stands at the same place.
-fn are_distinct<T: Copy + PartialEq + Debug>(
+fn are_distinct<T: Copy + Drop + PartialEq + Debug>(
     rt: &impl Abort,
     alloc: Global,
     values: &[(T, &str)],
 ) -> Result<(), Fail> {
     for (index, (one, name)) in values.iter().enumerate() {
-        let shown = format!(in alloc; "{one:?}")?;
-        assert_eq!(rt; shown.as_str(), *name);
+        holds(rt, debug_text(alloc, *one)?.as_str() == *name, name, index);
         for (place, (other, _)) in values.iter().enumerate() {
             let copy = *other;
-            let (found, wanted) = (*one == copy, index == place);
-            assert_eq!(rt; (found, *one != copy), (wanted, !wanted), "{name} {place}");
+            holds(rt, compare(one, &copy, index == place), name, place);
         }
     }
     Ok(())
@@ -119,7 +128,7 @@ const POSITIONS: &[(Position, &str)] = &[
     ),
 ];
 
-/// No two of a list are equal, and positions are in order.
+/// No two of a list are equal: what the line buffer has.
 #[test]
 fn no_two_are_equal(rt: HostRuntime) -> Result<(), Fail> {
     let alloc = rt.alloc();
@@ -132,27 +141,39 @@ fn no_two_are_equal(rt: HostRuntime) -> Result<(), Fail> {
     are_distinct(&rt, alloc, SIDES)?;
     are_distinct(&rt, alloc, POSITIONS)?;
     are_distinct(&rt, alloc, &[(OutOfMemory, "OutOfMemory")])?;
+    Ok(())
+}
+
+/// No two of a list are equal: the settings.
+#[test]
+fn no_two_settings_are_equal(rt: HostRuntime) -> Result<(), Fail> {
+    let alloc = rt.alloc();
     are_distinct(&rt, alloc, BELLS)?;
     are_distinct(&rt, alloc, DUPLICATES)?;
     are_distinct(&rt, alloc, COMPLETIONS)?;
     are_distinct(&rt, alloc, STYLES)?;
     are_distinct(&rt, alloc, COLORS)?;
     are_distinct(&rt, alloc, BEHAVIORS)?;
-    // positions by each comparison; the defaults are looked at without a comparison of the type too
+    Ok(())
+}
+
+/// Positions are in order, by each comparison.
+#[test]
+fn positions_are_in_order(rt: HostRuntime) {
     for (index, (one, name)) in POSITIONS.iter().enumerate() {
         for (place, (other, _)) in POSITIONS.iter().enumerate() {
             let order = index.cmp(&place);
-            let found = (one.cmp(other), one.partial_cmp(other), *one < *other);
-            let wanted = (order, Some(order), order == Ordering::Less);
-            assert_eq!(&rt; found, wanted, "{name} {place}");
+            let less = order == Ordering::Less;
+            let ordered = one.cmp(other) == order && one.partial_cmp(other) == Some(order);
+            holds(&rt, ordered && (*one < *other) == less, name, place);
         }
     }
+    // the defaults are looked at without a comparison of the type too
     let origin = Position::default();
-    assert_eq!(&rt; (origin.row, origin.col), (0, 0));
+    assert!(&rt; origin.row == 0 && origin.col == 0);
     assert!(&rt; origin == Position { row: 0, col: 0 });
     assert!(&rt; matches!(BellStyle::default(), BellStyle::Audible));
     assert!(&rt; matches!(Behavior::default(), Behavior::Stdio));
-    Ok(())
 }
 
 /// Movements, and how each is shown.
@@ -209,16 +230,15 @@ const MOVEMENTS: &[(Movement, &str)] = &[
 #[test]
 fn no_two_movements_are_equal(rt: HostRuntime) -> Result<(), Fail> {
     for (index, (one, name)) in MOVEMENTS.iter().enumerate() {
-        let shown = format!(in rt.alloc(); "{one:?}")?;
-        assert_eq!(rt; shown.as_str(), *name);
+        holds(
+            &rt,
+            debug_text(rt.alloc(), one)?.as_str() == *name,
+            name,
+            index,
+        );
         for (place, (other, _)) in MOVEMENTS.iter().enumerate() {
             let copy = other.clone()?;
-            let (found, wanted) = (*one == copy, index == place);
-            assert_eq!(rt;
-                (found, *one != copy),
-                (wanted, !wanted),
-                "{one:?} {other:?}"
-            );
+            holds(&rt, compare(one, &copy, index == place), name, place);
         }
     }
     Ok(())
@@ -236,38 +256,38 @@ enum Shown {
 }
 
 fn text_of(alloc: Global, which: &Shown) -> Result<String, Fail> {
-    Ok(match which {
+    match which {
         Shown::Line | Shown::Changes => {
             let mut line = LineBuffer::init(alloc, "ab日", 2)?;
             let mut changes = Changeset::new(alloc);
             line.yank("xyz", 1, &mut changes)?;
             match which {
-                Shown::Line => format!(in alloc; "{line:?}")?,
-                _ => format!(in alloc; "{changes:?}")?,
+                Shown::Line => debug_text(alloc, line),
+                _ => debug_text(alloc, changes),
             }
         }
         Shown::Ring => {
             let mut ring = KillRing::new(alloc, 7);
             ring.kill("uvw", Mode::Append)?;
-            format!(in alloc; "{ring:?}")?
+            debug_text(alloc, ring)
         }
         Shown::Layout => {
             let mut layout = Layout::new(GraphemeClusterMode::NoZwj);
             layout.end = Position { row: 3, col: 4 };
-            format!(in alloc; "{layout:?}")?
+            debug_text(alloc, layout)
         }
         Shown::Error => {
             let error = ReadlineError::Io(io::Error::other("the disk is on fire"));
-            format!(in alloc; "{error:?}")?
+            debug_text(alloc, error)
         }
         Shown::Builder | Shown::Config => {
             let builder = Config::builder(GraphemeClusterMode::Unicode).max_history_size(7)?;
             match which {
-                Shown::Builder => format!(in alloc; "{builder:?}")?,
-                _ => format!(in alloc; "{:?}", builder.build())?,
+                Shown::Builder => debug_text(alloc, builder),
+                _ => debug_text(alloc, builder.build()),
             }
         }
-    })
+    }
 }
 
 const PIECES: &[(Shown, &str)] = &[

@@ -5,13 +5,26 @@ mod faults;
 use crate::ready::{Asked, Case};
 pub(super) use faults::{Which, holds};
 use line_config::Result;
-use line_parts::{Candidate, Pair, Quote, longest_common_prefix, unescape};
+use line_parts::{Candidate, Pair, Quote, escape, longest_common_prefix, unescape};
 use std::alloc::Global;
 use std::borrow::CowStr;
 
 /// Whether words break at a character in these tests.
 pub(super) fn breaks(c: char) -> bool {
     matches!(c, ' ' | '\\' | '"' | '\'' | 'é')
+}
+
+/// Whether the text with its escapes is this one.
+pub(super) fn escapes(
+    alloc: Global,
+    text: &str,
+    esc_char: Option<char>,
+    quote: Quote,
+    wanted: &str,
+) -> Result<bool> {
+    let text = String::from_str(alloc, text)?;
+    let escaped = escape(text, esc_char, breaks, quote)?;
+    Ok(escaped.as_str() == wanted)
 }
 
 /// Whether the text without its escapes is this one, and is borrowed where it is to be.

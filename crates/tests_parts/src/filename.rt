@@ -6,7 +6,7 @@ ghost use Rattle.line_parts.specs.Completed.{listed_of};
 
 mod faults;
 
-use crate::ready::{Asked, Case};
+use crate::ready::{Asked, Case, broken_history};
 use Way::{Boxed, ByTrait, Sorted, Unsorted};
 use line_config::Result;
 use line_parts::{Completer, Context, Entry, FilenameCompleter, Lister, Pair};
@@ -15,7 +15,6 @@ use std::result;
 use std::test::Fail;
 use tests_parties::countdown::Countdown;
 use tests_parties::fault::{Fault, GONE};
-use tests_parties::shelf::{Failing, Shelf};
 
 /// Which calls of a lister fail.
 #[derive(Clone, Copy, Debug)]
@@ -123,8 +122,7 @@ fn found(
     requires { IsCharBoundary line.now pos }
 {
     let completer = FilenameCompleter::new(lister);
-    let mut history = Shelf::new(alloc, 0);
-    history.fail_in(Failing::All, GONE);
+    let history = broken_history(alloc);
     let ctx = Context::new(&history);
     match way {
         Sorted => completer.complete_path(alloc, line, pos),

@@ -181,3 +181,16 @@ fn is_saved(
     }
     Ok(answer.is_some())
 }
+
+/// What a history keeps: each of these lines, of which this text is appended. Returns whether the save found its memory.
+fn keeps(
+    rt: &impl Abort,
+    alloc: Global,
+    history: &mut FileHistory,
+    lines: &str,
+    escapes: Escapes,
+    appended: &[u8],
+) -> result::Result<bool, Fail> {
+    gives(rt, history, lines)?;
+    is_saved(rt, alloc, history, escapes, true, appended)
+}

@@ -62,19 +62,14 @@ enum Long {
 /// Whether the text has these escapes, which can be left out again. Without an escape character both stay.
 fn is_escaped(alloc: Global, text: &str, quote: Quote, wanted: &str, same: bool) -> Result<bool> {
     let escape = Some('\\');
-    for (text, asked) in [
-        (text, Asked::Escaped(escape, quote, wanted)),
-        (wanted, Asked::Unescaped(escape, text, same)),
-        (text, Asked::Escaped(None, quote, text)),
-        (text, Asked::Unescaped(None, text, true)),
-        (wanted, Asked::Escaped(None, quote, wanted)),
-        (wanted, Asked::Unescaped(None, wanted, true)),
-    ] {
-        if !is_right(alloc, text, asked)? {
-            return Ok(false);
-        }
-    }
-    Ok(true)
+    Ok(
+        is_right(alloc, text, Asked::Escaped(escape, quote, wanted))?
+            && is_right(alloc, wanted, Asked::Unescaped(escape, text, same))?
+            && is_right(alloc, text, Asked::Escaped(None, quote, text))?
+            && is_right(alloc, text, Asked::Unescaped(None, text, true))?
+            && is_right(alloc, wanted, Asked::Escaped(None, quote, wanted))?
+            && is_right(alloc, wanted, Asked::Unescaped(None, wanted, true))?,
+    )
 }
 
 /// A helper that takes each line, with a hint.

@@ -2,7 +2,7 @@
 
 mod faults;
 
-use crate::ready::{Asked, Case, is_hint, says};
+use crate::ready::{Asked, Case, is_hint, is_text, says};
 pub(super) use faults::{Answer, helped};
 use line_config::{CompletionType, Result};
 use line_parts::{Candidate, CmdKind, Context, Helper, Highlighter, Hint, History, MemHistory};
@@ -21,11 +21,11 @@ fn shows_as_it_stands<H: Highlighter>(
     alloc: Global,
     text: &str,
 ) -> Result<bool> {
-    let line = highlighter.highlight(alloc, text, 0)?.as_str() == text;
-    let prompt = highlighter.highlight_prompt(alloc, text, true)?.as_str() == text;
-    let hint = highlighter.highlight_hint(alloc, text)?.as_str() == text;
-    let candidate = highlighter.highlight_candidate(alloc, text, CompletionType::List)?;
-    let candidate = candidate.as_str() == text;
+    let line = is_text(highlighter.highlight(alloc, text, 0), text)?;
+    let prompt = is_text(highlighter.highlight_prompt(alloc, text, true), text)?;
+    let hint = is_text(highlighter.highlight_hint(alloc, text), text)?;
+    let candidate = highlighter.highlight_candidate(alloc, text, CompletionType::List);
+    let candidate = is_text(candidate, text)?;
     Ok(line && prompt && hint && candidate && !highlighter.highlight_char(text, 0, CmdKind::Other))
 }
 
@@ -74,6 +74,6 @@ fn a_helper_keeps_its_answers(rt: HostRuntime) -> Result<()> {
     for _ in 0..2 {
         assert!(rt; answers(alloc, &mut advisor, (true, Some("!"), ("invalid", "no")))?);
     }
-    assert_eq!(rt; advisor.kinds(), (moved, moved, None, None));
+    assert!(rt; advisor.kinds() == (moved, moved, None, None));
     Ok(())
 }

@@ -5,12 +5,15 @@ use crate::{brackets, completion, filename, history_hinter, parties};
 use line_config::{ReadlineError, Result};
 use line_parts::{
     CmdKind, Hint, MatchingBracketValidator, Quote, ValidationContext, ValidationResult, Validator,
-    escape, extract_word,
+    extract_word,
 };
 use std::alloc::Global;
+use std::borrow::CowStr;
 use std::process::Abort;
 use std::result;
 use std::test::Fail;
+use tests_parties::fault::GONE;
+use tests_parties::shelf::{Failing, Shelf};
 
 /// A text, and what is asked about it.
 pub(super) type Case = (&'static str, Asked<'static>);
@@ -80,6 +83,18 @@ pub(super) fn is_hint<T: Hint>(hint: &Option<T>, wanted: Option<&str>) -> bool {
     }
 }
 
+/// Whether an answer is this text.
+pub(super) fn is_text(answer: Result<CowStr<'_>>, wanted: &str) -> Result<bool> {
+    Ok(answer?.as_str() == wanted)
+}
+
+/// A history without lines, of which each call fails.
+pub(super) fn broken_history(alloc: Global) -> Shelf {
+    let mut history = Shelf::new(alloc, 0);
+    history.fail_in(Failing::All, GONE);
+    history
+}
+
 /// Whether the answer is the right one.
 pub(super) fn is_right(alloc: Global, text: &str, asked: Asked<'_>) -> Result<bool> {
     match asked {
@@ -102,8 +117,7 @@ pub(super) fn is_right(alloc: Global, text: &str, asked: Asked<'_>) -> Result<bo
                 && extract_word(text, pos, esc_char, breaks) == (start, word),
         ),
         Asked::Escaped(esc_char, quote, wanted) => {
-            let text = String::from_str(alloc, text)?;
-            Ok(escape(text, esc_char, breaks, quote)?.as_str() == wanted)
+            completion::escapes(alloc, text, esc_char, quote, wanted)
         }
         Asked::Unescaped(esc_char, wanted, same) => {
             completion::unescapes(alloc, text, esc_char, (wanted, same))

@@ -9,6 +9,18 @@ use std::process::Abort;
 use std::result;
 use std::test::Fail;
 
+/// The first place, if there is one, whose value equals this one where it is not to, or does not where it is to, a copy
+/// included.
+fn misplaced<T: Copy + PartialEq>(values: &[T], index: usize, one: &T) -> Option<usize> {
+    for (place, other) in values.iter().enumerate() {
+        let copy = *other;
+        if (*one == copy) != (index == place) || (*one != copy) != (index != place) {
+            return Some(place);
+        }
+    }
+    None
+}
+
 /// Each value is shown by its name, and equals what stands at its own place alone, a copy included.
 fn are_told_apart<T: Copy + PartialEq + Debug>(
     rt: &impl Abort,
@@ -20,11 +32,7 @@ fn are_told_apart<T: Copy + PartialEq + Debug>(
     for (index, (one, name)) in values.iter().zip(names).enumerate() {
         let shown = format!(in alloc; "{one:?}")?;
         assert_eq!(rt; shown.as_str(), *name);
-        for (place, other) in values.iter().enumerate() {
-            let copy = *other;
-            let found = (*one == copy, *one != copy);
-            assert_eq!(rt; found, (index == place, index != place), "{index} {place}");
-        }
+        assert_eq!(rt; misplaced(values, index, one), None, "{index}");
     }
     Ok(())
 }

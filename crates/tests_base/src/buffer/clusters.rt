@@ -1,6 +1,7 @@
 //! Where the clusters of a text part, which characters join no other, which texts are printable ASCII, and widths.
 
 use self::Asked::*;
+use crate::holds;
 use line_buffer::GraphemeClusterMode::*;
 use line_buffer::{
     Layout, Unit, first_parting, is_plain_text, is_printable, is_printable_text, last_parting,
@@ -86,35 +87,34 @@ const CHARACTERS: &[(char, Option<usize>, bool)] = &[
     ('\u{1f3fb}', None, false),
 ];
 
-#[test]
-fn of_texts_and_characters(rt: HostRuntime) {
-    for (text, asked) in TEXTS {
-        match asked {
-            First(place) => assert_eq!(&rt; first_parting(text), *place, "{text:?}"),
-            Last(end, place) => {
-                assert!(&rt; text.is_char_boundary(*end), "{end} in {text:?}");
-                assert_eq!(&rt;
-                    last_parting(text, *end),
-                    *place,
-                    "before {end} in {text:?}"
-                );
-            }
-            Printable(printable, plain) => {
-                let found = (is_printable_text(text), is_plain_text(text));
-                assert_eq!(&rt; found, (*printable, *plain), "{text:?}");
-            }
-            Widths(whole, characters, pieces) => {
-                let found = (Unicode.width(text), WcWidth.width(text), NoZwj.width(text));
-                assert_eq!(&rt; found, (*whole, *characters, *pieces), "{text:?}");
-                assert_eq!(&rt; Layout::new(NoZwj).width(text), *pieces, "{text:?}");
-            }
+/// What is asked of the text has the answer that is wanted.
+fn is_answered(text: &str, asked: &Asked) -> bool {
+    match asked {
+        First(place) => first_parting(text) == *place,
+        Last(end, place) => text.is_char_boundary(*end) && last_parting(text, *end) == *place,
+        Printable(printable, plain) => {
+            is_printable_text(text) == *printable && is_plain_text(text) == *plain
+        }
+        Widths(whole, characters, pieces) => {
+            Unicode.width(text) == *whole
+                && WcWidth.width(text) == *characters
+                && NoZwj.width(text) == *pieces
+                && Layout::new(NoZwj).width(text) == *pieces
         }
     }
+}
+
+#[test]
+fn of_texts(rt: HostRuntime) {
+    for (index, (text, asked)) in TEXTS.iter().enumerate() {
+        holds(&rt, is_answered(text, asked), text, index);
+    }
+}
+
+#[test]
+fn of_characters(rt: HostRuntime) {
     for (c, width, printable) in CHARACTERS {
-        assert_eq!(&rt;
-            (lone_width(*c), is_printable(*c)),
-            (*width, *printable),
-            "{c:?}"
-        );
+        let found = lone_width(*c) == *width && is_printable(*c) == *printable;
+        assert!(&rt; found, "{c:?}");
     }
 }

@@ -2,9 +2,10 @@
 ghost use Rattle.line_buffer.specs.Undo.{Tells};
 
 use super::{FAMILY, line_at, text_of};
+use crate::holds;
 use line_buffer::Direction::{self, *};
 use line_buffer::Movement::{self, *};
-use line_buffer::{Changeset, CharSearch as Search, KillRing};
+use line_buffer::{Changeset, CharSearch as Search, KillRing, LineBuffer};
 use std::alloc::Global;
 use std::process::Abort;
 use std::test::Fail;
@@ -19,29 +20,39 @@ fn kills(
     mvt: &Movement,
     gone: &Gone,
     (text, pos, after): (&str, usize, &str),
-    (cursor, kept): (usize, Option<&str>),
-) -> Result<(), Fail> {
+    left: (usize, Option<&str>),
+) -> Result<bool, Fail> {
     let mut line = line_at(rt, alloc, text, pos)?;
     let mut changes = Changeset::new(alloc);
     let mut ring = KillRing::new(alloc, 2);
     let killed = line.kill(mvt, &mut changes, &mut ring)?;
-    is_killed(rt, &killed, gone);
-    let left = (line.as_str(), line.pos(), ring.yank(), changes.len());
-    assert_eq!(rt; left, (after, cursor, kept, gone.is_some() as usize));
+    let gave = is_killed(killed, gone);
+    let kept = is_left(&line, &mut ring, after, left);
+    let count = changes.len();
     let undone = changes.undo(&mut line, 1)?;
-    assert_eq!(rt; (undone, line.as_str()), (gone.is_some(), text));
-    Ok(())
+    let counts = count == gone.is_some() as usize && undone == gone.is_some();
+    Ok(gave && kept && counts && line.as_str() == text)
 }
 
 /// What a kill gives is what went.
-fn is_killed(rt: &impl Abort, killed: &Option<(usize, String, Direction)>, gone: &Gone) {
+fn is_killed(killed: Option<(usize, String, Direction)>, gone: &Gone) -> bool {
     match (killed, gone) {
         (Some((place, text, side)), Some((at, went, from))) => {
-            assert_eq!(rt; (*place, text.as_str(), *side), (*at, *went, *from));
+            place == *at && text.as_str() == *went && side == *from
         }
-        (None, None) => {}
-        _ => assert_eq!(rt; killed.is_some(), gone.is_some()),
+        (None, None) => true,
+        _ => false,
     }
+}
+
+/// The text, the cursor and what the ring holds last are those that are wanted.
+fn is_left(
+    line: &LineBuffer,
+    ring: &mut KillRing,
+    after: &str,
+    (cursor, kept): (usize, Option<&str>),
+) -> bool {
+    line.as_str() == after && line.pos() == cursor && ring.yank() == kept
 }
 
 /// A cut leaves the line and the ring as a kill does.
@@ -50,16 +61,12 @@ fn cuts(
     alloc: Global,
     mvt: &Movement,
     (text, pos, after): (&str, usize, &str),
-    (cursor, kept): (usize, Option<&str>),
-) -> Result<(), Fail> {
+    left: (usize, Option<&str>),
+) -> Result<bool, Fail> {
     let mut ring = KillRing::new(alloc, 2);
     let mut line = line_at(rt, alloc, text, pos)?;
     line.cut(mvt, &mut Changeset::new(alloc), &mut ring)?;
-    assert_eq!(rt;
-        (line.as_str(), line.pos(), ring.yank()),
-        (after, cursor, kept)
-    );
-    Ok(())
+    Ok(is_left(&line, &mut ring, after, left))
 }
 
 /// A text, the cursor, a movement; the text afterwards, and where what text went on which side.
@@ -156,14 +163,16 @@ const KILLS: &[Case] = &[
 /// What goes by characters is not put into the ring.
 #[test]
 fn by_movements(rt: HostRuntime) -> Result<(), Fail> {
-    for (text, pos, mvt, after, gone) in KILLS {
+    for (index, (text, pos, mvt, after, gone)) in KILLS.iter().enumerate() {
         let left = match (mvt, gone) {
             (_, None) => (*pos, None),
             (ForwardChar(_) | BackwardChar(_), Some((place, _, _))) => (*place, None),
             (_, Some((place, text, _))) => (*place, Some(*text)),
         };
-        kills(&rt, rt.alloc(), mvt, gone, (text, *pos, after), left)?;
-        cuts(&rt, rt.alloc(), mvt, (text, *pos, after), left)?;
+        let killed = kills(&rt, rt.alloc(), mvt, gone, (text, *pos, after), left)?;
+        holds(&rt, killed, "kill", index);
+        let cut = cuts(&rt, rt.alloc(), mvt, (text, *pos, after), left)?;
+        holds(&rt, cut, "cut", index);
     }
     Ok(())
 }
@@ -180,13 +189,14 @@ const LARGE: &[(Movement, usize, usize)] = &[
 #[test]
 fn of_large_texts(rt: HostRuntime) -> Result<(), Fail> {
     let word = text_of(rt.alloc(), "é", 3_000)?;
-    for (mvt, place, count) in LARGE {
+    for (index, (mvt, place, count)) in LARGE.iter().enumerate() {
         let after = text_of(rt.alloc(), "é", place / 2)?;
         let gone = text_of(rt.alloc(), "é", *count)?;
         let went = Some((*place, gone.as_str(), Forward));
         let texts = (word.as_str(), 4, after.as_str());
         let left = (*place, Some(gone.as_str()));
-        kills(&rt, rt.alloc(), mvt, &went, texts, left)?;
+        let killed = kills(&rt, rt.alloc(), mvt, &went, texts, left)?;
+        holds(&rt, killed, "kill", index);
     }
     Ok(())
 }

@@ -2,6 +2,7 @@
 
 use self::Move::*;
 use super::{FAMILY, line_at, text_of};
+use crate::holds;
 use line_buffer::At::{self, *};
 use line_buffer::Word::{self, *};
 use line_buffer::{CharSearch as Search, GraphemeClusterMode, Layout, LineBuffer, RepeatCount};
@@ -292,11 +293,11 @@ const MOVES: &[Case] = &[
 
 #[test]
 fn of_the_cursor(rt: HostRuntime) -> Result<(), Fail> {
-    for (text, pos, step, place) in MOVES {
+    for (index, (text, pos, step, place)) in MOVES.iter().enumerate() {
         let mut line = line_at(&rt, rt.alloc(), text, *pos)?;
-        let found = (moved(&mut line, step), line.pos());
-        let wanted = (place.is_some(), place.unwrap_or(*pos));
-        assert_eq!(&rt; found, wanted, "from {pos} in {text:?}");
+        let found = moved(&mut line, step) == place.is_some();
+        let stands = line.pos() == place.unwrap_or(*pos);
+        holds(&rt, found && stands, text, index);
     }
     Ok(())
 }
@@ -322,25 +323,27 @@ const ASKED: &[Asked] = &[
     (" a ", 0, Some(1), None, false, false),
 ];
 
+/// The line gives each answer that is wanted, and its text has this length.
+fn is_answered(line: &LineBuffer, asked: &Asked) -> bool {
+    let (text, _, next, prev, at_end, white) = asked;
+    line.next_pos(1) == *next
+        && line.prev_pos(1) == *prev
+        && line.is_cursor_at_end() == *at_end
+        && line.is_end_of_input() == *white
+        && line.is_empty() == text.is_empty()
+        && line.len() == text.len()
+}
+
 #[test]
 fn of_the_line(rt: HostRuntime) -> Result<(), Fail> {
-    for (text, pos, next, prev, at_end, white) in ASKED {
+    for asked in ASKED {
+        let (text, pos, ..) = asked;
         let line = line_at(&rt, rt.alloc(), text, *pos)?;
-        let places = (line.next_pos(1), line.prev_pos(1));
-        let ends = (line.is_cursor_at_end(), line.is_end_of_input());
-        let length = (line.is_empty(), line.len());
-        assert_eq!(&rt;
-            (places, ends, length),
-            (
-                (*next, *prev),
-                (*at_end, *white),
-                (text.is_empty(), text.len())
-            )
-        );
+        holds(&rt, is_answered(&line, asked), text, *pos);
     }
     // a large text
     let text = text_of(rt.alloc(), "日", 5_000)?;
     let line = line_at(&rt, rt.alloc(), text.as_str(), 3)?;
-    assert_eq!(&rt; (line.as_str(), line.pos()), (text.as_str(), 3));
+    assert!(&rt; line.as_str() == text.as_str() && line.pos() == 3);
     Ok(())
 }

@@ -4,7 +4,8 @@
 use super::edits::Call::*;
 use super::edits::Edit::{self, *};
 use super::edits::edited;
-use super::texts::{Taking, taken};
+use super::texts::{Taking, is_text, taken};
+use crate::holds;
 use line_buffer::Mode::Append;
 use line_buffer::Movement::{EndOfLine, WholeBuffer};
 use line_buffer::WordAction::Uppercase;
@@ -126,13 +127,6 @@ fn stays(rt: &impl Abort, line: &LineBuffer, changes: &Changeset) {
     assert_eq!(rt; (line.as_str(), changes.len()), ("aé日 b日", 1));
 }
 
-fn is_text(found: &Option<String>, wanted: &str) -> bool {
-    match found {
-        Some(text) => text.as_str() == wanted,
-        None => false,
-    }
-}
-
 const TAKINGS: &[TakingCase] = &[
     (Taking::Copy(WholeBuffer), "aé日 b日", false),
     (Taking::LastInsert, "日", false),
@@ -154,13 +148,13 @@ const KILLS: &[[&str; 3]] = &[["a", "bc", "def"], ["a", "bcdefghijklmnopqrstuvwx
 /// A ring that refused a kill holds no more texts than its size: every other yank-pop gives the same.
 #[test]
 fn of_kills(rt: HostRuntime) {
-    for texts in KILLS {
+    for (index, texts) in KILLS.iter().enumerate() {
         let mut ring = KillRing::new(rt.alloc(), 2);
         for text in texts {
             let outcome = ring.kill(text, Append);
             ring.reset();
             if outcome.is_ok() {
-                assert_eq!(&rt; ring.yank(), Some(*text));
+                holds(&rt, ring.yank() == Some(*text), text, index);
             }
         }
         let _ = ring.yank();
@@ -170,6 +164,7 @@ fn of_kills(rt: HostRuntime) {
                 *size = yanked;
             }
         }
-        assert_eq!(&rt; (sizes[0], sizes[1]), (sizes[2], sizes[3]));
+        let same = sizes[0] == sizes[2] && sizes[1] == sizes[3];
+        holds(&rt, same, "sizes", index);
     }
 }

@@ -2,10 +2,10 @@
 
 use self::Act::*;
 use super::text_of;
-use line_buffer::KillRing;
+use crate::holds;
 use line_buffer::Mode::{self, *};
+use line_buffer::{KillRing, OutOfMemory};
 use std::alloc::Global;
-use std::process::Abort;
 use std::test::Fail;
 
 /// A call on the ring.
@@ -32,7 +32,8 @@ enum Act {
     NoPop,
 }
 
-fn acted(rt: &impl Abort, alloc: Global, ring: &mut KillRing, act: &Act) -> Result<(), Fail> {
+/// Makes the call. Whether it gives what is wanted.
+fn acted(alloc: Global, ring: &mut KillRing, act: &Act) -> Result<bool, OutOfMemory> {
     match act {
         Ring(size) => *ring = KillRing::new(alloc, *size),
         Kill(text, mode) => ring.kill(text, *mode)?,
@@ -53,23 +54,27 @@ fn acted(rt: &impl Abort, alloc: Global, ring: &mut KillRing, act: &Act) -> Resu
             ring.reset();
         }
         Reset => ring.reset(),
-        _ => gives(rt, ring, act),
+        _ => return Ok(gives(ring, act)),
     }
-    Ok(())
+    Ok(true)
 }
 
-fn gives(rt: &impl Abort, ring: &mut KillRing, act: &Act) {
+/// A call that gives a text gives the one that is wanted.
+fn gives(ring: &mut KillRing, act: &Act) -> bool {
     match act {
-        Yank(text) => assert_eq!(rt; ring.yank(), Some(*text)),
-        YankLength(len) => assert!(rt; matches!(ring.yank(), Some(text) if text.len() == *len)),
-        Pop(len, text) => assert_eq!(rt; ring.yank_pop(), Some((*len, *text))),
+        Yank(text) => ring.yank() == Some(*text),
+        YankLength(len) => matches!(ring.yank(), Some(text) if text.len() == *len),
+        Pop(len, text) => ring.yank_pop() == Some((*len, *text)),
         Pops(count) => {
             for _ in 0..*count {
-                assert_eq!(rt; ring.yank_pop(), Some((1, "x")));
+                if ring.yank_pop() != Some((1, "x")) {
+                    return false;
+                }
             }
+            true
         }
-        NoPop => assert_eq!(rt; ring.yank_pop(), None),
-        _ => {}
+        NoPop => ring.yank_pop() == None,
+        _ => true,
     }
 }
 
@@ -186,8 +191,8 @@ const ACTS: &[Act] = &[
 #[test]
 fn yanks_turn_the_ring_back(rt: HostRuntime) -> Result<(), Fail> {
     let mut ring = KillRing::new(rt.alloc(), 0);
-    for act in ACTS {
-        acted(&rt, rt.alloc(), &mut ring, act)?;
+    for (index, act) in ACTS.iter().enumerate() {
+        holds(&rt, acted(rt.alloc(), &mut ring, act)?, "row", index);
     }
     Ok(())
 }

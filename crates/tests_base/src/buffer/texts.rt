@@ -6,6 +6,7 @@ use super::edits::Edit::{self, Indent, Text};
 use super::edits::edited;
 use super::large::WORD;
 use super::{line_at, text_of};
+use crate::holds;
 use line_buffer::At::*;
 use line_buffer::Movement::{self, *};
 use line_buffer::Word::*;
@@ -49,7 +50,8 @@ type Case = (
     Option<(&'static str, usize)>,
 );
 
-fn takes(rt: &impl Abort, alloc: Global, case: &Case) -> Result<(), Fail> {
+/// The call gives what is wanted.
+fn takes(rt: &impl Abort, alloc: Global, case: &Case) -> Result<bool, Fail> {
     let (text, pos, edit, step, wanted) = case;
     let mut line = line_at(rt, alloc, text, *pos)?;
     let mut changes = Changeset::new(alloc);
@@ -57,17 +59,30 @@ fn takes(rt: &impl Abort, alloc: Global, case: &Case) -> Result<(), Fail> {
         let _ = edited(rt, alloc, &mut line, &mut changes, edit)?;
     }
     let given = taken(alloc, &mut line, &mut changes, step)?;
-    match (given, wanted) {
-        (Some(given), Some((part, times))) => {
+    Ok(is_given(alloc, given, wanted)?)
+}
+
+/// What a call gave is so many times one text, or nothing.
+fn is_given(
+    alloc: Global,
+    given: Option<String>,
+    wanted: &Option<(&str, usize)>,
+) -> Result<bool, OutOfMemory> {
+    match wanted {
+        Some((part, times)) => {
             let whole = text_of(alloc, part, *times)?;
-            assert_eq!(rt; given.as_str(), whole.as_str(), "from {pos} in {text:?}");
+            Ok(is_text(&given, whole.as_str()))
         }
-        (given, wanted) => assert!(rt;
-            given.is_none() && wanted.is_none(),
-            "from {pos} in {text:?}"
-        ),
+        None => Ok(given.is_none()),
     }
-    Ok(())
+}
+
+/// It is this text.
+pub(super) fn is_text(found: &Option<String>, wanted: &str) -> bool {
+    match found {
+        Some(text) => text.as_str() == wanted,
+        None => false,
+    }
 }
 
 const LINES: &str = "abc\nde\nf日hij";
@@ -115,8 +130,8 @@ const TAKINGS: &[Case] = &[
 
 #[test]
 fn are_given(rt: HostRuntime) -> Result<(), Fail> {
-    for case in TAKINGS {
-        takes(&rt, rt.alloc(), case)?;
+    for (index, case) in TAKINGS.iter().enumerate() {
+        holds(&rt, takes(&rt, rt.alloc(), case)?, "row", index);
     }
     Ok(())
 }

@@ -1,11 +1,12 @@
 //! Configurations that differ in one setting, and their copies.
 
 use super::settings;
+use crate::holds;
+use crate::values::compare;
 use line_buffer::GraphemeClusterMode;
 use line_config::{
     Behavior, BellStyle, Builder, ColorMode, CompletionType, Config, Configurer, EditMode, Result,
 };
-use std::process::Abort;
 use std::result;
 use std::test::Fail;
 
@@ -86,38 +87,31 @@ fn built(changed: &Changed) -> Result<Builder> {
 }
 
 /// Two configurations are equal where they differ in the same setting alone.
-fn compares(rt: &impl Abort, one: &Changed, other: &Changed, places: (usize, usize)) -> Result<()> {
-    let same = places.0 == places.1;
+fn compares(one: &Changed, other: &Changed, same: bool) -> Result<bool> {
     let first = built(one)?.build();
     let second = built(other)?.build();
-    let found = (first == second, first != second);
     let settings_found = settings(&first) == settings(&second);
-    assert_eq!(rt;
-        (found, settings_found),
-        ((same, !same), same),
-        "{places:?}"
-    );
-    Ok(())
+    Ok(compare(&first, &second, same) && settings_found == same)
 }
 
 /// The clone of a configuration, and that of a builder, has what was set, and leaves its source as it was.
-fn copies(rt: &impl Abort, changed: &Changed, place: usize) -> result::Result<(), Fail> {
+fn copies(changed: &Changed) -> result::Result<bool, Fail> {
     let wanted = settings(&built(changed)?.build());
     let builder = built(changed)?;
     let copy = builder.clone()?.build();
     let config = builder.build();
     let clone = config.clone()?;
-    let found = (settings(&copy), settings(&config), settings(&clone));
-    assert_eq!(rt; found, (wanted, wanted, wanted), "{place}");
-    Ok(())
+    let copied = settings(&copy) == wanted && settings(&clone) == wanted;
+    Ok(copied && settings(&config) == wanted)
 }
 
 #[test]
 fn no_two_are_equal(rt: HostRuntime) -> result::Result<(), Fail> {
     for (index, one) in ALL.iter().enumerate() {
-        copies(&rt, one, index)?;
+        holds(&rt, copies(one)?, "copies", index);
         for (place, other) in ALL.iter().enumerate() {
-            compares(&rt, one, other, (index, place))?;
+            let found = compares(one, other, index == place)?;
+            assert!(&rt; found, "{index} {place}");
         }
     }
     Ok(())

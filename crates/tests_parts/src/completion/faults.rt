@@ -2,14 +2,14 @@
 
 ghost use Rattle.std.specs.Prelude.{true, false};
 
+use crate::ready::broken_history;
 use line_buffer::{Changeset, LineBuffer};
 use line_config::Result;
 use line_parts::{Completer, Context, History};
 use std::alloc::Global;
 use std::result;
 use std::test::Fail;
-use tests_parties::fault::{FAULTS, Fault, GONE};
-use tests_parties::shelf::{Failing, Shelf};
+use tests_parties::fault::{FAULTS, Fault};
 
 /// Offers nothing, and puts an elected text into the line.
 #[derive(Drop)]
@@ -80,8 +80,7 @@ fn offers_nothing<C: Completer>(
     if !line.is_char_boundary(pos) {
         return Ok(false);
     }
-    let mut history = Shelf::new(alloc, 0);
-    history.fail_in(Failing::All, GONE);
+    let history = broken_history(alloc);
     let outcome = completer.complete(alloc, line, pos, &Context::new(&history));
     let found = match &outcome {
         Ok((start, candidates)) => (*start, candidates.len()),
@@ -138,23 +137,27 @@ pub(crate) enum Which {
     Stubborn(Option<Fault>, Option<Fault>),
 }
 
+/// Whether a completer does so, as it is and in a box.
+fn asks_boxed<C: Completer + Drop>(
+    alloc: Global,
+    completer: C,
+    put: Put<'_>,
+    faults: (Option<Fault>, Option<Fault>),
+) -> Result<bool> {
+    let holds = asks(alloc, &completer, put, faults)?;
+    let boxed = Box::new(alloc, completer)?;
+    Ok(holds && asks(alloc, &boxed, put, faults)?)
+}
+
 /// Whether this completer does so.
 pub(crate) fn holds(alloc: Global, which: Which, put: Put<'_>) -> Result<bool> {
     let sure = (None, None);
     match which {
-        Which::Unit => {
-            Ok(asks(alloc, &(), put, sure)? && asks(alloc, &Box::new(alloc, ())?, put, sure)?)
-        }
-        Which::Plain => {
-            Ok(asks(alloc, &Plain, put, sure)? && asks(alloc, &Box::new(alloc, Plain)?, put, sure)?)
-        }
+        Which::Unit => asks_boxed(alloc, (), put, sure),
+        Which::Plain => asks_boxed(alloc, Plain, put, sure),
         Which::Stubborn(completes, updates) => {
-            let faults = (completes, updates);
             let boxed = Box::new(alloc, Stubborn { completes, updates })?;
-            Ok(
-                asks(alloc, &boxed, put, faults)?
-                    && asks(alloc, &Box::new(alloc, boxed)?, put, faults)?,
-            )
+            asks_boxed(alloc, boxed, put, (completes, updates))
         }
     }
 }

@@ -41,20 +41,14 @@ pub(super) enum Step {
     Gives(&'static str),
 }
 
-/// A call of any history.
-fn stepped<H: History>(
+/// A call of any history but those that add one line.
+fn called<H: History>(
     rt: &impl Abort,
     alloc: Global,
     history: &mut H,
     step: &Step,
 ) -> Result<(), Fail> {
     match step {
-        Add(line, taken) => {
-            assert_eq!(rt; added(alloc, history, line, false)?, *taken, "{line:?}");
-        }
-        AddOwned(line, taken) => {
-            assert_eq!(rt; added(alloc, history, line, true)?, *taken, "{line:?}");
-        }
         Many(lines) => fills(rt, alloc, history, lines_of(alloc, *lines)?.as_str())?,
         Limit(len) => history.set_max_len(*len)?,
         IgnoreDups(yes) => history.ignore_dups(*yes)?,
@@ -63,6 +57,22 @@ fn stepped<H: History>(
         Has(lines) => gives(rt, history, lines_of(alloc, *lines)?.as_str())?,
         _ => return Err(Fail::from("a call of any history")),
     }
+    Ok(())
+}
+
+/// A call of any history.
+fn stepped<H: History>(
+    rt: &impl Abort,
+    alloc: Global,
+    history: &mut H,
+    step: &Step,
+) -> Result<(), Fail> {
+    let (line, owned, taken) = match step {
+        Add(line, taken) => (line, false, taken),
+        AddOwned(line, taken) => (line, true, taken),
+        _ => return called(rt, alloc, history, step),
+    };
+    assert_eq!(rt; added(alloc, history, line, owned)?, *taken, "{line:?}");
     Ok(())
 }
 
@@ -98,41 +108,47 @@ fn config_of(max_len: usize, ignore_dups: bool, ignore_space: bool) -> Result<Co
     Ok(config)
 }
 
-/// The lines that come from the front, from the back, and from both ends at once.
-fn come(
-    rt: &impl Abort,
-    mut front: Iter<'_, String>,
-    mut back: Iter<'_, String>,
-    mut both: Iter<'_, String>,
-    lines: &str,
-) {
+/// Whether these lines come from the front.
+fn come(mut entries: Iter<'_, String>, lines: &str) -> bool {
     for line in lines.split_terminator('|') {
-        assert!(rt; matches!(front.next(), Some(entry) if entry.as_str() == line));
-    }
-    assert!(rt; front.next().is_none());
-    for line in lines.rsplit_terminator('|') {
-        assert!(rt; matches!(back.next_back(), Some(entry) if entry.as_str() == line));
-    }
-    assert!(rt; back.next_back().is_none());
-    let mut wanted = lines.split_terminator('|');
-    while let Some(line) = wanted.next() {
-        assert!(rt; matches!(both.next(), Some(entry) if entry.as_str() == line));
-        if let Some(line) = wanted.next_back() {
-            assert!(rt; matches!(both.next_back(), Some(entry) if entry.as_str() == line));
+        if !matches!(entries.next(), Some(entry) if entry.as_str() == line) {
+            return false;
         }
     }
-    assert!(rt; both.next().is_none());
+    entries.next().is_none()
+}
+
+/// Whether they come from the back.
+fn come_back(mut entries: Iter<'_, String>, lines: &str) -> bool {
+    for line in lines.rsplit_terminator('|') {
+        if !matches!(entries.next_back(), Some(entry) if entry.as_str() == line) {
+            return false;
+        }
+    }
+    entries.next_back().is_none()
+}
+
+/// Whether they come from both ends at once.
+fn come_from_both(mut entries: Iter<'_, String>, lines: &str) -> bool {
+    let mut wanted = lines.split_terminator('|');
+    while let Some(line) = wanted.next() {
+        if !matches!(entries.next(), Some(entry) if entry.as_str() == line) {
+            return false;
+        }
+        if let Some(line) = wanted.next_back() {
+            if !matches!(entries.next_back(), Some(entry) if entry.as_str() == line) {
+                return false;
+            }
+        }
+    }
+    entries.next().is_none()
 }
 
 fn mem_gives(rt: &impl Abort, history: &MemHistory, lines: &str) -> Result<(), Fail> {
     gives(rt, history, lines)?;
-    come(
-        rt,
-        history.into_iter(),
-        history.into_iter(),
-        history.into_iter(),
-        lines,
-    );
+    assert!(rt; come(history.into_iter(), lines));
+    assert!(rt; come_back(history.into_iter(), lines));
+    assert!(rt; come_from_both(history.into_iter(), lines));
     for (index, line) in history.into_iter().enumerate() {
         assert!(rt; index < history.len());
         assert_eq!(rt; history.entry(index), line.as_str());
@@ -142,13 +158,9 @@ fn mem_gives(rt: &impl Abort, history: &MemHistory, lines: &str) -> Result<(), F
 
 fn file_gives(rt: &impl Abort, history: &FileHistory, lines: &str) -> Result<(), Fail> {
     gives(rt, history, lines)?;
-    come(
-        rt,
-        history.iter(),
-        history.into_iter(),
-        history.iter(),
-        lines,
-    );
+    assert!(rt; come(history.iter(), lines));
+    assert!(rt; come_back(history.into_iter(), lines));
+    assert!(rt; come_from_both(history.iter(), lines));
     for (index, line) in history.iter().enumerate() {
         assert!(rt; index < history.len());
         assert_eq!(rt; history.entry(index), line.as_str());
@@ -297,21 +309,29 @@ fn in_memory_alone(rt: HostRuntime) -> Result<(), Fail> {
     Ok(())
 }
 
-#[test]
-fn that_can_be_saved(rt: HostRuntime) -> Result<(), Fail> {
-    let mut history: DefaultHistory = FileHistory::new(rt.alloc());
-    for step in LISTS.iter().chain(SAVED).chain(HEADERS).chain(READ) {
+/// Each call of the table is answered so by a history that can be saved, and leaves these lines.
+fn are_kept(rt: &impl Abort, alloc: Global, table: &[Step]) -> Result<(), Fail> {
+    let mut history: DefaultHistory = FileHistory::new(alloc);
+    for step in table {
         match step {
             With(max_len, dups, space) => {
                 let config = config_of(*max_len, *dups, *space)?;
-                history = FileHistory::with_config(rt.alloc(), &config);
+                history = FileHistory::with_config(alloc, &config);
             }
             Gives(lines) => {
-                file_gives(&rt, &history, lines)?;
-                history = FileHistory::new(rt.alloc());
+                file_gives(rt, &history, lines)?;
+                history = FileHistory::new(alloc);
             }
-            _ => file_stepped(&rt, rt.alloc(), &mut history, step)?,
+            _ => file_stepped(rt, alloc, &mut history, step)?,
         }
     }
     Ok(())
+}
+
+#[test]
+fn that_can_be_saved(rt: HostRuntime) -> Result<(), Fail> {
+    are_kept(&rt, rt.alloc(), LISTS)?;
+    are_kept(&rt, rt.alloc(), SAVED)?;
+    are_kept(&rt, rt.alloc(), HEADERS)?;
+    are_kept(&rt, rt.alloc(), READ)
 }

@@ -2,7 +2,7 @@
 //! looks at what is left, or the call was not reached.
 
 use super::streams::{BROKEN, Stream};
-use super::{added, answer_of, gives, is_saved};
+use super::{added, answer_of, gives, is_saved, keeps};
 use ErrorKind::OutOfMemory;
 use Escapes::{V2, V3};
 use line_config::ReadlineError;
@@ -125,9 +125,8 @@ fn reads(rt: &impl Abort, alloc: Global, written: &Written) -> result::Result<()
     let Some((lines, appended)) = written.left.get(count) else {
         return Err(Fail::from("no more lines than there are"));
     };
-    gives(rt, &history, lines)?;
     let left = if answer.is_some() { b"" } else { *appended };
-    let _ = is_saved(rt, alloc, &mut history, written.escapes, true, left)?;
+    let _ = keeps(rt, alloc, &mut history, lines, written.escapes, left)?;
     Ok(())
 }
 
@@ -149,9 +148,8 @@ fn saves(
     };
     let whole = if append { *all } else { written.saved };
     let saved = is_saved(rt, alloc, &mut history, written.escapes, append, whole)?;
-    gives(rt, &history, FOUR)?;
     let left = if saved { b"" } else { *all };
-    let _ = is_saved(rt, alloc, &mut history, written.escapes, true, left)?;
+    let _ = keeps(rt, alloc, &mut history, FOUR, written.escapes, left)?;
     Ok(())
 }
 
@@ -178,8 +176,7 @@ fn of_a_text_that_breaks_off(rt: HostRuntime) -> result::Result<(), Fail> {
     } else {
         assert!(rt; answer_of(&rt, rt.alloc(), outcome, BROKEN.0, BROKEN.1)?.is_none());
     }
-    gives(&rt, &history, "a")?;
-    let _ = is_saved(&rt, rt.alloc(), &mut history, V2, true, b"a\n")?;
+    let _ = keeps(&rt, rt.alloc(), &mut history, "a", V2, b"a\n")?;
     Ok(())
 }
 

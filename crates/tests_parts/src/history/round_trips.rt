@@ -40,15 +40,21 @@ fn text_of(rt: &impl Abort, alloc: Global, trip: &Trip) -> result::Result<Vec<u8
     Ok(text)
 }
 
-/// The lines are loaded from their text.
-fn come_back(rt: &impl Abort, alloc: Global, trip: &Trip) -> result::Result<(), Fail> {
-    let (_, saved, _, limit, _, first, second) = *trip;
+/// The history that is loaded from the text of one of the lines.
+fn loaded(rt: &impl Abort, alloc: Global, trip: &Trip) -> result::Result<FileHistory, Fail> {
+    let (_, saved, _, limit, _, _, _) = *trip;
     let text = text_of(rt, alloc, trip)?;
     let mut copy = FileHistory::new(alloc);
     copy.set_max_len(limit)?;
     assert_eq!(rt; copy.load_from(text.as_slice())?, saved.is_some());
-    let mut lines = lines_of(alloc, first)?;
-    lines.push_str(lines_of(alloc, second)?.as_str())?;
+    Ok(copy)
+}
+
+/// The lines are loaded from their text.
+fn come_back(rt: &impl Abort, alloc: Global, trip: &Trip) -> result::Result<(), Fail> {
+    let copy = loaded(rt, alloc, trip)?;
+    let mut lines = lines_of(alloc, trip.5)?;
+    lines.push_str(lines_of(alloc, trip.6)?.as_str())?;
     gives(rt, &copy, lines.as_str())
 }
 

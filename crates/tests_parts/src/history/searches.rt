@@ -17,6 +17,14 @@ enum Place {
     Start,
 }
 
+/// Whether what is found is borrowed, and so is its clone, which equals it.
+fn is_borrowed(found: &SearchResult<'_>) -> line_config::Result<bool> {
+    let copy = found.clone()?;
+    let both = matches!(found.entry, CowStr::Borrowed(_))
+        && matches!(copy.entry, CowStr::Borrowed(_));
+    Ok(both && copy == *found)
+}
+
 /// What is found is at this place: the index of a line and the byte offset in it, or a dash for nothing. It is borrowed,
 /// is the line at its index, and equals its clone.
 fn is_at<H: History>(
@@ -30,11 +38,9 @@ fn is_at<H: History>(
         assert!(rt; at == "-", "{at}");
         return Ok(());
     };
+    assert!(rt; is_borrowed(found)?, "{at}");
     let shown = format!(in alloc; "{}:{}", found.idx, found.pos)?;
     assert_eq!(rt; shown.as_str(), at);
-    assert!(rt; matches!(found.entry, CowStr::Borrowed(_)));
-    let copy = found.clone()?;
-    assert!(rt; copy == *found && matches!(copy.entry, CowStr::Borrowed(_)));
     let Some(line) = history.get(found.idx, Forward)? else {
         return Err(Fail::from("a line at each index"));
     };

@@ -2,7 +2,7 @@
 //! error stays what it was, the call is not made again, and the history keeps what is said of a load or a save that failed.
 
 use super::Lines::Pieces;
-use super::{Lines, answer_of, fills, gives, is_saved, lines_of, save};
+use super::{Lines, answer_of, fills, keeps, lines_of, save};
 use Escapes::{V2, V3};
 use How::{Always, Full, Interrupted, Once};
 use line_parts::{Escapes, FileHistory, History};
@@ -212,12 +212,8 @@ fn reads(
     let outcome = history.load_from(Stream::new(alloc, text, place, manner));
     let answer = answer_of(rt, alloc, outcome, kind, words)?;
     assert_eq!(rt; answer, wanted, "{place} {kind:?}");
-    gives(
-        rt,
-        &history,
-        format!(in alloc; "{settled}{lines}")?.as_str(),
-    )?;
-    assert!(rt; is_saved(rt, alloc, &mut history, V3, true, appended)?);
+    let lines = format!(in alloc; "{settled}{lines}")?;
+    assert!(rt; keeps(rt, alloc, &mut history, lines.as_str(), V3, appended)?);
     Ok(())
 }
 
@@ -278,7 +274,20 @@ fn that_are_read(rt: HostRuntime) -> result::Result<(), Fail> {
 /// appended of the new ones.
 type Save<'a> = (&'a str, &'a str, Escapes, bool, &'a [u8], &'a [u8]);
 
-/// Whether a save writes all. It answers the fault of its writer, which took all before the place where it fails.
+/// Whether a save is done. It answers the fault of its writer.
+fn is_done(
+    rt: &impl Abort,
+    alloc: Global,
+    history: &mut FileHistory,
+    case: &Save<'_>,
+    out: &mut Stream,
+) -> result::Result<bool, Fail> {
+    let (kind, text, _) = out.manner;
+    let outcome = save(history, case.2, out, case.3);
+    Ok(answer_of(rt, alloc, outcome, kind, text)?.is_some())
+}
+
+/// Whether a save writes all. Its writer took all before the place where it fails.
 fn is_whole(
     rt: &impl Abort,
     alloc: Global,
@@ -287,15 +296,13 @@ fn is_whole(
     place: usize,
     manner: &Manner,
 ) -> result::Result<bool, Fail> {
-    let (_, _, escapes, append, whole, _) = *case;
-    let (kind, text, _) = *manner;
+    let whole = case.4;
     let mut out = Stream::new(alloc, b"", place, manner);
-    let outcome = save(history, escapes, &mut out, append);
-    let answer = answer_of(rt, alloc, outcome, kind, text)?;
-    assert_eq!(rt; answer.is_some(), place > whole.len(), "{place} {kind:?}");
-    let wanted = whole.get(..place.min(whole.len()));
-    assert_eq!(rt; Some(out.taken.as_slice()), wanted, "{place} {kind:?}");
-    Ok(answer.is_some())
+    let done = is_done(rt, alloc, history, case, &mut out)?;
+    let is_taken = Some(out.taken.as_slice()) == whole.get(..place.min(whole.len()));
+    assert!(rt; done == (place > whole.len()), "{place} {:?}", manner.0);
+    assert!(rt; is_taken, "{place} {:?}", manner.0);
+    Ok(done)
 }
 
 /// After a save that fails all lines are there, and the new ones are new.
@@ -309,9 +316,9 @@ fn writes(
     let (settled, new, escapes, _, _, appended) = *case;
     let mut history = history_of(rt, alloc, settled, new)?;
     let done = is_whole(rt, alloc, &mut history, case, place, manner)?;
-    gives(rt, &history, format!(in alloc; "{settled}{new}")?.as_str())?;
+    let lines = format!(in alloc; "{settled}{new}")?;
     let left = if done { b"" } else { appended };
-    assert!(rt; is_saved(rt, alloc, &mut history, escapes, true, left)?);
+    assert!(rt; keeps(rt, alloc, &mut history, lines.as_str(), escapes, left)?);
     Ok(())
 }
 

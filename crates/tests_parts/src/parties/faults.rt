@@ -1,6 +1,6 @@
 //! Errors of a helper or a history, handed on by the parties that an editor asks.
 
-use crate::ready::{is_hint, said};
+use crate::ready::{broken_history, is_hint, said};
 use line_buffer::LineBuffer;
 use line_config::Result;
 use line_parts::{Context, Helper, History, Parties};
@@ -8,8 +8,7 @@ use std::alloc::Global;
 use std::result;
 use std::test::Fail;
 use tests_parties::advisor::{Advisor, Verdict};
-use tests_parties::fault::{FAULTS, Fault, GONE};
-use tests_parties::shelf::{Failing, Shelf};
+use tests_parties::fault::{FAULTS, Fault};
 
 /// The right answer of the parties: a hint, if there is one, or the name and message of a verdict.
 #[derive(Clone, Copy, Debug)]
@@ -39,8 +38,7 @@ fn answers<H: Helper, S: History>(
 
 /// Whether there is no hint and the line is valid; the history, of which each call fails, is not asked.
 pub(super) fn asks_nothing(alloc: Global, helper: Option<&mut ()>, text: &str) -> Result<bool> {
-    let mut history = Shelf::new(alloc, 0);
-    history.fail_in(Failing::All, GONE);
+    let history = broken_history(alloc);
     let parties = Parties::new(helper, Context::new(&history));
     Ok(
         answers(&parties, alloc, text, Answer::Hint(None))?
@@ -58,8 +56,7 @@ pub(crate) fn helped(alloc: Global, case: &Case, text: &str, fault: Fault) -> Re
     let ((hint, verdict), failing, wanted, faulty) = *case;
     let mut advisor = Advisor::new(hint, verdict, None);
     advisor.fail_by(failing, fault);
-    let mut history = Shelf::new(alloc, 0);
-    history.fail_in(Failing::All, GONE);
+    let history = broken_history(alloc);
     let parties = Parties::new(Some(&mut advisor), Context::new(&history));
     let outcome = answers(&parties, alloc, text, wanted);
     if faulty {
