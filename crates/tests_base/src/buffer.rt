@@ -1,9 +1,8 @@
 //! The line buffer: places, edits, kills, undo, widths.
 
-use line_buffer::{LineBuffer, OutOfMemory};
+use line_buffer::LineBuffer;
 use std::alloc::Global;
 use std::process::Abort;
-use std::test::Fail;
 
 mod clusters;
 mod edits;
@@ -20,16 +19,16 @@ mod undo;
 const FAMILY: &str = "a👨\u{200d}👩\u{200d}👧b";
 
 /// A line with its cursor at a boundary of its text.
-fn line_at(rt: &impl Abort, alloc: Global, text: &str, pos: usize) -> Result<LineBuffer, Fail> {
+fn line_at(rt: &impl Abort, alloc: Global, text: &str, pos: usize) -> LineBuffer {
     assert!(rt; text.is_char_boundary(pos), "{pos} in {text:?}");
-    Ok(LineBuffer::init(alloc, text, pos)?)
+    LineBuffer::init(alloc, text, pos).expect(rt, "no fault")
 }
 
 /// So many times one text.
-fn text_of(alloc: Global, text: &str, count: usize) -> Result<String, OutOfMemory> {
+fn text_of(rt: &impl Abort, alloc: Global, text: &str, count: usize) -> String {
     let mut texts = String::new(alloc);
     for _ in 0..count {
-        texts.push_str(text)?;
+        texts.push_str(text).expect(rt, "no fault");
     }
-    Ok(texts)
+    texts
 }

@@ -6,12 +6,12 @@ use crate::holds;
 use line_buffer::{GraphemeClusterMode, OutOfMemory};
 use line_config::{
     Behavior, BellStyle, Builder, ColorMode, CompletionType, Config, Configurer, EditMode,
-    HistoryDuplicates, Prompt, ReadlineError, Result,
+    HistoryDuplicates, Prompt, ReadlineError,
 };
 use std::alloc::{AllocError, AllocFailed, Global};
+use std::fmt;
 use std::io::{self, ErrorKind};
-use std::test::Fail;
-use std::{fmt, result};
+use std::process::Abort;
 
 /// How a configuration was made.
 enum Made {
@@ -25,9 +25,9 @@ enum Made {
 }
 
 /// Each setting but the behavior and the synchronized output away from its default, by the calls of whatever holds them.
-fn set_all<C: Configurer>(holder: &mut C) -> Result<()> {
-    holder.set_max_history_size(7)?;
-    holder.set_history_ignore_dups(false)?;
+fn set_all<C: Configurer>(rt: &impl Abort, holder: &mut C) {
+    holder.set_max_history_size(7).expect(rt, "no fault");
+    holder.set_history_ignore_dups(false).expect(rt, "no fault");
     holder.set_history_ignore_space(true);
     holder.set_completion_type(CompletionType::List);
     holder.set_completion_prompt_limit(9);
@@ -44,52 +44,53 @@ fn set_all<C: Configurer>(holder: &mut C) -> Result<()> {
     holder.enable_bracketed_paste(false);
     holder.enable_synchronized_output(false);
     holder.set_enable_signals(true);
-    Ok(())
 }
 
 /// Each setting but the synchronized output away from its default, by the builder's own calls.
-fn built() -> Result<Builder> {
-    Ok(
-        Config::builder(GraphemeClusterMode::Unicode)
-            .max_history_size(7)?
-            .history_ignore_dups(false)?
-            .history_ignore_space(true)
-            .completion_type(CompletionType::List)
-            .completion_prompt_limit(9)
-            .completion_show_all_if_ambiguous(true)
-            .edit_mode(EditMode::Vi)
-            .keyseq_timeout(Some(11))
-            .auto_add_history(true)
-            .bell_style(BellStyle::None)
-            .color_mode(ColorMode::Forced)
-            .grapheme_cluster_mode(GraphemeClusterMode::NoZwj)
-            .behavior(Behavior::PreferTerm)
-            .tab_stop(4)
-            .indent_size(3)
-            .check_cursor_position(true)
-            .bracketed_paste(false)
-            .enable_signals(true),
-    )
+fn built(rt: &impl Abort) -> Builder {
+    Config::builder(GraphemeClusterMode::Unicode)
+        .max_history_size(7)
+        .expect(rt, "no fault")
+        .history_ignore_dups(false)
+        .expect(rt, "no fault")
+        .history_ignore_space(true)
+        .completion_type(CompletionType::List)
+        .completion_prompt_limit(9)
+        .completion_show_all_if_ambiguous(true)
+        .edit_mode(EditMode::Vi)
+        .keyseq_timeout(Some(11))
+        .auto_add_history(true)
+        .bell_style(BellStyle::None)
+        .color_mode(ColorMode::Forced)
+        .grapheme_cluster_mode(GraphemeClusterMode::NoZwj)
+        .behavior(Behavior::PreferTerm)
+        .tab_stop(4)
+        .indent_size(3)
+        .check_cursor_position(true)
+        .bracketed_paste(false)
+        .enable_signals(true)
 }
 
-fn config_by(how: &Made) -> result::Result<Config, Fail> {
-    Ok(match how {
+fn config_by(rt: &impl Abort, how: &Made) -> Config {
+    match how {
         Made::New => Config::new(GraphemeClusterMode::WcWidth),
         Made::Builder => Builder::new(GraphemeClusterMode::WcWidth).build(),
-        Made::Clone => Config::new(GraphemeClusterMode::WcWidth).clone()?,
-        Made::Built => built()?.build(),
-        Made::BuiltAndCloned => built()?.clone()?.build(),
+        Made::Clone => Config::new(GraphemeClusterMode::WcWidth)
+            .clone()
+            .expect(rt, "no fault"),
+        Made::Built => built(rt).build(),
+        Made::BuiltAndCloned => built(rt).clone().expect(rt, "no fault").build(),
         Made::SetConfig => {
             let mut config = Config::new(GraphemeClusterMode::Unicode);
-            set_all(&mut config)?;
+            set_all(rt, &mut config);
             config
         }
         Made::SetBuilder => {
             let mut builder = Builder::new(GraphemeClusterMode::Unicode);
-            set_all(&mut builder)?;
+            set_all(rt, &mut builder);
             builder.build()
         }
-    })
+    }
 }
 
 type History = (usize, HistoryDuplicates, bool, bool);
@@ -200,15 +201,14 @@ const HOLDERS: &[(Made, Settings)] = &[
 ];
 
 #[test]
-fn are_read_back(rt: HostRuntime) -> result::Result<(), Fail> {
+fn are_read_back(rt: HostRuntime) {
     for (index, (how, wanted)) in HOLDERS.iter().enumerate() {
-        let config = config_by(how)?;
+        let config = config_by(&rt, how);
         holds(&rt, settings(&config) == *wanted, "settings", index);
-        holds(&rt, config == config_by(how)?, "again", index);
+        holds(&rt, config == config_by(&rt, how), "again", index);
     }
     assert!(&rt; BellStyle::default() == BellStyle::Audible);
     assert!(&rt; Behavior::default() == Behavior::Stdio);
-    Ok(())
 }
 
 /// What is set, the value of `NO_COLOR`, and what is shown.
@@ -310,11 +310,11 @@ const ERRORS: &[Error] = &[
 ];
 
 #[test]
-fn errors_by_their_cause(rt: HostRuntime) -> result::Result<(), Fail> {
+fn errors_by_their_cause(rt: HostRuntime) {
     for (index, (cause, text, name, kind)) in ERRORS.iter().enumerate() {
         let error = error_of(cause);
-        let shown = format!(in rt.alloc(); "{error}")?;
-        let named = format!(in rt.alloc(); "{error:?}")?;
+        let shown = format!(in rt.alloc(); "{error}").expect(&rt, "no fault");
+        let named = format!(in rt.alloc(); "{error:?}").expect(&rt, "no fault");
         let found = match error {
             ReadlineError::Io(cause) => Some(cause.kind()),
             _ => None,
@@ -324,9 +324,8 @@ fn errors_by_their_cause(rt: HostRuntime) -> result::Result<(), Fail> {
         holds(&rt, texts && found == *kind, named, index);
     }
     let error = OutOfMemory;
-    let shown = format!(in rt.alloc(); "{error}")?;
+    let shown = format!(in rt.alloc(); "{error}").expect(&rt, "no fault");
     holds(&rt, shown.as_str() == "out of memory", shown.as_str(), 0);
-    Ok(())
 }
 
 fn forms_are<P: Prompt>(prompt: &P, raw: &str, styled: &str) -> bool {
@@ -334,11 +333,10 @@ fn forms_are<P: Prompt>(prompt: &P, raw: &str, styled: &str) -> bool {
 }
 
 #[test]
-fn the_raw_prompt_comes_first(rt: HostRuntime) -> result::Result<(), Fail> {
-    let raw = String::from_str(rt.alloc(), "> ")?;
-    let styled = String::from_str(rt.alloc(), "\x1b[1m> \x1b[0m")?;
+fn the_raw_prompt_comes_first(rt: HostRuntime) {
+    let raw = String::from_str(rt.alloc(), "> ").expect(&rt, "no fault");
+    let styled = String::from_str(rt.alloc(), "\x1b[1m> \x1b[0m").expect(&rt, "no fault");
     assert!(rt; forms_are(&"> ", "> ", "> ") && forms_are(&raw, "> ", "> "));
     assert!(rt; forms_are(&("> ", "styled"), "> ", "styled"));
     assert!(rt; forms_are(&(raw, styled), "> ", "\x1b[1m> \x1b[0m"));
-    Ok(())
 }

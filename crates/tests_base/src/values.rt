@@ -14,11 +14,10 @@ use std::cmp::Ordering;
 use std::fmt::Debug;
 use std::io;
 use std::process::Abort;
-use std::test::Fail;
 
 /// The text that `Debug` shows.
-fn debug_text<T: Debug + Drop>(alloc: Global, value: T) -> Result<String, Fail> {
-    Ok(format!(in alloc; "{value:?}")?)
+fn debug_text<T: Debug + Drop>(rt: &impl Abort, alloc: Global, value: T) -> String {
+    format!(in alloc; "{value:?}").expect(rt, "no fault")
 }
 
 /// Both comparisons say whether two values are the same.
@@ -31,15 +30,15 @@ fn are_distinct<T: Copy + Drop + PartialEq + Debug>(
     rt: &impl Abort,
     alloc: Global,
     values: &[(T, &str)],
-) -> Result<(), Fail> {
+) {
     for (index, (one, name)) in values.iter().enumerate() {
-        holds(rt, debug_text(alloc, *one)?.as_str() == *name, name, index);
+        let shown = debug_text(rt, alloc, *one);
+        holds(rt, shown.as_str() == *name, name, index);
         for (place, (other, _)) in values.iter().enumerate() {
             let copy = *other;
             holds(rt, compare(one, &copy, index == place), name, place);
         }
     }
-    Ok(())
 }
 
 const WORDS: &[(Word, &str)] = &[(Word::Big, "Big"), (Word::Emacs, "Emacs"), (Word::Vi, "Vi")];
@@ -130,31 +129,29 @@ const POSITIONS: &[(Position, &str)] = &[
 
 /// No two of a list are equal: what the line buffer has.
 #[test]
-fn no_two_are_equal(rt: HostRuntime) -> Result<(), Fail> {
+fn no_two_are_equal(rt: HostRuntime) {
     let alloc = rt.alloc();
-    are_distinct(&rt, alloc, WORDS)?;
-    are_distinct(&rt, alloc, PLACES)?;
-    are_distinct(&rt, alloc, SEARCHES)?;
-    are_distinct(&rt, alloc, MODES)?;
-    are_distinct(&rt, alloc, CLUSTERS)?;
-    are_distinct(&rt, alloc, ACTIONS)?;
-    are_distinct(&rt, alloc, SIDES)?;
-    are_distinct(&rt, alloc, POSITIONS)?;
-    are_distinct(&rt, alloc, &[(OutOfMemory, "OutOfMemory")])?;
-    Ok(())
+    are_distinct(&rt, alloc, WORDS);
+    are_distinct(&rt, alloc, PLACES);
+    are_distinct(&rt, alloc, SEARCHES);
+    are_distinct(&rt, alloc, MODES);
+    are_distinct(&rt, alloc, CLUSTERS);
+    are_distinct(&rt, alloc, ACTIONS);
+    are_distinct(&rt, alloc, SIDES);
+    are_distinct(&rt, alloc, POSITIONS);
+    are_distinct(&rt, alloc, &[(OutOfMemory, "OutOfMemory")]);
 }
 
 /// No two of a list are equal: the settings.
 #[test]
-fn no_two_settings_are_equal(rt: HostRuntime) -> Result<(), Fail> {
+fn no_two_settings_are_equal(rt: HostRuntime) {
     let alloc = rt.alloc();
-    are_distinct(&rt, alloc, BELLS)?;
-    are_distinct(&rt, alloc, DUPLICATES)?;
-    are_distinct(&rt, alloc, COMPLETIONS)?;
-    are_distinct(&rt, alloc, STYLES)?;
-    are_distinct(&rt, alloc, COLORS)?;
-    are_distinct(&rt, alloc, BEHAVIORS)?;
-    Ok(())
+    are_distinct(&rt, alloc, BELLS);
+    are_distinct(&rt, alloc, DUPLICATES);
+    are_distinct(&rt, alloc, COMPLETIONS);
+    are_distinct(&rt, alloc, STYLES);
+    are_distinct(&rt, alloc, COLORS);
+    are_distinct(&rt, alloc, BEHAVIORS);
 }
 
 /// Positions are in order, by each comparison.
@@ -228,20 +225,15 @@ const MOVEMENTS: &[(Movement, &str)] = &[
 
 /// No two movements are equal, also where one of them is a clone.
 #[test]
-fn no_two_movements_are_equal(rt: HostRuntime) -> Result<(), Fail> {
+fn no_two_movements_are_equal(rt: HostRuntime) {
     for (index, (one, name)) in MOVEMENTS.iter().enumerate() {
-        holds(
-            &rt,
-            debug_text(rt.alloc(), one)?.as_str() == *name,
-            name,
-            index,
-        );
+        let shown = debug_text(&rt, rt.alloc(), one);
+        holds(&rt, shown.as_str() == *name, name, index);
         for (place, (other, _)) in MOVEMENTS.iter().enumerate() {
-            let copy = other.clone()?;
+            let copy = other.clone().expect(&rt, "no fault");
             holds(&rt, compare(one, &copy, index == place), name, place);
         }
     }
-    Ok(())
 }
 
 /// A value that is shown in pieces.
@@ -255,36 +247,38 @@ enum Shown {
     Builder,
 }
 
-fn text_of(alloc: Global, which: &Shown) -> Result<String, Fail> {
+fn text_of(rt: &impl Abort, alloc: Global, which: &Shown) -> String {
     match which {
         Shown::Line | Shown::Changes => {
-            let mut line = LineBuffer::init(alloc, "ab日", 2)?;
+            let mut line = LineBuffer::init(alloc, "ab日", 2).expect(rt, "no fault");
             let mut changes = Changeset::new(alloc);
-            line.yank("xyz", 1, &mut changes)?;
+            line.yank("xyz", 1, &mut changes).expect(rt, "no fault");
             match which {
-                Shown::Line => debug_text(alloc, line),
-                _ => debug_text(alloc, changes),
+                Shown::Line => debug_text(rt, alloc, line),
+                _ => debug_text(rt, alloc, changes),
             }
         }
         Shown::Ring => {
             let mut ring = KillRing::new(alloc, 7);
-            ring.kill("uvw", Mode::Append)?;
-            debug_text(alloc, ring)
+            ring.kill("uvw", Mode::Append).expect(rt, "no fault");
+            debug_text(rt, alloc, ring)
         }
         Shown::Layout => {
             let mut layout = Layout::new(GraphemeClusterMode::NoZwj);
             layout.end = Position { row: 3, col: 4 };
-            debug_text(alloc, layout)
+            debug_text(rt, alloc, layout)
         }
         Shown::Error => {
             let error = ReadlineError::Io(io::Error::other("the disk is on fire"));
-            debug_text(alloc, error)
+            debug_text(rt, alloc, error)
         }
         Shown::Builder | Shown::Config => {
-            let builder = Config::builder(GraphemeClusterMode::Unicode).max_history_size(7)?;
+            let builder = Config::builder(GraphemeClusterMode::Unicode)
+                .max_history_size(7)
+                .expect(rt, "no fault");
             match which {
-                Shown::Builder => debug_text(alloc, builder),
-                _ => debug_text(alloc, builder.build()),
+                Shown::Builder => debug_text(rt, alloc, builder),
+                _ => debug_text(rt, alloc, builder.build()),
             }
         }
     }
@@ -315,14 +309,13 @@ const PIECES: &[(Shown, &str)] = &[
 
 /// What `Debug` shows. A builder is shown with its settings.
 #[test]
-fn debug_shows_each_piece(rt: HostRuntime) -> Result<(), Fail> {
+fn debug_shows_each_piece(rt: HostRuntime) {
     for (which, piece) in PIECES {
-        let text = text_of(rt.alloc(), which)?;
+        let text = text_of(&rt, rt.alloc(), which);
         assert!(&rt; text.as_str().contains(*piece), "{piece} in {text}");
     }
-    let builder = text_of(rt.alloc(), &Shown::Builder)?;
-    let config = text_of(rt.alloc(), &Shown::Config)?;
+    let builder = text_of(&rt, rt.alloc(), &Shown::Builder);
+    let config = text_of(&rt, rt.alloc(), &Shown::Config);
     assert!(&rt; builder.as_str().contains(config.as_str()));
     assert!(&rt; builder.as_str().starts_with("Builder") && config.as_str().starts_with("Config"));
-    Ok(())
 }

@@ -87,27 +87,23 @@ const CHARACTERS: &[(char, Option<usize>, bool)] = &[
     ('\u{1f3fb}', None, false),
 ];
 
-/// What is asked of the text has the answer that is wanted.
-fn is_answered(text: &str, asked: &Asked) -> bool {
-    match asked {
-        First(place) => first_parting(text) == *place,
-        Last(end, place) => text.is_char_boundary(*end) && last_parting(text, *end) == *place,
-        Printable(printable, plain) => {
-            is_printable_text(text) == *printable && is_plain_text(text) == *plain
-        }
-        Widths(whole, characters, pieces) => {
-            Unicode.width(text) == *whole
-                && WcWidth.width(text) == *characters
-                && NoZwj.width(text) == *pieces
-                && Layout::new(NoZwj).width(text) == *pieces
-        }
-    }
-}
-
 #[test]
 fn of_texts(rt: HostRuntime) {
     for (index, (text, asked)) in TEXTS.iter().enumerate() {
-        holds(&rt, is_answered(text, asked), text, index);
+        let found = match asked {
+            First(place) => first_parting(text) == *place,
+            Last(end, place) => text.is_char_boundary(*end) && last_parting(text, *end) == *place,
+            Printable(printable, plain) => {
+                is_printable_text(text) == *printable && is_plain_text(text) == *plain
+            }
+            Widths(whole, characters, pieces) => {
+                Unicode.width(text) == *whole
+                    && WcWidth.width(text) == *characters
+                    && NoZwj.width(text) == *pieces
+                    && Layout::new(NoZwj).width(text) == *pieces
+            }
+        };
+        holds(&rt, found, text, index);
     }
 }
 

@@ -11,7 +11,6 @@ use line_buffer::WordAction::*;
 use line_buffer::{Changeset, LineBuffer, Movement, OutOfMemory, RepeatCount, WordAction};
 use std::alloc::Global;
 use std::process::Abort;
-use std::test::Fail;
 
 /// A call that is handed a text.
 pub(super) enum Call {
@@ -117,7 +116,7 @@ fn composed(
     match step {
         Text(call, text) => return handed(rt, line, changes, call, text),
         Much(call) => {
-            let text = text_of(alloc, "日 ", 1_000)?;
+            let text = text_of(rt, alloc, "日 ", 1_000);
             return handed(rt, line, changes, call, text.as_str());
         }
         Written(c, n, place) => {
@@ -164,21 +163,15 @@ pub(super) enum Wanted {
 /// A call on a line, and what it leaves.
 pub(super) type Row = (Line, Edit, Wanted);
 
-fn leaves(
-    rt: &impl Abort,
-    alloc: Global,
-    line: &mut LineBuffer,
-    changes: &mut Changeset,
-    row: &Row,
-) -> Result<(), Fail>
+fn leaves(rt: &impl Abort, alloc: Global, line: &mut LineBuffer, changes: &mut Changeset, row: &Row)
     requires { Tells changes.old.entries line.old.text }
-    ensures { OnOk result (Tells changes.new.entries line.new.text) }
+    ensures { Tells changes.new.entries line.new.text }
 {
     let (start, step, wanted) = row;
     let times = match start {
         Then => 1,
         On(text, pos) => {
-            *line = line_at(rt, alloc, text, *pos)?;
+            *line = line_at(rt, alloc, text, *pos);
             *changes = Changeset::new(alloc);
             1
         }
@@ -190,10 +183,9 @@ fn leaves(
     };
     let mut answer = None;
     for _time in 0..times {
-        answer = edited(rt, alloc, line, changes, step)?;
+        answer = edited(rt, alloc, line, changes, step).expect(rt, "no fault");
     }
     is_left(rt, line, changes, answer, wanted);
-    Ok(())
 }
 
 /// The last answer, the line and its changes are those that are wanted.
@@ -221,15 +213,14 @@ fn is_left(
 }
 
 #[test]
-fn leave_a_line_and_its_changes(rt: HostRuntime) -> Result<(), Fail> {
+fn leave_a_line_and_its_changes(rt: HostRuntime) {
     let mut line = LineBuffer::new(rt.alloc());
     let mut changes = Changeset::new(rt.alloc());
     for table in [ROWS, undo::ROWS, indents::ROWS, large::ROWS] {
         for row in table {
-            leaves(&rt, rt.alloc(), &mut line, &mut changes, row)?;
+            leaves(&rt, rt.alloc(), &mut line, &mut changes, row);
         }
     }
-    Ok(())
 }
 
 const WORDS: &str = "foo bar baz";

@@ -8,7 +8,6 @@ use line_buffer::Movement::{self, *};
 use line_buffer::{Changeset, CharSearch as Search, KillRing, LineBuffer};
 use std::alloc::Global;
 use std::process::Abort;
-use std::test::Fail;
 
 /// Where what text went on which side.
 type Gone<'a> = Option<(usize, &'a str, Direction)>;
@@ -21,17 +20,19 @@ fn kills(
     gone: &Gone,
     (text, pos, after): (&str, usize, &str),
     left: (usize, Option<&str>),
-) -> Result<bool, Fail> {
-    let mut line = line_at(rt, alloc, text, pos)?;
+) -> bool {
+    let mut line = line_at(rt, alloc, text, pos);
     let mut changes = Changeset::new(alloc);
     let mut ring = KillRing::new(alloc, 2);
-    let killed = line.kill(mvt, &mut changes, &mut ring)?;
+    let killed = line
+        .kill(mvt, &mut changes, &mut ring)
+        .expect(rt, "no fault");
     let gave = is_killed(killed, gone);
     let kept = is_left(&line, &mut ring, after, left);
     let count = changes.len();
-    let undone = changes.undo(&mut line, 1)?;
+    let undone = changes.undo(&mut line, 1).expect(rt, "no fault");
     let counts = count == gone.is_some() as usize && undone == gone.is_some();
-    Ok(gave && kept && counts && line.as_str() == text)
+    gave && kept && counts && line.as_str() == text
 }
 
 /// What a kill gives is what went.
@@ -62,11 +63,12 @@ fn cuts(
     mvt: &Movement,
     (text, pos, after): (&str, usize, &str),
     left: (usize, Option<&str>),
-) -> Result<bool, Fail> {
+) -> bool {
     let mut ring = KillRing::new(alloc, 2);
-    let mut line = line_at(rt, alloc, text, pos)?;
-    line.cut(mvt, &mut Changeset::new(alloc), &mut ring)?;
-    Ok(is_left(&line, &mut ring, after, left))
+    let mut line = line_at(rt, alloc, text, pos);
+    line.cut(mvt, &mut Changeset::new(alloc), &mut ring)
+        .expect(rt, "no fault");
+    is_left(&line, &mut ring, after, left)
 }
 
 /// A text, the cursor, a movement; the text afterwards, and where what text went on which side.
@@ -162,19 +164,18 @@ const KILLS: &[Case] = &[
 
 /// What goes by characters is not put into the ring.
 #[test]
-fn by_movements(rt: HostRuntime) -> Result<(), Fail> {
+fn by_movements(rt: HostRuntime) {
     for (index, (text, pos, mvt, after, gone)) in KILLS.iter().enumerate() {
         let left = match (mvt, gone) {
             (_, None) => (*pos, None),
             (ForwardChar(_) | BackwardChar(_), Some((place, _, _))) => (*place, None),
             (_, Some((place, text, _))) => (*place, Some(*text)),
         };
-        let killed = kills(&rt, rt.alloc(), mvt, gone, (text, *pos, after), left)?;
+        let killed = kills(&rt, rt.alloc(), mvt, gone, (text, *pos, after), left);
         holds(&rt, killed, "kill", index);
-        let cut = cuts(&rt, rt.alloc(), mvt, (text, *pos, after), left)?;
+        let cut = cuts(&rt, rt.alloc(), mvt, (text, *pos, after), left);
         holds(&rt, cut, "cut", index);
     }
-    Ok(())
 }
 
 /// A movement in a word of 6,000 bytes, with the cursor behind its second character; where what goes by it begins, and
@@ -187,16 +188,15 @@ const LARGE: &[(Movement, usize, usize)] = &[
 ];
 
 #[test]
-fn of_large_texts(rt: HostRuntime) -> Result<(), Fail> {
-    let word = text_of(rt.alloc(), "é", 3_000)?;
+fn of_large_texts(rt: HostRuntime) {
+    let word = text_of(&rt, rt.alloc(), "é", 3_000);
     for (index, (mvt, place, count)) in LARGE.iter().enumerate() {
-        let after = text_of(rt.alloc(), "é", place / 2)?;
-        let gone = text_of(rt.alloc(), "é", *count)?;
+        let after = text_of(&rt, rt.alloc(), "é", place / 2);
+        let gone = text_of(&rt, rt.alloc(), "é", *count);
         let went = Some((*place, gone.as_str(), Forward));
         let texts = (word.as_str(), 4, after.as_str());
         let left = (*place, Some(gone.as_str()));
-        let killed = kills(&rt, rt.alloc(), mvt, &went, texts, left)?;
+        let killed = kills(&rt, rt.alloc(), mvt, &went, texts, left);
         holds(&rt, killed, "kill", index);
     }
-    Ok(())
 }

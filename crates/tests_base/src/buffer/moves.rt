@@ -6,9 +6,6 @@ use crate::holds;
 use line_buffer::At::{self, *};
 use line_buffer::Word::{self, *};
 use line_buffer::{CharSearch as Search, GraphemeClusterMode, Layout, LineBuffer, RepeatCount};
-use std::alloc::Global;
-use std::process::Abort;
-use std::test::Fail;
 
 /// A call that moves the cursor.
 enum Move {
@@ -292,14 +289,13 @@ const MOVES: &[Case] = &[
 ];
 
 #[test]
-fn of_the_cursor(rt: HostRuntime) -> Result<(), Fail> {
+fn of_the_cursor(rt: HostRuntime) {
     for (index, (text, pos, step, place)) in MOVES.iter().enumerate() {
-        let mut line = line_at(&rt, rt.alloc(), text, *pos)?;
+        let mut line = line_at(&rt, rt.alloc(), text, *pos);
         let found = moved(&mut line, step) == place.is_some();
         let stands = line.pos() == place.unwrap_or(*pos);
         holds(&rt, found && stands, text, index);
     }
-    Ok(())
 }
 
 /// A text, the cursor; the places one cluster on and back, whether the cursor is at the end, and whether only white
@@ -323,27 +319,20 @@ const ASKED: &[Asked] = &[
     (" a ", 0, Some(1), None, false, false),
 ];
 
-/// The line gives each answer that is wanted, and its text has this length.
-fn is_answered(line: &LineBuffer, asked: &Asked) -> bool {
-    let (text, _, next, prev, at_end, white) = asked;
-    line.next_pos(1) == *next
-        && line.prev_pos(1) == *prev
-        && line.is_cursor_at_end() == *at_end
-        && line.is_end_of_input() == *white
-        && line.is_empty() == text.is_empty()
-        && line.len() == text.len()
-}
-
 #[test]
-fn of_the_line(rt: HostRuntime) -> Result<(), Fail> {
-    for asked in ASKED {
-        let (text, pos, ..) = asked;
-        let line = line_at(&rt, rt.alloc(), text, *pos)?;
-        holds(&rt, is_answered(&line, asked), text, *pos);
+fn of_the_line(rt: HostRuntime) {
+    for (text, pos, next, prev, at_end, white) in ASKED {
+        let line = line_at(&rt, rt.alloc(), text, *pos);
+        let found = line.next_pos(1) == *next
+            && line.prev_pos(1) == *prev
+            && line.is_cursor_at_end() == *at_end
+            && line.is_end_of_input() == *white
+            && line.is_empty() == text.is_empty()
+            && line.len() == text.len();
+        holds(&rt, found, text, *pos);
     }
     // a large text
-    let text = text_of(rt.alloc(), "日", 5_000)?;
-    let line = line_at(&rt, rt.alloc(), text.as_str(), 3)?;
+    let text = text_of(&rt, rt.alloc(), "日", 5_000);
+    let line = line_at(&rt, rt.alloc(), text.as_str(), 3);
     assert!(&rt; line.as_str() == text.as_str() && line.pos() == 3);
-    Ok(())
 }

@@ -3,10 +3,10 @@
 use self::Act::*;
 use super::text_of;
 use crate::holds;
+use line_buffer::KillRing;
 use line_buffer::Mode::{self, *};
-use line_buffer::{KillRing, OutOfMemory};
 use std::alloc::Global;
-use std::test::Fail;
+use std::process::Abort;
 
 /// A call on the ring.
 enum Act {
@@ -33,30 +33,30 @@ enum Act {
 }
 
 /// Makes the call. Whether it gives what is wanted.
-fn acted(alloc: Global, ring: &mut KillRing, act: &Act) -> Result<bool, OutOfMemory> {
+fn acted(rt: &impl Abort, alloc: Global, ring: &mut KillRing, act: &Act) -> bool {
     match act {
         Ring(size) => *ring = KillRing::new(alloc, *size),
-        Kill(text, mode) => ring.kill(text, *mode)?,
+        Kill(text, mode) => ring.kill(text, *mode).expect(rt, "no fault"),
         Much(mode) => {
-            let text = text_of(alloc, "日 ", 20_000)?;
-            ring.kill(text.as_str(), *mode)?;
+            let text = text_of(rt, alloc, "日 ", 20_000);
+            ring.kill(text.as_str(), *mode).expect(rt, "no fault");
         }
         Apart(count, text) => {
             for _ in 0..*count {
-                ring.kill(text, Append)?;
+                ring.kill(text, Append).expect(rt, "no fault");
                 ring.reset();
             }
         }
         Joined(text) => {
-            ring.kill(text, Append)?;
-            ring.kill("-", Append)?;
-            ring.kill("+", Prepend)?;
+            ring.kill(text, Append).expect(rt, "no fault");
+            ring.kill("-", Append).expect(rt, "no fault");
+            ring.kill("+", Prepend).expect(rt, "no fault");
             ring.reset();
         }
         Reset => ring.reset(),
-        _ => return Ok(gives(ring, act)),
+        _ => return gives(ring, act),
     }
-    Ok(true)
+    true
 }
 
 /// A call that gives a text gives the one that is wanted.
@@ -189,10 +189,9 @@ const ACTS: &[Act] = &[
 ];
 
 #[test]
-fn yanks_turn_the_ring_back(rt: HostRuntime) -> Result<(), Fail> {
+fn yanks_turn_the_ring_back(rt: HostRuntime) {
     let mut ring = KillRing::new(rt.alloc(), 0);
     for (index, act) in ACTS.iter().enumerate() {
-        holds(&rt, acted(rt.alloc(), &mut ring, act)?, "row", index);
+        holds(&rt, acted(&rt, rt.alloc(), &mut ring, act), "row", index);
     }
-    Ok(())
 }

@@ -13,7 +13,6 @@ use line_buffer::Word::*;
 use line_buffer::{Changeset, KillRing, LineBuffer, OutOfMemory, RepeatCount};
 use std::alloc::Global;
 use std::process::Abort;
-use std::test::Fail;
 
 /// A call that gives a text.
 pub(super) enum Taking {
@@ -51,29 +50,17 @@ type Case = (
 );
 
 /// The call gives what is wanted.
-fn takes(rt: &impl Abort, alloc: Global, case: &Case) -> Result<bool, Fail> {
+fn takes(rt: &impl Abort, alloc: Global, case: &Case) -> bool {
     let (text, pos, edit, step, wanted) = case;
-    let mut line = line_at(rt, alloc, text, *pos)?;
+    let mut line = line_at(rt, alloc, text, *pos);
     let mut changes = Changeset::new(alloc);
     if let Some(edit) = edit {
-        let _ = edited(rt, alloc, &mut line, &mut changes, edit)?;
+        let _ = edited(rt, alloc, &mut line, &mut changes, edit).expect(rt, "no fault");
     }
-    let given = taken(alloc, &mut line, &mut changes, step)?;
-    Ok(is_given(alloc, given, wanted)?)
-}
-
-/// What a call gave is so many times one text, or nothing.
-fn is_given(
-    alloc: Global,
-    given: Option<String>,
-    wanted: &Option<(&str, usize)>,
-) -> Result<bool, OutOfMemory> {
+    let given = taken(alloc, &mut line, &mut changes, step).expect(rt, "no fault");
     match wanted {
-        Some((part, times)) => {
-            let whole = text_of(alloc, part, *times)?;
-            Ok(is_text(&given, whole.as_str()))
-        }
-        None => Ok(given.is_none()),
+        Some((part, times)) => is_text(&given, text_of(rt, alloc, part, *times).as_str()),
+        None => given.is_none(),
     }
 }
 
@@ -129,9 +116,8 @@ const TAKINGS: &[Case] = &[
 ];
 
 #[test]
-fn are_given(rt: HostRuntime) -> Result<(), Fail> {
+fn are_given(rt: HostRuntime) {
     for (index, case) in TAKINGS.iter().enumerate() {
-        holds(&rt, takes(&rt, rt.alloc(), case)?, "row", index);
+        holds(&rt, takes(&rt, rt.alloc(), case), "row", index);
     }
-    Ok(())
 }

@@ -5,10 +5,9 @@ use crate::holds;
 use crate::values::compare;
 use line_buffer::GraphemeClusterMode;
 use line_config::{
-    Behavior, BellStyle, Builder, ColorMode, CompletionType, Config, Configurer, EditMode, Result,
+    Behavior, BellStyle, Builder, ColorMode, CompletionType, Config, Configurer, EditMode,
 };
-use std::result;
-use std::test::Fail;
+use std::process::Abort;
 
 /// The one setting that is not the default.
 enum Changed {
@@ -57,12 +56,12 @@ const ALL: &[Changed] = &[
     Changed::Signals,
 ];
 
-fn built(changed: &Changed) -> Result<Builder> {
+fn built(rt: &impl Abort, changed: &Changed) -> Builder {
     let mut builder = Config::builder(GraphemeClusterMode::Unicode);
-    Ok(match changed {
+    match changed {
         Changed::Nothing => builder,
-        Changed::MaxHistorySize => builder.max_history_size(7)?,
-        Changed::HistoryDuplicates => builder.history_ignore_dups(false)?,
+        Changed::MaxHistorySize => builder.max_history_size(7).expect(rt, "no fault"),
+        Changed::HistoryDuplicates => builder.history_ignore_dups(false).expect(rt, "no fault"),
         Changed::HistoryIgnoreSpace => builder.history_ignore_space(true),
         Changed::CompletionType => builder.completion_type(CompletionType::List),
         Changed::CompletionPromptLimit => builder.completion_prompt_limit(9),
@@ -83,36 +82,35 @@ fn built(changed: &Changed) -> Result<Builder> {
             builder
         }
         Changed::Signals => builder.enable_signals(true),
-    })
+    }
 }
 
 /// Two configurations are equal where they differ in the same setting alone.
-fn compares(one: &Changed, other: &Changed, same: bool) -> Result<bool> {
-    let first = built(one)?.build();
-    let second = built(other)?.build();
+fn compares(rt: &impl Abort, one: &Changed, other: &Changed, same: bool) -> bool {
+    let first = built(rt, one).build();
+    let second = built(rt, other).build();
     let settings_found = settings(&first) == settings(&second);
-    Ok(compare(&first, &second, same) && settings_found == same)
+    compare(&first, &second, same) && settings_found == same
 }
 
 /// The clone of a configuration, and that of a builder, has what was set, and leaves its source as it was.
-fn copies(changed: &Changed) -> result::Result<bool, Fail> {
-    let wanted = settings(&built(changed)?.build());
-    let builder = built(changed)?;
-    let copy = builder.clone()?.build();
+fn copies(rt: &impl Abort, changed: &Changed) -> bool {
+    let wanted = settings(&built(rt, changed).build());
+    let builder = built(rt, changed);
+    let copy = builder.clone().expect(rt, "no fault").build();
     let config = builder.build();
-    let clone = config.clone()?;
+    let clone = config.clone().expect(rt, "no fault");
     let copied = settings(&copy) == wanted && settings(&clone) == wanted;
-    Ok(copied && settings(&config) == wanted)
+    copied && settings(&config) == wanted
 }
 
 #[test]
-fn no_two_are_equal(rt: HostRuntime) -> result::Result<(), Fail> {
+fn no_two_are_equal(rt: HostRuntime) {
     for (index, one) in ALL.iter().enumerate() {
-        holds(&rt, copies(one)?, "copies", index);
+        holds(&rt, copies(&rt, one), "copies", index);
         for (place, other) in ALL.iter().enumerate() {
-            let found = compares(one, other, index == place)?;
+            let found = compares(&rt, one, other, index == place);
             assert!(&rt; found, "{index} {place}");
         }
     }
-    Ok(())
 }
