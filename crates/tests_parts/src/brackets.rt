@@ -1,9 +1,10 @@
 //! Brackets: the verdicts on them, and what the highlighter remembers, forgets and shows.
 
 use crate::ready::{Asked, Case, is_text};
-use line_config::{ReadlineError, Result};
+use line_config::ReadlineError;
 use line_parts::{CmdKind, Highlighter, MatchingBracketHighlighter};
 use std::alloc::Global;
+use std::process::Abort;
 use std::result;
 use std::test::Fail;
 
@@ -28,26 +29,34 @@ type Told<'t> = (&'t str, usize, Option<(CmdKind, &'t str)>);
 
 /// Whether a line is shown so once the highlighter was told, whatever drew the first line and wherever the cursor is now;
 /// and as it stands before.
-pub(super) fn shows(alloc: Global, told: Told<'_>, line: &str, wanted: &str) -> Result<bool> {
+pub(super) fn shows(
+    rt: &impl Abort,
+    alloc: Global,
+    told: Told<'_>,
+    line: &str,
+    wanted: &str,
+) -> bool {
     for (kind, cursor) in [(CmdKind::MoveCursor, 0), (CmdKind::Other, line.len())] {
         let mut highlighter = match kind {
             CmdKind::MoveCursor => MatchingBracketHighlighter::new(),
             _ => MatchingBracketHighlighter::default(),
         };
-        let stands = is_text(highlighter.highlight(alloc, line, cursor), line)?;
+        let stands = is_text(highlighter.highlight(alloc, line, cursor), line);
+        let stands = stands.expect(rt, "no fault");
         let _ = highlighter.highlight_char(told.0, told.1, kind);
         if let Some((next, other)) = told.2 {
             let _ = highlighter.highlight_char(other, 0, next);
         }
-        if !stands || !is_text(highlighter.highlight(alloc, line, cursor), wanted)? {
-            return Ok(false);
+        let shown = is_text(highlighter.highlight(alloc, line, cursor), wanted);
+        if !stands || !shown.expect(rt, "no fault") {
+            return false;
         }
     }
-    Ok(true)
+    true
 }
 
 /// Texts with a bracket at fault.
-pub(super) const AT_FAULT: &[Case] = &[
+pub(super) const AT_FAULT: &[Case<'_>] = &[
     // a bracket alone
     (
         ")",
@@ -125,7 +134,7 @@ pub(super) const AT_FAULT: &[Case] = &[
     ),
 ];
 
-pub(super) const CASES: &[Case] = &[
+pub(super) const CASES: &[Case<'_>] = &[
     // balanced
     ("", Asked::Verdict("valid", "")),
     ("a", Asked::Verdict("valid", "")),

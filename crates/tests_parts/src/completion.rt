@@ -8,6 +8,7 @@ use line_config::Result;
 use line_parts::{Candidate, Pair, Quote, escape, longest_common_prefix, unescape};
 use std::alloc::Global;
 use std::borrow::CowStr;
+use std::process::Abort;
 
 /// Whether words break at a character in these tests.
 pub(super) fn breaks(c: char) -> bool {
@@ -40,16 +41,24 @@ pub(super) fn unescapes(
 
 /// Whether the first of the texts between the strokes, so many of them, begin so in common: it is borrowed from the first.
 pub(super) fn begin_alike(
+    rt: &impl Abort,
     alloc: Global,
     texts: &str,
     count: usize,
     wanted: Option<&str>,
-) -> Result<bool> {
+) -> bool {
     let mut candidates = Vec::new(alloc);
     for text in texts.split('|').take(count) {
-        candidates.push(text)?;
+        candidates.push(text).expect(rt, "no fault");
     }
-    Ok(longest_common_prefix(candidates.as_slice()) == wanted)
+    longest_common_prefix(candidates.as_slice()) == wanted
+}
+
+fn pair_of(alloc: Global, display: &str, replacement: &str) -> Result<Pair> {
+    Ok(Pair {
+        display: String::from_str(alloc, display)?,
+        replacement: String::from_str(alloc, replacement)?,
+    })
 }
 
 /// Whether the copy of a pair is that pair, and its replacement begins with that of another pair as it is to.
@@ -59,15 +68,9 @@ pub(super) fn are_paired(
     other: &str,
     common: &str,
 ) -> Result<bool> {
-    let first = Pair {
-        display: String::from_str(alloc, display)?,
-        replacement: String::from_str(alloc, replacement)?,
-    };
+    let first = pair_of(alloc, display, replacement)?;
     let copy = first.clone()?;
-    let second = Pair {
-        display: String::from_str(alloc, "other")?,
-        replacement: String::from_str(alloc, other)?,
-    };
+    let second = pair_of(alloc, "other", other)?;
     let pairs = vec![in alloc; first, second]?;
     Ok(
         (copy.display(), copy.replacement()) == (display, replacement)
@@ -75,7 +78,7 @@ pub(super) fn are_paired(
     )
 }
 
-pub(super) const CASES: &[Case] = &[
+pub(super) const CASES: &[Case<'_>] = &[
     (
         r"ls /User\ Information",
         Asked::Word(21, Some('\\'), 3, r"/User\ Information"),

@@ -11,8 +11,7 @@ use Way::{Boxed, ByTrait, Sorted, Unsorted};
 use line_config::Result;
 use line_parts::{Completer, Context, Entry, FilenameCompleter, Lister, Pair};
 use std::alloc::Global;
-use std::result;
-use std::test::Fail;
+use std::process::Abort;
 use tests_parties::countdown::Countdown;
 use tests_parties::fault::{Fault, GONE};
 
@@ -181,7 +180,7 @@ pub(super) const NAMES: &str = "Users/,User Information/,lib.rs,é$a\"b";
 /// A name with each character at which words break.
 const BREAK_NAME: &str = " \t\n\"\\'`@$><=;|&{(\0x";
 
-pub(super) const CASES: &[Case] = &[
+pub(super) const CASES: &[Case<'_>] = &[
     // The names that start so, escaped, and a slash behind a folder.
     (
         "ls User",
@@ -369,21 +368,20 @@ pub(super) const CASES: &[Case] = &[
 ];
 
 /// Folders with the names of numbers, from the last of so many to 0.
-fn numbered(alloc: Global, count: usize) -> Result<Folder> {
-    let mut folder = folder_of(alloc, ("", ""), Broken::Call(0), GONE)?;
+fn numbered(rt: &impl Abort, alloc: Global, count: usize) -> Folder {
+    let mut folder = folder_of(alloc, ("", ""), Broken::Call(0), GONE).expect(rt, "no fault");
     folder.entries.clear();
     for number in (0..count).rev() {
-        folder.entries.push(Entry {
-            name: format!(in alloc; "n {number}")?,
-            folder: true,
-        })?;
+        let name = format!(in alloc; "n {number}").expect(rt, "no fault");
+        let entry = Entry { name, folder: true };
+        folder.entries.push(entry).expect(rt, "no fault");
     }
-    Ok(folder)
+    folder
 }
 
 /// Of the numbers below 3,000 there are 1,111 that begin with 1: 1, 10, 100, 1000 and so on. In their order the last is 999.
 #[test]
-fn of_many_names(rt: HostRuntime) -> result::Result<(), Fail> {
+fn of_many_names(rt: HostRuntime) {
     let alloc = rt.alloc();
     for (line, way, count, last) in [
         ("", Sorted, 3_000, Some(("n 999", "n\\ 999/"))),
@@ -394,11 +392,11 @@ fn of_many_names(rt: HostRuntime) -> result::Result<(), Fail> {
         ("x", Unsorted, 0, None),
     ] {
         assert!(rt; line.is_char_boundary(line.len()));
-        let (_, pairs) = found(alloc, way, numbered(alloc, 3_000)?, line, line.len())?;
+        let folder = numbered(&rt, alloc, 3_000);
+        let (_, pairs) = found(alloc, way, folder, line, line.len()).expect(&rt, "no fault");
         assert_eq!(rt; pairs.len(), count, "{line:?} {way:?}");
         if let (Some(pair), Some(wanted)) = (pairs.last(), last) {
             assert_eq!(rt; (pair.display.as_str(), pair.replacement.as_str()), wanted);
         }
     }
-    Ok(())
 }

@@ -14,8 +14,6 @@ use std::alloc::Global;
 use std::borrow::CowStr;
 use std::io::{ErrorKind, Write};
 use std::process::Abort;
-use std::result;
-use std::test::Fail;
 use tests_parties::fault::Fault;
 
 /// Lines that a table names.
@@ -29,55 +27,63 @@ enum Lines {
     Short(usize, usize),
     /// A short line without a carriage return at its end. None is left of that character alone.
     Cut(usize),
-    /// A text of these pieces, each so many times, with a bar behind each line.
-    Pieces(&'static [(&'static str, usize)]),
+    /// A text that is built of these pieces, with a bar behind each line.
+    Pieces(&'static str),
 }
 
 /// The characters that a text of a history writes in ways of their own.
 const CHARACTERS: [char; 7] = ['a', '\\', '\n', '\r', 'n', 'r', '#'];
 
 /// Puts a short line behind a text.
-fn push_short(text: &mut String, number: usize) -> Result<()> {
+fn push_short(rt: &impl Abort, text: &mut String, number: usize) {
     let mut rest = number;
     for _ in 0..3 {
         if rest > 0 {
             rest -= 1;
-            text.push(CHARACTERS[rest % 7])?;
+            text.push(CHARACTERS[rest % 7]).expect(rt, "no fault");
             rest /= 7;
         }
     }
-    Ok(())
+}
+
+/// The text of these pieces, with a plus between two: how many times a text stands there, a star, and the text.
+pub(super) fn built(rt: &impl Abort, alloc: Global, pieces: &str) -> String {
+    let mut text = String::new(alloc);
+    for piece in pieces.split('+') {
+        let (count, piece) = piece.split_once('*').expect(rt, "a count");
+        let count = count.parse().expect(rt, "a number");
+        let piece = piece.repeat(alloc, count).expect(rt, "no fault");
+        text.push_str(piece.as_str()).expect(rt, "no fault");
+    }
+    text
 }
 
 /// The lines, each with a bar behind it.
-fn lines_of(alloc: Global, lines: Lines) -> Result<String> {
+fn lines_of(rt: &impl Abort, alloc: Global, lines: Lines) -> String {
     let mut text = String::new(alloc);
     match lines {
-        These(lines) => text.push_str(lines)?,
+        These(lines) => text.push_str(lines).expect(rt, "no fault"),
         Numbered(first, last) => {
             for number in first..last {
-                text.push_str(format!(in alloc; "n{number}.|")?.as_str())?;
+                let line = format!(in alloc; "n{number}.|").expect(rt, "no fault");
+                text.push_str(line.as_str()).expect(rt, "no fault");
             }
         }
         Short(first, last) => {
             for number in first..last {
-                push_short(&mut text, number)?;
-                text.push('|')?;
+                push_short(rt, &mut text, number);
+                text.push('|').expect(rt, "no fault");
             }
         }
         Cut(number) => {
-            push_short(&mut text, number)?;
+            push_short(rt, &mut text, number);
             if text.as_str().ends_with('\r') {
                 let _ = text.pop();
             }
         }
-        Pieces(pieces) => {
-            for (piece, count) in pieces {
-                text.push_str(piece.repeat(alloc, *count)?.as_str())?;
-            }
-        }
+        Pieces(pieces) => return built(rt, alloc, pieces),
     }
-    Ok(text)
+    text
 }
 
 /// Adds a line, owned or not.
@@ -90,28 +96,22 @@ fn added<H: History>(alloc: Global, history: &mut H, line: &str, owned: bool) ->
 }
 
 /// Each of these lines is taken, every other one owned.
-fn fills<H: History>(
-    rt: &impl Abort,
-    alloc: Global,
-    history: &mut H,
-    lines: &str,
-) -> result::Result<(), Fail> {
+fn fills<H: History>(rt: &impl Abort, alloc: Global, history: &mut H, lines: &str) {
     let mut owned = false;
     for line in lines.split_terminator('|') {
-        assert!(rt; added(alloc, history, line, owned)?, "{line:?}");
+        let taken = added(alloc, history, line, owned).expect(rt, "no fault");
+        assert!(rt; taken, "{line:?}");
         owned = !owned;
     }
-    Ok(())
 }
 
 /// What a history gives by index: each of these lines, and none from their number on.
-fn gives<H: History>(rt: &impl Abort, history: &H, lines: &str) -> result::Result<(), Fail> {
+fn gives<H: History>(rt: &impl Abort, history: &H, lines: &str) {
     for dir in [SearchDirection::Forward, SearchDirection::Reverse] {
         let mut count: usize = 0;
         for line in lines.split_terminator('|') {
-            let Some(found) = history.get(count, dir)? else {
-                return Err(Fail::from("a line at each index"));
-            };
+            let found = history.get(count, dir).expect(rt, "no fault");
+            let found = found.expect(rt, "a line at each index");
             assert!(rt; matches!(found.entry, CowStr::Borrowed(_)));
             assert_eq!(rt;
                 (found.entry.as_str(), found.idx, found.pos),
@@ -121,10 +121,10 @@ fn gives<H: History>(rt: &impl Abort, history: &H, lines: &str) -> result::Resul
         }
         assert_eq!(rt; (history.len(), history.is_empty()), (count, count == 0));
         for index in [count, count.saturating_add(1_000), usize::MAX] {
-            assert!(rt; history.get(index, dir)?.is_none());
+            let found = history.get(index, dir).expect(rt, "no fault");
+            assert!(rt; found.is_none());
         }
     }
-    Ok(())
 }
 
 /// The answer, and None where the error is of this kind, and has this text if one is told. There is no other error: the
@@ -135,9 +135,9 @@ fn answer_of<T>(
     outcome: Result<T>,
     kind: ErrorKind,
     text: &'static str,
-) -> result::Result<Option<T>, Fail> {
+) -> Option<T> {
     let failed: Result<()> = match outcome {
-        Ok(answer) => return Ok(Some(answer)),
+        Ok(answer) => return Some(answer),
         Err(error) => Err(error),
     };
     let known = if kind == ErrorKind::OutOfMemory {
@@ -145,10 +145,12 @@ fn answer_of<T>(
     } else if text.is_empty() {
         matches!(&failed, Err(ReadlineError::Io(cause)) if cause.kind() == kind)
     } else {
-        Fault { kind, text }.is_answer(alloc, &failed)?
+        Fault { kind, text }
+            .is_answer(alloc, &failed)
+            .expect(rt, "no fault")
     };
     assert!(rt; known, "{kind:?} {failed:?}");
-    Ok(None)
+    None
 }
 
 /// Saves with these escapes.
@@ -172,14 +174,14 @@ fn is_saved(
     escapes: Escapes,
     append: bool,
     text: &[u8],
-) -> result::Result<bool, Fail> {
+) -> bool {
     let mut out = Vec::new(alloc);
     let outcome = save(history, escapes, &mut out, append);
-    let answer = answer_of(rt, alloc, outcome, ErrorKind::OutOfMemory, "")?;
+    let answer = answer_of(rt, alloc, outcome, ErrorKind::OutOfMemory, "");
     if answer.is_some() {
         assert_eq!(rt; out.as_slice(), text);
     }
-    Ok(answer.is_some())
+    answer.is_some()
 }
 
 /// What a history keeps: each of these lines, of which this text is appended. Returns whether the save found its memory.
@@ -190,7 +192,7 @@ fn keeps(
     lines: &str,
     escapes: Escapes,
     appended: &[u8],
-) -> result::Result<bool, Fail> {
-    gives(rt, history, lines)?;
+) -> bool {
+    gives(rt, history, lines);
     is_saved(rt, alloc, history, escapes, true, appended)
 }

@@ -45,7 +45,7 @@ pub(super) fn hints(alloc: Global, lines: &str, index: usize, hinted: Hinted<'_>
 /// Lines of which several begin alike.
 pub(super) const LINES: &str = "git status|cargo test|git log|ls";
 
-pub(super) const CASES: &[Case] = &[
+pub(super) const CASES: &[Case<'_>] = &[
     // from the end
     ("git", Asked::Hint(LINES, 4, 3, Some(" log"))),
     ("git s", Asked::Hint(LINES, 4, 5, Some("tatus"))),

@@ -4,9 +4,10 @@ mod faults;
 
 use crate::ready::{Asked, Case, is_hint, is_text, says};
 pub(super) use faults::{Answer, helped};
-use line_config::{CompletionType, Result};
+use line_config::CompletionType;
 use line_parts::{Candidate, CmdKind, Context, Helper, Highlighter, Hint, History, MemHistory};
 use std::alloc::Global;
+use std::process::Abort;
 use tests_parties::advisor::Advisor;
 
 /// Whether a candidate and a hint stand for this text.
@@ -17,30 +18,33 @@ fn stands<T: Candidate + Hint>(value: &T, text: &str) -> bool {
 
 /// Whether a line, a prompt, a hint and a candidate are shown as they stand.
 fn shows_as_it_stands<H: Highlighter>(
+    rt: &impl Abort,
     highlighter: &mut H,
     alloc: Global,
     text: &str,
-) -> Result<bool> {
-    let line = is_text(highlighter.highlight(alloc, text, 0), text)?;
-    let prompt = is_text(highlighter.highlight_prompt(alloc, text, true), text)?;
-    let hint = is_text(highlighter.highlight_hint(alloc, text), text)?;
+) -> bool {
+    let line = is_text(highlighter.highlight(alloc, text, 0), text);
+    let line = line.expect(rt, "no fault");
+    let prompt = is_text(highlighter.highlight_prompt(alloc, text, true), text);
+    let prompt = prompt.expect(rt, "no fault");
+    let hint = is_text(highlighter.highlight_hint(alloc, text), text);
+    let hint = hint.expect(rt, "no fault");
     let candidate = highlighter.highlight_candidate(alloc, text, CompletionType::List);
-    let candidate = is_text(candidate, text)?;
-    Ok(line && prompt && hint && candidate && !highlighter.highlight_char(text, 0, CmdKind::Other))
+    let candidate = is_text(candidate, text).expect(rt, "no fault");
+    line && prompt && hint && candidate && !highlighter.highlight_char(text, 0, CmdKind::Other)
 }
 
 /// Whether a text stands for itself, and the unit and no helper at all leave it as it is.
-pub(super) fn stays(alloc: Global, text: &str) -> Result<bool> {
-    Ok(
-        stands(&text, text)
-            && stands(&String::from_str(alloc, text)?, text)
-            && shows_as_it_stands(&mut (), alloc, text)?
-            && faults::asks_nothing(alloc, None, text)?
-            && faults::asks_nothing(alloc, Some(&mut ()), text)?,
-    )
+pub(super) fn stays(rt: &impl Abort, alloc: Global, text: &str) -> bool {
+    let owned = String::from_str(alloc, text).expect(rt, "no fault");
+    stands(&text, text)
+        && stands(&owned, text)
+        && shows_as_it_stands(rt, &mut (), alloc, text)
+        && faults::asks_nothing(rt, alloc, None, text)
+        && faults::asks_nothing(rt, alloc, Some(&mut ()), text)
 }
 
-pub(super) const CASES: &[Case] = &[
+pub(super) const CASES: &[Case<'_>] = &[
     ("usr/", Asked::Plain),
     (" status", Asked::Plain),
     ("é", Asked::Plain),
@@ -53,7 +57,7 @@ pub(super) const CASES: &[Case] = &[
 type Answers = (bool, Option<&'static str>, (&'static str, &'static str));
 
 /// Whether a helper answers so, beside a new history, which is empty.
-fn answers<H: Helper>(alloc: Global, helper: &mut H, wanted: Answers) -> Result<bool> {
+fn answers<H: Helper>(rt: &impl Abort, alloc: Global, helper: &mut H, wanted: Answers) -> bool {
     let (lit, text, verdict) = wanted;
     let history = MemHistory::new(alloc);
     let mut ctx = Context::new(&history);
@@ -61,19 +65,20 @@ fn answers<H: Helper>(alloc: Global, helper: &mut H, wanted: Answers) -> Result<
     let count = (history.len(), history.is_empty());
     let is_empty = (count, ctx.history_index(), ctx.history().len()) == ((0, true), 0, 0);
     let is_lit = helper.highlight_char("ab", 2, CmdKind::MoveCursor);
-    let hint = helper.hint(alloc, "ab", 2, &ctx)?;
-    Ok(is_empty && is_lit == lit && is_hint(&hint, text) && says(alloc, helper, "ab", verdict)?)
+    let hint = helper.hint(alloc, "ab", 2, &ctx).expect(rt, "no fault");
+    let is_said = says(alloc, helper, "ab", verdict).expect(rt, "no fault");
+    is_empty && is_lit == lit && is_hint(&hint, text) && is_said
 }
 
 #[test]
-fn a_helper_keeps_its_answers(rt: HostRuntime) -> Result<()> {
+fn a_helper_keeps_its_answers(rt: HostRuntime) {
     let alloc = rt.alloc();
-    assert!(rt; answers(alloc, &mut (), (false, None, ("valid", "")))?);
+    assert!(rt; answers(&rt, alloc, &mut (), (false, None, ("valid", ""))));
     let moved = Some(CmdKind::MoveCursor);
     let mut advisor = Advisor::new(Some("!"), (true, false, Some("no")), moved);
     for _ in 0..2 {
-        assert!(rt; answers(alloc, &mut advisor, (true, Some("!"), ("invalid", "no")))?);
+        let wanted = (true, Some("!"), ("invalid", "no"));
+        assert!(rt; answers(&rt, alloc, &mut advisor, wanted));
     }
     assert!(rt; advisor.kinds() == (moved, moved, None, None));
-    Ok(())
 }

@@ -16,7 +16,7 @@ use tests_parties::fault::GONE;
 use tests_parties::shelf::{Failing, Shelf};
 
 /// A text, and what is asked about it.
-pub(super) type Case = (&'static str, Asked<'static>);
+pub(super) type Case<'t> = (&'t str, Asked<'t>);
 
 /// What is asked about a text, with the right answer at its end.
 #[derive(Clone, Copy)]
@@ -95,8 +95,9 @@ pub(super) fn broken_history(alloc: Global) -> Shelf {
     history
 }
 
-/// Whether the answer is the right one.
-pub(super) fn is_right(alloc: Global, text: &str, asked: Asked<'_>) -> Result<bool> {
+/// Whether the answer is the right one. What is also asked with an allocation refused hands its error on; the rest ends
+/// the test.
+fn is_right(rt: &impl Abort, alloc: Global, text: &str, asked: Asked<'_>) -> Result<bool> {
     match asked {
         Asked::Verdict(name, message) => {
             let wanted = (name, message);
@@ -107,10 +108,15 @@ pub(super) fn is_right(alloc: Global, text: &str, asked: Asked<'_>) -> Result<bo
             )
         }
         Asked::Remembered(pos, found) => Ok(brackets::remembers(text, pos, found)),
-        Asked::Match(pos, shown) => brackets::shows(alloc, (text, pos, None), text, shown),
-        Asked::MatchIn(pos, line, shown) => brackets::shows(alloc, (text, pos, None), line, shown),
+        Asked::Match(pos, shown) => {
+            Ok(brackets::shows(rt, alloc, (text, pos, None), text, shown))
+        }
+        Asked::MatchIn(pos, line, shown) => {
+            Ok(brackets::shows(rt, alloc, (text, pos, None), line, shown))
+        }
         Asked::MatchAfter(kind, line, shown) => {
-            brackets::shows(alloc, (text, 0, Some((kind, line))), text, shown)
+            let told = (text, 0, Some((kind, line)));
+            Ok(brackets::shows(rt, alloc, told, text, shown))
         }
         Asked::Word(pos, esc_char, start, word) => Ok(
             text.is_char_boundary(pos)
@@ -122,14 +128,16 @@ pub(super) fn is_right(alloc: Global, text: &str, asked: Asked<'_>) -> Result<bo
         Asked::Unescaped(esc_char, wanted, same) => {
             completion::unescapes(alloc, text, esc_char, (wanted, same))
         }
-        Asked::Alike(count, wanted) => completion::begin_alike(alloc, text, count, wanted),
+        Asked::Alike(count, wanted) => {
+            Ok(completion::begin_alike(rt, alloc, text, count, wanted))
+        }
         Asked::Paired(replacement, other, common) => {
             completion::are_paired(alloc, (text, replacement), other, common)
         }
         Asked::Hint(lines, index, pos, wanted) => {
             history_hinter::hints(alloc, lines, index, (text, pos, wanted))
         }
-        Asked::Plain => parties::stays(alloc, text),
+        Asked::Plain => Ok(parties::stays(rt, alloc, text)),
         Asked::Path(pos, path, names, start, offers) => {
             filename::completes(alloc, true, (text, pos), (path, names), (start, offers))
         }
@@ -140,29 +148,29 @@ pub(super) fn is_right(alloc: Global, text: &str, asked: Asked<'_>) -> Result<bo
 }
 
 /// Each answer of the table is the right one.
-fn are_right(rt: &impl Abort, alloc: Global, table: &[Case]) -> result::Result<(), Fail> {
+pub(super) fn are_right(rt: &impl Abort, alloc: Global, table: &[Case<'_>]) {
     for (row, (text, asked)) in table.iter().enumerate() {
-        assert!(rt; is_right(alloc, text, *asked)?, "row {row}: {text:?}");
+        let right = is_right(rt, alloc, text, *asked).expect(rt, "no fault");
+        assert!(rt; right, "row {row}: {text:?}");
     }
-    Ok(())
 }
 
 #[test]
-fn brackets_and_parties(rt: HostRuntime) -> result::Result<(), Fail> {
-    are_right(&rt, rt.alloc(), brackets::AT_FAULT)?;
-    are_right(&rt, rt.alloc(), brackets::CASES)?;
-    are_right(&rt, rt.alloc(), parties::CASES)
+fn brackets_and_parties(rt: HostRuntime) {
+    are_right(&rt, rt.alloc(), brackets::AT_FAULT);
+    are_right(&rt, rt.alloc(), brackets::CASES);
+    are_right(&rt, rt.alloc(), parties::CASES);
 }
 
 #[test]
-fn words_and_hints(rt: HostRuntime) -> result::Result<(), Fail> {
-    are_right(&rt, rt.alloc(), completion::CASES)?;
-    are_right(&rt, rt.alloc(), history_hinter::CASES)
+fn words_and_hints(rt: HostRuntime) {
+    are_right(&rt, rt.alloc(), completion::CASES);
+    are_right(&rt, rt.alloc(), history_hinter::CASES);
 }
 
 #[test]
-fn names_of_files(rt: HostRuntime) -> result::Result<(), Fail> {
-    are_right(&rt, rt.alloc(), filename::CASES)
+fn names_of_files(rt: HostRuntime) {
+    are_right(&rt, rt.alloc(), filename::CASES);
 }
 
 /// A text that grows more than once when it is escaped, and that text in quotes of both kinds.
@@ -170,7 +178,7 @@ const LONG: &str = "0123456789 0123456789 0123456789 0123456789";
 
 const LONG_ESCAPED: &str = "0123456789\\ 0123456789\\ 0123456789\\ 0123456789";
 
-const REFUSED: &[Case] = &[
+const REFUSED: &[Case<'_>] = &[
     (
         LONG,
         Asked::Escaped(Some('\\'), Quote::Double, LONG_ESCAPED),
@@ -210,7 +218,7 @@ const REFUSED: &[Case] = &[
 fn a_refused_allocation_has_no_answer(rt: HostRuntime) -> result::Result<(), Fail> {
     for table in [brackets::AT_FAULT, REFUSED] {
         for (text, asked) in table {
-            match is_right(rt.alloc(), text, *asked) {
+            match is_right(&rt, rt.alloc(), text, *asked) {
                 Ok(right) => assert!(rt; right, "{text:?}"),
                 Err(ReadlineError::Memory) => {}
                 Err(_) => return Err(Fail::from("no other error")),

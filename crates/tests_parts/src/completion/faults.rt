@@ -7,8 +7,7 @@ use line_buffer::{Changeset, LineBuffer};
 use line_config::Result;
 use line_parts::{Completer, Context, History};
 use std::alloc::Global;
-use std::result;
-use std::test::Fail;
+use std::process::Abort;
 use tests_parties::fault::{FAULTS, Fault};
 
 /// Offers nothing, and puts an elected text into the line.
@@ -63,22 +62,28 @@ impl Completer for Stubborn {
 }
 
 /// Whether the outcome is the fault, where there is one, and else Ok.
-fn is_outcome<T>(alloc: Global, outcome: &Result<T>, fault: Option<Fault>) -> Result<bool> {
+fn is_outcome<T>(
+    rt: &impl Abort,
+    alloc: Global,
+    outcome: &Result<T>,
+    fault: Option<Fault>,
+) -> bool {
     match fault {
-        Some(fault) => fault.is_answer(alloc, outcome),
-        None => Ok(outcome.is_ok()),
+        Some(fault) => fault.is_answer(alloc, outcome).expect(rt, "no fault"),
+        None => outcome.is_ok(),
     }
 }
 
 /// Whether a completer offers nothing, beside a history of which each call fails, or fails itself where it is to.
 fn offers_nothing<C: Completer>(
+    rt: &impl Abort,
     alloc: Global,
     completer: &C,
     (line, pos): (&str, usize),
     fault: Option<Fault>,
-) -> Result<bool> {
+) -> bool {
     if !line.is_char_boundary(pos) {
-        return Ok(false);
+        return false;
     }
     let history = broken_history(alloc);
     let outcome = completer.complete(alloc, line, pos, &Context::new(&history));
@@ -86,7 +91,7 @@ fn offers_nothing<C: Completer>(
         Ok((start, candidates)) => (*start, candidates.len()),
         Err(_) => (0, 0),
     };
-    Ok(found == (0, 0) && is_outcome(alloc, &outcome, fault)?)
+    found == (0, 0) && is_outcome(rt, alloc, &outcome, fault)
 }
 
 /// A line and its cursor, a text that is elected to stand at its start, and the line, its cursor and how many changes
@@ -96,34 +101,34 @@ pub(crate) type Put<'t> = (&'t str, usize, &'t str, (&'t str, usize, usize));
 /// Whether the line is completed and then takes the text, or each of the two fails by its fault, if it has one. An update
 /// that fails leaves the line as it was.
 fn asks<C: Completer>(
+    rt: &impl Abort,
     alloc: Global,
     completer: &C,
     put: Put<'_>,
     faults: (Option<Fault>, Option<Fault>),
-) -> Result<bool> {
-    Ok(
-        updates(alloc, completer, put, faults.1)?
-            && offers_nothing(alloc, completer, (put.0, put.1), faults.0)?
-            && offers_nothing(alloc, completer, ("ls u", 4), faults.0)?,
-    )
+) -> bool {
+    updates(rt, alloc, completer, put, faults.1)
+        && offers_nothing(rt, alloc, completer, (put.0, put.1), faults.0)
+        && offers_nothing(rt, alloc, completer, ("ls u", 4), faults.0)
 }
 
 /// Whether the line takes the text, or the update fails by its fault, if it has one, and leaves the line as it was.
 fn updates<C: Completer>(
+    rt: &impl Abort,
     alloc: Global,
     completer: &C,
     put: Put<'_>,
     fault: Option<Fault>,
-) -> Result<bool> {
+) -> bool {
     let (text, pos, elected, wanted) = put;
     if !text.is_char_boundary(0) || !text.is_char_boundary(pos) {
-        return Ok(false);
+        return false;
     }
-    let mut line = LineBuffer::init(alloc, text, pos)?;
+    let mut line = LineBuffer::init(alloc, text, pos).expect(rt, "no fault");
     let mut changes = Changeset::new(alloc);
     let outcome = completer.update(&mut line, 0, elected, &mut changes);
     let is_so = (line.as_str(), line.pos(), changes.len()) == wanted;
-    Ok(is_so && is_outcome(alloc, &outcome, fault)?)
+    is_so && is_outcome(rt, alloc, &outcome, fault)
 }
 
 /// A completer.
@@ -139,31 +144,33 @@ pub(crate) enum Which {
 
 /// Whether a completer does so, as it is and in a box.
 fn asks_boxed<C: Completer + Drop>(
+    rt: &impl Abort,
     alloc: Global,
     completer: C,
     put: Put<'_>,
     faults: (Option<Fault>, Option<Fault>),
-) -> Result<bool> {
-    let holds = asks(alloc, &completer, put, faults)?;
-    let boxed = Box::new(alloc, completer)?;
-    Ok(holds && asks(alloc, &boxed, put, faults)?)
+) -> bool {
+    let holds = asks(rt, alloc, &completer, put, faults);
+    let boxed = Box::new(alloc, completer).expect(rt, "no fault");
+    holds && asks(rt, alloc, &boxed, put, faults)
 }
 
 /// Whether this completer does so.
-pub(crate) fn holds(alloc: Global, which: Which, put: Put<'_>) -> Result<bool> {
+pub(crate) fn holds(rt: &impl Abort, alloc: Global, which: Which, put: Put<'_>) -> bool {
     let sure = (None, None);
     match which {
-        Which::Unit => asks_boxed(alloc, (), put, sure),
-        Which::Plain => asks_boxed(alloc, Plain, put, sure),
+        Which::Unit => asks_boxed(rt, alloc, (), put, sure),
+        Which::Plain => asks_boxed(rt, alloc, Plain, put, sure),
         Which::Stubborn(completes, updates) => {
-            let boxed = Box::new(alloc, Stubborn { completes, updates })?;
-            asks_boxed(alloc, boxed, put, (completes, updates))
+            let stubborn = Stubborn { completes, updates };
+            let boxed = Box::new(alloc, stubborn).expect(rt, "no fault");
+            asks_boxed(rt, alloc, boxed, put, (completes, updates))
         }
     }
 }
 
 #[test]
-fn of_a_completer_in_a_box(rt: HostRuntime) -> result::Result<(), Fail> {
+fn of_a_completer_in_a_box(rt: HostRuntime) {
     let put = ("us -l", 2, "usr", ("usr -l", 3, 1));
     let unput = ("us -l", 2, "usr", ("us -l", 2, 0));
     for fault in FAULTS {
@@ -176,8 +183,7 @@ fn of_a_completer_in_a_box(rt: HostRuntime) -> result::Result<(), Fail> {
             (Which::Stubborn(None, fault), unput),
             (Which::Stubborn(fault, fault), unput),
         ] {
-            assert!(rt; holds(rt.alloc(), which, put)?, "{fault:?} {put:?}");
+            assert!(rt; holds(&rt, rt.alloc(), which, put), "{fault:?} {put:?}");
         }
     }
-    Ok(())
 }

@@ -1,11 +1,9 @@
 //! A lister that fails in one call or for one folder: the error is handed on, and no other call is made.
 
 use super::{Boxed, Broken, ByTrait, NAMES, Sorted, Unsorted, folder_of, found, is_offered};
-use line_config::Result;
 use std::alloc::Global;
 use std::io::ErrorKind;
-use std::result;
-use std::test::Fail;
+use std::process::Abort;
 use tests_parties::fault::{CUT, Fault, GONE, USUAL};
 
 /// A line, its cursor, the folder that is asked for, its names, where the path begins, and what completes it, one
@@ -20,23 +18,23 @@ type Case = (
 );
 
 /// Whether the names come, or the fault where it is to.
-fn asks(alloc: Global, case: &Case, broken: Broken, fault: Fault) -> Result<bool> {
+fn asks(rt: &impl Abort, alloc: Global, case: &Case, broken: Broken, fault: Fault) -> bool {
     let (line, pos, path, names, start, offers) = *case;
     if !line.is_char_boundary(pos) {
-        return Ok(false);
+        return false;
     }
     for way in [Sorted, Unsorted, ByTrait, Boxed] {
-        let lister = folder_of(alloc, (path, names), broken, fault)?;
+        let lister = folder_of(alloc, (path, names), broken, fault).expect(rt, "no fault");
         let outcome = found(alloc, way, lister, line, pos);
         let holds = match broken {
-            Broken::Call(1) | Broken::At(_) => fault.is_answer(alloc, &outcome)?,
-            _ => is_offered(alloc, &outcome?, (start, offers))?,
+            Broken::Call(1) | Broken::At(_) => fault.is_answer(alloc, &outcome),
+            _ => is_offered(alloc, &outcome.expect(rt, "no fault"), (start, offers)),
         };
-        if !holds {
-            return Ok(false);
+        if !holds.expect(rt, "no fault") {
+            return false;
         }
     }
-    Ok(true)
+    true
 }
 
 const CASES: &[Case] = &[
@@ -65,7 +63,7 @@ const LOST: Fault = Fault {
 };
 
 #[test]
-fn of_a_lister(rt: HostRuntime) -> result::Result<(), Fail> {
+fn of_a_lister(rt: HostRuntime) {
     for case in CASES {
         for fault in [USUAL, GONE, CUT, LOST] {
             for broken in [
@@ -75,11 +73,10 @@ fn of_a_lister(rt: HostRuntime) -> result::Result<(), Fail> {
                 Broken::ButAt(case.2),
             ] {
                 assert!(rt;
-                    asks(rt.alloc(), case, broken, fault)?,
+                    asks(&rt, rt.alloc(), case, broken, fault),
                     "{case:?} {broken:?} {fault:?}"
                 );
             }
         }
     }
-    Ok(())
 }

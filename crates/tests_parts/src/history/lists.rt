@@ -12,7 +12,6 @@ use std::alloc::Global;
 use std::collections::vec_deque::Iter;
 use std::io::ErrorKind;
 use std::process::Abort;
-use std::test::Fail;
 
 /// A call of a history. A case ends with the lines that are left; the next one has a history made by `new`.
 pub(super) enum Step {
@@ -41,48 +40,25 @@ pub(super) enum Step {
     Gives(&'static str),
 }
 
-/// A call of any history but those that add one line.
-fn called<H: History>(
-    rt: &impl Abort,
-    alloc: Global,
-    history: &mut H,
-    step: &Step,
-) -> Result<(), Fail> {
-    match step {
-        Many(lines) => fills(rt, alloc, history, lines_of(alloc, *lines)?.as_str())?,
-        Limit(len) => history.set_max_len(*len)?,
-        IgnoreDups(yes) => history.ignore_dups(*yes)?,
-        IgnoreSpace(yes) => history.ignore_space(*yes),
-        Clear => history.clear()?,
-        Has(lines) => gives(rt, history, lines_of(alloc, *lines)?.as_str())?,
-        _ => return Err(Fail::from("a call of any history")),
-    }
-    Ok(())
-}
-
 /// A call of any history.
-fn stepped<H: History>(
-    rt: &impl Abort,
-    alloc: Global,
-    history: &mut H,
-    step: &Step,
-) -> Result<(), Fail> {
+fn stepped<H: History>(rt: &impl Abort, alloc: Global, history: &mut H, step: &Step) {
     let (line, owned, taken) = match step {
         Add(line, taken) => (line, false, taken),
         AddOwned(line, taken) => (line, true, taken),
-        _ => return called(rt, alloc, history, step),
+        Many(lines) => return fills(rt, alloc, history, lines_of(rt, alloc, *lines).as_str()),
+        Limit(len) => return history.set_max_len(*len).expect(rt, "no fault"),
+        IgnoreDups(yes) => return history.ignore_dups(*yes).expect(rt, "no fault"),
+        IgnoreSpace(yes) => return history.ignore_space(*yes),
+        Clear => return history.clear().expect(rt, "no fault"),
+        Has(lines) => return gives(rt, history, lines_of(rt, alloc, *lines).as_str()),
+        _ => panic!(rt; "a call of any history"),
     };
-    assert_eq!(rt; added(alloc, history, line, owned)?, *taken, "{line:?}");
-    Ok(())
+    let answer = added(alloc, history, line, owned).expect(rt, "no fault");
+    assert_eq!(rt; answer, *taken, "{line:?}");
 }
 
 /// A call of a history that can be saved.
-fn file_stepped(
-    rt: &impl Abort,
-    alloc: Global,
-    history: &mut FileHistory,
-    step: &Step,
-) -> Result<(), Fail> {
+fn file_stepped(rt: &impl Abort, alloc: Global, history: &mut FileHistory, step: &Step) {
     let (escapes, append, text) = match step {
         Save(text) => (V2, false, text),
         Append(text) => (V2, true, text),
@@ -90,22 +66,23 @@ fn file_stepped(
         AppendV3(text) => (V3, true, text),
         Load(text, wanted) => {
             let outcome = history.load_from(*text);
-            let answer = answer_of(rt, alloc, outcome, ErrorKind::InvalidData, "")?;
+            let answer = answer_of(rt, alloc, outcome, ErrorKind::InvalidData, "");
             assert_eq!(rt; answer, *wanted, "{text:?}");
-            return Ok(());
+            return;
         }
         _ => return stepped(rt, alloc, history, step),
     };
-    assert!(rt; is_saved(rt, alloc, history, escapes, append, text)?);
-    Ok(())
+    assert!(rt; is_saved(rt, alloc, history, escapes, append, text));
 }
 
-fn config_of(max_len: usize, ignore_dups: bool, ignore_space: bool) -> Result<Config, Fail> {
+fn config_of(rt: &impl Abort, max_len: usize, ignore_dups: bool, ignore_space: bool) -> Config {
     let mut config = Config::new(GraphemeClusterMode::Unicode);
-    config.set_max_history_size(max_len)?;
-    config.set_history_ignore_dups(ignore_dups)?;
+    config.set_max_history_size(max_len).expect(rt, "no fault");
+    config
+        .set_history_ignore_dups(ignore_dups)
+        .expect(rt, "no fault");
     config.set_history_ignore_space(ignore_space);
-    Ok(config)
+    config
 }
 
 /// Whether these lines come from the front.
@@ -144,8 +121,8 @@ fn come_from_both(mut entries: Iter<'_, String>, lines: &str) -> bool {
     entries.next().is_none()
 }
 
-fn mem_gives(rt: &impl Abort, history: &MemHistory, lines: &str) -> Result<(), Fail> {
-    gives(rt, history, lines)?;
+fn mem_gives(rt: &impl Abort, history: &MemHistory, lines: &str) {
+    gives(rt, history, lines);
     assert!(rt; come(history.into_iter(), lines));
     assert!(rt; come_back(history.into_iter(), lines));
     assert!(rt; come_from_both(history.into_iter(), lines));
@@ -153,11 +130,10 @@ fn mem_gives(rt: &impl Abort, history: &MemHistory, lines: &str) -> Result<(), F
         assert!(rt; index < history.len());
         assert_eq!(rt; history.entry(index), line.as_str());
     }
-    Ok(())
 }
 
-fn file_gives(rt: &impl Abort, history: &FileHistory, lines: &str) -> Result<(), Fail> {
-    gives(rt, history, lines)?;
+fn file_gives(rt: &impl Abort, history: &FileHistory, lines: &str) {
+    gives(rt, history, lines);
     assert!(rt; come(history.iter(), lines));
     assert!(rt; come_back(history.into_iter(), lines));
     assert!(rt; come_from_both(history.iter(), lines));
@@ -165,7 +141,6 @@ fn file_gives(rt: &impl Abort, history: &FileHistory, lines: &str) -> Result<(),
         assert!(rt; index < history.len());
         assert_eq!(rt; history.entry(index), line.as_str());
     }
-    Ok(())
 }
 
 const LISTS: &[Step] = &[
@@ -291,47 +266,45 @@ const LISTS: &[Step] = &[
 ];
 
 #[test]
-fn in_memory_alone(rt: HostRuntime) -> Result<(), Fail> {
+fn in_memory_alone(rt: HostRuntime) {
     let mut history = MemHistory::new(rt.alloc());
     for step in LISTS {
         match step {
             With(max_len, dups, space) => {
-                let config = config_of(*max_len, *dups, *space)?;
+                let config = config_of(&rt, *max_len, *dups, *space);
                 history = MemHistory::with_config(rt.alloc(), &config);
             }
             Gives(lines) => {
-                mem_gives(&rt, &history, lines)?;
+                mem_gives(&rt, &history, lines);
                 history = MemHistory::new(rt.alloc());
             }
-            _ => stepped(&rt, rt.alloc(), &mut history, step)?,
+            _ => stepped(&rt, rt.alloc(), &mut history, step),
         }
     }
-    Ok(())
 }
 
 /// Each call of the table is answered so by a history that can be saved, and leaves these lines.
-fn are_kept(rt: &impl Abort, alloc: Global, table: &[Step]) -> Result<(), Fail> {
+fn are_kept(rt: &impl Abort, alloc: Global, table: &[Step]) {
     let mut history: DefaultHistory = FileHistory::new(alloc);
     for step in table {
         match step {
             With(max_len, dups, space) => {
-                let config = config_of(*max_len, *dups, *space)?;
+                let config = config_of(rt, *max_len, *dups, *space);
                 history = FileHistory::with_config(alloc, &config);
             }
             Gives(lines) => {
-                file_gives(rt, &history, lines)?;
+                file_gives(rt, &history, lines);
                 history = FileHistory::new(alloc);
             }
-            _ => file_stepped(rt, alloc, &mut history, step)?,
+            _ => file_stepped(rt, alloc, &mut history, step),
         }
     }
-    Ok(())
 }
 
 #[test]
-fn that_can_be_saved(rt: HostRuntime) -> Result<(), Fail> {
-    are_kept(&rt, rt.alloc(), LISTS)?;
-    are_kept(&rt, rt.alloc(), SAVED)?;
-    are_kept(&rt, rt.alloc(), HEADERS)?;
-    are_kept(&rt, rt.alloc(), READ)
+fn that_can_be_saved(rt: HostRuntime) {
+    are_kept(&rt, rt.alloc(), LISTS);
+    are_kept(&rt, rt.alloc(), SAVED);
+    are_kept(&rt, rt.alloc(), HEADERS);
+    are_kept(&rt, rt.alloc(), READ);
 }

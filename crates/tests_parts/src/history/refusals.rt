@@ -33,7 +33,7 @@ fn adds<H: History>(
     }
     for line in LINES.split_terminator('|') {
         let outcome = added(alloc, history, line, owned);
-        if let Some(taken) = answer_of(rt, alloc, outcome, OutOfMemory, "")? {
+        if let Some(taken) = answer_of(rt, alloc, outcome, OutOfMemory, "") {
             assert!(rt; taken);
             if full {
                 kept.clear();
@@ -41,7 +41,7 @@ fn adds<H: History>(
             kept.push_str(line)?;
             kept.push('|')?;
         }
-        gives(rt, history, kept.as_str())?;
+        gives(rt, history, kept.as_str());
     }
     Ok(())
 }
@@ -119,14 +119,14 @@ const FOUR: &str = "a|b\n\\\rb|0123456789\n0123456789\n0123456789\n0123456789|c"
 /// The lines before the refusal are there, and are new.
 fn reads(rt: &impl Abort, alloc: Global, written: &Written) -> result::Result<(), Fail> {
     let mut history = FileHistory::new(alloc);
-    let answer = answer_of(rt, alloc, history.load_from(written.saved), OutOfMemory, "")?;
+    let answer = answer_of(rt, alloc, history.load_from(written.saved), OutOfMemory, "");
     let count = history.len();
     assert_eq!(rt; answer, if count == 4 { Some(true) } else { None });
     let Some((lines, appended)) = written.left.get(count) else {
         return Err(Fail::from("no more lines than there are"));
     };
     let left = if answer.is_some() { b"" } else { *appended };
-    let _ = keeps(rt, alloc, &mut history, lines, written.escapes, left)?;
+    let _ = keeps(rt, alloc, &mut history, lines, written.escapes, left);
     Ok(())
 }
 
@@ -139,7 +139,7 @@ fn saves(
 ) -> result::Result<(), Fail> {
     let mut history = FileHistory::new(alloc);
     for line in FOUR.split_terminator('|') {
-        if answer_of(rt, alloc, history.add(line), OutOfMemory, "")?.is_none() {
+        if answer_of(rt, alloc, history.add(line), OutOfMemory, "").is_none() {
             return Ok(());
         }
     }
@@ -147,9 +147,9 @@ fn saves(
         return Err(Fail::from("the text of all"));
     };
     let whole = if append { *all } else { written.saved };
-    let saved = is_saved(rt, alloc, &mut history, written.escapes, append, whole)?;
+    let saved = is_saved(rt, alloc, &mut history, written.escapes, append, whole);
     let left = if saved { b"" } else { *all };
-    let _ = keeps(rt, alloc, &mut history, FOUR, written.escapes, left)?;
+    let _ = keeps(rt, alloc, &mut history, FOUR, written.escapes, left);
     Ok(())
 }
 
@@ -174,9 +174,9 @@ fn of_a_text_that_breaks_off(rt: HostRuntime) -> result::Result<(), Fail> {
             return Ok(());
         }
     } else {
-        assert!(rt; answer_of(&rt, rt.alloc(), outcome, BROKEN.0, BROKEN.1)?.is_none());
+        assert!(rt; answer_of(&rt, rt.alloc(), outcome, BROKEN.0, BROKEN.1).is_none());
     }
-    let _ = keeps(&rt, rt.alloc(), &mut history, "a", V2, b"a\n")?;
+    let _ = keeps(&rt, rt.alloc(), &mut history, "a", V2, b"a\n");
     Ok(())
 }
 
@@ -190,7 +190,7 @@ fn copies(rt: &impl Abort, alloc: Global, count: usize) -> result::Result<usize,
         idx: 7,
         pos: 3,
     };
-    let copy = answer_of(rt, alloc, found.clone(), OutOfMemory, "")?;
+    let copy = answer_of(rt, alloc, found.clone(), OutOfMemory, "");
     assert_eq!(rt;
         (found.entry.as_str(), found.idx, found.pos),
         (text.as_str(), 7, 3)

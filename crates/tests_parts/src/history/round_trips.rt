@@ -7,8 +7,6 @@ use Escapes::{V2, V3};
 use line_parts::{Escapes, FileHistory, History};
 use std::alloc::Global;
 use std::process::Abort;
-use std::result;
-use std::test::Fail;
 
 /// The escapes, the lines that are saved and the ones appended, how many lines are kept of what is loaded, the length of
 /// the text where it is told, and the lines that are loaded: these and those. None are saved where the text has no header.
@@ -23,110 +21,64 @@ type Trip = (
 );
 
 /// The text of a history of the lines.
-fn text_of(rt: &impl Abort, alloc: Global, trip: &Trip) -> result::Result<Vec<u8>, Fail> {
+fn text_of(rt: &impl Abort, alloc: Global, trip: &Trip) -> Vec<u8> {
     let (escapes, saved, appended, _, length, _, _) = *trip;
     let mut history = FileHistory::new(alloc);
-    history.set_max_len(10_000)?;
+    history.set_max_len(10_000).expect(rt, "no fault");
     let mut text = Vec::new(alloc);
     for (lines, append) in [(saved, false), (appended, true)] {
         if let Some(lines) = lines {
-            fills(rt, alloc, &mut history, lines_of(alloc, lines)?.as_str())?;
-            save(&mut history, escapes, &mut text, append)?;
+            let lines = lines_of(rt, alloc, lines);
+            fills(rt, alloc, &mut history, lines.as_str());
+            save(&mut history, escapes, &mut text, append).expect(rt, "no fault");
         }
     }
     if let Some(length) = length {
         assert_eq!(rt; text.len(), length);
     }
-    Ok(text)
-}
-
-/// The history that is loaded from the text of one of the lines.
-fn loaded(rt: &impl Abort, alloc: Global, trip: &Trip) -> result::Result<FileHistory, Fail> {
-    let (_, saved, _, limit, _, _, _) = *trip;
-    let text = text_of(rt, alloc, trip)?;
-    let mut copy = FileHistory::new(alloc);
-    copy.set_max_len(limit)?;
-    assert_eq!(rt; copy.load_from(text.as_slice())?, saved.is_some());
-    Ok(copy)
+    text
 }
 
 /// The lines are loaded from their text.
-fn come_back(rt: &impl Abort, alloc: Global, trip: &Trip) -> result::Result<(), Fail> {
-    let copy = loaded(rt, alloc, trip)?;
-    let mut lines = lines_of(alloc, trip.5)?;
-    lines.push_str(lines_of(alloc, trip.6)?.as_str())?;
-    gives(rt, &copy, lines.as_str())
+fn come_back(rt: &impl Abort, alloc: Global, trip: &Trip) {
+    let (_, saved, _, limit, _, these, those) = *trip;
+    let text = text_of(rt, alloc, trip);
+    let mut copy = FileHistory::new(alloc);
+    copy.set_max_len(limit).expect(rt, "no fault");
+    let has_header = copy.load_from(text.as_slice()).expect(rt, "no fault");
+    assert_eq!(rt; has_header, saved.is_some());
+    let mut lines = lines_of(rt, alloc, these);
+    let others = lines_of(rt, alloc, those);
+    lines.push_str(others.as_str()).expect(rt, "no fault");
+    gives(rt, &copy, lines.as_str());
 }
 
 /// Each line of up to three of the characters, alone. Without an escape for it, the carriage return at its end is lost.
 #[test]
-fn of_short_lines(rt: HostRuntime) -> result::Result<(), Fail> {
+fn of_short_lines(rt: HostRuntime) {
     for number in 1..400 {
         let line = Short(number, number.saturating_add(1));
         for (escapes, loaded) in [(V2, Cut(number)), (V3, line)] {
             let trip = (escapes, Some(line), None, 100, None, loaded, NONE);
-            come_back(&rt, rt.alloc(), &trip)?;
+            come_back(&rt, rt.alloc(), &trip);
         }
     }
-    Ok(())
 }
 
 const NONE: Lines = These("");
 
 /// Ten lines of 1,000 bytes each, and one of 20,000.
-const BROAD: Lines = Pieces(&[
-    ("0\n", 500),
-    ("|", 1),
-    ("1\n", 500),
-    ("|", 1),
-    ("2\n", 500),
-    ("|", 1),
-    ("3\n", 500),
-    ("|", 1),
-    ("4\n", 500),
-    ("|", 1),
-    ("5\n", 500),
-    ("|", 1),
-    ("6\n", 500),
-    ("|", 1),
-    ("7\n", 500),
-    ("|", 1),
-    ("8\n", 500),
-    ("|", 1),
-    ("9\n", 500),
-    ("|", 1),
-    ("x\n", 10_000),
-    ("|", 1),
-]);
+const BROAD: Lines = Pieces(
+    "500*0\n+1*|+500*1\n+1*|+500*2\n+1*|+500*3\n+1*|+500*4\n+1*|+500*5\n+1*|+500*6\n+1*|+500*7\n+1*|+500*8\n+1*|+500*9\n+1*|+10000*x\n+1*|",
+);
 
 /// The same with a carriage return in place of the newline.
-const BROAD_V3: Lines = Pieces(&[
-    ("0\r", 500),
-    ("|", 1),
-    ("1\r", 500),
-    ("|", 1),
-    ("2\r", 500),
-    ("|", 1),
-    ("3\r", 500),
-    ("|", 1),
-    ("4\r", 500),
-    ("|", 1),
-    ("5\r", 500),
-    ("|", 1),
-    ("6\r", 500),
-    ("|", 1),
-    ("7\r", 500),
-    ("|", 1),
-    ("8\r", 500),
-    ("|", 1),
-    ("9\r", 500),
-    ("|", 1),
-    ("x\r", 10_000),
-    ("|", 1),
-]);
+const BROAD_V3: Lines = Pieces(
+    "500*0\r+1*|+500*1\r+1*|+500*2\r+1*|+500*3\r+1*|+500*4\r+1*|+500*5\r+1*|+500*6\r+1*|+500*7\r+1*|+500*8\r+1*|+500*9\r+1*|+10000*x\r+1*|",
+);
 
 /// A short line, and one of 8,000 bytes.
-const LONG: Lines = Pieces(&[("a|", 1), ("é", 4_000)]);
+const LONG: Lines = Pieces("1*a|+4000*é");
 
 const MANY: Lines = Numbered(0, 5_000);
 
@@ -286,9 +238,8 @@ const TRIPS: &[Trip] = &[
 ];
 
 #[test]
-fn of_lines_in_one_text(rt: HostRuntime) -> result::Result<(), Fail> {
+fn of_lines_in_one_text(rt: HostRuntime) {
     for trip in TRIPS {
-        come_back(&rt, rt.alloc(), trip)?;
+        come_back(&rt, rt.alloc(), trip);
     }
-    Ok(())
 }

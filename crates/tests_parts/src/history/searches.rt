@@ -8,7 +8,6 @@ use line_parts::{FileHistory, History, MemHistory, SearchDirection, SearchResult
 use std::alloc::Global;
 use std::borrow::CowStr;
 use std::process::Abort;
-use std::test::Fail;
 
 /// Where a term has to stand: anywhere in a line, or at its start.
 #[derive(Clone, Copy)]
@@ -17,35 +16,26 @@ enum Place {
     Start,
 }
 
-/// Whether what is found is borrowed, and so is its clone, which equals it.
-fn is_borrowed(found: &SearchResult<'_>) -> line_config::Result<bool> {
-    let copy = found.clone()?;
-    let both = matches!(found.entry, CowStr::Borrowed(_))
-        && matches!(copy.entry, CowStr::Borrowed(_));
-    Ok(both && copy == *found)
-}
-
-/// What is found is at this place: the index of a line and the byte offset in it, or a dash for nothing. It is borrowed,
-/// is the line at its index, and equals its clone.
+/// Whether what is found is at this place: the index of a line and the byte offset in it, or a dash for nothing. It is
+/// borrowed, and so is its clone, which equals it; it is the line at its index.
 fn is_at<H: History>(
     rt: &impl Abort,
     alloc: Global,
     history: &H,
     found: &Option<SearchResult<'_>>,
     at: &str,
-) -> Result<(), Fail> {
+) -> bool {
     let Some(found) = found else {
-        assert!(rt; at == "-", "{at}");
-        return Ok(());
+        return at == "-";
     };
-    assert!(rt; is_borrowed(found)?, "{at}");
-    let shown = format!(in alloc; "{}:{}", found.idx, found.pos)?;
-    assert_eq!(rt; shown.as_str(), at);
-    let Some(line) = history.get(found.idx, Forward)? else {
-        return Err(Fail::from("a line at each index"));
-    };
-    assert!(rt; line.entry.as_str() == found.entry.as_str(), "{at}");
-    Ok(())
+    let line = history.get(found.idx, Forward).expect(rt, "no fault");
+    let line = line.expect(rt, "a line at each index");
+    let shown = format!(in alloc; "{}:{}", found.idx, found.pos).expect(rt, "no fault");
+    let is_so = (shown.as_str(), line.entry.as_str()) == (at, found.entry.as_str());
+    let copy = found.clone().expect(rt, "no fault");
+    let both = matches!(found.entry, CowStr::Borrowed(_))
+        && matches!(copy.entry, CowStr::Borrowed(_));
+    is_so && both && copy == *found
 }
 
 /// Lines, where a term has to stand, the term and how often it is repeated, the direction, the indices at which a search
@@ -61,31 +51,24 @@ type Case = (
 );
 
 /// A history that is filled with the lines gives them, and they are found.
-fn finds<H: History>(
-    rt: &impl Abort,
-    alloc: Global,
-    history: &mut H,
-    case: &Case,
-) -> Result<(), Fail> {
+fn finds<H: History>(rt: &impl Abort, alloc: Global, history: &mut H, case: &Case) {
     let (lines, place, term, count, dir, starts, wanted) = *case;
-    history.set_max_len(10_000)?;
-    let lines = lines_of(alloc, lines)?;
-    fills(rt, alloc, history, lines.as_str())?;
-    gives(rt, history, lines.as_str())?;
-    let term = term.repeat(alloc, count)?;
+    history.set_max_len(10_000).expect(rt, "no fault");
+    let lines = lines_of(rt, alloc, lines);
+    fills(rt, alloc, history, lines.as_str());
+    gives(rt, history, lines.as_str());
+    let term = term.repeat(alloc, count).expect(rt, "no fault");
     let history = &*history;
     let mut places = wanted.split(' ');
     for start in starts {
-        let Some(at) = places.next() else {
-            return Err(Fail::from("a place for each index"));
-        };
+        let at = places.next().expect(rt, "a place for each index");
         let found = match place {
-            Anywhere => history.search(term.as_str(), *start, dir)?,
-            Start => history.starts_with(term.as_str(), *start, dir)?,
+            Anywhere => history.search(term.as_str(), *start, dir),
+            Start => history.starts_with(term.as_str(), *start, dir),
         };
-        is_at(rt, alloc, history, &found, at)?;
+        let found = found.expect(rt, "no fault");
+        assert!(rt; is_at(rt, alloc, history, &found, at), "{at}");
     }
-    Ok(())
 }
 
 /// Five lines: each character but `日` takes one byte, which takes three.
@@ -99,7 +82,7 @@ const NO_LINES: Lines = These("");
 const MANY: Lines = Numbered(0, 5_000);
 
 /// A short line, and one of 8,000 bytes.
-const LONG: Lines = Pieces(&[("a|", 1), ("é", 4_000)]);
+const LONG: Lines = Pieces("1*a|+4000*é");
 
 /// Each index of at most five lines, their number, and the greatest index.
 const EACH: &[usize] = &[0, 1, 2, 3, 4, 5, usize::MAX];
@@ -290,10 +273,9 @@ const SEARCHES: &[Case] = &[
 ];
 
 #[test]
-fn find_the_nearest_line(rt: HostRuntime) -> Result<(), Fail> {
+fn find_the_nearest_line(rt: HostRuntime) {
     for case in SEARCHES {
-        finds(&rt, rt.alloc(), &mut MemHistory::new(rt.alloc()), case)?;
-        finds(&rt, rt.alloc(), &mut FileHistory::new(rt.alloc()), case)?;
+        finds(&rt, rt.alloc(), &mut MemHistory::new(rt.alloc()), case);
+        finds(&rt, rt.alloc(), &mut FileHistory::new(rt.alloc()), case);
     }
-    Ok(())
 }

@@ -7,10 +7,8 @@ use Escapes::{V2, V3};
 use How::{Always, Full, Interrupted, Once};
 use line_parts::{Escapes, FileHistory, History};
 use std::alloc::Global;
-use std::io::{Error, ErrorKind, Read, Write};
+use std::io::{self, Error, ErrorKind, Read, Write};
 use std::process::Abort;
-use std::test::Fail;
-use std::{io, result};
 
 /// How a stream fails that gives one byte a call.
 #[derive(Clone, Copy)]
@@ -170,19 +168,15 @@ const MANNERS: &[Manner] = &[
 ];
 
 /// A history of settled lines, and of others that are new.
-fn history_of(
-    rt: &impl Abort,
-    alloc: Global,
-    settled: &str,
-    new: &str,
-) -> result::Result<FileHistory, Fail> {
+fn history_of(rt: &impl Abort, alloc: Global, settled: &str, new: &str) -> FileHistory {
     let mut history = FileHistory::new(alloc);
     if !settled.is_empty() {
-        fills(rt, alloc, &mut history, settled)?;
-        history.save_to(&mut Vec::new(alloc), false)?;
+        fills(rt, alloc, &mut history, settled);
+        let saved = history.save_to(&mut Vec::new(alloc), false);
+        saved.expect(rt, "no fault");
     }
-    fills(rt, alloc, &mut history, new)?;
-    Ok(history)
+    fills(rt, alloc, &mut history, new);
+    history
 }
 
 /// A text, the first place and the last one at which its reader fails, the answer, None where it fails, the lines that are
@@ -198,23 +192,16 @@ type Load = (
 
 /// A load leaves the lines that came before the place where its reader fails: in an empty history, or behind a settled line
 /// where it fails once.
-fn reads(
-    rt: &impl Abort,
-    alloc: Global,
-    load: &Load,
-    place: usize,
-    manner: &Manner,
-) -> result::Result<(), Fail> {
+fn reads(rt: &impl Abort, alloc: Global, load: &Load, place: usize, manner: &Manner) {
     let (text, _, _, wanted, lines, appended) = *load;
     let (kind, words, how) = *manner;
     let settled = if matches!(how, Once) { "x|" } else { "" };
-    let mut history = history_of(rt, alloc, settled, "")?;
+    let mut history = history_of(rt, alloc, settled, "");
     let outcome = history.load_from(Stream::new(alloc, text, place, manner));
-    let answer = answer_of(rt, alloc, outcome, kind, words)?;
+    let answer = answer_of(rt, alloc, outcome, kind, words);
     assert_eq!(rt; answer, wanted, "{place} {kind:?}");
-    let lines = format!(in alloc; "{settled}{lines}")?;
-    assert!(rt; keeps(rt, alloc, &mut history, lines.as_str(), V3, appended)?);
-    Ok(())
+    let lines = format!(in alloc; "{settled}{lines}").expect(rt, "no fault");
+    assert!(rt; keeps(rt, alloc, &mut history, lines.as_str(), V3, appended));
 }
 
 const HEADED: &[u8] = b"#V2\nab\n\ncd\ne";
@@ -259,35 +246,21 @@ const LOADS: &[Load] = &[
 ];
 
 #[test]
-fn that_are_read(rt: HostRuntime) -> result::Result<(), Fail> {
+fn that_are_read(rt: HostRuntime) {
     for load in LOADS {
         for place in load.1..=load.2 {
             for manner in MANNERS {
-                reads(&rt, rt.alloc(), load, place, manner)?;
+                reads(&rt, rt.alloc(), load, place, manner);
             }
         }
     }
-    Ok(())
 }
 
 /// The settled lines and the new ones, the escapes, whether the new ones are appended, what is written, and what is
 /// appended of the new ones.
 type Save<'a> = (&'a str, &'a str, Escapes, bool, &'a [u8], &'a [u8]);
 
-/// Whether a save is done. It answers the fault of its writer.
-fn is_done(
-    rt: &impl Abort,
-    alloc: Global,
-    history: &mut FileHistory,
-    case: &Save<'_>,
-    out: &mut Stream,
-) -> result::Result<bool, Fail> {
-    let (kind, text, _) = out.manner;
-    let outcome = save(history, case.2, out, case.3);
-    Ok(answer_of(rt, alloc, outcome, kind, text)?.is_some())
-}
-
-/// Whether a save writes all. Its writer took all before the place where it fails.
+/// Whether a save writes all. It answers the fault of its writer, which took all before the place where it fails.
 fn is_whole(
     rt: &impl Abort,
     alloc: Global,
@@ -295,31 +268,26 @@ fn is_whole(
     case: &Save<'_>,
     place: usize,
     manner: &Manner,
-) -> result::Result<bool, Fail> {
-    let whole = case.4;
+) -> bool {
+    let (_, _, escapes, append, whole, _) = *case;
+    let (kind, text, _) = *manner;
     let mut out = Stream::new(alloc, b"", place, manner);
-    let done = is_done(rt, alloc, history, case, &mut out)?;
+    let outcome = save(history, escapes, &mut out, append);
+    let done = answer_of(rt, alloc, outcome, kind, text).is_some();
     let is_taken = Some(out.taken.as_slice()) == whole.get(..place.min(whole.len()));
-    assert!(rt; done == (place > whole.len()), "{place} {:?}", manner.0);
-    assert!(rt; is_taken, "{place} {:?}", manner.0);
-    Ok(done)
+    let found = (done, is_taken);
+    assert_eq!(rt; found, (place > whole.len(), true), "{place} {kind:?}");
+    done
 }
 
 /// After a save that fails all lines are there, and the new ones are new.
-fn writes(
-    rt: &impl Abort,
-    alloc: Global,
-    case: &Save<'_>,
-    place: usize,
-    manner: &Manner,
-) -> result::Result<(), Fail> {
+fn writes(rt: &impl Abort, alloc: Global, case: &Save<'_>, place: usize, manner: &Manner) {
     let (settled, new, escapes, _, _, appended) = *case;
-    let mut history = history_of(rt, alloc, settled, new)?;
-    let done = is_whole(rt, alloc, &mut history, case, place, manner)?;
-    let lines = format!(in alloc; "{settled}{new}")?;
+    let mut history = history_of(rt, alloc, settled, new);
+    let done = is_whole(rt, alloc, &mut history, case, place, manner);
+    let lines = format!(in alloc; "{settled}{new}").expect(rt, "no fault");
     let left = if done { b"" } else { appended };
-    assert!(rt; keeps(rt, alloc, &mut history, lines.as_str(), escapes, left)?);
-    Ok(())
+    assert!(rt; keeps(rt, alloc, &mut history, lines.as_str(), escapes, left));
 }
 
 const SAVES: &[Save<'static>] = &[
@@ -380,65 +348,43 @@ const SAVES: &[Save<'static>] = &[
 
 /// The writer fails at each byte, at the flush behind the last one, and not at all.
 #[test]
-fn that_are_written(rt: HostRuntime) -> result::Result<(), Fail> {
+fn that_are_written(rt: HostRuntime) {
     for case in SAVES {
         for place in 0..case.4.len().saturating_add(2) {
             for manner in MANNERS {
-                writes(&rt, rt.alloc(), case, place, manner)?;
+                writes(&rt, rt.alloc(), case, place, manner);
             }
         }
     }
-    Ok(())
 }
 
 /// Two lines of 9,000 bytes.
-const MUCH: Lines = Pieces(&[("a", 9_000), ("|", 1), ("b", 9_000), ("|", 1)]);
+const MUCH: Lines = Pieces("9000*a+1*|+9000*b+1*|");
 
-const TEXT: Lines = Pieces(&[
-    ("#V2\na", 1),
-    ("a", 8_999),
-    ("\n", 1),
-    ("b", 9_000),
-    ("\n", 1),
-]);
+const TEXT: Lines = Pieces("1*#V2\na+8999*a+1*\n+9000*b+1*\n");
 
-const TEXT_V3: Lines = Pieces(&[
-    ("#V3\na", 1),
-    ("a", 8_999),
-    ("\n", 1),
-    ("b", 9_000),
-    ("\n", 1),
-]);
+const TEXT_V3: Lines = Pieces("1*#V3\na+8999*a+1*\n+9000*b+1*\n");
 
 /// Two long lines are written one after the other.
-fn writes_much(
-    rt: &impl Abort,
-    alloc: Global,
-    escapes: Escapes,
-    append: bool,
-    place: usize,
-) -> result::Result<(), Fail> {
-    let lines = lines_of(alloc, MUCH)?;
+fn writes_much(rt: &impl Abort, alloc: Global, escapes: Escapes, append: bool, place: usize) {
+    let lines = lines_of(rt, alloc, MUCH);
     let text = match escapes {
-        V2 => lines_of(alloc, TEXT)?,
-        V3 => lines_of(alloc, TEXT_V3)?,
+        V2 => lines_of(rt, alloc, TEXT),
+        V3 => lines_of(rt, alloc, TEXT_V3),
     };
-    let Some(appended) = text.as_bytes().get(4..) else {
-        return Err(Fail::from("a header"));
-    };
+    let appended = text.as_bytes().get(4..).expect(rt, "a header");
     let whole = if append { appended } else { text.as_bytes() };
     let case = ("", lines.as_str(), escapes, append, whole, appended);
-    writes(rt, alloc, &case, place, &GONE)
+    writes(rt, alloc, &case, place, &GONE);
 }
 
 #[test]
-fn that_are_written_at_length(rt: HostRuntime) -> result::Result<(), Fail> {
+fn that_are_written_at_length(rt: HostRuntime) {
     for place in [0, 1, 8_191, 8_192, 8_193, 9_001, 9_500, 18_001, WHOLE] {
         for escapes in [V2, V3] {
             for append in [false, true] {
-                writes_much(&rt, rt.alloc(), escapes, append, place)?;
+                writes_much(&rt, rt.alloc(), escapes, append, place);
             }
         }
     }
-    Ok(())
 }

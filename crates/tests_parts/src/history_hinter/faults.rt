@@ -2,11 +2,9 @@
 //! dropped.
 
 use super::{Hinted, LINES, fill, hints_from};
-use line_config::Result;
 use line_parts::{History, HistoryHinter, SearchDirection};
 use std::alloc::Global;
-use std::result;
-use std::test::Fail;
+use std::process::Abort;
 use tests_parties::fault::{FAULTS, Fault};
 use tests_parties::shelf::{Call, Failing, Shelf};
 
@@ -20,21 +18,21 @@ type Case = (
 );
 
 /// Whether the hint comes, or the fault where it is to.
-fn asks(alloc: Global, case: &Case, fault: Fault) -> Result<bool> {
+fn asks(rt: &impl Abort, alloc: Global, case: &Case, fault: Fault) -> bool {
     let ((lines, index), (number, failing), hinted, faulty) = *case;
     let mut history = Shelf::new(alloc, number);
-    fill(&mut history, lines)?;
+    fill(&mut history, lines).expect(rt, "no fault");
     if let Some(failing) = failing {
         history.fail_in(failing, fault);
     }
     let outcome = hints_from(alloc, &HistoryHinter::default(), &history, index, hinted);
     if number > 0 && history.get(0, SearchDirection::Reverse).is_ok() {
-        return Ok(false);
+        return false;
     }
     if faulty {
-        fault.is_answer(alloc, &outcome)
+        fault.is_answer(alloc, &outcome).expect(rt, "no fault")
     } else {
-        outcome
+        outcome.expect(rt, "no fault")
     }
 }
 
@@ -174,11 +172,10 @@ const CASES: &[Case] = &[
 ];
 
 #[test]
-fn of_one_look_up(rt: HostRuntime) -> result::Result<(), Fail> {
+fn of_one_look_up(rt: HostRuntime) {
     for case in CASES {
         for fault in FAULTS {
-            assert!(rt; asks(rt.alloc(), case, *fault)?, "{case:?} {fault:?}");
+            assert!(rt; asks(&rt, rt.alloc(), case, *fault), "{case:?} {fault:?}");
         }
     }
-    Ok(())
 }

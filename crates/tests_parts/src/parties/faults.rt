@@ -5,8 +5,7 @@ use line_buffer::LineBuffer;
 use line_config::Result;
 use line_parts::{Context, Helper, History, Parties};
 use std::alloc::Global;
-use std::result;
-use std::test::Fail;
+use std::process::Abort;
 use tests_parties::advisor::{Advisor, Verdict};
 use tests_parties::fault::{FAULTS, Fault};
 
@@ -37,13 +36,17 @@ fn answers<H: Helper, S: History>(
 }
 
 /// Whether there is no hint and the line is valid; the history, of which each call fails, is not asked.
-pub(super) fn asks_nothing(alloc: Global, helper: Option<&mut ()>, text: &str) -> Result<bool> {
+pub(super) fn asks_nothing(
+    rt: &impl Abort,
+    alloc: Global,
+    helper: Option<&mut ()>,
+    text: &str,
+) -> bool {
     let history = broken_history(alloc);
     let parties = Parties::new(helper, Context::new(&history));
-    Ok(
-        answers(&parties, alloc, text, Answer::Hint(None))?
-            && answers(&parties, alloc, text, Answer::Verdict("valid", ""))?,
-    )
+    let hint = answers(&parties, alloc, text, Answer::Hint(None));
+    let verdict = answers(&parties, alloc, text, Answer::Verdict("valid", ""));
+    hint.expect(rt, "no fault") && verdict.expect(rt, "no fault")
 }
 
 /// The hint and the verdict of a helper, the number of its answer that fails, the right answer, and whether the fault
@@ -52,18 +55,24 @@ type Case = ((Option<&'static str>, Verdict), u64, Answer, bool);
 
 /// Whether the answer comes, or the fault where it is to, and then the answer. The helper asks no history, so it does not
 /// matter that this one fails.
-pub(crate) fn helped(alloc: Global, case: &Case, text: &str, fault: Fault) -> Result<bool> {
+pub(crate) fn helped(
+    rt: &impl Abort,
+    alloc: Global,
+    case: &Case,
+    text: &str,
+    fault: Fault,
+) -> bool {
     let ((hint, verdict), failing, wanted, faulty) = *case;
     let mut advisor = Advisor::new(hint, verdict, None);
     advisor.fail_by(failing, fault);
     let history = broken_history(alloc);
     let parties = Parties::new(Some(&mut advisor), Context::new(&history));
     let outcome = answers(&parties, alloc, text, wanted);
-    if faulty {
-        Ok(fault.is_answer(alloc, &outcome)? && answers(&parties, alloc, text, wanted)?)
-    } else {
-        outcome
+    if !faulty {
+        return outcome.expect(rt, "no fault");
     }
+    let again = answers(&parties, alloc, text, wanted).expect(rt, "no fault");
+    again && fault.is_answer(alloc, &outcome).expect(rt, "no fault")
 }
 
 /// A hint, and a line that is invalid.
@@ -181,14 +190,13 @@ const CASES: &[Case] = &[
 ];
 
 #[test]
-fn of_a_helper(rt: HostRuntime) -> result::Result<(), Fail> {
+fn of_a_helper(rt: HostRuntime) {
     for case in CASES {
         for fault in FAULTS {
             assert!(rt;
-                helped(rt.alloc(), case, "ab", *fault)?,
+                helped(&rt, rt.alloc(), case, "ab", *fault),
                 "{case:?} {fault:?}"
             );
         }
     }
-    Ok(())
 }
