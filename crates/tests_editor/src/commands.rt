@@ -46,51 +46,50 @@ fn does(
 /// that it leads to.
 type Last = (Unit, &'static str, &'static str, Unit);
 
-fn stays(rt: &impl Abort, alloc: Global, case: &Last) -> Result<()> {
+fn stays(rt: &impl Abort, alloc: Global, case: &Last) {
     let (columns, typed, calls, column) = case;
     let mut prompt = String::new(alloc);
     for _ in 0..65535 {
-        prompt.push('\n')?;
+        prompt.push('\n').expect(rt, "no fault");
     }
     let mut screen = Recorder::new(alloc, (*columns).max(1), false, 0);
-    let row = types(alloc, &mut screen, &prompt, typed)?;
-    let letters = letters(alloc, screen.log(), 1)?;
+    let row = types(rt, alloc, &mut screen, &prompt, typed);
+    let letters = letters(alloc, screen.log(), 1).expect(rt, "no fault");
     assert_eq!(rt;
         (row, letters.as_str()),
         ((65535, *column), *calls),
         "{typed}"
     );
-    Ok(())
 }
 
 /// Types characters into an empty line. Returns where the cursor is drawn.
 fn types(
+    rt: &impl Abort,
     alloc: Global,
     screen: &mut Recorder,
     prompt: &String,
     typed: &str,
-) -> Result<(Unit, Unit)> {
+) -> (Unit, Unit) {
     let history = Shelf::new(alloc, 0);
     let context = Context::new(&history);
     let mut state: State<'_, '_, Recorder, Advisor, String, Shelf> = State::new(
         alloc, screen, prompt, None, context,
-    )?;
-    state.refresh_line()?;
+    ).expect(rt, "no fault");
+    state.refresh_line().expect(rt, "no fault");
     for c in typed.chars() {
-        state.edit_insert(c, 1)?;
+        state.edit_insert(c, 1).expect(rt, "no fault");
     }
     let cursor = state.layout().cursor;
-    Ok((cursor.row, cursor.col))
+    (cursor.row, cursor.col)
 }
 
 const ON_THE_LAST_ROW: &[Last] = &[(1, "x", "d", 0), (2, "xyz", "wdw", 1), (3, "xyz", "wwd", 0)];
 
 #[test]
-fn on_the_last_row(rt: HostRuntime) -> Result<()> {
+fn on_the_last_row(rt: HostRuntime) {
     for case in ON_THE_LAST_ROW {
-        stays(&rt, rt.alloc(), case)?;
+        stays(&rt, rt.alloc(), case);
     }
-    Ok(())
 }
 
 /// What `Debug` writes of a state has each of these pieces.
@@ -106,20 +105,21 @@ fn writes(rt: &impl Abort, alloc: Global, state: &Editor<'_, '_>) {
 }
 
 #[test]
-fn is_written(rt: HostRuntime) -> Result<()> {
+fn is_written(rt: HostRuntime) {
     let alloc = rt.alloc();
     let mut screen = Recorder::new(alloc, 80, false, 0);
     let mut history = Shelf::new(alloc, 0);
-    let _ = history.add("one")?;
-    let _ = history.add("two")?;
+    let _ = history.add("one").expect(&rt, "no fault");
+    let _ = history.add("two").expect(&rt, "no fault");
     let context = Context::new(&history);
     let prompt = (
-        String::from_str(alloc, "> ")?,
-        String::from_str(alloc, "> ")?,
+        String::from_str(alloc, "> ").expect(&rt, "no fault"),
+        String::from_str(alloc, "> ").expect(&rt, "no fault"),
     );
     let text = "日本";
     assert!(rt; text.is_char_boundary(3));
-    let state = State::with_line(alloc, &mut screen, &prompt, None, context, text, 3)?;
+    let state = State::with_line(alloc, &mut screen, &prompt, None, context, text, 3).expect(
+        &rt, "no fault",
+    );
     writes(&rt, alloc, &state);
-    Ok(())
 }

@@ -2,12 +2,10 @@
 
 use crate::caller::type_in;
 use line_buffer::{Changeset, LineBuffer};
-use std::test::Fail;
 
 #[test]
-fn a_character_by_the_caller(rt: HostRuntime) -> Result<(), Fail> {
+fn a_character_by_the_caller(rt: HostRuntime) {
     let mut buffer = LineBuffer::new(rt.alloc());
-    type_in(&mut buffer, &mut Changeset::new(rt.alloc()), 'é')?;
+    type_in(&mut buffer, &mut Changeset::new(rt.alloc()), 'é').expect(&rt, "no fault");
     assert_eq!(rt; buffer.as_str(), "é");
-    Ok(())
 }

@@ -7,10 +7,7 @@ use line_editor::binding::{Event, EventHandler};
 use line_keys::cmd::Cmd;
 use line_keys::keys::{KeyCode as K, KeyEvent, Modifiers as M};
 use line_keys::refresher::Invoke;
-use std::alloc::Global;
 use std::collections::HashMap;
-use std::process::Abort;
-use std::test::Fail;
 
 /// Each set of modifiers; the same with Ctrl, with Shift and without Shift.
 const SETS: &[(M, M, M, M)] = &[
@@ -178,30 +175,26 @@ const EVENTS: &[(Made, K, With)] = &[
 ];
 
 /// The event that is made, with each set of modifiers.
-fn comes(rt: &impl Abort, made: &Made, code: K, with: &With) {
-    for (mods, and_ctrl, and_shift, not_shift) in SETS {
-        let (given, left) = match with {
-            Each => (*mods, *mods),
-            EachAndCtrl => (*mods, *and_ctrl),
-            EachAndShift => (*mods, *and_shift),
-            EachNotShift => (*mods, *not_shift),
-            Only(given, left) => (*given, *left),
-        };
-        let event = match made {
-            New(c) => KeyEvent::new(*c, given),
-            Ctrl(c) => KeyEvent::ctrl(*c),
-            Alt(c) => KeyEvent::alt(*c),
-            Plain(c) => KeyEvent::from(*c),
-            Normal(code) => KeyEvent::normalize(KeyEvent(*code, given)),
-        };
-        assert_eq!(rt; event, KeyEvent(code, left), "made with {given:?}");
-    }
-}
-
 #[test]
 fn are_made(rt: HostRuntime) {
     for (made, code, with) in EVENTS {
-        comes(&rt, made, *code, with);
+        for (mods, and_ctrl, and_shift, not_shift) in SETS {
+            let (given, left) = match with {
+                Each => (*mods, *mods),
+                EachAndCtrl => (*mods, *and_ctrl),
+                EachAndShift => (*mods, *and_shift),
+                EachNotShift => (*mods, *not_shift),
+                Only(given, left) => (*given, *left),
+            };
+            let event = match made {
+                New(c) => KeyEvent::new(*c, given),
+                Ctrl(c) => KeyEvent::ctrl(*c),
+                Alt(c) => KeyEvent::alt(*c),
+                Plain(c) => KeyEvent::from(*c),
+                Normal(code) => KeyEvent::normalize(KeyEvent(*code, given)),
+            };
+            assert_eq!(rt; event, KeyEvent(*code, left), "made with {given:?}");
+        }
     }
 }
 
@@ -322,29 +315,25 @@ const COMBINED: &[Sets] = &[
     ),
 ];
 
-fn combines(rt: &impl Abort, case: &Sets) {
-    let (bits, a, b, both, common, either, first, lacks) = *case;
-    assert_eq!(rt;
-        (a | b, a & b, a ^ b, a - b, !a),
-        (both, common, either, first, lacks)
-    );
-    let found = (a.contains(b), a.intersects(b), a.is_empty());
-    assert_eq!(rt; found, (common == b, common != M::NONE, a == M::NONE));
-    let found = (a.bits(), M::from_bits(bits), M::from_bits(bits | 1));
-    assert_eq!(rt; found, (bits, Some(a), None));
-    let mut set = a;
-    set.insert(b);
-    assert_eq!(rt; set, both);
-    set.remove(b);
-    assert_eq!(rt; set, first);
-    set.toggle(both);
-    assert_eq!(rt; set, both - first);
-}
-
 #[test]
 fn modifiers_are_sets(rt: HostRuntime) {
     for case in COMBINED {
-        combines(&rt, case);
+        let (bits, a, b, both, common, either, first, lacks) = *case;
+        assert_eq!(rt;
+            (a | b, a & b, a ^ b, a - b, !a),
+            (both, common, either, first, lacks)
+        );
+        let found = (a.contains(b), a.intersects(b), a.is_empty());
+        assert_eq!(rt; found, (common == b, common != M::NONE, a == M::NONE));
+        let found = (a.bits(), M::from_bits(bits), M::from_bits(bits | 1));
+        assert_eq!(rt; found, (bits, Some(a), None));
+        let mut set = a;
+        set.insert(b);
+        assert_eq!(rt; set, both);
+        set.remove(b);
+        assert_eq!(rt; set, first);
+        set.toggle(both);
+        assert_eq!(rt; set, both - first);
     }
     assert_eq!(rt; !M::from_bits_retain(0xf1), M::CTRL_ALT_SHIFT);
     assert_eq!(rt;
@@ -355,21 +344,22 @@ fn modifiers_are_sets(rt: HostRuntime) {
 
 /// Equal events are one key of a map.
 #[test]
-fn of_a_map(rt: HostRuntime) -> Result<(), Fail> {
+fn of_a_map(rt: HostRuntime) {
     let mut commands = HashMap::new(rt.alloc());
-    commands.insert(KeyEvent::ctrl('A'), 1)?;
-    commands.insert(KeyEvent::alt('A'), 2)?;
+    for (key, number) in [(KeyEvent::ctrl('A'), 1), (KeyEvent::alt('A'), 2)] {
+        let outcome: Result<_, _> = commands.insert(key, number);
+        let _ = outcome.expect(&rt, "no fault");
+    }
     assert_eq!(rt; commands.get(&KeyEvent::from('\u{1}')).copied(), Some(1));
     assert_eq!(rt; commands.get(&KeyEvent::from('A')).copied(), None);
-    let text = format!(in rt.alloc(); "{:?}", KeyEvent::ctrl('A'))?;
+    let text = format!(in rt.alloc(); "{:?}", KeyEvent::ctrl('A')).expect(&rt, "no fault");
     assert_eq!(rt; text.as_str(), "KeyEvent(Char('A'), Modifiers(8))");
-    Ok(())
 }
 
 #[test]
-fn of_events(rt: HostRuntime) -> Result<(), Fail> {
+fn of_events(rt: HostRuntime) {
     let key = KeyEvent::ctrl('x');
-    let event = Event::from_key(rt.alloc(), key)?;
+    let event = Event::from_key(rt.alloc(), key).expect(&rt, "no fault");
     let found = (
         event.get(0).copied(),
         event.get(1).copied(),
@@ -379,5 +369,4 @@ fn of_events(rt: HostRuntime) -> Result<(), Fail> {
     let handler = EventHandler::from(Cmd::Noop);
     assert!(rt; matches!(handler, EventHandler::Simple(Cmd::Noop)));
     assert_eq!(rt; (&"ab").input(), "ab");
-    Ok(())
 }

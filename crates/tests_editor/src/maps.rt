@@ -132,17 +132,16 @@ fn takes(rt: &impl Abort, alloc: Global, bindings: &mut Bindings, step: &Step) -
 }
 
 #[test]
-fn events_are_bound_and_found(rt: HostRuntime) -> std::result::Result<(), Fail> {
+fn events_are_bound_and_found(rt: HostRuntime) {
     let mut bindings = Bindings::new(rt.alloc());
     for step in STEPS {
-        takes(&rt, rt.alloc(), &mut bindings, step)?;
+        takes(&rt, rt.alloc(), &mut bindings, step).expect(&rt, "no fault");
     }
-    Ok(())
 }
 
 /// Each of the 500 keys behind others, bound to a number of its own.
 #[test]
-fn five_hundred_keys_share_a_node(rt: HostRuntime) -> std::result::Result<(), Fail> {
+fn five_hundred_keys_share_a_node(rt: HostRuntime) {
     for front in ["", "X"] {
         let mut bindings = Bindings::new(rt.alloc());
         let all = front.len().saturating_add(500);
@@ -150,14 +149,13 @@ fn five_hundred_keys_share_a_node(rt: HostRuntime) -> std::result::Result<(), Fa
             let own = usize::from(i);
             let nodes = front.len().saturating_add(own).saturating_add(1);
             let step = (Binds(i), Keys(front, own, 1), None, nodes);
-            takes(&rt, rt.alloc(), &mut bindings, &step)?;
+            takes(&rt, rt.alloc(), &mut bindings, &step).expect(&rt, "no fault");
         }
         for i in 0..500u16 {
             let step = (Finds(true), Keys(front, usize::from(i), 1), Some(i), all);
-            takes(&rt, rt.alloc(), &mut bindings, &step)?;
+            takes(&rt, rt.alloc(), &mut bindings, &step).expect(&rt, "no fault");
         }
     }
-    Ok(())
 }
 
 /// How many of forty keys are bound to 1, and how many to 2; or 0, where none are.
@@ -205,9 +203,8 @@ fn forty(rt: &impl Abort, alloc: Global) -> Result<()> {
 }
 
 #[test]
-fn forty_keys_are_bound(rt: HostRuntime) -> std::result::Result<(), Fail> {
-    forty(&rt, rt.alloc())?;
-    Ok(())
+fn forty_keys_are_bound(rt: HostRuntime) {
+    forty(&rt, rt.alloc()).expect(&rt, "no fault");
 }
 
 /// A refusal is no failure of the test.
@@ -227,12 +224,12 @@ const COPIED: &[(On, On)] = &[
 ];
 
 #[test]
-fn events_are_copied_and_put_into_normal_form(rt: HostRuntime) -> std::result::Result<(), Fail> {
+fn events_are_copied_and_put_into_normal_form(rt: HostRuntime) {
     for (on, wanted) in COPIED {
-        let event_here = event(rt.alloc(), on)?;
-        let copy = event_here.clone(rt.alloc())?;
+        let event_here = event(rt.alloc(), on).expect(&rt, "no fault");
+        let copy = event_here.clone(rt.alloc()).expect(&rt, "no fault");
         assert_eq!(rt; copy, event_here);
-        assert_eq!(rt; copy.normalize(), event(rt.alloc(), wanted)?);
+        let wanted = event(rt.alloc(), wanted).expect(&rt, "no fault");
+        assert_eq!(rt; copy.normalize(), wanted);
     }
-    Ok(())
 }

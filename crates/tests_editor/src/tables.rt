@@ -4,7 +4,7 @@ mod rows;
 
 use self::rows::{Row, TABLES};
 use line_buffer::{CharSearch, GraphemeClusterMode};
-use line_config::{Config, EditMode, Result};
+use line_config::{Config, EditMode};
 use line_editor::Bindings;
 use line_editor::edit::State;
 use line_editor::input_state::InputState;
@@ -15,7 +15,6 @@ use line_keys::tables::{Meaning, SearchKind, entry_of_key, second_key};
 use line_parts::{Context, MemHistory};
 use std::alloc::Global;
 use std::process::Abort;
-use std::test::Fail;
 use tests_parties::advisor::Advisor;
 use tests_stand_ins::recorder::Recorder;
 use tests_stand_ins::typist::Typist;
@@ -62,44 +61,49 @@ const CONTROL_X: KeyEvent = KeyEvent(K::Char('X'), M::CTRL);
 type Editor<'out, 'prompt> = State<'out, 'prompt, Recorder, Advisor, &'static str, MemHistory>;
 
 /// The keys of a count: the first of them with Alt.
-fn count_keys(alloc: Global, text: &str) -> Result<Vec<KeyEvent>> {
+fn count_keys(rt: &impl Abort, alloc: Global, text: &str) -> Vec<KeyEvent> {
     let mut keys = Vec::new(alloc);
     let mut mods = M::ALT;
     for c in text.chars() {
-        keys.push(KeyEvent(K::Char(c), mods))?;
+        keys.push(KeyEvent(K::Char(c), mods)).expect(rt, "no fault");
         mods = M::NONE;
     }
-    Ok(keys)
+    keys
 }
 
 /// A key as it is typed behind the keys of a count.
-fn typed(alloc: Global, digits: &str, way: &Way, key: KeyEvent) -> Result<Typist> {
+fn typed(rt: &impl Abort, alloc: Global, digits: &str, way: &Way, key: KeyEvent) -> Typist {
     let mut typist = Typist::new(alloc);
-    typist.press(count_keys(alloc, digits)?.as_slice())?;
-    match way {
-        Way::Second => typist.press(&[CONTROL_X, key])?,
-        Way::Search => typist.press(&[key, KeyEvent(K::Char('é'), M::NONE)])?,
-        _ => typist.press(&[key])?,
-    }
-    Ok(typist)
+    typist
+        .press(count_keys(rt, alloc, digits).as_slice())
+        .expect(rt, "no fault");
+    let outcome = match way {
+        Way::Second => typist.press(&[CONTROL_X, key]),
+        Way::Search => typist.press(&[key, KeyEvent(K::Char('é'), M::NONE)]),
+        _ => typist.press(&[key]),
+    };
+    outcome.expect(rt, "no fault");
+    typist
 }
 
 /// What a key means by the tables.
 fn meant(
+    rt: &impl Abort,
     alloc: Global,
     state: &Editor<'_, '_>,
     way: &Way,
     key: KeyEvent,
     count: Count,
-) -> Result<String> {
+) -> String {
     let meaning = match way {
         Way::Second => Meaning::Command(second_key(key, count)),
         _ => entry_of_key(EditMode::Emacs, InputMode::Insert, key, Some(count), state).meaning,
     };
-    match meaning {
-        Meaning::Command(command) => Ok(format!(in alloc; "{command:?}")?),
-        other => Ok(format!(in alloc; "{other:?}")?),
-    }
+    let outcome = match meaning {
+        Meaning::Command(command) => format!(in alloc; "{command:?}"),
+        other => format!(in alloc; "{other:?}"),
+    };
+    outcome.expect(rt, "no fault")
 }
 
 /// What comes of a key on a line: its meaning for a count that is handed over, or the command where it is typed.
@@ -110,9 +114,9 @@ fn found(
     way: &Way,
     key: KeyEvent,
     count: &Counted,
-) -> std::result::Result<String, Fail> {
+) -> String {
     let (text, cursor, hint) = *line;
-    let mut typist = typed(alloc, count.1, way, key)?;
+    let mut typist = typed(rt, alloc, count.1, way, key);
     let config = Config::builder(GraphemeClusterMode::Unicode).build();
     let bindings = Bindings::new(alloc);
     let history = MemHistory::new(alloc);
@@ -122,17 +126,29 @@ fn found(
     let advisor = Some(&mut helper);
     let context = Context::new(&history);
     assert!(rt; text.is_char_boundary(cursor));
-    let mut state = State::with_line(alloc, &mut screen, &"> ", advisor, context, text, cursor)?;
-    state.hint()?;
-    if let Some(count) = count.0 {
-        return Ok(meant(alloc, &state, way, key, count)?);
+    let mut state = State::with_line(
+        alloc,
+        &mut screen,
+        &"> ",
+        advisor,
+        context,
+        text,
+        cursor,
+    ).expect(rt, "no fault");
+    state.hint().expect(rt, "no fault");
+    match count.0 {
+        Some(count) => meant(rt, alloc, &state, way, key, count),
+        None => {
+            let command = state
+                .next_cmd(&mut input, &mut typist, true)
+                .expect(rt, "no fault");
+            format!(in alloc; "{command:?}").expect(rt, "no fault")
+        }
     }
-    let command = state.next_cmd(&mut input, &mut typist, true)?;
-    Ok(format!(in alloc; "{command:?}")?)
 }
 
 /// Tries the key of a row on a line with each count that it does not go on with.
-fn holds(rt: &impl Abort, alloc: Global, line: &Line, row: &Row) -> std::result::Result<(), Fail> {
+fn holds(rt: &impl Abort, alloc: Global, line: &Line, row: &Row) {
     let (way, code, mods, forth, back) = row;
     let key = KeyEvent(*code, *mods);
     for count in COUNTS {
@@ -144,8 +160,8 @@ fn holds(rt: &impl Abort, alloc: Global, line: &Line, row: &Row) -> std::result:
         };
         if is_tried {
             let wanted = if positive { forth } else { back };
-            let wanted = wanted.replace(alloc, '#', number)?;
-            let found = found(rt, alloc, line, way, key, count)?;
+            let wanted = wanted.replace(alloc, '#', number).expect(rt, "no fault");
+            let found = found(rt, alloc, line, way, key, count);
             assert_eq!(rt;
                 found.as_str(),
                 wanted.as_str(),
@@ -153,17 +169,15 @@ fn holds(rt: &impl Abort, alloc: Global, line: &Line, row: &Row) -> std::result:
             );
         }
     }
-    Ok(())
 }
 
 #[test]
-fn of_emacs(rt: HostRuntime) -> std::result::Result<(), Fail> {
+fn of_emacs(rt: HostRuntime) {
     for (line, rows) in TABLES {
         for row in *rows {
-            holds(&rt, rt.alloc(), line, row)?;
+            holds(&rt, rt.alloc(), line, row);
         }
     }
-    Ok(())
 }
 
 /// What is typed of a count, whether the number is positive, the number, and the prompt.
@@ -184,27 +198,22 @@ const TYPED: &[Typed] = &[
     ("-099912", false, 9991, "(arg: -9991) "),
 ];
 
-fn counts(rt: &impl Abort, alloc: Global, typed: &Typed) -> std::result::Result<(), Fail> {
-    let (text, positive, n, prompt) = *typed;
-    let keys = count_keys(alloc, text)?;
-    let Some((first, others)) = keys.as_slice().split_first() else {
-        return Err(Fail::from("no key is typed"));
-    };
-    let mut count = TypedCount::new(*first);
-    for key in others {
-        count.push(*key);
-    }
-    assert_eq!(rt; count.count(), Count { n, positive }, "{prompt}");
-    assert_eq!(rt; count.prompt(alloc)?.as_str(), prompt);
-    Ok(())
-}
-
 #[test]
-fn of_counts(rt: HostRuntime) -> std::result::Result<(), Fail> {
+fn of_counts(rt: HostRuntime) {
     for typed in TYPED {
-        counts(&rt, rt.alloc(), typed)?;
+        let (text, positive, n, prompt) = *typed;
+        let keys = count_keys(&rt, rt.alloc(), text);
+        let Some((first, others)) = keys.as_slice().split_first() else {
+            panic!(rt; "no key is typed");
+        };
+        let mut count = TypedCount::new(*first);
+        for key in others {
+            count.push(*key);
+        }
+        assert_eq!(rt; count.count(), Count { n, positive }, "{prompt}");
+        let shown = count.prompt(rt.alloc()).expect(&rt, "no fault");
+        assert_eq!(rt; shown.as_str(), prompt);
     }
-    Ok(())
 }
 
 /// A key, and whether a count begins with it, and goes on with it, in Emacs and in Vi's command mode.
@@ -231,14 +240,20 @@ fn of_count_keys_and_searches(rt: HostRuntime) {
     for (code, mods, begins, goes_on, vi_begins, vi_goes_on) in COUNT_KEYS {
         let key = KeyEvent(*code, *mods);
         let emacs = begins_count(EditMode::Emacs, InputMode::Insert, key);
-        let found = (emacs, continues_count(EditMode::Emacs, key));
-        assert_eq!(rt; found, (*begins, *goes_on), "{key:?}");
         let vi = begins_count(EditMode::Vi, InputMode::Command, key);
-        let found = (vi, continues_count(EditMode::Vi, key));
-        assert_eq!(rt; found, (*vi_begins, *vi_goes_on), "{key:?} in Vi");
         let inserting = begins_count(EditMode::Vi, InputMode::Insert, key);
         let replacing = begins_count(EditMode::Vi, InputMode::Replace, key);
-        assert_eq!(rt; (inserting, replacing), (false, false), "{key:?}");
+        let found = (
+            (emacs, continues_count(EditMode::Emacs, key)),
+            (vi, continues_count(EditMode::Vi, key)),
+            (inserting, replacing),
+        );
+        let wanted = (
+            (*begins, *goes_on),
+            (*vi_begins, *vi_goes_on),
+            (false, false),
+        );
+        assert_eq!(rt; found, wanted, "{key:?}");
     }
     assert_eq!(rt;
         (

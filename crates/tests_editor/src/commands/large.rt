@@ -2,7 +2,6 @@
 
 use super::does;
 use line_buffer::KillRing;
-use line_config::Result;
 use line_editor::edit::State;
 use line_keys::refresher::Refresher;
 use line_parts::{Context, History};
@@ -25,14 +24,15 @@ type Case = (
 );
 
 /// A history of so many lines.
-fn shelved(alloc: Global, lines: u64) -> Result<Shelf> {
+fn shelved(rt: &impl Abort, alloc: Global, lines: u64) -> Shelf {
     let mut history = Shelf::new(alloc, 0);
-    history.set_max_len(5000)?;
+    history.set_max_len(5000).expect(rt, "no fault");
     for line in 0..lines {
         let number = line.saturating_add(1000);
-        let _ = history.add_owned(format!(in alloc; "line{number}")?)?;
+        let text = format!(in alloc; "line{number}").expect(rt, "no fault");
+        let _ = history.add_owned(text).expect(rt, "no fault");
     }
-    Ok(history)
+    history
 }
 
 /// Does the steps, none of which fails.
@@ -43,33 +43,33 @@ fn takes(
     kills: &mut KillRing,
     steps: &str,
     times: u64,
-) -> Result<()> {
+) {
     for _ in 0..times {
         if !steps.is_empty() {
-            does(rt, alloc, state, kills, steps)?;
+            does(rt, alloc, state, kills, steps).expect(rt, "no fault");
         }
     }
-    Ok(())
 }
 
-fn lasts(rt: &impl Abort, alloc: Global, case: &Case) -> Result<()> {
+fn lasts(rt: &impl Abort, alloc: Global, case: &Case) {
     let (lines, before, times, steps, behind, left) = case;
-    let history = shelved(alloc, *lines)?;
+    let history = shelved(rt, alloc, *lines);
     let mut screen = Recorder::new(alloc, 80, false, 0);
     let mut helper = Advisor::new(Some("!!"), (true, true, None), None);
     let context = Context::new(&history);
     let mut kills = KillRing::new(alloc, 60);
     let prompt = (
-        String::from_str(alloc, "> ")?,
-        String::from_str(alloc, "> ")?,
+        String::from_str(alloc, "> ").expect(rt, "no fault"),
+        String::from_str(alloc, "> ").expect(rt, "no fault"),
     );
-    let mut state = State::new(alloc, &mut screen, &prompt, Some(&mut helper), context)?;
-    takes(rt, alloc, &mut state, &mut kills, before, 1)?;
-    takes(rt, alloc, &mut state, &mut kills, steps, *times)?;
-    takes(rt, alloc, &mut state, &mut kills, behind, 1)?;
+    let mut state = State::new(alloc, &mut screen, &prompt, Some(&mut helper), context).expect(
+        rt, "no fault",
+    );
+    takes(rt, alloc, &mut state, &mut kills, before, 1);
+    takes(rt, alloc, &mut state, &mut kills, steps, *times);
+    takes(rt, alloc, &mut state, &mut kills, behind, 1);
     let found = (state.line().len(), state.pos(), state.place());
     assert_eq!(rt; found, *left, "{steps} {behind}");
-    Ok(())
 }
 
 /// One step after the other and one kill; and walks through a history of 1,100 lines of eight bytes.
@@ -166,9 +166,8 @@ const CASES: &[Case] = &[
 ];
 
 #[test]
-fn of_changes_and_histories(rt: HostRuntime) -> Result<()> {
+fn of_changes_and_histories(rt: HostRuntime) {
     for case in CASES {
-        lasts(&rt, rt.alloc(), case)?;
+        lasts(&rt, rt.alloc(), case);
     }
-    Ok(())
 }

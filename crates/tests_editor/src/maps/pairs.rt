@@ -1,14 +1,12 @@
 //! The map of bindings beside a list of pairs that answers the same.
 
 use super::number;
-use line_config::Result;
 use line_editor::Bindings;
 use line_editor::binding::{Event, EventHandler};
 use line_keys::cmd::Cmd;
 use line_keys::keys::{KeyCode, KeyEvent, Modifiers};
 use std::alloc::Global;
 use std::process::Abort;
-use std::test::Fail;
 
 /// Events with their numbers, of which the last counts.
 type Pairs = Vec<(Event, u16)>;
@@ -31,13 +29,13 @@ fn looked_up(pairs: &[(Event, u16)], event: &Event) -> (Option<u16>, bool) {
 }
 
 /// An event out of a number: each key, the mouse, or up to four of three keys.
-fn drawn(alloc: Global, seed: u32) -> Result<Event> {
+fn drawn(rt: &impl Abort, alloc: Global, seed: u32) -> Event {
     let kind = (seed >> 8) % 8;
     if kind == 0 {
-        return Ok(Event::Any);
+        return Event::Any;
     }
     if kind == 1 {
-        return Ok(Event::Mouse);
+        return Event::Mouse;
     }
     let mut keys = Vec::new(alloc);
     let mut rest = seed >> 12;
@@ -48,9 +46,10 @@ fn drawn(alloc: Global, seed: u32) -> Result<Event> {
             _ => KeyCode::Char('a'),
         };
         rest /= 3;
-        keys.push(KeyEvent(code, Modifiers::NONE))?;
+        keys.push(KeyEvent(code, Modifiers::NONE))
+            .expect(rt, "no fault");
     }
-    Ok(Event::KeySeq(keys))
+    Event::KeySeq(keys)
 }
 
 /// Both answer the same of an event. One time in three they give it a number, and answer the one that it had.
@@ -61,7 +60,7 @@ fn agrees(
     pairs: &mut Pairs,
     event: Event,
     own: u16,
-) -> std::result::Result<(), Fail> {
+) {
     let (wanted, begins) = looked_up(pairs, &event);
     assert_eq!(rt;
         (number(bindings.get(&event)), bindings.begins(&event)),
@@ -69,23 +68,24 @@ fn agrees(
         "{event:?}"
     );
     if own % 3 == 0 {
-        pairs.push((event.clone(alloc)?, own))?;
-        let old = bindings.insert(event, EventHandler::from(Cmd::SelfInsert(own, 'x')))?;
+        let copy = event.clone(alloc).expect(rt, "no fault");
+        pairs.push((copy, own)).expect(rt, "no fault");
+        let handler = EventHandler::from(Cmd::SelfInsert(own, 'x'));
+        let old = bindings.insert(event, handler).expect(rt, "no fault");
         assert_eq!(rt; number(old.as_ref()), wanted);
     }
-    Ok(())
 }
 
 /// Events and numbers come of the numbers of a linear congruence, whose upper bits look mixed.
 #[test]
-fn a_list_of_pairs_answers_the_same(rt: HostRuntime) -> std::result::Result<(), Fail> {
+fn a_list_of_pairs_answers_the_same(rt: HostRuntime) {
     let alloc = rt.alloc();
     let mut bindings = Bindings::new(alloc);
     let mut pairs = Vec::new(alloc);
     let mut last = 7u32;
     for _ in 0..2001 {
         let next = last.wrapping_mul(1_664_525).wrapping_add(1_013_904_223);
-        let event = drawn(alloc, next)?;
+        let event = drawn(&rt, alloc, next);
         agrees(
             &rt,
             alloc,
@@ -93,8 +93,7 @@ fn a_list_of_pairs_answers_the_same(rt: HostRuntime) -> std::result::Result<(), 
             &mut pairs,
             event,
             (last >> 16) as u16,
-        )?;
+        );
         last = next;
     }
-    Ok(())
 }

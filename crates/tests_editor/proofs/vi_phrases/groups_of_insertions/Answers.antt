@@ -1,10 +1,9 @@
 use Rattle.line_editor.specs.Phrase.{behind_key, of_mode}
 use Rattle.line_editor.specs.Tail.{alone}
-use Rattle.line_keys.specs.Item.{key}
 use Rattle.line_keys.specs.Key.{event}
 use Rattle.line_keys.specs.declared.keys.KeyCode.TheVariants.{Esc}
 use Rattle.line_keys.specs.declared.keys.TheConstants.Modifiers.{NONE}
-use Rattle.std.proofs.Common.{[], refl, ◌∷◌}
+use Rattle.std.proofs.Common.{[], refl}
 use Rattle.tests_editor.specs.Spoken.{plain, with_alt}
 use Rattle.tests_editor.proofs.vi_phrases.groups_of_insertions.Goals as goal
 
