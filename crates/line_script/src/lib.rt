@@ -98,15 +98,23 @@ pub fn edit<O: Write>(
     Ok(report.outcome)
 }
 
+/// The state of an editor that a script is read by.
+type Scripted<'out, 'prompt, 'text> = State<
+    'out,
+    'prompt,
+    Plain<Script>,
+    ScriptHelper,
+    &'text str,
+    FileHistory,
+>;
+
 /// What became of a line whose run ended so.
 fn report_of<'s, 'out, 'prompt, 'text>(
-    state: &'s State<'out, 'prompt, Plain<Script>, ScriptHelper, &'text str, FileHistory>,
+    state: &'s Scripted<'out, 'prompt, 'text>,
     outcome: Outcome,
 ) -> Report<'s>
     ensures outcome { result.outcome ≡ outcome }
-    ensures reports { Reports
-        ⟦<State<'out, 'prompt, Plain<Script>, ScriptHelper, &'text str, FileHistory> as EditorState>⟧
-        state.now result }
+    ensures reports { Reports ⟦<Scripted<'out, 'prompt, 'text> as EditorState>⟧ state.now result }
 {
     Report {
         outcome,
