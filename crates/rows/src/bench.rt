@@ -9,7 +9,7 @@ use line_editor::command::{Status, execute};
 use line_editor::edit::State;
 use line_editor::input_state::InputState;
 use line_editor::run::run;
-use line_editor::{Bindings, Turned, advance};
+use line_editor::{Turned, advance};
 use line_keys::cmd::{Anchor, Cmd};
 use line_keys::keys::{KeyCode, KeyEvent, Modifiers};
 use line_keys::raw_reader::RawReader;
@@ -25,116 +25,354 @@ use tests_stand_ins::recorder::Recorder;
 use tests_stand_ins::typist::Typist;
 use tests_steps::calls::{Editor, done, executed, proceeds, starts};
 
-/// Does what a row says on the bench. Returns what was seen.
-pub fn on_bench(
-    alloc: Global,
-    setup: &Setup<'_>,
-    bindings: &Bindings,
-    columns: Unit,
-    row: &Row<'_>,
-) -> Result<Seen>
-    requires { 0 < columns }
-{
-    let mut screen = screen_of(alloc, setup, columns);
-    let mut helper = Advisor::hinting(setup.hint, setup.verdict, setup.lit);
-    let failing = setup.failing[1];
-    helper.fail_by(
-        failing.call,
-        if failing.by_its_own { ASLEEP } else { USUAL },
-    );
-    let history = shelved(alloc, setup)?;
-    let mut seen = if setup.helped {
-        makes(
-            alloc,
-            setup,
-            bindings,
-            &mut screen,
-            Some(&mut helper),
-            &history,
-            row,
-        )?
-    } else {
-        makes(alloc, setup, bindings, &mut screen, None, &history, row)?
-    };
-    writeln!(seen.lines, "kinds {:?}", helper.kinds())?;
-    writeln!(seen.lines, "entries {}", history.len())?;
-    Ok(seen)
+/// What lies on the bench beside the editor: its reader, its kill ring, its settings, and what was seen.
+#[derive(Drop)]
+pub struct Bench {
+    typist: Typist,
+    kills: KillRing,
+    config: Config,
+    pub seen: Seen,
 }
 
-/// Makes the editor of the line that the settings give, and does what a row says. Returns what was seen.
-fn makes(
-    alloc: Global,
-    setup: &Setup<'_>,
-    bindings: &Bindings,
-    screen: &mut Recorder,
-    helper: Option<&mut Advisor>,
-    history: &Shelf,
-    row: &Row<'_>,
-) -> Result<Seen> {
-    let (before, behind) = setup.line;
-    let (Some(text), Some(behind)) = (unescape(alloc, before)?, unescape(alloc, behind)?) else {
-        return Ok(Seen::of_bad_line(alloc, row.number));
-    };
-    let cursor = text.len();
-    let text = format!(in alloc; "{text}{behind}")?;
-    if !text.is_char_boundary(cursor) {
-        return Ok(Seen::of_bad_line(alloc, row.number));
+impl Bench {
+    /// A bench for these settings, where nothing was seen yet.
+    pub fn new(alloc: Global, setup: &Setup<'_>) -> Bench {
+        let mut typist = Typist::new(alloc);
+        typist.cut_at(setup.failing[3].call);
+        Bench {
+            typist,
+            kills: KillRing::new(alloc, setup.kill_ring_size),
+            config: config_of(setup.parsed.edit_mode),
+            seen: Seen::new(alloc),
+        }
     }
+
+    /// Does what a row says.
+    pub fn tries(
+        &mut self,
+        alloc: Global,
+        setup: &Setup<'_>,
+        input: &mut InputState<'_>,
+        row: &Row<'_>,
+    ) -> Result<()> {
+        let mut screen = screen_of(alloc, setup);
+        let mut helper = helper_of(setup);
+        let history = shelved(alloc, setup)?;
+        let asked = Some(&mut helper).filter(|_| setup.helped);
+        self.makes(alloc, setup, input, &mut screen, asked, &history, row)?;
+        let (kinds, entries) = (helper.kinds(), history.len());
+        writeln!(self.seen.lines, "kinds {kinds:?}\nentries {entries}")?;
+        Ok(())
+    }
+
+    /// Makes the editor of the line that the settings give, and does what a row says.
+    fn makes(
+        &mut self,
+        alloc: Global,
+        setup: &Setup<'_>,
+        input: &mut InputState<'_>,
+        screen: &mut Recorder,
+        helper: Option<&mut Advisor>,
+        history: &Shelf,
+        row: &Row<'_>,
+    ) -> Result<()> {
+        let mut text = String::new(alloc);
+        let cursor = match fill(alloc, setup, &mut text)? {
+            Some(cursor) if text.is_char_boundary(cursor) => cursor,
+            _ => {
+                self.seen.bad_line = Some(row.number);
+                return Ok(());
+            }
+        };
+        let prompt = prompt_of(alloc, setup)?;
+        let context = Context::new(history);
+        let mut state = State::with_line(alloc, screen, &prompt, helper, context, &text, cursor)?;
+        self.begins(alloc, setup.both_ways, &mut state, input, row)
+    }
+
+    /// Does what a row says with its editor.
+    fn begins(
+        &mut self,
+        alloc: Global,
+        both_ways: bool,
+        state: &mut Editor<'_, '_>,
+        input: &mut InputState<'_>,
+        row: &Row<'_>,
+    ) -> Result<()> {
+        match row.phrase {
+            Some(names) => self.reads(alloc, state, input, row, names)?,
+            None if both_ways => self.one_by_one(alloc, state, input, row)?,
+            None => self.goes_through(alloc, state, input, row)?,
+        }
+        looks_at(alloc, state, input, &self.typist, &mut self.seen)?;
+        if self.seen.is_fault()
+            && row.phrase.is_none()
+            && !both_ways
+            && self.recovers(state, input)?
+        {
+            self.seen.lines.write_all(b"recovers\n")?;
+        }
+        Ok(())
+    }
+
+    /// Goes through the lines of a row, and reads what they type where none of them does.
+    fn goes_through(
+        &mut self,
+        alloc: Global,
+        state: &mut Editor<'_, '_>,
+        input: &mut InputState<'_>,
+        row: &Row<'_>,
+    ) -> Result<()> {
+        for (number, line) in row.items.as_slice() {
+            match self.does(alloc, state, input, line) {
+                Some(outcome) => self.seen.ends(alloc, outcome)?,
+                None => {
+                    self.seen.bad_line = Some(*number);
+                    return Ok(());
+                }
+            }
+            if line.starts_with("start ") || *line == "from here" {
+                self.seen.calls_before = state.out().log().lines().count();
+            }
+        }
+        if row.is_keys_alone {
+            let outcome = self.runs(state, input);
+            self.seen.ends(alloc, outcome)?;
+        }
+        Ok(())
+    }
+
+    /// Does what a line says. None where there is no such line.
+    fn does(
+        &mut self,
+        alloc: Global,
+        state: &mut Editor<'_, '_>,
+        input: &mut InputState<'_>,
+        line: &str,
+    ) -> Option<Result<&'static str>> {
+        Some(match line {
+            "run" => self.runs(state, input),
+            "turn" => self.turns(state, input),
+            "next" | "next abort" => self.next(state, input, line == "next abort"),
+            "read" => self.read(alloc, state, input),
+            "from here" => Ok("proceeds"),
+            "take pasted" => taken(self.typist.read_pasted_text()),
+            line => return self.step(alloc, state, input, line),
+        })
+    }
+
+    /// How a run ended, in a word.
+    fn runs(
+        &mut self,
+        state: &mut Editor<'_, '_>,
+        input: &mut InputState<'_>,
+    ) -> Result<&'static str> {
+        run(
+            state,
+            input,
+            &mut self.typist,
+            &mut self.kills,
+            &self.config,
+        )?;
+        Ok("submitted")
+    }
+
+    /// How a turn ended, in a word.
+    fn turns(
+        &mut self,
+        state: &mut Editor<'_, '_>,
+        input: &mut InputState<'_>,
+    ) -> Result<&'static str> {
+        let turned = advance(
+            state,
+            input,
+            &mut self.typist,
+            &mut self.kills,
+            &self.config,
+        )?;
+        Ok(match turned {
+            Turned::Proceeds => "proceeds",
+            Turned::Submitted => "submitted",
+            Turned::NeedsMore => "needs more",
+            Turned::Ended => "eof",
+            Turned::Interrupted => "interrupted",
+        })
+    }
+
+    /// Reads a command and executes it. Returns how it ended, in a word.
+    fn next(
+        &mut self,
+        state: &mut Editor<'_, '_>,
+        input: &mut InputState<'_>,
+        single_esc_abort: bool,
+    ) -> Result<&'static str> {
+        let command = state.next_cmd(input, &mut self.typist, single_esc_abort)?;
+        done(execute(command, state, input, &mut self.kills, &self.config))
+    }
+
+    /// Reads a command.
+    fn read(
+        &mut self,
+        alloc: Global,
+        state: &mut Editor<'_, '_>,
+        input: &mut InputState<'_>,
+    ) -> Result<&'static str> {
+        let command = state.next_cmd(input, &mut self.typist, false)?;
+        self.seen.read(alloc, &command)
+    }
+
+    /// After a fault the cursor is on a boundary, and all changes can be taken back, which leaves the empty line, and it
+    /// can be drawn again. Returns whether that is so.
+    fn recovers(&mut self, state: &mut Editor<'_, '_>, input: &InputState<'_>) -> Result<bool> {
+        if !state.line().is_char_boundary(state.pos()) {
+            return Ok(false);
+        }
+        let undone = execute(
+            Cmd::Undo(65535),
+            state,
+            input,
+            &mut self.kills,
+            &self.config,
+        )?;
+        let drawn = execute(Cmd::Repaint, state, input, &mut self.kills, &self.config)?;
+        let proceeds = undone == Status::Proceed && drawn == Status::Proceed;
+        let starts = state.layout().cursor == state.layout().prompt_size;
+        Ok(proceeds && state.line().is_empty() && starts)
+    }
+
+    /// Reads what the lines of a row type as phrases, and then keys that are one phrase: cut anywhere they are none yet,
+    /// and they are read again whole. Sees the phrase's command, and what x stands for then.
+    fn reads(
+        &mut self,
+        alloc: Global,
+        state: &mut Editor<'_, '_>,
+        input: &mut InputState<'_>,
+        row: &Row<'_>,
+        names: &str,
+    ) -> Result<()> {
+        state.hint()?;
+        let before = keys_of(alloc, row.items.as_slice())?;
+        let keys = keys_named(alloc, names)?;
+        let (Some(before), Some(keys)) = (before, keys) else {
+            self.seen.bad_line = Some(row.number);
+            return Ok(());
+        };
+        self.typist.press(before.as_slice())?;
+        for _ in before.as_slice() {
+            let _ = state.next_cmd(input, &mut self.typist, false);
+        }
+        for cut in 1..keys.len() {
+            self.typist
+                .press(keys.as_slice().get(..cut).unwrap_or(&[]))?;
+            self.seen
+                .is_cut(state.next_cmd(input, &mut self.typist, false));
+        }
+        self.reads_phrase(alloc, state, input, keys.as_slice())
+    }
+
+    /// Reads keys that are one phrase. Sees its command, and what x stands for then.
+    fn reads_phrase(
+        &mut self,
+        alloc: Global,
+        state: &mut Editor<'_, '_>,
+        input: &mut InputState<'_>,
+        keys: &[KeyEvent],
+    ) -> Result<()> {
+        self.typist.press(keys)?;
+        if let Err(error) = self.read(alloc, state, input) {
+            self.seen.ends(alloc, Err(error))?;
+        }
+        self.typist
+            .press(&[KeyEvent(KeyCode::Char('x'), Modifiers::NONE)])?;
+        match state.next_cmd(input, &mut self.typist, false) {
+            Ok(command) => self.seen.stands_for(alloc, &command),
+            Err(error) => self.seen.ends(alloc, Err(error)),
+        }
+    }
+
+    /// Gives the keys of a row one by one, those of a phrase so far again with each new one.
+    fn one_by_one(
+        &mut self,
+        alloc: Global,
+        state: &mut Editor<'_, '_>,
+        input: &mut InputState<'_>,
+        row: &Row<'_>,
+    ) -> Result<()> {
+        let Some(keys) = keys_of(alloc, row.items.as_slice())? else {
+            self.seen.bad_line = Some(row.number);
+            return Ok(());
+        };
+        state.refresh_line()?;
+        let mut phrase = Vec::new(alloc);
+        for key in keys.as_slice() {
+            phrase.push(*key)?;
+            self.typist.press(phrase.as_slice())?;
+            let outcome = self.turns(state, input);
+            self.seen.ends(alloc, outcome)?;
+            match self.seen.outcome {
+                "proceeds" => phrase.clear(),
+                "needs more" => {}
+                _ => break,
+            }
+        }
+        self.seen.runs_out();
+        Ok(())
+    }
+
+    /// Does a step that reads nothing. None where there is no such step.
+    fn step(
+        &mut self,
+        alloc: Global,
+        state: &mut Editor<'_, '_>,
+        input: &InputState<'_>,
+        line: &str,
+    ) -> Option<Result<&'static str>> {
+        let (kind, text) = line.split_once(' ')?;
+        let outcome = match kind {
+            "do" => return executed(alloc, state, input, &mut self.kills, &self.config, text),
+            "start" => {
+                let plain = unescape(alloc, text).ok()??;
+                let (before, behind) = plain.split_once('^')?;
+                starts(state, input, before, behind)
+            }
+            kind => types(alloc, &mut self.typist, kind, text)?,
+        };
+        Some(proceeds(outcome))
+    }
+}
+
+/// Adds the line that the settings give to a text. Returns its cursor, None where it is no line.
+fn fill(alloc: Global, setup: &Setup<'_>, text: &mut String) -> Result<Option<usize>> {
+    let (before, behind) = setup.line;
+    let (Some(before), Some(behind)) = (unescape(alloc, before)?, unescape(alloc, behind)?) else {
+        return Ok(None);
+    };
+    text.push_str(&before)?;
+    text.push_str(&behind)?;
+    Ok(Some(before.len()))
+}
+
+/// The prompt that the settings give, and its form with styles.
+fn prompt_of(alloc: Global, setup: &Setup<'_>) -> Result<(String, String)> {
     let raw = setup.parsed.prompt.as_str();
     let styled = setup.styled.unwrap_or(raw);
-    let prompt = (
+    Ok((
         String::from_str(alloc, raw)?,
         String::from_str(alloc, styled)?,
-    );
-    begins(
-        alloc,
-        setup,
-        bindings,
-        screen,
-        helper,
-        history,
-        &prompt,
-        text.as_str(),
-        cursor,
-        row,
-    )
+    ))
 }
 
-/// Makes the editor of a line, and does what a row says. Returns what was seen.
-fn begins(
-    alloc: Global,
-    setup: &Setup<'_>,
-    bindings: &Bindings,
-    screen: &mut Recorder,
-    helper: Option<&mut Advisor>,
-    history: &Shelf,
-    prompt: &(String, String),
-    text: &str,
-    cursor: usize,
-    row: &Row<'_>,
-) -> Result<Seen>
-    requires { IsCharBoundary text.now cursor }
-{
-    let context = Context::new(history);
-    let mut state = State::with_line(alloc, screen, prompt, helper, context, text, cursor)?;
-    match row.phrase {
-        Some(names) => reads(
-            alloc,
-            bindings,
-            &mut state,
-            row,
-            setup.parsed.edit_mode,
-            names,
-        ),
-        None if setup.both_ways => one_by_one(alloc, setup, bindings, &mut state, row),
-        None => goes_through(alloc, setup, bindings, &mut state, row),
-    }
+/// A helper that answers and fails as the settings say.
+fn helper_of(setup: &Setup<'_>) -> Advisor {
+    let mut helper = Advisor::hinting(setup.hint, setup.verdict, setup.lit);
+    let Failing { call, by_its_own } = setup.failing[1];
+    helper.fail_by(call, if by_its_own { ASLEEP } else { USUAL });
+    helper
 }
 
-/// A screen of so many columns that fails as the settings say.
-fn screen_of(alloc: Global, setup: &Setup<'_>, columns: Unit) -> Recorder
-    requires { 0 < columns }
-{
+/// A screen of the columns that the settings give, which fails as they say.
+fn screen_of(alloc: Global, setup: &Setup<'_>) -> Recorder {
+    let columns = setup.screen.unwrap_or(1).max(1);
     let Failing { call, by_its_own } = setup.failing[0];
     if !by_its_own {
         return Recorder::new(alloc, columns, setup.colors, call);
@@ -158,167 +396,16 @@ fn shelved(alloc: Global, setup: &Setup<'_>) -> Result<Shelf> {
 }
 
 /// The settings of a style.
-fn config_of(edit_mode: EditMode) -> Config {
+pub fn config_of(edit_mode: EditMode) -> Config {
     Config::builder(GraphemeClusterMode::Unicode)
         .edit_mode(edit_mode)
         .build()
-}
-
-/// Goes through the lines of a row, and reads what they type where none of them does. Returns what was seen.
-fn goes_through(
-    alloc: Global,
-    setup: &Setup<'_>,
-    bindings: &Bindings,
-    state: &mut Editor<'_, '_>,
-    row: &Row<'_>,
-) -> Result<Seen> {
-    let config = config_of(setup.parsed.edit_mode);
-    let mut input = InputState::new(&config, bindings);
-    let mut kills = KillRing::new(alloc, setup.kill_ring_size);
-    let mut typist = Typist::new(alloc);
-    typist.cut_at(setup.failing[3].call);
-    let mut seen = Seen::new(alloc);
-    for (number, line) in row.items.as_slice() {
-        let outcome = match *line {
-            "run" => ran(run(state, &mut input, &mut typist, &mut kills, &config)),
-            "turn" => turned(advance(state, &mut input, &mut typist, &mut kills, &config)),
-            "next" | "next abort" => {
-                match state.next_cmd(&mut input, &mut typist, *line == "next abort") {
-                    Ok(command) => done(execute(command, state, &input, &mut kills, &config)),
-                    Err(error) => Err(error),
-                }
-            }
-            "from here" => Ok("proceeds"),
-            "take pasted" => taken(typist.read_pasted_text()),
-            "read" => match state.next_cmd(&mut input, &mut typist, false) {
-                Ok(command) => seen.read(alloc, &command),
-                Err(error) => Err(error),
-            },
-            line => match step(alloc, state, &input, &mut typist, &mut kills, &config, line) {
-                Some(outcome) => outcome,
-                None => return Ok(Seen::of_bad_line(alloc, *number)),
-            },
-        };
-        seen.ends(alloc, outcome)?;
-        if line.starts_with("start ") || *line == "from here" {
-            seen.calls_before = state.out().log().lines().count();
-        }
-    }
-    if row.is_keys_alone {
-        seen.ends(
-            alloc,
-            ran(run(state, &mut input, &mut typist, &mut kills, &config)),
-        )?;
-    }
-    looks_at(alloc, state, &input, &typist, &mut seen)?;
-    if seen.is_fault() && recovers(state, &input, &mut kills, &config)? {
-        seen.lines.write_all(b"recovers\n")?;
-    }
-    Ok(seen)
-}
-
-/// After a fault the cursor is on a boundary, and all changes can be taken back, which leaves the empty line, and it can be
-/// drawn again. Returns whether that is so.
-fn recovers(
-    state: &mut Editor<'_, '_>,
-    input: &InputState<'_>,
-    kills: &mut KillRing,
-    config: &Config,
-) -> Result<bool> {
-    if !state.line().is_char_boundary(state.pos()) {
-        return Ok(false);
-    }
-    let undone = execute(Cmd::Undo(65535), state, input, kills, config)?;
-    let drawn = execute(Cmd::Repaint, state, input, kills, config)?;
-    let proceeds = undone == Status::Proceed && drawn == Status::Proceed;
-    Ok(proceeds && state.line().is_empty() && state.layout().cursor == state.layout().prompt_size)
 }
 
 /// A pasted text was taken, in a word.
 fn taken(outcome: Result<String>) -> Result<&'static str> {
     let _ = outcome?;
     Ok("proceeds")
-}
-
-/// Reads what the lines of a row type as phrases, and then keys that are one phrase: cut anywhere they are none yet, and
-/// they are read again whole. Returns what was seen: the phrase's command, and what x stands for then.
-fn reads(
-    alloc: Global,
-    bindings: &Bindings,
-    state: &mut Editor<'_, '_>,
-    row: &Row<'_>,
-    edit_mode: EditMode,
-    names: &str,
-) -> Result<Seen> {
-    let config = config_of(edit_mode);
-    let mut input = InputState::new(&config, bindings);
-    let mut typist = Typist::new(alloc);
-    let mut seen = Seen::new(alloc);
-    state.hint()?;
-    let Some(before) = keys_of(alloc, row.items.as_slice())? else {
-        return Ok(Seen::of_bad_line(alloc, row.number));
-    };
-    typist.press(before.as_slice())?;
-    for _ in before.as_slice() {
-        let _ = state.next_cmd(&mut input, &mut typist, false);
-    }
-    let Some(keys) = keys_named(alloc, names)? else {
-        return Ok(Seen::of_bad_line(alloc, row.number));
-    };
-    for cut in 1..keys.len() {
-        typist.press(keys.as_slice().get(..cut).unwrap_or(&[]))?;
-        seen.is_cut(state.next_cmd(&mut input, &mut typist, false));
-    }
-    typist.press(keys.as_slice())?;
-    match state.next_cmd(&mut input, &mut typist, false) {
-        Ok(command) => {
-            let _ = seen.read(alloc, &command)?;
-        }
-        Err(error) => seen.ends(alloc, Err(error))?,
-    }
-    typist.press(&[KeyEvent(KeyCode::Char('x'), Modifiers::NONE)])?;
-    match state.next_cmd(&mut input, &mut typist, false) {
-        Ok(command) => seen.stands_for(alloc, &command)?,
-        Err(error) => seen.ends(alloc, Err(error))?,
-    }
-    looks_at(alloc, state, &input, &typist, &mut seen)?;
-    Ok(seen)
-}
-
-/// Gives the keys of a row one by one, those of a phrase so far again with each new one. Returns what was seen.
-fn one_by_one(
-    alloc: Global,
-    setup: &Setup<'_>,
-    bindings: &Bindings,
-    state: &mut Editor<'_, '_>,
-    row: &Row<'_>,
-) -> Result<Seen> {
-    let config = config_of(setup.parsed.edit_mode);
-    let mut input = InputState::new(&config, bindings);
-    let mut typist = Typist::new(alloc);
-    let mut kills = KillRing::new(alloc, setup.kill_ring_size);
-    let mut seen = Seen::new(alloc);
-    let Some(keys) = keys_of(alloc, row.items.as_slice())? else {
-        return Ok(Seen::of_bad_line(alloc, row.number));
-    };
-    state.refresh_line()?;
-    let mut phrase = Vec::new(alloc);
-    for key in keys.as_slice() {
-        phrase.push(*key)?;
-        typist.press(phrase.as_slice())?;
-        seen.ends(
-            alloc,
-            turned(advance(state, &mut input, &mut typist, &mut kills, &config)),
-        )?;
-        match seen.outcome {
-            "proceeds" => phrase.clear(),
-            "needs more" => {}
-            _ => break,
-        }
-    }
-    seen.runs_out();
-    looks_at(alloc, state, &input, &typist, &mut seen)?;
-    Ok(seen)
 }
 
 /// The keys that the lines of a row type. None where a line is of another kind.
@@ -357,29 +444,6 @@ fn turned(outcome: Result<Turned>) -> Result<&'static str> {
         Turned::Ended => "eof",
         Turned::Interrupted => "interrupted",
     })
-}
-
-/// Does a step that reads nothing. None where there is no such step.
-fn step(
-    alloc: Global,
-    state: &mut Editor<'_, '_>,
-    input: &InputState<'_>,
-    typist: &mut Typist,
-    kills: &mut KillRing,
-    config: &Config,
-    line: &str,
-) -> Option<Result<&'static str>> {
-    let (kind, text) = line.split_once(' ')?;
-    let outcome = match kind {
-        "do" => return executed(alloc, state, input, kills, config, text),
-        "start" => {
-            let plain = unescape(alloc, text).ok()??;
-            let (before, behind) = plain.split_once('^')?;
-            starts(state, input, before, behind)
-        }
-        kind => types(alloc, typist, kind, text)?,
-    };
-    Some(proceeds(outcome))
 }
 
 /// Gives the reader what a line types. None where it types nothing.

@@ -1,13 +1,12 @@
 //! A file of cases, line by line.
 
-ghost use Rattle.std.specs.Prelude.{◌<◌};
-
-use crate::bench::on_bench;
+use crate::bench::{Bench, config_of};
 use crate::report::{Row, differs};
 use crate::setup::{Setup, Target, binding};
 use line_config::Result;
 use line_editor::Bindings;
 use line_editor::binding::EventHandler;
+use line_editor::input_state::InputState;
 use line_script::edit;
 use std::alloc::Global;
 use std::io::{Read, Write};
@@ -412,49 +411,48 @@ fn tries_set_up<O: Write>(
         };
         let _ = bindings.insert(event, handler)?;
     }
-    tries_bound(alloc, setup, &bindings, row, out)
+    if setup.screen.is_none() {
+        return tries_script(alloc, setup, &bindings, row, out);
+    }
+    let config = config_of(setup.parsed.edit_mode);
+    let mut input = InputState::new(&config, &bindings);
+    let mut again = InputState::new(&config, &bindings);
+    tries_on_bench(alloc, setup, (&mut input, &mut again), row, out)
 }
 
-/// Tries a case with these settings and bindings, in both ways where it is to be.
-fn tries_bound<O: Write>(
+/// Tries a case on the bench, in both ways where it is to be.
+fn tries_on_bench<O: Write>(
     alloc: Global,
     setup: &mut Setup<'_>,
-    bindings: &Bindings,
+    (input, again): (&mut InputState<'_>, &mut InputState<'_>),
     row: &Row<'_>,
     out: &mut O,
 ) -> Result<Tried> {
-    let columns = setup.screen.unwrap_or(0);
-    if columns == 0 {
-        return tries_script(alloc, setup, bindings, row, out);
-    }
     let both_ways = setup.both_ways;
     setup.both_ways = false;
-    match tries_on_bench(alloc, setup, bindings, columns, row, out)? {
+    match tries_one_way(alloc, setup, input, row, out)? {
         Tried::Same if both_ways => {
             setup.both_ways = true;
-            tries_on_bench(alloc, setup, bindings, columns, row, out)
+            tries_one_way(alloc, setup, again, row, out)
         }
         first => Ok(first),
     }
 }
 
 /// Tries a case on the bench.
-fn tries_on_bench<O: Write>(
+fn tries_one_way<O: Write>(
     alloc: Global,
     setup: &Setup<'_>,
-    bindings: &Bindings,
-    columns: u16,
+    input: &mut InputState<'_>,
     row: &Row<'_>,
     out: &mut O,
-) -> Result<Tried>
-    requires { 0 < columns }
-{
-    let seen = on_bench(alloc, setup, bindings, columns, row)?;
-    if let Some(number) = seen.bad_line {
-        return Ok(Tried::BadLine(number));
+) -> Result<Tried> {
+    let mut bench = Bench::new(alloc, setup);
+    bench.tries(alloc, setup, input, row)?;
+    match bench.seen.bad_line {
+        Some(number) => Ok(Tried::BadLine(number)),
+        None => compares(row, &bench.seen.lines, out),
     }
-    let text = str::from_utf8(&seen.lines).unwrap_or("");
-    Ok(Tried::of(differs(row, text, out)?))
 }
 
 /// Tries a case by a script.
@@ -465,14 +463,24 @@ fn tries_script<O: Write>(
     row: &Row<'_>,
     out: &mut O,
 ) -> Result<Tried> {
-    let parsed = &mut setup.parsed;
     for (number, line) in row.items.as_slice() {
-        if !parsed.push_line(alloc, line)? {
+        if !setup.parsed.push_line(alloc, line)? {
             return Ok(Tried::BadLine(*number));
         }
     }
     let mut printed = Vec::new(alloc);
-    let _ = edit(alloc, parsed, bindings, setup.kill_ring_size, &mut printed)?;
-    let text = str::from_utf8(&printed).unwrap_or("");
+    let _ = edit(
+        alloc,
+        &mut setup.parsed,
+        bindings,
+        setup.kill_ring_size,
+        &mut printed,
+    )?;
+    compares(row, &printed, out)
+}
+
+/// Compares what was seen with what a case wants.
+fn compares<O: Write>(row: &Row<'_>, seen: &[u8], out: &mut O) -> Result<Tried> {
+    let text = str::from_utf8(seen).unwrap_or("");
     Ok(Tried::of(differs(row, text, out)?))
 }

@@ -61,13 +61,6 @@ impl Seen {
         }
     }
 
-    /// Nothing, since a line can't be done.
-    pub fn of_bad_line(alloc: Global, number: usize) -> Seen {
-        let mut seen = Seen::new(alloc);
-        seen.bad_line = Some(number);
-        seen
-    }
-
     /// A step ended so.
     pub fn ends(&mut self, alloc: Global, outcome: Result<&'static str>) -> Result<()> {
         match outcome {
@@ -145,47 +138,48 @@ pub fn looks_at(
     seen: &mut Seen,
 ) -> Result<()> {
     let mut out = Vec::new(alloc);
-    writeln!(out, "outcome {}", seen.outcome)?;
-    looks_at_line(state, &mut out)?;
+    looks_at_line(state, seen.outcome, &mut out)?;
     looks_at_layout(state, &mut out)?;
+    looks_at_rest(state, input, seen, &mut out)?;
+    let before = seen.calls_before;
+    looks_at_calls(alloc, state.out().log(), typist.flags(), before, &mut out)?;
+    seen.lines = out;
+    Ok(())
+}
+
+/// Writes down what was read, the mode, and the last insert.
+fn looks_at_rest(
+    state: &Editor<'_, '_>,
+    input: &InputState<'_>,
+    seen: &Seen,
+    out: &mut Vec<u8>,
+) -> Result<()> {
     let style = match (input.is_emacs_mode(), input.is_vi_cmd_mode()) {
         (true, _) => "emacs",
         (false, true) => "vi, command mode",
         (false, false) => "vi",
     };
-    writeln!(out, "style {style}\nsays {}", seen.says)?;
+    let (says, reads, next) = (seen.says.as_str(), seen.reads.as_str(), seen.next.as_str());
+    let (mode, last) = (seen.mode, state.last_insert()?);
     writeln!(
         out,
-        "reads {}\nmode {}\nthen {}",
-        seen.reads, seen.mode, seen.next
+        "style {style}\nsays {says}\nreads {reads}\nmode {mode}\nthen {next}\nlast insert {:?}",
+        last.as_deref()
     )?;
-    writeln!(out, "last insert {:?}", state.last_insert()?.as_deref())?;
-    looks_at_calls(
-        alloc,
-        state.out().log(),
-        typist.flags(),
-        seen.calls_before,
-        &mut out,
-    )?;
-    seen.lines = out;
     Ok(())
 }
 
-/// Writes down the line, with a mark at its cursor too, and the place in the history.
-fn looks_at_line(state: &Editor<'_, '_>, out: &mut Vec<u8>) -> Result<()> {
+/// Writes down how the last step ended, the line, with a mark at its cursor too, and the place in the history.
+fn looks_at_line(state: &Editor<'_, '_>, outcome: &'static str, out: &mut Vec<u8>) -> Result<()> {
     let (line, pos) = (state.line(), state.pos());
-    out.write_all(b"line ")?;
+    write!(out, "outcome {outcome}\nline ")?;
     write_escaped(line, out)?;
     out.write_all(b"\nshows ")?;
     write_escaped(line.get(..pos).unwrap_or("?"), out)?;
     out.write_all(b"^")?;
     write_escaped(line.get(pos..).unwrap_or("?"), out)?;
-    writeln!(
-        out,
-        "\ncursor {pos}\nlen {}\nplace {}",
-        line.len(),
-        state.place()
-    )?;
+    let (len, place) = (line.len(), state.place());
+    writeln!(out, "\ncursor {pos}\nlen {len}\nplace {place}")?;
     if let Some(first) = line.chars().next()
         && line.chars().all(|c| c == first)
     {
@@ -194,29 +188,31 @@ fn looks_at_line(state: &Editor<'_, '_>, out: &mut Vec<u8>) -> Result<()> {
     Ok(())
 }
 
-/// Writes down what is kept of the layout, and the hint.
+/// Writes down what is kept of the layout.
 fn looks_at_layout(state: &Editor<'_, '_>, out: &mut Vec<u8>) -> Result<()> {
     let layout = state.layout();
-    let (cursor, end) = (layout.cursor, layout.end);
+    let (cursor, end, prompt) = (layout.cursor, layout.end, layout.prompt_size);
+    let (mode, trails) = (layout.grapheme_cluster_mode, layout.has_info);
     writeln!(
         out,
-        "at {} {}\nend {} {}",
-        cursor.row, cursor.col, end.row, end.col
+        "at {} {}\nend {} {}\nprompt {} {} {mode:?}\ntrails {trails}",
+        cursor.row, cursor.col, end.row, end.col, prompt.row, prompt.col
     )?;
     if cursor == end {
-        writeln!(out, "at the end of what is drawn")?;
+        out.write_all(b"at the end of what is drawn\n")?;
     }
-    let (prompt, mode) = (layout.prompt_size, layout.grapheme_cluster_mode);
+    looks_at_hint(state, out)
+}
+
+/// Writes down the hint, and what tells how the line was drawn.
+fn looks_at_hint(state: &Editor<'_, '_>, out: &mut Vec<u8>) -> Result<()> {
+    let (is_lit, redraws) = (state.highlighter().is_some(), state.out().redraws());
+    let (has_hint, hint) = (state.has_hint(), state.hint_text());
+    let (is_default, at_end) = (state.is_default_prompt(), state.is_cursor_at_end());
     writeln!(
         out,
-        "prompt {} {} {mode:?}\ntrails {}",
-        prompt.row, prompt.col, layout.has_info
+        "highlighter {is_lit}\nredraws {redraws}\nhint {has_hint} {hint:?}\nown prompt {is_default}\nbehind the line {at_end}"
     )?;
-    writeln!(out, "highlighter {}", state.highlighter().is_some())?;
-    writeln!(out, "redraws {}", state.out().redraws())?;
-    writeln!(out, "hint {} {:?}", state.has_hint(), state.hint_text())?;
-    writeln!(out, "own prompt {}", state.is_default_prompt())?;
-    writeln!(out, "behind the line {}", state.is_cursor_at_end())?;
     Ok(())
 }
 
@@ -229,19 +225,12 @@ fn looks_at_calls(
     out: &mut Vec<u8>,
 ) -> Result<()> {
     let calls = letters(alloc, log, before)?;
-    write!(
-        out,
-        "calls {}\nflags ",
-        if calls.is_empty() {
-            "none"
-        } else {
-            calls.as_str()
-        }
-    )?;
+    let calls = if calls.is_empty() { "none" } else { &calls };
+    write!(out, "calls {calls}\nflags ")?;
     for flag in flags {
         out.write_all(if *flag { b"y" } else { b"n" })?;
     }
-    writeln!(out, "{}", if flags.is_empty() { "none" } else { "" })?;
+    out.write_all(if flags.is_empty() { b"none\n" } else { b"\n" })?;
     for call in log.lines().skip(before) {
         writeln!(out, "log {call}")?;
     }
