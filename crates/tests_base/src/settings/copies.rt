@@ -85,14 +85,6 @@ fn built(rt: &impl Abort, changed: &Changed) -> Builder {
     }
 }
 
-/// Two configurations are equal where they differ in the same setting alone.
-fn compares(rt: &impl Abort, one: &Changed, other: &Changed, same: bool) -> bool {
-    let first = built(rt, one).build();
-    let second = built(rt, other).build();
-    let settings_found = settings(&first) == settings(&second);
-    compare(&first, &second, same) && settings_found == same
-}
-
 /// The clone of a configuration, and that of a builder, has what was set, and leaves its source as it was.
 fn copies(rt: &impl Abort, changed: &Changed) -> bool {
     let wanted = settings(&built(rt, changed).build());
@@ -109,8 +101,10 @@ fn no_two_are_equal(rt: HostRuntime) {
     for (index, one) in ALL.iter().enumerate() {
         holds(&rt, copies(&rt, one), "copies", index);
         for (place, other) in ALL.iter().enumerate() {
-            let found = compares(&rt, one, other, index == place);
-            assert!(&rt; found, "{index} {place}");
+            let (first, second) = (built(&rt, one).build(), built(&rt, other).build());
+            let same = index == place;
+            let found = (settings(&first) == settings(&second)) == same;
+            assert!(&rt; found && compare(&first, &second, same), "{index} {place}");
         }
     }
 }
