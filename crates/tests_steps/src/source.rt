@@ -186,7 +186,11 @@ impl<'t> Source<'t> {
             "Replace" => (None, self.movement()),
             _ => (None, None),
         };
-        let text = match self.text_of(name) {
+        let quoted = match name {
+            "Insert" => self.text().map(Some),
+            _ => self.some_text(),
+        };
+        let text = match quoted {
             Some(Some(text)) => match unescape(alloc, text)? {
                 None => return Ok(None),
                 plain => plain,
@@ -200,14 +204,6 @@ impl<'t> Source<'t> {
             ("ReplaceToBracket", _, _, text) => Some(Cmd::ReplaceToBracket(text)),
             _ => None,
         })
-    }
-
-    /// The text of the command of this name.
-    fn text_of(&mut self, name: &str) -> Option<Option<&'t str>> {
-        match name {
-            "Insert" => Some(Some(self.text()?)),
-            _ => self.some_text(),
-        }
     }
 
     /// The command of this name, which has a count or a movement.
