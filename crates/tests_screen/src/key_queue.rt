@@ -6,7 +6,6 @@ use line_keys::keys::{KeyCode, KeyEvent, Modifiers};
 use line_keys::raw_reader::RawReader;
 use line_screen::KeyQueue;
 use std::process::Abort;
-use std::test::Fail;
 
 const CTRL_A: KeyEvent = KeyEvent(KeyCode::Char('A'), Modifiers::CTRL);
 
@@ -38,17 +37,20 @@ enum Call {
     BindsNot(KeyEvent),
 }
 
-fn called(rt: &impl Abort, queue: &mut KeyQueue, call: &Call) -> Result<(), Fail> {
+fn called(rt: &impl Abort, queue: &mut KeyQueue, call: &Call) {
     match call {
-        Call::Press(key) => queue.press(*key)?,
-        Call::Type(text) => queue.type_text(text)?,
-        Call::Paste(text) => queue.paste(text)?,
+        Call::Press(key) => queue.press(*key).expect(rt, "no fault"),
+        Call::Type(text) => queue.type_text(text).expect(rt, "no fault"),
+        Call::Paste(text) => queue.paste(text).expect(rt, "no fault"),
         Call::Mark => queue.mark(),
         Call::Rewind => queue.rewind(),
-        Call::ReadsKey(key) => assert_eq!(rt; queue.next_key(false)?, *key),
-        Call::ReadsChar(c) => assert_eq!(rt; queue.next_char()?, *c),
+        Call::ReadsKey(key) => {
+            let read = queue.next_key(false).expect(rt, "no fault");
+            assert_eq!(rt; read, *key);
+        }
+        Call::ReadsChar(c) => assert_eq!(rt; queue.next_char().expect(rt, "no fault"), *c),
         Call::ReadsPasted(text) => {
-            let pasted = queue.read_pasted_text()?;
+            let pasted = queue.read_pasted_text().expect(rt, "no fault");
             assert_eq!(rt; pasted.as_str(), *text);
         }
         Call::FailsKey => assert!(rt; matches!(queue.next_key(true), Err(ReadlineError::Io(_)))),
@@ -70,7 +72,6 @@ fn called(rt: &impl Abort, queue: &mut KeyQueue, call: &Call) -> Result<(), Fail
         }
         Call::BindsNot(key) => assert!(rt; queue.find_binding(key).is_none()),
     }
-    Ok(())
 }
 
 /// Whether the queue binds keys, calls, and how many failures there were.
@@ -208,7 +209,7 @@ const CASES: &[Case] = &[
 ];
 
 #[test]
-fn gives_what_was_handed_over(rt: HostRuntime) -> Result<(), Fail> {
+fn gives_what_was_handed_over(rt: HostRuntime) {
     for (binds, calls, failures) in CASES {
         let mut queue = if *binds {
             KeyQueue::new(rt.alloc())
@@ -216,9 +217,8 @@ fn gives_what_was_handed_over(rt: HostRuntime) -> Result<(), Fail> {
             KeyQueue::without_bindings(rt.alloc())
         };
         for call in *calls {
-            called(&rt, &mut queue, call)?;
+            called(&rt, &mut queue, call);
         }
         assert_eq!(rt; queue.failures(), *failures);
     }
-    Ok(())
 }

@@ -3,7 +3,6 @@
 use line_buffer::{LineBuffer, Position, Unit};
 use line_screen::{KeyQueue, Plain, measured};
 use line_state::Renderer;
-use std::test::Fail;
 
 /// A row and a column.
 type Place = (Unit, Unit);
@@ -93,14 +92,11 @@ const LAYOUTS: &[Layout] = &[
 ];
 
 #[test]
-fn measures_a_line_once(rt: HostRuntime) -> Result<(), Fail> {
+fn measures_a_line_once(rt: HostRuntime) {
     for (columns, text, pos, info, cursor, end) in LAYOUTS {
-        assert!(rt;
-            *columns > 0 && text.is_char_boundary(*pos),
-            "{pos} in {text:?}"
-        );
+        assert!(rt; *columns > 0 && text.is_char_boundary(*pos));
         let screen: Plain<KeyQueue> = Plain::new(rt.alloc(), *columns);
-        let line = LineBuffer::init(rt.alloc(), text, *pos)?;
+        let line = LineBuffer::init(rt.alloc(), text, *pos).expect(&rt, "no fault");
         let layout = screen.compute_layout(Position { row: 0, col: 2 }, true, &line, *info);
         let found = (
             (layout.cursor.row, layout.cursor.col),
@@ -113,5 +109,4 @@ fn measures_a_line_once(rt: HostRuntime) -> Result<(), Fail> {
             "{pos} in {text:?} on {columns} columns"
         );
     }
-    Ok(())
 }

@@ -4,7 +4,7 @@ use line_buffer::{LineBuffer, Position, Unit};
 use line_screen::{KeyQueue, Plain};
 use line_state::Renderer;
 use std::alloc::Global;
-use std::test::Fail;
+use std::process::Abort;
 
 /// A call of the screen. The first draws a line of two rows with something behind it. The last makes two calls that are as the
 /// trait has them: nothing is held back.
@@ -19,40 +19,47 @@ enum Call {
 }
 
 /// Draws this line in full, with the cursor at this place in it.
-fn drawn(
+fn draws(
+    rt: &impl Abort,
     screen: &mut Plain<KeyQueue>,
     line: &LineBuffer,
     prompt: &str,
     hint: Option<&str>,
-) -> line_config::Result<()> {
+) {
     let prompt_end = screen.calculate_position(prompt, Position { row: 0, col: 0 });
     let layout = screen.compute_layout(prompt_end, true, line, hint);
-    screen.refresh_line(&prompt, line, hint, None, &layout, None::<&()>)
+    screen
+        .refresh_line(&prompt, line, hint, None, &layout, None::<&()>)
+        .expect(rt, "no fault");
 }
 
-fn called(alloc: Global, screen: &mut Plain<KeyQueue>, call: &Call) -> Result<(), Fail> {
+fn called(rt: &impl Abort, alloc: Global, screen: &mut Plain<KeyQueue>, call: &Call) {
     match call {
         Call::Draw => {
-            let line = LineBuffer::init(alloc, "ab\nc", 3)?;
-            drawn(screen, &line, "> ", Some("de"))?;
+            let line = LineBuffer::init(alloc, "ab\nc", 3).expect(rt, "no fault");
+            draws(rt, screen, &line, "> ", Some("de"));
         }
-        Call::DrawPlain => drawn(screen, &LineBuffer::init(alloc, "é", 2)?, "", None)?,
+        Call::DrawPlain => {
+            let line = LineBuffer::init(alloc, "é", 2).expect(rt, "no fault");
+            draws(rt, screen, &line, "", None);
+        }
         Call::Move(row, col) => {
             let place = Position {
                 row: *row,
                 col: *col,
             };
-            screen.move_cursor(screen.cursor(), place)?;
+            screen
+                .move_cursor(screen.cursor(), place)
+                .expect(rt, "no fault");
         }
-        Call::Write(text) => screen.write_and_flush(text)?,
-        Call::ClearToEnd => screen.clear_to_eol()?,
-        Call::Clear => screen.clear_screen()?,
+        Call::Write(text) => screen.write_and_flush(text).expect(rt, "no fault"),
+        Call::ClearToEnd => screen.clear_to_eol().expect(rt, "no fault"),
+        Call::Clear => screen.clear_screen().expect(rt, "no fault"),
         Call::HoldBack => {
-            screen.begin_synchronized_update()?;
-            screen.end_synchronized_update()?;
+            screen.begin_synchronized_update().expect(rt, "no fault");
+            screen.end_synchronized_update().expect(rt, "no fault");
         }
     }
-    Ok(())
 }
 
 /// What a screen shows: the text, with the row and the column of its cursor, the prompt and the hint.
@@ -99,16 +106,15 @@ const CALLS: &[Case] = &[
 ];
 
 #[test]
-fn keeps_what_it_shows(rt: HostRuntime) -> Result<(), Fail> {
+fn keeps_what_it_shows(rt: HostRuntime) {
     for (calls, (text, place, prompt, hint), redraws) in CALLS {
         let mut screen: Plain<KeyQueue> = Plain::new(rt.alloc(), 10);
         for call in *calls {
-            called(rt.alloc(), &mut screen, call)?;
+            called(&rt, rt.alloc(), &mut screen, call);
         }
         let cursor = screen.cursor();
         assert_eq!(rt; (screen.text(), (cursor.row, cursor.col)), (*text, *place));
         assert_eq!(rt; (screen.prompt(), screen.hint()), (*prompt, *hint));
         assert_eq!(rt; (screen.redraws(), screen.get_columns()), (*redraws, 10));
     }
-    Ok(())
 }

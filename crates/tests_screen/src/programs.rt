@@ -8,21 +8,21 @@ use line_editor::State;
 use line_keys::keys::{KeyCode, KeyEvent, Modifiers};
 use line_parts::{Context, MemHistory};
 use line_screen::{KeyQueue, Plain};
-use std::test::Fail;
 
 /// A line that is typed and submitted, and a character that a caller types.
 #[test]
-fn give_what_is_typed(rt: HostRuntime) -> Result<(), Fail> {
-    let line = read_line(rt.alloc(), "caf\u{e9}")?;
+fn give_what_is_typed(rt: HostRuntime) {
+    let line = read_line(rt.alloc(), "caf\u{e9}").expect(&rt, "no fault");
     assert_eq!(rt; line.as_str(), "caf\u{e9}");
     let mut screen: Plain<KeyQueue> = Plain::new(rt.alloc(), 80);
     let history = MemHistory::new(rt.alloc());
     let mut helper = ();
     let context = Context::new(&history);
-    let mut state = State::new(rt.alloc(), &mut screen, &"> ", Some(&mut helper), context)?;
-    type_in(&mut state, 'x')?;
+    let mut state = State::new(rt.alloc(), &mut screen, &"> ", Some(&mut helper), context).expect(
+        &rt, "no fault",
+    );
+    type_in(&mut state, 'x').expect(&rt, "no fault");
     assert_eq!(rt; state.line(), "x");
-    Ok(())
 }
 
 const A: KeyEvent = KeyEvent(KeyCode::Char('a'), Modifiers::NONE);
@@ -47,7 +47,7 @@ const CASES: &[Case] = &[
 ];
 
 #[test]
-fn edit_by_each_key(rt: HostRuntime) -> Result<(), Fail> {
+fn edit_by_each_key(rt: HostRuntime) {
     for (keys, wanted, shown) in CASES {
         let mut terminal = Vec::new(rt.alloc());
         match edit_by_keys(rt.alloc(), keys, &mut terminal) {
@@ -57,5 +57,4 @@ fn edit_by_each_key(rt: HostRuntime) -> Result<(), Fail> {
         }
         assert_eq!(rt; terminal.as_slice(), shown.as_bytes());
     }
-    Ok(())
 }

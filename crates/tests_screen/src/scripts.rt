@@ -9,21 +9,18 @@ use line_script::report::{Outcome, Report};
 use std::alloc::Global;
 use std::io::{self, Read, Write};
 use std::process::Abort;
-use std::result::Result;
-use std::test::Fail;
 
 /// A script, what is printed, and the status.
 type Case = (&'static str, &'static str, u8);
 
 /// Plays a script, at once and byte by byte: each prints the same and ends with the same status.
-fn prints(rt: &impl Abort, alloc: Global, case: Case) -> Result<(), Fail> {
+fn prints(rt: &impl Abort, alloc: Global, case: Case) {
     let (script, printed, status) = case;
     let mut out = Vec::new(alloc);
     let ended = play(alloc, script.as_bytes(), &mut out);
-    let shown = str::from_utf8(&out)?;
+    let shown = str::from_utf8(&out).expect(rt, "a text");
     assert_eq!(rt; (shown, ended), (printed, status), "{script}");
     prints_by_bytes(rt, alloc, case);
-    Ok(())
 }
 
 /// Each outcome, bad lines, and what stands behind a submit, which has to be good too.
@@ -60,32 +57,13 @@ const SCRIPTS: &[Case] = &[
 ];
 
 #[test]
-fn prints_what_became_of_the_line(rt: HostRuntime) -> Result<(), Fail> {
+fn prints_what_became_of_the_line(rt: HostRuntime) {
     for case in SCRIPTS {
-        prints(&rt, rt.alloc(), *case)?;
+        prints(&rt, rt.alloc(), *case);
     }
-    Ok(())
 }
 
-/// Kills the numbers from 1 on, each by itself, yanks, and goes back in the kill ring.
-fn goes_back(rt: &impl Abort, alloc: Global, case: (usize, usize, &str)) -> Result<(), Fail> {
-    let (kills, turns, printed) = case;
-    let mut script = Vec::new(alloc);
-    for number in 1..=kills {
-        write!(script, "type {number}\nkey C-u\n")?;
-    }
-    writeln!(script, "key C-y")?;
-    for _ in 0..turns {
-        writeln!(script, "key M-y")?;
-    }
-    let mut out = Vec::new(alloc);
-    let ended = play(alloc, script.as_slice(), &mut out);
-    let shown = str::from_utf8(&out)?;
-    assert_eq!(rt; (shown, ended), (printed, 1), "{kills} {turns}");
-    Ok(())
-}
-
-/// So many kills and so many steps back, and what is printed. The ring has 60 slots: the 61st kill takes the place of
+/// So many kills, of the numbers from 1 on, each by itself, so many steps back, and what is printed behind a yank. The ring has 60 slots: the 61st kill takes the place of
 /// the first, and the 60th step comes back to where it began.
 const RING: &[(usize, usize, &str)] = &[
     (
@@ -111,19 +89,22 @@ const RING: &[(usize, usize, &str)] = &[
 ];
 
 #[test]
-fn keeps_sixty_killed_texts(rt: HostRuntime) -> Result<(), Fail> {
-    for case in RING {
-        goes_back(&rt, rt.alloc(), *case)?;
+fn keeps_sixty_killed_texts(rt: HostRuntime) {
+    let alloc = rt.alloc();
+    for (kills, turns, printed) in RING {
+        let mut script = Vec::new(alloc);
+        for number in 1..=*kills {
+            write!(script, "type {number}\nkey C-u\n").expect(&rt, "no fault");
+        }
+        writeln!(script, "key C-y").expect(&rt, "no fault");
+        for _ in 0..*turns {
+            writeln!(script, "key M-y").expect(&rt, "no fault");
+        }
+        let mut out = Vec::new(alloc);
+        let ended = play(alloc, script.as_slice(), &mut out);
+        let shown = str::from_utf8(&out).expect(&rt, "a text");
+        assert_eq!(rt; (shown, ended), (*printed, 1), "{kills} {turns}");
     }
-    Ok(())
-}
-
-/// Plays a script without a bad line, and finds none. So it is with any one allocation refused, which is a fault.
-fn has_no_bad_line(rt: &impl Abort, alloc: Global, script: &'static str) {
-    let mut out = Vec::new(alloc);
-    let ended = play(alloc, script.as_bytes(), &mut out);
-    assert!(rt; ended < 4, "{ended} of {script}");
-    assert!(rt; !out.starts_with(b"bad"), "{script}");
 }
 
 const GOOD: &[&str] = &[
@@ -132,10 +113,16 @@ const GOOD: &[&str] = &[
     "mode vi\nhistory one two\nkey Up\nkey Esc\ntype 0cwx\nkey Esc\ntype w.3p2y\nkey Esc\nkey Enter\n",
 ];
 
+/// Plays scripts without a bad line, and finds none. So it is with any one allocation refused, which is a fault.
 #[test]
 fn takes_no_refused_allocation_for_a_bad_line(rt: HostRuntime) {
     for script in GOOD {
-        has_no_bad_line(&rt, rt.alloc(), script);
+        let mut out = Vec::new(rt.alloc());
+        let ended = play(rt.alloc(), script.as_bytes(), &mut out);
+        assert!(rt;
+            ended < 4 && !out.starts_with(b"bad"),
+            "{ended} of {script}"
+        );
     }
 }
 
@@ -165,25 +152,21 @@ fn is_cut(rt: &impl Abort, alloc: Global, script: &'static str, at: usize, at_on
         at_once,
         fails: true,
     };
-    assert_eq!(rt; play(alloc, input, &mut out), 3, "{script} at {at}");
-    assert_eq!(rt; out.len(), 0, "{script} at {at}");
+    let ended = play(alloc, input, &mut out);
+    assert_eq!(rt; (ended, out.len()), (3, 0), "{script} at {at}");
 }
 
 /// Scripts that are good or bad by where they are cut.
 const CUT: &[&str] = &["", "history é\n\ntype a\nkey Enter\n", "key\n"];
 
-/// Cuts a script behind each of its bytes, which come together or one by one.
-fn is_cut_at_each_byte(rt: &impl Abort, alloc: Global, script: &'static str) {
-    for at in 0..=script.len() {
-        is_cut(rt, alloc, script, at, script.len());
-        is_cut(rt, alloc, script, at, 1);
-    }
-}
-
+/// Cuts each script behind each of its bytes, which come together or one by one.
 #[test]
 fn ends_with_the_fault_of_its_input(rt: HostRuntime) {
     for script in CUT {
-        is_cut_at_each_byte(&rt, rt.alloc(), script);
+        for at in 0..=script.len() {
+            is_cut(&rt, rt.alloc(), script, at, script.len());
+            is_cut(&rt, rt.alloc(), script, at, 1);
+        }
     }
 }
 
@@ -265,23 +248,6 @@ fn is_beginning(printed: &str) -> bool {
     lines.next().is_none()
 }
 
-/// Plays a script. With ample memory it prints these lines and ends with this status. Where an allocation is refused the
-/// status may be that of a fault, and what is printed is then a beginning of these lines or of those of a fault.
-fn prints_all_or_a_beginning(rt: &impl Abort, alloc: Global, case: Case) {
-    let (script, whole, status) = case;
-    let mut out = Vec::new(alloc);
-    let ended = play(alloc, script.as_bytes(), &mut out);
-    let Ok(shown) = str::from_utf8(&out) else {
-        panic!(rt; "no text after {script}");
-    };
-    if ended == 3 {
-        let is_of_these = whole.starts_with(shown) || shown.starts_with("outcome fault\n");
-        assert!(rt; is_of_these && is_beginning(shown), "{shown:?} of {script}");
-    } else {
-        assert_eq!(rt; (shown, ended), (whole, status), "{script}");
-    }
-}
-
 /// Scripts of which no outcome is a fault.
 const NO_FAULTS: &[Case] = &[
     (
@@ -301,10 +267,21 @@ const NO_FAULTS: &[Case] = &[
     ),
 ];
 
+/// With ample memory a script prints its lines and ends with its status. Where an allocation is refused the status may be
+/// that of a fault, and what is printed is then a beginning of these lines or of those of a fault.
 #[test]
 fn prints_a_beginning_without_memory(rt: HostRuntime) {
-    for case in NO_FAULTS {
-        prints_all_or_a_beginning(&rt, rt.alloc(), *case);
+    for (script, whole, status) in NO_FAULTS {
+        let mut out = Vec::new(rt.alloc());
+        let ended = play(rt.alloc(), script.as_bytes(), &mut out);
+        let shown = str::from_utf8(&out).expect(&rt, "a text");
+        let is_right = if ended == 3 {
+            let is_of_these = whole.starts_with(shown) || shown.starts_with("outcome fault\n");
+            is_of_these && is_beginning(shown)
+        } else {
+            (shown, ended) == (*whole, *status)
+        };
+        assert!(rt; is_right, "{ended}, {shown:?} of {script}");
     }
 }
 
@@ -371,13 +348,6 @@ fn ends_with_the_fault_of_its_output(rt: HostRuntime) {
     }
 }
 
-fn names_outcome(rt: &impl Abort, alloc: Global, case: (Outcome, &str)) -> Result<(), Fail> {
-    let (outcome, name) = case;
-    let shown = format!(in alloc; "{outcome}")?;
-    assert_eq!(rt; shown.as_str(), name);
-    Ok(())
-}
-
 const OUTCOMES: &[(Outcome, &str)] = &[
     (Outcome::Submitted, "submitted"),
     (Outcome::Eof, "eof"),
@@ -386,14 +356,14 @@ const OUTCOMES: &[(Outcome, &str)] = &[
 ];
 
 #[test]
-fn names_each_outcome(rt: HostRuntime) -> Result<(), Fail> {
-    for case in OUTCOMES {
-        names_outcome(&rt, rt.alloc(), *case)?;
+fn names_each_outcome(rt: HostRuntime) {
+    for (outcome, name) in OUTCOMES {
+        let shown = format!(in rt.alloc(); "{outcome}").expect(&rt, "no fault");
+        assert_eq!(rt; shown.as_str(), *name);
     }
-    Ok(())
 }
 
-fn writes(rt: &impl Abort, alloc: Global, case: (&str, &str)) -> Result<(), Fail> {
+fn writes(rt: &impl Abort, alloc: Global, case: (&str, &str)) {
     let (line, printed) = case;
     let report = Report {
         outcome: Outcome::Eof,
@@ -404,9 +374,8 @@ fn writes(rt: &impl Abort, alloc: Global, case: (&str, &str)) -> Result<(), Fail
         redraws: 9,
     };
     let mut out = Vec::new(alloc);
-    report.write_to(&mut out)?;
+    report.write_to(&mut out).expect(rt, "no fault");
     assert_eq!(rt; out.as_slice(), printed.as_bytes(), "{line:?}");
-    Ok(())
 }
 
 const LINES: &[(&str, &str)] = &[
@@ -426,9 +395,8 @@ const LINES: &[(&str, &str)] = &[
 ];
 
 #[test]
-fn escapes_the_line(rt: HostRuntime) -> Result<(), Fail> {
+fn escapes_the_line(rt: HostRuntime) {
     for case in LINES {
-        writes(&rt, rt.alloc(), *case)?;
+        writes(&rt, rt.alloc(), *case);
     }
-    Ok(())
 }

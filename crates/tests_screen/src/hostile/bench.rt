@@ -16,7 +16,7 @@ use line_parts::{Context, History};
 use line_screen::{KeyQueue, Plain};
 use line_state::Renderer;
 use std::alloc::Global;
-use std::io::{Error, ErrorKind};
+use std::process::Abort;
 use tests_parties::guide::Guide;
 use tests_parties::shelf::Shelf;
 
@@ -125,12 +125,13 @@ pub(crate) enum Item {
 }
 
 /// The keys that a text writes, as items.
-pub(crate) fn items(alloc: Global, text: &str) -> Result<Vec<Item>> {
+pub(crate) fn items(rt: &impl Abort, alloc: Global, text: &str) -> Vec<Item> {
     let mut items = Vec::new(alloc);
-    for key in keys(alloc, text)?.as_slice() {
-        items.push(Item::Key(*key))?;
+    let keys = keys(alloc, text).expect(rt, "no fault");
+    for key in keys.as_slice() {
+        items.push(Item::Key(*key)).expect(rt, "no fault");
     }
-    Ok(items)
+    items
 }
 
 /// What keys are bound to. A text that is put again is the one that came in last, and a yanked one comes behind the cursor.
@@ -183,19 +184,20 @@ impl Desk {
     }
 
     /// The map of what is bound.
-    pub(crate) fn bindings(&self, alloc: Global) -> Result<Bindings> {
+    fn bindings(&self, rt: &impl Abort, alloc: Global) -> Bindings {
         let mut bindings = Bindings::new(alloc);
         for (typed, to) in self.bound {
             let command = match to {
-                To::Moves(movement) => Cmd::Move(movement.clone()?),
+                To::Moves(movement) => Cmd::Move(movement.clone().expect(rt, "no fault")),
                 To::PutsAgain => Cmd::Replace(Movement::ForwardChar(0), None),
                 To::Undoes(n) => Cmd::Undo(*n),
                 To::Yanks(n) => Cmd::Yank(*n, Anchor::After),
             };
-            let event = Event::KeySeq(keys(alloc, typed)?);
-            let _ = bindings.insert(event, EventHandler::Simple(command))?;
+            let event = Event::KeySeq(keys(alloc, typed).expect(rt, "no fault"));
+            let handler = EventHandler::Simple(command);
+            let _ = bindings.insert(event, handler).expect(rt, "no fault");
         }
-        Ok(bindings)
+        bindings
     }
 
     /// A history of its lines, of which no call fails.
@@ -259,13 +261,12 @@ pub(crate) fn marked(alloc: Global, line: &str, pos: usize) -> Result<String> {
     Ok(format!(in alloc; "{before}|{behind}")?)
 }
 
-/// How a turn or a run ended, in a word.
-pub(crate) fn ended(outcome: &Result<Turned>) -> &'static str {
+/// How a run ended, in a word.
+pub(crate) fn ended(outcome: &Result<()>) -> &'static str {
     match outcome {
-        Ok(Turned::Proceeds) => "proceeds",
-        Ok(Turned::Submitted) => "submits",
-        Ok(Turned::NeedsMore | Turned::Ended) | Err(ReadlineError::Eof) => "eof",
-        Ok(Turned::Interrupted) | Err(ReadlineError::Interrupted) => "interrupted",
+        Ok(()) => "submits",
+        Err(ReadlineError::Eof) => "eof",
+        Err(ReadlineError::Interrupted) => "interrupted",
         Err(ReadlineError::Io(_)) => "fails",
         Err(ReadlineError::Memory) => "out of memory",
     }
@@ -278,12 +279,10 @@ pub(crate) type Editor<'out, 'prompt, W> = State<'out, 'prompt, W, Guide, &'stat
 /// boundary, the place within the history, and the redraws within their bound; after one that proceeds, and after each command,
 /// the layout is a full redraw's and the screen shows the line; a run or a turn fails where the reader counts a failure. At the
 /// end the history has its lines, and where all is taken back, the text is that of the start.
-pub(crate) fn left_by(alloc: Global, desk: &Desk, work: Work<'_>) -> Result<Left> {
+pub(crate) fn left_by(rt: &impl Abort, alloc: Global, desk: &Desk, work: Work<'_>) -> Left {
     let (text, cursor) = desk.start;
-    if desk.columns == 0 || !text.is_char_boundary(cursor) {
-        return Err(ReadlineError::Io(Error::from(ErrorKind::InvalidInput)));
-    }
-    let history = desk.shelf(alloc)?;
+    assert!(rt; desk.columns > 0 && text.is_char_boundary(cursor));
+    let history = desk.shelf(alloc).expect(rt, "no fault");
     let mut screen = Plain::new(alloc, desk.columns);
     let mut helper = Guide::new(desk.hints, desk.brackets);
     let (helper, context) = (Some(&mut helper), Context::new(&history));
@@ -295,22 +294,24 @@ pub(crate) fn left_by(alloc: Global, desk: &Desk, work: Work<'_>) -> Result<Left
         context,
         text,
         cursor,
-    )?;
-    let mut left = sits(alloc, desk, state, work)?;
-    if !desk.is_kept(&history)? {
+    )
+    .expect(rt, "no fault");
+    let mut left = sits(rt, alloc, desk, state, work);
+    if !desk.is_kept(&history).expect(rt, "no fault") {
         left.amiss = "the history";
     }
-    Ok(left)
+    left
 }
 
 fn sits(
+    rt: &impl Abort,
     alloc: Global,
     desk: &Desk,
     state: Editor<'_, '_, Plain<KeyQueue>>,
     work: Work<'_>,
-) -> Result<Left> {
+) -> Left {
     let config = desk.config();
-    let bindings = desk.bindings(alloc)?;
+    let bindings = desk.bindings(rt, alloc);
     let mut bench = Bench {
         alloc,
         desk: *desk,
@@ -322,9 +323,9 @@ fn sits(
         given: 0,
         amiss: "",
     };
-    bench.is_laid()?;
-    let outcome = bench.does(work);
-    bench.leaves(ended(&outcome))
+    bench.is_laid(rt);
+    let end = bench.does(rt, work);
+    bench.leaves(rt, end)
 }
 
 /// What is amiss where the line is not drawn as in a full redraw.
@@ -347,38 +348,40 @@ struct Bench<'b, 'out, 'prompt> {
 impl Bench<'_, '_, '_> {
     /// Kills what is to be killed before, and reads the Esc that leads to Vi's command mode, where that is wanted. The move that
     /// it stands for is not executed.
-    fn is_laid(&mut self) -> Result<()> {
+    fn is_laid(&mut self, rt: &impl Abort) {
         if !self.desk.killed.is_empty() {
-            self.kills.kill(self.desk.killed, Side::Append)?;
+            let killed = self.kills.kill(self.desk.killed, Side::Append);
+            killed.expect(rt, "no fault");
         }
         if self.desk.mode == Mode::Command {
-            self.keys.press(KeyEvent(K::Esc, M::NONE))?;
-            let _ = self.state.next_cmd(&mut self.input, &mut self.keys, false)?;
+            let esc = KeyEvent(K::Esc, M::NONE);
+            self.keys.press(esc).expect(rt, "no fault");
+            let read = self.state.next_cmd(&mut self.input, &mut self.keys, false);
+            let _ = read.expect(rt, "no fault");
             self.keys.mark();
         }
-        Ok(())
     }
 
     /// Does its work. How that ended.
-    fn does(&mut self, work: Work<'_>) -> Result<Turned> {
+    fn does(&mut self, rt: &impl Abort, work: Work<'_>) -> &'static str {
         match work {
-            Work::Reads(Way::Run, items) => self.reads(Way::Run, items),
+            Work::Reads(Way::Run, items) => self.reads(rt, Way::Run, items),
             Work::Reads(way, items) => {
-                self.state.refresh_line()?;
-                if !self.is_drawn()? {
+                self.state.refresh_line().expect(rt, "no fault");
+                if !self.is_drawn(rt) {
                     self.amiss = UNDRAWN;
                 }
-                self.reads(way, items)
+                self.reads(rt, way, items)
             }
             Work::Executes(commands) => {
-                self.state.refresh_line()?;
-                self.executes(commands)
+                self.state.refresh_line().expect(rt, "no fault");
+                self.executes(rt, commands)
             }
         }
     }
 
     /// Hands items over, and reads where this way has it. How that ended.
-    fn reads(&mut self, way: Way, items: &[Item]) -> Result<Turned> {
+    fn reads(&mut self, rt: &impl Abort, way: Way, items: &[Item]) -> &'static str {
         for index in 0..=items.len() {
             let is_read = match way {
                 Way::OneByOne => index > 0,
@@ -387,47 +390,54 @@ impl Bench<'_, '_, '_> {
             };
             self.given = index;
             if is_read || index == items.len() {
-                match self.turns(way)? {
-                    Turned::NeedsMore => {}
-                    end => return Ok(end),
+                if let Some(end) = self.turns(rt, way) {
+                    return end;
                 }
             }
             match items.get(index) {
-                Some(Item::Key(key)) => self.keys.press(*key)?,
-                Some(Item::Paste(text)) => self.keys.paste(text)?,
+                Some(Item::Key(key)) => self.keys.press(*key).expect(rt, "no fault"),
+                Some(Item::Paste(text)) => self.keys.paste(text).expect(rt, "no fault"),
                 None => {}
             }
         }
-        Ok(Turned::NeedsMore)
+        "eof"
     }
 
-    /// Runs, or makes turns until one does not proceed, from the mark on. Each reads an item at least. How the last one ended.
-    fn turns(&mut self, way: Way) -> Result<Turned> {
+    /// Runs, or makes turns until one does not proceed, from the mark on. Each reads an item at least. How the last one ended, if it
+    /// needs no more.
+    fn turns(&mut self, rt: &impl Abort, way: Way) -> Option<&'static str> {
         if way == Way::Run {
             let (input, keys, kills) = (&mut self.input, &mut self.keys, &mut self.kills);
-            run(&mut self.state, input, keys, kills, &self.config)?;
-            return Ok(Turned::Submitted);
+            let outcome = run(&mut self.state, input, keys, kills, &self.config);
+            return Some(ended(&outcome));
         }
         self.keys.rewind();
         for _ in 0..70 {
             let before = (self.state.out().redraws(), self.keys.len());
-            let outcome = self.advances();
+            let end = self.advances();
             self.amiss = self.sees(before);
-            match outcome? {
-                Turned::Proceeds => self.keys.mark(),
-                end => return Ok(end),
+            if end != Some("proceeds") {
+                return end;
             }
-            if !self.is_drawn()? {
+            self.keys.mark();
+            if !self.is_drawn(rt) {
                 self.amiss = UNDRAWN;
             }
         }
-        Ok(Turned::Proceeds)
+        Some("proceeds")
     }
 
-    /// Makes a turn.
-    fn advances(&mut self) -> Result<Turned> {
+    /// Makes a turn. How that ended, if it needs no more.
+    fn advances(&mut self) -> Option<&'static str> {
         let (input, keys, kills) = (&mut self.input, &mut self.keys, &mut self.kills);
-        advance(&mut self.state, input, keys, kills, &self.config)
+        match advance(&mut self.state, input, keys, kills, &self.config) {
+            Ok(Turned::Proceeds) => Some("proceeds"),
+            Ok(Turned::NeedsMore) => None,
+            Ok(Turned::Submitted) => Some("submits"),
+            Ok(Turned::Ended) => Some("eof"),
+            Ok(Turned::Interrupted) => Some("interrupted"),
+            Err(error) => Some(ended(&Err(error))),
+        }
     }
 
     /// What is amiss behind a turn that began with so many redraws and so many items unread.
@@ -447,28 +457,33 @@ impl Bench<'_, '_, '_> {
     }
 
     /// Executes commands that proceed.
-    fn executes(&mut self, commands: &[Cmd]) -> Result<Turned> {
+    fn executes(&mut self, rt: &impl Abort, commands: &[Cmd]) -> &'static str {
         for command in commands {
-            let command = command.clone(self.alloc)?;
-            let (input, kills) = (&self.input, &mut self.kills);
-            if execute(command, &mut self.state, input, kills, &self.config)? == Status::Submit {
-                return Ok(Turned::Submitted);
+            let command = command.clone(self.alloc).expect(rt, "no fault");
+            if self.executed(rt, command) == Status::Submit {
+                return "submits";
             }
-            if !self.is_drawn()? {
+            if !self.is_drawn(rt) {
                 self.amiss = UNDRAWN;
             }
         }
-        Ok(Turned::Proceeds)
+        "proceeds"
+    }
+
+    /// Executes a command.
+    fn executed(&mut self, rt: &impl Abort, command: Cmd) -> Status {
+        let (input, kills) = (&self.input, &mut self.kills);
+        execute(command, &mut self.state, input, kills, &self.config).expect(rt, "no fault")
     }
 
     /// Whether the layout is a full redraw's with what stands behind the line, and the screen shows the line behind the prompt,
     /// with its cursor there.
-    fn is_drawn(&self) -> Result<bool> {
+    fn is_drawn(&self, rt: &impl Abort) -> bool {
         let (text, pos) = (self.state.line(), self.state.pos());
         if !text.is_char_boundary(pos) {
-            return Ok(false);
+            return false;
         }
-        let line = LineBuffer::init(self.alloc, text, pos)?;
+        let line = LineBuffer::init(self.alloc, text, pos).expect(rt, "no fault");
         let screen = self.state.out();
         let prompt = self.desk.prompt;
         let prompt_end = screen.calculate_position(prompt, Position { row: 0, col: 0 });
@@ -477,39 +492,33 @@ impl Bench<'_, '_, '_> {
         let kept = (kept.prompt_size, kept.cursor, kept.end, kept.has_info);
         let measured = (prompt_end, wanted.cursor, wanted.end, wanted.has_info);
         let shown = (screen.prompt(), screen.text(), screen.cursor());
-        Ok(kept == measured && shown == (prompt, text, wanted.cursor))
+        kept == measured && shown == (prompt, text, wanted.cursor)
     }
 
     /// What is left behind this end. Then all is taken back. What proceeded was looked at last.
-    fn leaves(&mut self, end: &'static str) -> Result<Left> {
+    fn leaves(&mut self, rt: &impl Abort, end: &'static str) -> Left {
         if (self.keys.failures() > 0) != (end == "fails") {
             self.amiss = "a failure of the reader";
         }
-        let mut left = self.left(end)?;
-        let (input, kills) = (&self.input, &mut self.kills);
-        let _ = execute(
-            Cmd::Undo(65535),
-            &mut self.state,
-            input,
-            kills,
-            &self.config,
-        )?;
+        let mut left = self.left(rt, end);
+        let _ = self.executed(rt, Cmd::Undo(65535));
         if self.state.line() != self.desk.start.0 {
             self.amiss = "what was taken back";
         }
         left.amiss = self.amiss;
-        Ok(left)
+        left
     }
 
-    fn left(&mut self, end: &'static str) -> Result<Left> {
-        let is_drawn = end == "proceeds" || self.is_drawn()?;
+    fn left(&mut self, rt: &impl Abort, end: &'static str) -> Left {
+        let is_drawn = end == "proceeds" || self.is_drawn(rt);
         let cursor = self.state.layout().cursor;
         let yanked = match self.kills.yank() {
-            Some(text) => Some(String::from_str(self.alloc, text)?),
+            Some(text) => Some(String::from_str(self.alloc, text).expect(rt, "no fault")),
             None => None,
         };
-        Ok(Left {
-            line: marked(self.alloc, self.state.line(), self.state.pos())?,
+        let line = marked(self.alloc, self.state.line(), self.state.pos());
+        Left {
+            line: line.expect(rt, "no fault"),
             place: self.state.place(),
             yanked,
             at: (cursor.row, cursor.col),
@@ -518,6 +527,6 @@ impl Bench<'_, '_, '_> {
             given: self.given,
             is_drawn,
             amiss: self.amiss,
-        })
+        }
     }
 }

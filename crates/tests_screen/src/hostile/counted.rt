@@ -7,7 +7,6 @@ use line_buffer::RepeatCount;
 use line_keys::cmd::{Anchor, Cmd};
 use std::alloc::Global;
 use std::process::Abort;
-use std::test::Fail;
 
 /// A command with a count. An undo comes behind two characters that are typed.
 #[derive(Clone, Copy, Debug, PartialEq, Eq)]
@@ -76,10 +75,10 @@ const PLACES: &[Place] = &[
 const KILLED: &str = "é";
 
 /// The command, behind two dashes where they are to be taken back.
-fn commands(alloc: Global, op: Op, n: RepeatCount) -> line_config::Result<Vec<Cmd>> {
+fn commands(rt: &impl Abort, alloc: Global, op: Op, n: RepeatCount) -> Vec<Cmd> {
     let command = match op {
         Op::Types => Cmd::SelfInsert(n, '-'),
-        Op::Puts => Cmd::Insert(n, String::from_str(alloc, "e")?),
+        Op::Puts => Cmd::Insert(n, String::from_str(alloc, "e").expect(rt, "no fault")),
         Op::PutsOver => Cmd::ReplaceChar(n, 'x'),
         Op::Yanks => Cmd::Yank(n, Anchor::Before),
         Op::YanksBehind => Cmd::Yank(n, Anchor::After),
@@ -90,69 +89,72 @@ fn commands(alloc: Global, op: Op, n: RepeatCount) -> line_config::Result<Vec<Cm
     };
     let mut commands = Vec::new(alloc);
     if op == Op::Undoes {
-        commands.push(Cmd::SelfInsert(1, '-'))?;
-        commands.push(Cmd::SelfInsert(1, '-'))?;
+        for _ in 0..2 {
+            let dash = Cmd::SelfInsert(1, '-');
+            commands.push(dash).expect(rt, "no fault");
+        }
     }
-    commands.push(command)?;
-    Ok(commands)
+    commands.push(command).expect(rt, "no fault");
+    commands
 }
 
 /// The line and the cursor that a command leaves, where words change places as this cell tells.
 fn wanted(
+    rt: &impl Abort,
     alloc: Global,
     place: (&str, usize),
     op: Op,
     n: RepeatCount,
     mode: Mode,
     cell: (Swap, usize),
-) -> line_config::Result<(String, usize)> {
+) -> (String, usize) {
     let (text, cursor) = place;
     match op {
-        Op::Types => with(alloc, place, "-", n, Mode::Insert),
-        Op::Puts => with(alloc, place, "e", n, mode),
-        Op::Yanks => with(alloc, place, KILLED, n, mode),
+        Op::Types => with(rt, alloc, place, "-", n, Mode::Insert),
+        Op::Puts => with(rt, alloc, place, "e", n, mode),
+        Op::Yanks => with(rt, alloc, place, KILLED, n, mode),
         Op::YanksBehind => {
             let width = match text.get(cursor..).unwrap_or("").chars().next() {
                 Some(c) => c.len_utf8(),
                 None => 0,
             };
-            with(alloc, (text, cursor.saturating_add(width)), KILLED, n, mode)
+            let place = (text, cursor.saturating_add(width));
+            with(rt, alloc, place, KILLED, n, mode)
         }
-        Op::PutsOver => over(alloc, place, n),
-        Op::Transposes => Ok((swapped(alloc, text, cell.0)?, cell.1)),
+        Op::PutsOver => over(rt, alloc, place, n),
+        Op::Transposes => (swapped(rt, alloc, text, cell.0), cell.1),
         // two characters are two steps
-        Op::Undoes if n < 2 => with(alloc, place, "-", 1, Mode::Insert),
+        Op::Undoes if n < 2 => with(rt, alloc, place, "-", 1, Mode::Insert),
         // one text alone has a second line, which is empty
         Op::GoesUp if text.ends_with('\n') && cursor == text.len() => {
-            Ok((String::from_str(alloc, text)?, 0))
+            (spliced(rt, alloc, text, (0, 0), ""), 0)
         }
-        Op::GoesDown if text.ends_with('\n') => Ok((String::from_str(alloc, text)?, text.len())),
-        Op::Undoes | Op::GoesUp | Op::GoesDown => Ok((String::from_str(alloc, text)?, cursor)),
+        Op::GoesDown if text.ends_with('\n') => {
+            (spliced(rt, alloc, text, (0, 0), ""), text.len())
+        }
+        Op::Undoes | Op::GoesUp | Op::GoesDown => (spliced(rt, alloc, text, (0, 0), ""), cursor),
     }
 }
 
 /// So many copies of a text come in, with the cursor behind them.
 fn with(
+    rt: &impl Abort,
     alloc: Global,
     place: (&str, usize),
     copy: &str,
     n: RepeatCount,
     mode: Mode,
-) -> line_config::Result<(String, usize)> {
+) -> (String, usize) {
     let (text, cursor) = place;
-    let copies = copy.repeat(alloc, usize::from(n))?;
-    let line = spliced(alloc, text, (cursor, cursor), copies.as_str())?;
+    let copies = copy.repeat(alloc, usize::from(n)).expect(rt, "no fault");
+    let line = spliced(rt, alloc, text, (cursor, cursor), copies.as_str());
     let end = cursor.saturating_add(copies.len());
     let cursor = behind(mode, line.get(..end).unwrap_or(""), end);
-    Ok((line, cursor))
+    (line, cursor)
 }
 
 /// An x comes for each of so many characters, or of as many as there are. The cursor is on the last.
-fn over(
-    alloc: Global,
-    place: (&str, usize),
-    n: RepeatCount,
-) -> line_config::Result<(String, usize)> {
+fn over(rt: &impl Abort, alloc: Global, place: (&str, usize), n: RepeatCount) -> (String, usize) {
     let (text, cursor) = place;
     let behind = text.get(cursor..).unwrap_or("");
     let len = match behind.char_indices().nth(usize::from(n)) {
@@ -160,29 +162,29 @@ fn over(
         None => behind.len(),
     };
     let count = behind.get(..len).unwrap_or("").chars().count();
-    let crosses = "x".repeat(alloc, count)?;
+    let crosses = "x".repeat(alloc, count).expect(rt, "no fault");
     let end = cursor.saturating_add(len);
-    let line = spliced(alloc, text, (cursor, end), crosses.as_str())?;
-    Ok((line, cursor.saturating_add(count.saturating_sub(1))))
+    let line = spliced(rt, alloc, text, (cursor, end), crosses.as_str());
+    (line, cursor.saturating_add(count.saturating_sub(1)))
 }
 
 /// The text with its two words in each other's place.
-fn swapped(alloc: Global, text: &str, swap: Swap) -> line_config::Result<String> {
+fn swapped(rt: &impl Abort, alloc: Global, text: &str, swap: Swap) -> String {
     let Some((first, second)) = swap else {
-        return Ok(String::from_str(alloc, text)?);
+        return spliced(rt, alloc, text, (0, 0), "");
     };
     let word = text.get(first.0..first.1).unwrap_or("");
     let later = text.get(second.0..second.1).unwrap_or("");
-    let line = spliced(alloc, text, second, word)?;
-    spliced(alloc, line.as_str(), first, later)
+    let line = spliced(rt, alloc, text, second, word);
+    spliced(rt, alloc, line.as_str(), first, later)
 }
 
 /// By each count, in each mode. What makes a long line is executed in command mode alone, where the cursor steps back.
-fn by_counts(rt: &impl Abort, alloc: Global, place: &Place, op: Op) -> Result<(), Fail> {
+fn by_counts(rt: &impl Abort, alloc: Global, place: &Place, op: Op) {
     let (text, cursor, cells) = place;
     let makes_long = matches!(op, Op::Types | Op::Puts | Op::Yanks | Op::YanksBehind);
     for (n, cell) in COUNTS.iter().zip(cells.iter()) {
-        let commands = commands(alloc, op, *n)?;
+        let commands = commands(rt, alloc, op, *n);
         for mode in MODES {
             if makes_long && *n == 65535 && *mode != Mode::Command {
                 continue;
@@ -193,29 +195,26 @@ fn by_counts(rt: &impl Abort, alloc: Global, place: &Place, op: Op) -> Result<()
                 killed: KILLED,
                 ..PLAIN
             };
-            let (line, pos) = wanted(alloc, desk.start, op, *n, *mode, *cell)?;
-            leaves(rt, alloc, &desk, commands.as_slice(), (line.as_str(), pos))?;
+            let (line, pos) = wanted(rt, alloc, desk.start, op, *n, *mode, *cell);
+            leaves(rt, alloc, &desk, commands.as_slice(), (line.as_str(), pos));
         }
     }
-    Ok(())
 }
 
 #[test]
-fn by_each_count(rt: HostRuntime) -> Result<(), Fail> {
+fn by_each_count(rt: HostRuntime) {
     for place in PLACES {
         for op in OPS {
-            by_counts(&rt, rt.alloc(), place, *op)?;
+            by_counts(&rt, rt.alloc(), place, *op);
         }
     }
-    Ok(())
 }
 
 #[test]
-fn of_yanks(rt: HostRuntime) -> Result<(), Fail> {
+fn of_yanks(rt: HostRuntime) {
     for place in PLACES {
         for op in YANKS {
-            by_counts(&rt, rt.alloc(), place, *op)?;
+            by_counts(&rt, rt.alloc(), place, *op);
         }
     }
-    Ok(())
 }

@@ -5,7 +5,6 @@ use super::bench::{Desk, Item, Left, Mode, PLAIN, To, Way, Work, items, left_by}
 use line_buffer::{Movement, Unit};
 use std::alloc::Global;
 use std::process::Abort;
-use std::test::Fail;
 
 /// The keys of a phrase; how often they have drawn the line behind each of them but the last; the line with a bar at its
 /// cursor that the phrase leaves; and what a yank would give then.
@@ -200,36 +199,37 @@ fn seen(left: &Left) -> Seen<'_> {
 /// Runs on the first keys: the input ends, unless they are all; and what is left is what the last whole phrase leaves. Then these
 /// are read by turns, and with the rest behind them those of the phrase that was cut once more: what is left is what all leave, but
 /// that a count that was cut is drawn once more.
-fn cuts(rt: &impl Abort, alloc: Global, row: &Row, keys: &[Item], at: usize) -> Result<(), Fail> {
-    let first = format!(in alloc; "{}|", row.typed.get(..at).unwrap_or(row.typed))?;
+fn cuts(rt: &impl Abort, alloc: Global, row: &Row, keys: &[Item], at: usize) {
+    let typed = row.typed.get(..at).unwrap_or(row.typed);
+    let first = format!(in alloc; "{typed}|").expect(rt, "no fault");
     let (read, drawn, line, kill) = stage(row, first.as_str(), at);
     let work = Work::Reads(Way::Run, keys.get(..at).unwrap_or(keys));
-    let left = left_by(alloc, &row.desk, work)?;
+    let left = left_by(rt, alloc, &row.desk, work);
     let end = if at < keys.len() { "eof" } else { row.end };
-    assert_eq!(rt; seen(&left), (line, 0, kill, end, at, ""), "cut at {at}");
-    assert!(rt; left.is_drawn || read != at, "cut at {at}");
+    assert_eq!(rt;
+        (seen(&left), left.is_drawn || read != at),
+        ((line, 0, kill, end, at, ""), true)
+    );
     let (count, redraws) = (keys.len(), row.redraws.saturating_add(drawn));
     let (_, _, line, kill) = stage(row, first.as_str(), count);
-    let left = left_by(alloc, &row.desk, Work::Reads(Way::CutAt(at), keys))?;
+    let left = left_by(rt, alloc, &row.desk, Work::Reads(Way::CutAt(at), keys));
     assert_eq!(rt;
         (seen(&left), left.at, left.redraws, left.is_drawn),
         ((line, 0, kill, row.end, count, ""), row.at, redraws, true),
         "cut at {at}, and read again"
     );
-    Ok(())
 }
 
 /// Cuts a row at every place.
-fn is_cut(rt: &impl Abort, alloc: Global, row: &Row) -> Result<(), Fail> {
-    let mut typed = String::from_str(alloc, row.typed)?;
+fn is_cut(rt: &impl Abort, alloc: Global, row: &Row) {
+    let mut typed = String::from_str(alloc, row.typed).expect(rt, "no fault");
     for (phrase, _, _, _) in row.phrases {
-        typed.push_str(phrase)?;
+        typed.push_str(phrase).expect(rt, "no fault");
     }
-    let keys = items(alloc, typed.as_str())?;
+    let keys = items(rt, alloc, typed.as_str());
     for at in 0..=keys.len() {
-        cuts(rt, alloc, row, keys.as_slice(), at)?;
+        cuts(rt, alloc, row, keys.as_slice(), at);
     }
-    Ok(())
 }
 
 const ROWS: &[Row] = &[
@@ -247,9 +247,8 @@ const ROWS: &[Row] = &[
 ];
 
 #[test]
-fn at_every_place(rt: HostRuntime) -> Result<(), Fail> {
+fn at_every_place(rt: HostRuntime) {
     for row in ROWS {
-        is_cut(&rt, rt.alloc(), row)?;
+        is_cut(&rt, rt.alloc(), row);
     }
-    Ok(())
 }

@@ -5,7 +5,6 @@ use super::bench::{CODES, Desk, Item, PLAIN, SETS, Way, Work, items, left_by};
 use line_keys::keys::{KeyCode as K, KeyEvent, Modifiers as M};
 use std::alloc::Global;
 use std::process::Abort;
-use std::test::Fail;
 
 /// The style, what is typed before the key, and whether the key is executed as one of its own.
 const BEFORE: &[(Mode, &str, bool)] = &[
@@ -58,55 +57,32 @@ fn end_of(mode: Mode, key: KeyEvent) -> &'static str {
 }
 
 /// Types keys and one more, all at once and one by one: they leave the same, by the end that is wanted.
-fn ends(
-    rt: &impl Abort,
-    alloc: Global,
-    mode: Mode,
-    before: &str,
-    key: KeyEvent,
-    wanted: &str,
-) -> Result<(), Fail> {
+fn ends(rt: &impl Abort, alloc: Global, mode: Mode, before: &str, key: KeyEvent, wanted: &str) {
     let desk = Desk { mode, ..PLAIN };
-    let mut typed = items(alloc, before)?;
-    typed.push(Item::Key(key))?;
+    let mut typed = items(rt, alloc, before);
+    typed.push(Item::Key(key)).expect(rt, "no fault");
     let typed = typed.as_slice();
-    let at_once = left_by(alloc, &desk, Work::Reads(Way::Run, typed))?;
-    let one_by_one = left_by(alloc, &desk, Work::Reads(Way::OneByOne, typed))?;
+    let at_once = left_by(rt, alloc, &desk, Work::Reads(Way::Run, typed));
+    let one_by_one = left_by(rt, alloc, &desk, Work::Reads(Way::OneByOne, typed));
+    let ends_so = (at_once.end, at_once.amiss) == (wanted, "");
+    let (line, end) = (one_by_one.line.as_str(), one_by_one.end);
     assert_eq!(rt;
-        (at_once.end, at_once.amiss),
-        (wanted, ""),
+        (line, end, one_by_one.amiss, ends_so),
+        (at_once.line.as_str(), wanted, "", true),
         "{mode:?} {before:?}, then {key:?}"
     );
-    assert_eq!(rt;
-        (one_by_one.line.as_str(), one_by_one.end, one_by_one.amiss),
-        (at_once.line.as_str(), wanted, ""),
-        "{mode:?} {before:?}, then {key:?}, one by one"
-    );
-    Ok(())
 }
 
 /// Types each key behind what is typed before it.
-fn each_key(
-    rt: &impl Abort,
-    alloc: Global,
-    mode: Mode,
-    before: &str,
-    alone: bool,
-) -> Result<(), Fail> {
-    for code in CODES {
-        for mods in SETS {
-            let key = KeyEvent(*code, *mods);
-            let wanted = if alone { end_of(mode, key) } else { "eof" };
-            ends(rt, alloc, mode, before, key, wanted)?;
+#[test]
+fn ends_as_it_must(rt: HostRuntime) {
+    for (mode, before, alone) in BEFORE {
+        for code in CODES {
+            for mods in SETS {
+                let key = KeyEvent(*code, *mods);
+                let wanted = if *alone { end_of(*mode, key) } else { "eof" };
+                ends(&rt, rt.alloc(), *mode, before, key, wanted);
+            }
         }
     }
-    Ok(())
-}
-
-#[test]
-fn ends_as_it_must(rt: HostRuntime) -> Result<(), Fail> {
-    for (mode, before, alone) in BEFORE {
-        each_key(&rt, rt.alloc(), *mode, before, *alone)?;
-    }
-    Ok(())
 }

@@ -3,17 +3,16 @@
 
 use super::bench::{self, Desk, Mode, PLAIN, ended, keys, marked};
 use super::handler::Handler;
-use line_buffer::{KillRing, Unit};
+use line_buffer::{GraphemeClusterMode, KillRing, Position, Unit};
 use line_config::{ReadlineError, Result};
 use line_editor::binding::{Event, EventHandler};
 use line_editor::run::run;
-use line_editor::{Bindings, InputState, State, Turned};
+use line_editor::{Bindings, InputState, State};
 use line_keys::refresher::Refresher;
 use line_parts::{Context, History};
 use std::alloc::Global;
 use std::io::ErrorKind;
 use std::process::Abort;
-use std::test::Fail;
 use tests_parties::fault::Fault;
 use tests_parties::guide::Guide;
 use tests_parties::shelf::Shelf;
@@ -203,15 +202,14 @@ impl Take<'_> {
     /// The map of both handlers.
     fn bindings(&self, alloc: Global) -> Result<Bindings> {
         let mut bindings = Bindings::new(alloc);
-        let sequence = Event::KeySeq(keys(alloc, "⌃Xa")?);
-        for (event, party, moves) in [
-            (Event::Any, Party::OfEachKey, false),
-            (sequence, Party::OfSequence, true),
-        ] {
-            let handler = Handler::new(moves, self.failing(party), party.fault());
-            let handler = EventHandler::Conditional(Box::new(alloc, handler)?);
-            let _ = bindings.insert(event, handler)?;
-        }
+        let party = Party::OfEachKey;
+        let handler = Handler::new(false, self.failing(party), party.fault());
+        let handler = EventHandler::Conditional(Box::new(alloc, handler)?);
+        let _ = bindings.insert(Event::Any, handler)?;
+        let party = Party::OfSequence;
+        let handler = Handler::new(true, self.failing(party), party.fault());
+        let handler = EventHandler::Conditional(Box::new(alloc, handler)?);
+        let _ = bindings.insert(Event::KeySeq(keys(alloc, "⌃Xa")?), handler)?;
         Ok(bindings)
     }
 }
@@ -231,20 +229,15 @@ fn plays(rt: &impl Abort, alloc: Global, take: Take<'_>) -> Result<()> {
 }
 
 /// Runs on what is typed. How that ended.
-fn runs(alloc: Global, take: Take<'_>, state: &mut Editor<'_, '_>) -> Result<Result<Turned>> {
-    let config = take.scene.desk.config();
-    let bindings = take.bindings(alloc)?;
-    let mut input = InputState::new(&config, &bindings);
-    let mut kills = KillRing::new(alloc, 60);
+fn runs(alloc: Global, take: Take<'_>, state: &mut Editor<'_, '_>) -> Result<Result<()>> {
     let mut typist = Typist::new(alloc);
     typist.press(keys(alloc, take.scene.typed)?.as_slice())?;
     typist.cut_at(take.failing(Party::Reader));
-    Ok(
-        match run(state, &mut input, &mut typist, &mut kills, &config) {
-            Ok(()) => Ok(Turned::Submitted),
-            Err(error) => Err(error),
-        },
-    )
+    let bindings = take.bindings(alloc)?;
+    let config = take.scene.desk.config();
+    let mut input = InputState::new(&config, &bindings);
+    let mut kills = KillRing::new(alloc, 60);
+    Ok(run(state, &mut input, &mut typist, &mut kills, &config))
 }
 
 /// The run ended as it is to end: by the fault of the party that failed, or as it does where nothing fails.
@@ -252,114 +245,93 @@ fn ends(
     rt: &impl Abort,
     alloc: Global,
     take: Take<'_>,
-    outcome: Result<Turned>,
+    outcome: Result<()>,
     history: &Shelf,
     state: &mut Editor<'_, '_>,
 ) -> Result<()> {
-    let Take {
-        scene,
-        party,
-        call,
-        ..
-    } = take;
-    match (take.ending, &outcome) {
+    let is_right = match (take.ending, &outcome) {
         (Ending::Fails, _) => {
-            let is_answer = party.fault().is_answer(alloc, &outcome)?;
-            assert!(rt; is_answer, "{party:?} {call} {outcome:?}");
-            return is_mended(rt, alloc, take, history, state);
+            take.party.fault().is_answer(alloc, &outcome)?
+                && is_mended(rt, alloc, take.scene, history, state)?
         }
         (Ending::WellOrByMemory, Err(ReadlineError::Memory)) => {
-            return is_mended(rt, alloc, take, history, state);
+            is_mended(rt, alloc, take.scene, history, state)?
         }
-        _ => {}
-    }
-    let line = marked(alloc, state.line(), state.pos())?;
-    let (cursor, redraws) = (state.layout().cursor, state.out().redraws());
-    assert_eq!(rt;
-        (
-            ended(&outcome),
-            line.as_str(),
-            state.place(),
-            (cursor.row, cursor.col),
-            redraws
-        ),
-        (scene.end, scene.left, scene.place, scene.at, scene.redraws),
-        "{party:?} {call}"
+        _ => is_as_wanted(alloc, take.scene, ended(&outcome), state)?,
+    };
+    assert!(rt;
+        is_right,
+        "{:?} {} {outcome:?} {:?}",
+        take.party,
+        take.call,
+        state.line()
     );
     Ok(())
 }
 
-/// The history has its lines and no others, and the line is drawn again as an editor that is made of it draws it.
+/// Whether the run ended so, and left what the scene has.
+fn is_as_wanted(alloc: Global, scene: &Scene, end: &str, state: &Editor<'_, '_>) -> Result<bool> {
+    let line = marked(alloc, state.line(), state.pos())?;
+    let cursor = state.layout().cursor;
+    let left = (line.as_str(), state.place(), (cursor.row, cursor.col));
+    Ok(
+        end == scene.end
+            && left == (scene.left, scene.place, scene.at)
+            && state.out().redraws() == scene.redraws,
+    )
+}
+
+/// Whether the history has its lines and no others, and the line is drawn again as an editor that is made of it draws it.
 fn is_mended(
     rt: &impl Abort,
     alloc: Global,
-    take: Take<'_>,
+    scene: &Scene,
     history: &Shelf,
     state: &mut Editor<'_, '_>,
-) -> Result<()> {
-    let is_kept = take.scene.desk.is_kept(history)?;
+) -> Result<bool> {
+    let is_kept = scene.desk.is_kept(history)?;
     let (text, pos) = (state.line(), state.pos());
-    let is_sound = text.is_char_boundary(pos) && state.place() <= history.len();
-    assert!(rt; is_kept && is_sound, "{:?} {}", take.party, take.call);
+    if !is_kept || !text.is_char_boundary(pos) || state.place() > history.len() {
+        return Ok(false);
+    }
     let mut screen = Recorder::new(alloc, 80, false, 0);
-    let mut helper = Guide::new(take.scene.desk.hints, false);
+    let mut helper = Guide::new(scene.desk.hints, false);
     let mut context = Context::new(history);
     context.set_history_index(state.place());
     let advisor = Some(&mut helper);
     let mut anew = State::with_line(alloc, &mut screen, &"> ", advisor, context, text, pos)?;
-    let wanted = drawn(rt, alloc, &mut anew)?;
-    let found = drawn(rt, alloc, state)?;
-    assert_eq!(rt;
-        found.as_str(),
-        wanted.as_str(),
-        "{:?} {}",
-        take.party,
-        take.call
-    );
-    Ok(())
-}
-
-/// What an editor shows that draws its line again: the screen, the kept layout, the hint, and what the screen was handed, before and
-/// behind the old layout. A line of its log can miss its end, where memory ran out.
-fn drawn(rt: &impl Abort, alloc: Global, state: &mut Editor<'_, '_>) -> Result<String> {
+    anew.refresh_line()?;
     state.refresh_line()?;
-    let Some((_, last)) = state.out().log().rsplit_once("draw ") else {
-        panic!(rt; "nothing is drawn");
-    };
-    let Some((before, rest)) = last.split_once(" old ") else {
-        panic!(rt; "no old layout");
-    };
-    let Some((_, behind)) = rest.split_once(" new ") else {
-        panic!(rt; "no new layout");
-    };
-    let (screen, hint) = (state.out().shows(), (state.has_hint(), state.hint_text()));
-    let layout = state.layout();
-    Ok(format!(in alloc; "{screen:?} {hint:?} {before:?} {behind:?} {layout:?}")?)
+    Ok(shown(rt, &anew) == shown(rt, state))
 }
 
-/// Fails each call of a party in turn, and the one behind its last, which never comes.
-fn by_each_call(
-    rt: &impl Abort,
-    alloc: Global,
-    scene: &Scene,
-    party: Party,
-    calls: u64,
-) -> Result<()> {
-    for call in 1..=calls.saturating_add(1) {
-        let ending = if call > calls {
-            Ending::Well
-        } else {
-            Ending::Fails
-        };
-        let take = Take {
-            scene,
-            party,
-            call,
-            ending,
-        };
-        plays(rt, alloc, take)?;
-    }
-    Ok(())
+/// What the screen shows; the line's hint; what the screen was handed last, before and behind the old layout; and the kept layout.
+type Shown<'s> = (
+    (&'s str, Position, Position),
+    (bool, Option<&'s str>),
+    (&'s str, &'s str),
+    (Position, Position, Position),
+    (GraphemeClusterMode, bool, bool),
+);
+
+/// What an editor shows that has drawn its line. A line of the screen's log can miss its end, where memory ran out.
+fn shown<'s>(rt: &impl Abort, state: &'s Editor<'_, '_>) -> Shown<'s> {
+    let screen = state.out();
+    let (_, last) = screen.log().rsplit_once("draw ").expect(rt, "a drawing");
+    let (before, rest) = last.split_once(" old ").expect(rt, "an old layout");
+    let (_, behind) = rest.split_once(" new ").expect(rt, "a new layout");
+    let layout = state.layout();
+    (
+        screen.shows(),
+        (state.has_hint(), state.hint_text()),
+        (before, behind),
+        (layout.prompt_size, layout.cursor, layout.end),
+        (
+            layout.grapheme_cluster_mode,
+            layout.default_prompt,
+            layout.has_info,
+        ),
+    )
 }
 
 const SCENES: &[Scene] = &[
@@ -370,14 +342,27 @@ const SCENES: &[Scene] = &[
     TO_THE_MATCH,
 ];
 
+/// Fails each call of each party in turn, and the one behind its last, which never comes.
 #[test]
-fn after_each_fault(rt: HostRuntime) -> std::result::Result<(), Fail> {
+fn after_each_fault(rt: HostRuntime) {
     for scene in SCENES {
         for (party, calls) in scene.calls {
-            by_each_call(&rt, rt.alloc(), scene, *party, *calls)?;
+            for call in 1..=calls.saturating_add(1) {
+                let ending = if call > *calls {
+                    Ending::Well
+                } else {
+                    Ending::Fails
+                };
+                let take = Take {
+                    scene,
+                    party: *party,
+                    call,
+                    ending,
+                };
+                plays(&rt, rt.alloc(), take).expect(&rt, "no fault");
+            }
         }
     }
-    Ok(())
 }
 
 /// Nothing fails: each scene ends well, and where an allocation is refused, by `Memory` alone.

@@ -10,7 +10,6 @@ use line_buffer::Word::*;
 use line_keys::cmd::{Anchor, Cmd};
 use std::alloc::Global;
 use std::process::Abort;
-use std::test::Fail;
 
 /// Where a movement leads, and where what a kill takes away begins and ends.
 type Cell = (usize, usize, usize);
@@ -47,32 +46,31 @@ const OPS: &[Op] = &[
     Op::Dedents,
 ];
 
-fn commands(alloc: Global, op: Op, movement: &Movement) -> line_config::Result<Vec<Cmd>> {
-    let movement = movement.clone()?;
+fn commands(rt: &impl Abort, alloc: Global, op: Op, movement: &Movement) -> Vec<Cmd> {
+    let movement = movement.clone().expect(rt, "no fault");
     let command = match op {
         Op::Moves => Cmd::Move(movement),
         Op::Kills => Cmd::Kill(movement),
-        Op::Replaces => Cmd::Replace(movement, Some(String::from_str(alloc, "x")?)),
+        Op::Replaces => {
+            let text = String::from_str(alloc, "x").expect(rt, "no fault");
+            Cmd::Replace(movement, Some(text))
+        }
         Op::Copies => Cmd::ViYankTo(movement),
         Op::Indents => Cmd::Indent(movement),
         Op::Dedents => Cmd::Dedent(movement),
     };
-    let mut commands = vec![in alloc; command]?;
+    let mut commands = vec![in alloc; command].expect(rt, "no fault");
     if matches!(op, Op::Kills | Op::Copies) {
-        commands.push(Cmd::Yank(1, Anchor::Before))?;
+        let yank = Cmd::Yank(1, Anchor::Before);
+        commands.push(yank).expect(rt, "no fault");
     }
-    Ok(commands)
+    commands
 }
 
-/// The line that an operation leaves, and the cursor. What a kill takes away is kept, unless its movement goes by characters. A copy
+/// The line that an operation leaves, as a range of the text and what comes in its place, and the cursor. What a kill takes away is kept, unless its movement goes by characters. A copy
 /// takes what a kill takes away, but for the newline before the line at whose start the cursor is. By some movements the lines of
 /// the range are indented, and by the others the cursor's alone.
-fn wanted(
-    alloc: Global,
-    case: Case<'_>,
-    op: Op,
-    mode: Mode,
-) -> line_config::Result<(String, usize)> {
+fn wanted(case: Case<'_>, op: Op, mode: Mode) -> ((usize, usize), &'static str, usize) {
     let Case {
         text,
         cursor,
@@ -81,18 +79,14 @@ fn wanted(
     } = case;
     let taken = text.get(from..to).unwrap_or("");
     match (op, movement) {
-        (Op::Moves, _) => Ok((String::from_str(alloc, text)?, place)),
-        (Op::Kills, BackwardChar(_) | ForwardChar(_)) => {
-            Ok((spliced(alloc, text, (from, to), "")?, from))
-        }
-        (Op::Kills, _) => Ok((String::from_str(alloc, text)?, behind(mode, taken, to))),
-        (Op::Replaces, _) => Ok((spliced(alloc, text, (from, to), "x")?, from)),
-        (Op::Copies, BeginningOfLine) if place == cursor => {
-            Ok((String::from_str(alloc, text)?, cursor))
-        }
+        (Op::Moves, _) => ((0, 0), "", place),
+        (Op::Kills, BackwardChar(_) | ForwardChar(_)) => ((from, to), "", from),
+        (Op::Kills, _) => ((0, 0), "", behind(mode, taken, to)),
+        (Op::Replaces, _) => ((from, to), "x", from),
+        (Op::Copies, BeginningOfLine) if place == cursor => ((0, 0), "", cursor),
         (Op::Copies, _) => {
             let end = behind(mode, taken, cursor.saturating_add(taken.len()));
-            Ok((spliced(alloc, text, (cursor, cursor), taken)?, end))
+            ((cursor, cursor), taken, end)
         }
         (Op::Indents, _) => {
             let has_lines = matches!(
@@ -110,27 +104,26 @@ fn wanted(
                 Some(newline) => newline.saturating_add(1),
                 None => 0,
             };
-            let line = spliced(alloc, text, (start, start), "  ")?;
-            Ok((line, cursor.saturating_add(2)))
+            ((start, start), "  ", cursor.saturating_add(2))
         }
-        (Op::Dedents, _) => Ok((String::from_str(alloc, text)?, cursor)),
+        (Op::Dedents, _) => ((0, 0), "", cursor),
     }
 }
 
-fn in_each_command(rt: &impl Abort, alloc: Global, case: Case<'_>) -> Result<(), Fail> {
+fn in_each_command(rt: &impl Abort, alloc: Global, case: Case<'_>) {
     for op in OPS {
-        let commands = commands(alloc, *op, case.movement)?;
+        let commands = commands(rt, alloc, *op, case.movement);
         for mode in MODES {
             let desk = Desk {
                 mode: *mode,
                 start: (case.text, case.cursor),
                 ..PLAIN
             };
-            let (line, pos) = wanted(alloc, case, *op, *mode)?;
-            leaves(rt, alloc, &desk, commands.as_slice(), (line.as_str(), pos))?;
+            let (range, by, pos) = wanted(case, *op, *mode);
+            let line = spliced(rt, alloc, case.text, range, by);
+            leaves(rt, alloc, &desk, commands.as_slice(), (line.as_str(), pos));
         }
     }
-    Ok(())
 }
 
 /// The movement with the count 0 in place of 1, where it leads nowhere with that.
@@ -152,7 +145,7 @@ fn follows(
     text: &'static str,
     movement: &Movement,
     cells: &[(usize, Cell)],
-) -> Result<(), Fail> {
+) {
     let uncounted = uncounted(movement);
     for (cursor, cell) in cells {
         let cursor = *cursor;
@@ -162,7 +155,7 @@ fn follows(
             movement,
             cell: *cell,
         };
-        in_each_command(rt, alloc, case)?;
+        in_each_command(rt, alloc, case);
         if let Some(movement) = &uncounted {
             let cell = (cursor, cursor, cursor);
             in_each_command(
@@ -173,10 +166,9 @@ fn follows(
                     cell,
                     ..case
                 },
-            )?;
+            );
         }
     }
-    Ok(())
 }
 
 const OF_TWO: &[Row] = &[
@@ -570,20 +562,18 @@ const TEXTS: &[(&str, (usize, usize, usize), &[Row])] = &[
 ];
 
 #[test]
-fn of_texts(rt: HostRuntime) -> Result<(), Fail> {
+fn of_texts(rt: HostRuntime) {
     for (text, (one, two, three), rows) in TEXTS {
         for (movement, first, second, third) in *rows {
             let cells = [(*one, *first), (*two, *second), (*three, *third)];
-            follows(&rt, rt.alloc(), text, movement, &cells)?;
+            follows(&rt, rt.alloc(), text, movement, &cells);
         }
     }
-    Ok(())
 }
 
 #[test]
-fn of_none(rt: HostRuntime) -> Result<(), Fail> {
+fn of_none(rt: HostRuntime) {
     for (movement, _, _, _) in OF_TWO {
-        follows(&rt, rt.alloc(), "", movement, &[(0, (0, 0, 0))])?;
+        follows(&rt, rt.alloc(), "", movement, &[(0, (0, 0, 0))]);
     }
-    Ok(())
 }

@@ -4,7 +4,6 @@ use super::bench::{Desk, Mode, Work, left_by, marked};
 use line_keys::cmd::Cmd;
 use std::alloc::Global;
 use std::process::Abort;
-use std::test::Fail;
 
 /// Executes commands: they leave this line and this cursor, and nothing is amiss.
 pub(crate) fn leaves(
@@ -13,9 +12,9 @@ pub(crate) fn leaves(
     desk: &Desk,
     commands: &[Cmd],
     wanted: (&str, usize),
-) -> Result<(), Fail> {
-    let line = marked(alloc, wanted.0, wanted.1)?;
-    let left = left_by(alloc, desk, Work::Executes(commands))?;
+) {
+    let line = marked(alloc, wanted.0, wanted.1).expect(rt, "no fault");
+    let left = left_by(rt, alloc, desk, Work::Executes(commands));
     assert_eq!(rt;
         (left.line.as_str(), left.end, left.amiss),
         (line.as_str(), "proceeds", ""),
@@ -23,19 +22,19 @@ pub(crate) fn leaves(
         desk.start,
         desk.mode
     );
-    Ok(())
 }
 
 /// The text with another one in place of a range.
 pub(crate) fn spliced(
+    rt: &impl Abort,
     alloc: Global,
     text: &str,
     range: (usize, usize),
     by: &str,
-) -> line_config::Result<String> {
+) -> String {
     let before = text.get(..range.0).unwrap_or("");
     let behind = text.get(range.1..).unwrap_or("");
-    Ok(format!(in alloc; "{before}{by}{behind}")?)
+    format!(in alloc; "{before}{by}{behind}").expect(rt, "no fault")
 }
 
 /// Where the cursor is behind a text that was yanked there: in Vi's command mode one character back.

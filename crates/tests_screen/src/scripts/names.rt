@@ -2,19 +2,9 @@
 
 use line_keys::keys::{KeyCode, KeyEvent, Modifiers};
 use line_script::key_named;
-use std::process::Abort;
 
 /// A name, and its key, if it has one.
 type Named = (&'static str, Option<(KeyCode, Modifiers)>);
-
-fn names(rt: &impl Abort, case: Named) {
-    let (name, key) = case;
-    let wanted = match key {
-        Some((code, modifiers)) => Some(KeyEvent(code, modifiers)),
-        None => None,
-    };
-    assert_eq!(rt; key_named(name), wanted, "{name}");
-}
 
 const NAMES: &[Named] = &[
     ("Enter", Some((KeyCode::Enter, Modifiers::NONE))),
@@ -126,7 +116,11 @@ const NAMES: &[Named] = &[
 
 #[test]
 fn knows_each_name_and_no_other(rt: HostRuntime) {
-    for case in NAMES {
-        names(&rt, *case);
+    for (name, key) in NAMES {
+        let wanted = match key {
+            Some((code, modifiers)) => Some(KeyEvent(*code, *modifiers)),
+            None => None,
+        };
+        assert_eq!(rt; key_named(name), wanted, "{name}");
     }
 }

@@ -7,63 +7,54 @@ use line_script::{Parsed, ScriptError, read_script};
 use std::alloc::Global;
 use std::io::Write;
 use std::process::Abort;
-use std::result::Result;
-use std::test::Fail;
 
 /// Writes down what a script gives, a line for each kind.
-fn shown(alloc: Global, parsed: &mut Parsed) -> line_config::Result<Vec<u8>> {
+fn shown(rt: &impl Abort, alloc: Global, parsed: &mut Parsed) -> Vec<u8> {
     let mut out = Vec::new(alloc);
-    writeln!(out, "style {:?}", parsed.edit_mode)?;
-    writeln!(out, "prompt {:?} columns {}", parsed.prompt, parsed.columns)?;
+    writeln!(out, "style {:?}", parsed.edit_mode).expect(rt, "no fault");
+    writeln!(out, "prompt {:?} columns {}", parsed.prompt, parsed.columns).expect(rt, "no fault");
     let helper = parsed.helper;
-    writeln!(out, "hints {} brackets {}", helper.hints, helper.brackets)?;
-    shows_history(alloc, &mut out, parsed)?;
-    out.write_all(b"items")?;
+    writeln!(out, "hints {} brackets {}", helper.hints, helper.brackets).expect(rt, "no fault");
+    shows_history(rt, alloc, &mut out, parsed);
+    out.write_all(b"items").expect(rt, "no fault");
     for _ in 0..parsed.items.len() {
         if !parsed.items.is_empty() {
-            shows_item(&mut out, parsed)?;
+            shows_item(rt, &mut out, parsed);
         }
     }
-    Ok(out)
+    out
 }
 
 /// Writes down the lines of the history.
-fn shows_history(alloc: Global, out: &mut Vec<u8>, parsed: &Parsed) -> line_config::Result<()> {
+fn shows_history(rt: &impl Abort, alloc: Global, out: &mut Vec<u8>, parsed: &Parsed) {
     let mut lines = Vec::new(alloc);
     for line in parsed.history.iter() {
-        lines.push(line.as_str())?;
+        lines.push(line.as_str()).expect(rt, "no fault");
     }
-    writeln!(out, "history {lines:?}")?;
-    Ok(())
+    writeln!(out, "history {lines:?}").expect(rt, "no fault");
 }
 
 /// Writes down the next item: a typed character alone, a key, or a key and the pasted text behind it.
-fn shows_item(out: &mut Vec<u8>, parsed: &mut Parsed) -> line_config::Result<()> {
-    match parsed.items.next_key(false)? {
-        KeyEvent(KeyCode::Char(c), Modifiers::NONE) => write!(out, " {c:?}")?,
+fn shows_item(rt: &impl Abort, out: &mut Vec<u8>, parsed: &mut Parsed) {
+    let written = match parsed.items.next_key(false).expect(rt, "no fault") {
+        KeyEvent(KeyCode::Char(c), Modifiers::NONE) => write!(out, " {c:?}"),
         key @ KeyEvent(KeyCode::BracketedPasteStart, _) => {
-            write!(
-                out,
-                " {key:?} pasted {:?}",
-                parsed.items.read_pasted_text()?
-            )?;
+            let pasted = parsed.items.read_pasted_text().expect(rt, "no fault");
+            write!(out, " {key:?} pasted {pasted:?}")
         }
-        key => write!(out, " {key:?}")?,
-    }
-    Ok(())
+        key => write!(out, " {key:?}"),
+    };
+    written.expect(rt, "no fault");
 }
 
-fn gives(rt: &impl Abort, alloc: Global, script: &str, wanted: &str) -> Result<(), Fail> {
-    let Ok(mut parsed) = read_script(alloc, script.as_bytes()) else {
-        return Err(Fail::from("a good script"));
-    };
-    let bytes = shown(alloc, &mut parsed)?;
-    let text = str::from_utf8(&bytes)?;
+fn gives(rt: &impl Abort, alloc: Global, script: &str, wanted: &str) {
+    let mut parsed = read_script(alloc, script.as_bytes()).expect(rt, "a good script");
+    let bytes = shown(rt, alloc, &mut parsed);
+    let text = str::from_utf8(&bytes).expect(rt, "a text");
     assert!(rt;
         text.split('\n').any(|line| line == wanted),
         "{wanted} not {text} of {script}"
     );
-    Ok(())
 }
 
 /// A script, and one of the lines that say what it gives.
@@ -186,49 +177,27 @@ const GOOD: &[(&str, &str)] = &[
 ];
 
 #[test]
-fn gives_what_good_lines_say(rt: HostRuntime) -> Result<(), Fail> {
+fn gives_what_good_lines_say(rt: HostRuntime) {
     for (script, wanted) in GOOD {
-        gives(&rt, rt.alloc(), script, wanted)?;
+        gives(&rt, rt.alloc(), script, wanted);
     }
-    Ok(())
 }
 
 /// So many lines, the numbers from 1 on, and how many of them are kept and the oldest: the history keeps 100.
 const LIMITED: &[(usize, usize, &str)] = &[(100, 100, "1"), (101, 100, "2"), (250, 100, "151")];
 
-fn limits(rt: &impl Abort, alloc: Global, case: (usize, usize, &str)) -> Result<(), Fail> {
-    let (lines, kept, oldest) = case;
-    let mut script = Vec::new(alloc);
-    for number in 1..=lines {
-        writeln!(script, "history {number}")?;
-    }
-    let Ok(parsed) = read_script(alloc, script.as_slice()) else {
-        return Err(Fail::from("a good script"));
-    };
-    assert_eq!(rt; parsed.history.len(), kept, "{lines}");
-    let first = parsed.history.iter().next();
-    assert!(rt;
-        matches!(first, Some(entry) if entry.as_str() == oldest),
-        "{lines}"
-    );
-    Ok(())
-}
-
 #[test]
-fn keeps_a_hundred_lines(rt: HostRuntime) -> Result<(), Fail> {
-    for case in LIMITED {
-        limits(&rt, rt.alloc(), *case)?;
+fn keeps_a_hundred_lines(rt: HostRuntime) {
+    for (lines, kept, oldest) in LIMITED {
+        let mut script = Vec::new(rt.alloc());
+        for number in 1..=*lines {
+            writeln!(script, "history {number}").expect(&rt, "no fault");
+        }
+        let parsed = read_script(rt.alloc(), script.as_slice()).expect(&rt, "a good script");
+        let first = parsed.history.iter().next().expect(&rt, "a line");
+        let found = (parsed.history.len(), first.as_str());
+        assert_eq!(rt; found, (*kept, *oldest), "{lines}");
     }
-    Ok(())
-}
-
-fn refuses(rt: &impl Abort, alloc: Global, case: (&[u8], usize)) {
-    let (script, line) = case;
-    let bad = match read_script(alloc, script) {
-        Err(ScriptError::BadLine(number)) => Some(number),
-        _ => None,
-    };
-    assert_eq!(rt; bad, Some(line), "{script:?}");
 }
 
 const BAD: &[(&[u8], usize)] = &[
@@ -350,7 +319,11 @@ const BAD: &[(&[u8], usize)] = &[
 
 #[test]
 fn names_the_first_bad_line(rt: HostRuntime) {
-    for case in BAD {
-        refuses(&rt, rt.alloc(), *case);
+    for (script, line) in BAD {
+        let bad = match read_script(rt.alloc(), *script) {
+            Err(ScriptError::BadLine(number)) => Some(number),
+            _ => None,
+        };
+        assert_eq!(rt; bad, Some(*line), "{script:?}");
     }
 }
