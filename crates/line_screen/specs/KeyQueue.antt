@@ -1,10 +1,12 @@
 -- What a queue of keys and pasted texts holds.
-use Rattle.std.specs.Prelude.{◌≡◌, ℕ, ◌==◌, ◌&&◌, ◌++◌, Bool, true, List, [], ◌∷◌, Option, Some, None, Result, Ok, Err, IfErr, if◌then◌else◌, string_bytes}
-use Rattle.line_config.specs.Error.{is_io}
+use Rattle.std.specs.Prelude.{◌≡◌, ℕ, ◌+◌, ◌==◌, ◌&&◌, ◌++◌, min, Bool, true, List, [], ◌∷◌, Option, Some, None, Result, Ok, Err, IfOk, IfErr, OnOk, OnErr, if◌then◌else◌, string_bytes}
+use Rattle.line_config.specs.Error.{IoOnlyIf, MemoryOnly, is_io, max_count}
+use Rattle.line_config.specs.Failures.{CountsFailures}
 use Rattle.line_config.specs.declared.error.ReadlineError.{ReadlineError}
 use Rattle.line_config.specs.declared.error.ReadlineError.TheVariants.{Eof}
 use Rattle.line_keys.specs.Command.{Command, end_of_file, interrupt}
 use Rattle.line_keys.specs.Item as input
+use Rattle.line_keys.specs.Item.{ReadFault}
 use Rattle.line_keys.specs.Key.{bits_of, event}
 use Rattle.line_keys.specs.declared.keys.KeyCode.{KeyCode}
 use Rattle.line_keys.specs.declared.keys.KeyCode.TheVariants.{Char, BracketedPasteStart}
@@ -55,3 +57,20 @@ code_binding _ modifiers = None
 -- what a queue binds a key to, if it binds keys
 abbrev pub queue_binding : Bool → KeyEvent → Option Command
 queue_binding binds k = if binds then code_binding k.0 (bits_of k.1) else None
+
+-- what a call leaves that appends items: all of them, or none where memory ran out, which is its only error
+pub record Appends (result : Result (Unit {0}) ReadlineError) (items : List input.Item) (old new : Queued) : Type 0 where
+  pub appended : OnOk result (new ≡ record old { rest = old.rest ++ items })
+  pub refused : OnErr result (new ≡ old)
+  pub memory : MemoryOnly result
+
+-- what a call leaves that takes the next item, as one of its kind: after an error none is taken, and one of input or output is counted;
+-- what stands in the queue stays
+pub record Takes {T : Type 0} (result : Result T ReadlineError) (as_item : T → input.Item) (old new : Queued) : Type 0 where
+  pub took : IfOk result (λ t. old.rest ≡ as_item t ∷ new.rest)
+  pub kept : OnErr result (new.rest ≡ old.rest)
+  pub fault : IfErr result (λ error. ReadFault error old.rest)
+  pub counts : CountsFailures result old.failures new.failures
+  pub one : IoOnlyIf result (new.failures ≡ min max_count (old.failures + 1))
+  pub binding : queue_binding new.binds ≡ queue_binding old.binds
+  pub stands : standing new ≡ standing old

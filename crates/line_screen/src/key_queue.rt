@@ -1,12 +1,9 @@
 //! A reader of the keys and pasted texts that a program hands over.
-ghost use Rattle.std.specs.Prelude.{◌≡◌, ℕ, ◌+◌, ◌≤◌, min, ◌==◌, ◌∷◌, ◌++◌, [], List, true, false, length, map, chars, Err, IfOk, IfErr, OnOk, OnErr, string_bytes};
-ghost use Rattle.line_config.specs.Error.{IoOnlyIf, MemoryOnly, is_io, max_count};
-ghost use Rattle.line_config.specs.Failures.{CountsFailures};
+ghost use Rattle.std.specs.Prelude.{◌≡◌, ℕ, ◌+◌, ◌≤◌, min, ◌==◌, ◌∷◌, [], List, true, false, length, map, chars, Err, IfOk, IfErr, string_bytes};
+ghost use Rattle.line_config.specs.Error.{MemoryOnly, is_io, max_count};
 ghost use Rattle.line_config.specs.declared.error.ReadlineError.TheVariants.{Eof};
 ghost use Rattle.line_keys.specs.Item as input;
-ghost use Rattle.line_keys.specs.Item.{ReadFault};
-ghost use Rattle.line_keys.specs.Key.{event};
-ghost use Rattle.line_screen.specs.KeyQueue.{Reads, item_of, paste_start, plain_key, standing};
+ghost use Rattle.line_screen.specs.KeyQueue.{Appends, Reads, Takes, item_of, paste_start, plain_key, standing};
 
 use line_config::{ReadlineError, Result};
 use line_keys::cmd::Cmd;
@@ -89,10 +86,7 @@ impl KeyQueue {
     /// `Memory`, and then nothing was appended.
     #[tactic(auto, using(crate::proofs::QueueLemmas::appended, crate::proofs::QueueLemmas::appended_behind))]
     pub fn press(&mut self, key: KeyEvent) -> Result<()>
-        ensures pressed { OnOk result (self.new
-            ≡ record self.old { rest = self.old.rest ++ input.key key ∷ [] }) }
-        ensures refused { OnErr result (self.new ≡ self.old) }
-        ensures memory { MemoryOnly result }
+        ensures { Appends result (input.key key ∷ []) self.old self.new }
     {
         self.items.push_back(Item::Key(key))?;
         Ok(())
@@ -103,10 +97,7 @@ impl KeyQueue {
     /// # Errors
     /// `Memory`, and then nothing was appended.
     pub fn type_text(&mut self, text: &str) -> Result<()>
-        ensures typed { OnOk result (self.new
-            ≡ record self.old { rest = self.old.rest ++ map plain_key (chars text.now) }) }
-        ensures refused { OnErr result (self.new ≡ self.old) }
-        ensures memory { MemoryOnly result }
+        ensures { Appends result (map plain_key (chars text.now)) self.old self.new }
     {
         self.append(typed_items(self.alloc, text)?)
     }
@@ -116,10 +107,8 @@ impl KeyQueue {
     /// # Errors
     /// `Memory`, and then nothing was appended.
     pub fn paste(&mut self, text: &str) -> Result<()>
-        ensures pasted { OnOk result (self.new ≡ record self.old
-            { rest = self.old.rest ++ input.key paste_start ∷ input.paste text.now ∷ [] }) }
-        ensures refused { OnErr result (self.new ≡ self.old) }
-        ensures memory { MemoryOnly result }
+        ensures { Appends result
+            (input.key paste_start ∷ input.paste text.now ∷ []) self.old self.new }
     {
         let start = KeyEvent(KeyCode::BracketedPasteStart, Modifiers::NONE);
         let pasted = String::from_str(self.alloc, text)?;
@@ -129,10 +118,7 @@ impl KeyQueue {
     /// Appends these items, all or none.
     #[tactic(auto, using(crate::proofs::QueueLemmas::appended, crate::proofs::QueueLemmas::appended_behind))]
     fn append(&mut self, mut items: VecDeque<Item>) -> Result<()>
-        ensures appended { OnOk result (self.new
-            ≡ record self.old { rest = self.old.rest ++ map item_of items.items }) }
-        ensures refused { OnErr result (self.new ≡ self.old) }
-        ensures memory { MemoryOnly result }
+        ensures { Appends result (map item_of items.items) self.old self.new }
     {
         self.items.append(&mut items)?;
         Ok(())
@@ -208,14 +194,8 @@ impl RawReader for KeyQueue {
     ghost own_binding = { λ q. queue_binding q.binds };
 
     fn next_key(&mut self, single_esc_abort: bool) -> Result<KeyEvent>
-        ensures took { IfOk result (λ k. self.old.rest ≡ input.key k ∷ self.new.rest) }
-        ensures kept { OnErr result (self.new.rest ≡ self.old.rest) }
-        ensures fault { IfErr result (λ e. ReadFault e self.old.rest) }
+        ensures takes { Takes result (λ k. input.key k) self.old self.new }
         ensures reads { Reads result (λ k. input.key k) self.old.rest }
-        ensures counts { CountsFailures result self.old.failures self.new.failures }
-        ensures one { IoOnlyIf result (self.new.failures ≡ min max_count (self.old.failures + 1)) }
-        ensures binding { queue_binding self.new.binds ≡ queue_binding self.old.binds }
-        ensures standing { standing self.new ≡ standing self.old }
     {
         let _ = single_esc_abort;
         match self.items.get(self.read) {
@@ -230,15 +210,8 @@ impl RawReader for KeyQueue {
     }
 
     fn next_char(&mut self) -> Result<char>
-        ensures took { IfOk result (λ c.
-            self.old.rest ≡ input.key (event (KeyCode.Char c) Modifiers.NONE) ∷ self.new.rest) }
-        ensures kept { OnErr result (self.new.rest ≡ self.old.rest) }
-        ensures fault { IfErr result (λ e. ReadFault e self.old.rest) }
+        ensures takes { Takes result plain_key self.old self.new }
         ensures reads { Reads result plain_key self.old.rest }
-        ensures counts { CountsFailures result self.old.failures self.new.failures }
-        ensures one { IoOnlyIf result (self.new.failures ≡ min max_count (self.old.failures + 1)) }
-        ensures binding { queue_binding self.new.binds ≡ queue_binding self.old.binds }
-        ensures standing { standing self.new ≡ standing self.old }
     {
         match self.items.get(self.read) {
             Some(Item::Key(KeyEvent(KeyCode::Char(c), Modifiers::NONE))) => {
@@ -253,19 +226,12 @@ impl RawReader for KeyQueue {
 
     /// The text is a copy: where there is no memory for it, nothing is read.
     fn read_pasted_text(&mut self) -> Result<String>
-        ensures took { IfOk result (λ t.
-            self.old.rest ≡ input.paste (string_bytes t) ∷ self.new.rest) }
+        ensures takes { Takes result (λ t. input.paste (string_bytes t)) self.old self.new }
         ensures ends { self.old.rest ≡ [] → result ≡ Err Eof }
         ensures refused { (t : List ℕ) (more : List input.Item)
             → self.old.rest ≡ input.paste t ∷ more → MemoryOnly result }
         ensures wrong { (k : KeyEvent) (more : List input.Item)
             → self.old.rest ≡ input.key k ∷ more → IfErr result (λ e. is_io e ≡ true) }
-        ensures kept { OnErr result (self.new.rest ≡ self.old.rest) }
-        ensures fault { IfErr result (λ e. ReadFault e self.old.rest) }
-        ensures counts { CountsFailures result self.old.failures self.new.failures }
-        ensures one { IoOnlyIf result (self.new.failures ≡ min max_count (self.old.failures + 1)) }
-        ensures binding { queue_binding self.new.binds ≡ queue_binding self.old.binds }
-        ensures standing { standing self.new ≡ standing self.old }
     {
         match self.items.get(self.read) {
             Some(Item::Paste(text)) => {
