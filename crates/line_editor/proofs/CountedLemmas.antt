@@ -119,6 +119,7 @@ module _ {X Y : Type 0} (e : editors.Ghosts X) (r : readers.Ghosts Y) (start : X
                 drew = drawn_behind typed now reader' c next (count_prompt (first ∷ c.more)) (read.drew (first ∷ c.more) c.counted no);
               },
             );
+        within = inl (record { more = c.more; cut = c.cut ∙ ap (λ t. map key c.more ++ t) (sym read.kept); continue = c.continue });
         draft = λ no. read.draft no ∙ asked_again (e.environment start) (e.environment now) (e.draft start) (e.draft now) c.frame.environment c.left;
         left = left_twice (e.environment start) (e.environment now) (e.draft start) (e.draft now) (e.draft next) c.frame.environment c.left read.left;
         text = keeps_twice (e.environment start) (e.draft start) (e.draft now) (e.draft next) c.left read.text;
@@ -206,6 +207,7 @@ module _ {X Y : Type 0} (e : editors.Ghosts X) (r : readers.Ghosts Y) (start : X
               redraws = λ below. let s = whole.redraws (omega (arith, below)) in (omega (arith, s.0), omega (arith, s.1));
             };
           };
+          within = tt;
           draft = draft;
           left = inr draft;
           text = keeps_by (e.environment start) (e.draft start) (e.draft last) draft;
@@ -218,11 +220,22 @@ module _ {X Y : Type 0} (e : editors.Ghosts X) (r : readers.Ghosts Y) (start : X
         }
 
     -- drawing it again goes wrong
-    pub redraw_fails : (f : ReadlineError) (last : X)
+    pub redraw_fails : (f : ReadlineError) (last : X) → continues_count style k ≡ false
         → Refreshes {T = Unit {0}} e (Err f) next last (hinted (e.environment next) (e.draft next)) with_hint
         → ReadsCount e r style first (Err f) start reader last reader''
-    redraw_fails f last refreshed = record {
+    redraw_fails f last ends refreshed = record {
       read = λ no. absurd (let is = refreshed.fails.faults in cc);
+      within = inr (
+        count_of (first ∷ c.more),
+        k,
+        record {
+          more = c.more;
+          cut = c.cut ∙ ap (λ t. map key c.more ++ t) read.took;
+          continue = c.continue;
+          ends = ends;
+          counted = refl;
+        },
+      );
       draft = λ no. absurd (let is = refreshed.fails.faults in cc);
       left = left_twice (e.environment start) (e.environment next) (e.draft start) (e.draft next) (e.draft last) (read.keeps.frame.environment ∙ c.frame.environment)
           (inr (read.draft ∙ asked_again (e.environment start) (e.environment now) (e.draft start) (e.draft now) c.frame.environment c.left)) refreshed.err;

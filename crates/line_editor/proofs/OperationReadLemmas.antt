@@ -1,5 +1,6 @@
 -- Facts on motions that are read.
-use Rattle.std.proofs.Common.{◌≡◌, ℕ, true, false, List, [], ◌∷◌, Result, Ok, Err, refl, ◌∙◌, ap, subst}
+use Rattle.std.proofs.Common.{◌≡◌, ℕ, true, false, List, [], ◌∷◌, Result, Ok, Err, refl, sym, ◌∙◌, ap, subst}
+use Rattle.std.specs.Prelude.{OnErr}
 use Rattle.line_config.specs.Failures.{CountsFailures}
 use Rattle.line_config.specs.declared.config.EditMode.TheVariants.{Vi}
 use Rattle.line_config.specs.declared.error.ReadlineError.{ReadlineError}
@@ -19,11 +20,18 @@ use Rattle.line_editor.specs.InputState.{behind_input}
 use Rattle.line_editor.specs.Keymap.{KeyState}
 use Rattle.line_editor.specs.Operation.{Operated, Reaches, motion_behind}
 use Rattle.line_editor.specs.Read.{Read}
-use Rattle.line_editor.specs.Reading.{EndsQuietly, GivesQuietly, OnRead, ReadsCount, ReadsPart, TakesItems}
+use Rattle.line_editor.specs.Reading.{EndsQuietly, GivesQuietly, OnRead, ReadsCount, ReadsPart, StopsWithin, TakesItems}
 use Rattle.line_editor.specs.declared.input_state.tails.Behind.{Behind}
+use Rattle.line_editor.proofs.BeginLemmas.{operation-begins, reach-begins}
 use Rattle.line_editor.proofs.KeyFitLemmas.{enter, enter-ends, is-count, is-no-count}
 use Rattle.line_editor.proofs.OperationLemmas.{enter-ends-motion}
-use Rattle.line_editor.proofs.ReadingLemmas.{count_goes_wrong, counted, key_fails, key_taken, plainly, quiet_part}
+use Rattle.line_editor.proofs.ReadingLemmas.{count_goes_wrong, counted, key_fails, key_taken, on_err_then, plainly, quiet_part}
+
+-- what belongs to the key of a motion could not be read
+reach_stops : {X Y : Type 0} (e : editors.Ghosts X) (r : readers.Ghosts Y) (editor : X) (i : Input) (operator : Operator) (reader reader' : Y) (motion : Motion) (result : Result Behind ReadlineError)
+    → OnErr result (r.rest reader' ≡ r.rest reader) → OnErr result (StopsWithin r (λ items read. Reaches (e.draft editor) i operator motion items read) [] reader reader')
+reach_stops e r editor i operator reader reader' motion result kept =
+    on_err_then result (λ same. record { items = []; cut = sym same; begins = reach-begins (e.draft editor) i operator motion }) kept
 
 module _ {X Y : Type 0} (e : editors.Ghosts X) (r : readers.Ghosts Y) (editor : X) (keys : KeyState) (reader : Y) (i : Input) (operator : Operator) (n : ℕ) where
   -- what the motion of an operator comes to that is read here
@@ -39,9 +47,9 @@ module _ {X Y : Type 0} (e : editors.Ghosts X) (r : readers.Ghosts Y) (editor : 
   pub motion_plain : (k : KeyEvent) (motion : Motion) (result : Result Behind ReadlineError) (reader' : Y) → begins_count Vi modes.Command k ≡ false → motion ≡ motion_behind operator n [] k
       → OnRead result (λ (b : Behind). GivesQuietly r (Reaches (e.draft editor) i operator motion) (e.draft editor) (behind_input b i) (command_of b.command) reader reader')
       (EndsQuietly r (Reaches (e.draft editor) i operator motion) reader reader')
-      → TakesItems r keys.bound result reader reader'
+      → TakesItems r keys.bound result reader reader' → OnErr result (r.rest reader' ≡ r.rest reader)
       → MotionPart (key k ∷ []) result reader editor reader'
-  motion_plain k motion result reader' begins is behind takes =
+  motion_plain k motion result reader' begins is behind takes kept =
       let Behind : List Item → Read → Type 0 = λ items read. Reaches (e.draft editor) i operator motion items read in
       plainly e r MotionHere Behind (λ c d. d) (λ b. command_of b.command) (λ b. behind_input b i) editor keys reader k Vi (e.draft editor) editor reader' result
       (λ items read reaches. record {
@@ -54,7 +62,8 @@ module _ {X Y : Type 0} (e : editors.Ghosts X) (r : readers.Ghosts Y) (editor : 
         reaches = subst (λ m. Reaches (e.draft editor) i operator m items read) is reaches;
         told = refl;
       })
-      (quiet_part e r Behind editor keys reader reader' (λ b. command_of b.command) (λ b. behind_input b i) result takes behind)
+      (quiet_part e r Behind editor keys reader reader' (λ b. command_of b.command) (λ b. behind_input b i) result takes behind
+      (reach_stops e r editor i operator reader reader' motion result kept))
 
   -- a count and the key that ends it
   pub motion_counted : (k : KeyEvent) (count : Count) (last : KeyEvent) (editor1 : X) (reader1 : Y) → ReadsCount e r Vi k (Ok (count, last)) editor reader editor1 reader1
@@ -62,9 +71,9 @@ module _ {X Y : Type 0} (e : editors.Ghosts X) (r : readers.Ghosts Y) (editor : 
       → (motion : Motion) (m : ℕ) (result : Result Behind ReadlineError) (reader' : Y) → m ≡ multiplied n count.n → motion ≡ motion_of operator last m
       → OnRead result (λ (b : Behind). GivesQuietly r (Reaches (e.draft editor1) i operator motion) (e.draft editor1) (behind_input b i) (command_of b.command) reader1 reader')
       (EndsQuietly r (Reaches (e.draft editor1) i operator motion) reader1 reader')
-      → TakesItems r keys.bound result reader1 reader'
+      → TakesItems r keys.bound result reader1 reader' → OnErr result (r.rest reader' ≡ r.rest reader1)
       → MotionPart (key k ∷ []) result reader editor1 reader'
-  motion_counted k count last editor1 reader1 read begins motion m result reader' product is behind takes =
+  motion_counted k count last editor1 reader1 read begins motion m result reader' product is behind takes kept =
       let Behind : List Item → Read → Type 0 = λ items read. Reaches (e.draft editor1) i operator motion items read in
       let more = read.read.ends.more in
       let there : motion ≡ motion_behind operator n (k ∷ more) last =
@@ -83,7 +92,8 @@ module _ {X Y : Type 0} (e : editors.Ghosts X) (r : readers.Ghosts Y) (editor : 
         reaches = subst P read.draft (subst Q there reaches);
         told = refl;
       })
-      (quiet_part e r Behind editor1 keys reader1 reader' (λ b. command_of b.command) (λ b. behind_input b i) result takes behind)
+      (quiet_part e r Behind editor1 keys reader1 reader' (λ b. command_of b.command) (λ b. behind_input b i) result takes behind
+      (reach_stops e r editor1 i operator reader1 reader' motion result kept))
 
   -- the items ended in the count, or reading it went wrong
   pub motion_count : (k : KeyEvent) (f : ReadlineError) (editor' : X) (reader' : Y) → begins_count Vi modes.Command k ≡ true
@@ -92,6 +102,8 @@ module _ {X Y : Type 0} (e : editors.Ghosts X) (r : readers.Ghosts Y) (editor : 
   motion_count k f editor' reader' begins count =
       count_goes_wrong e r MotionHere MotionHere (λ c d. d) (λ b. command_of b.command) (λ b. behind_input b i) editor keys reader k Vi f editor' reader' count
       (λ more all. enter-ends-motion (e.environment editor) (e.draft editor) i operator n (k ∷ more) (is-count Vi modes.Command k more enter begins all (enter-ends Vi)))
+      (λ number last ends. operation-begins (e.environment editor) (e.draft editor) i operator n (k ∷ ends.more) last
+      (is-count Vi modes.Command k ends.more last begins ends.continue ends.ends))
 
   -- the first key and the rest
   pub motion_part : (mid : Y) (k : KeyEvent) (editor' : X) (reader' : Y) (result : Result Behind ReadlineError)

@@ -13,12 +13,16 @@ use Rattle.line_keys.specs.declared.raw_reader.RawReader as readers
 use Rattle.line_editor.specs.Editor.{grouped}
 use Rattle.line_editor.specs.Input.{Input}
 use Rattle.line_editor.specs.Keymap.{KeyState}
-use Rattle.line_editor.specs.Read.{Read, quiet_read}
-use Rattle.line_editor.specs.Reading.{Ends, Gives, OnRead, ReadsPart}
+use Rattle.line_editor.specs.Binding.{all_sure}
+use Rattle.line_editor.specs.Read.{Begins, Read, quiet_read}
+use Rattle.line_editor.specs.Reading.{Ends, Gives, OnRead, ReadsPart, StopsWithin}
 use Rattle.line_editor.specs.ItemShown.{asked_behind}
+use Rattle.line_editor.proofs.BeginLemmas.{is-there}
 use Rattle.line_editor.proofs.CountLemmas.{rises_stays}
 use Rattle.line_editor.proofs.DrawnLemmas.{frame_then}
-use Rattle.line_editor.proofs.ReadingLemmas.{frame_stays}
+use Rattle.line_editor.proofs.FaultLemmas.{io_stays}
+use Rattle.line_editor.proofs.KeyFitLemmas.{false_not_true}
+use Rattle.line_editor.proofs.ReadingLemmas.{frame_stays, on_err_then}
 use Rattle.line_editor.proofs.ShownLemmas.{counts_kept}
 
 module _ {X Y : Type 0} (e : editors.Ghosts X) (r : readers.Ghosts Y) where
@@ -40,6 +44,7 @@ module _ {X Y : Type 0} (e : editors.Ghosts X) (r : readers.Ghosts Y) where
       drew = counts_kept e part.read.read.shown editor mid new line.line hint undrawn.drew part.read.drew;
       hint = λ none. hint ∙ part.read.hint none;
     };
+    within = tt;
     fault = tt;
     line = record { line = line.line ∙ part.line.line; saved = line.saved ∙ part.line.saved; index = line.index ∙ part.line.index };
     start = start ∙ part.start;
@@ -57,6 +62,11 @@ module _ {X Y : Type 0} (e : editors.Ghosts X) (r : readers.Ghosts Y) where
       → ReadsPart e r Told front other begun command input result editor keys reader editor' reader'
   part_mapped {T = T} Comes Told front from other begun command input result editor keys reader editor' reader' maps same part = record {
     read = mapped result part.read;
+    within = on_err_then result (λ (w : StopsWithin r Comes front reader reader'). record {
+      items = w.items;
+      cut = w.cut;
+      begins = record { rest = w.begins.rest; read = w.begins.read; comes = maps ((front ++ w.items) ++ w.begins.rest) w.begins.read w.begins.comes };
+    }) part.within;
     fault = subst (λ (d : Draft). IoLeaves result (e.environment editor) (e.draft editor) d (e.draft editor')) same part.fault;
     line = part.line;
     start = part.start;
@@ -119,6 +129,7 @@ module _ {X Y : Type 0} (e : editors.Ghosts X) (r : readers.Ghosts Y) where
       drew = part.read.drew;
       hint = part.read.hint;
     };
+    within = tt;
     fault = tt;
     line = part.line;
     start = part.start;
@@ -135,6 +146,7 @@ module _ {X Y : Type 0} (e : editors.Ghosts X) (r : readers.Ghosts Y) where
       → ReadsPart e r Comes front from begun' command' input' (Err f) editor keys reader editor' reader'
   failure_retold Comes front from begun begun' command input command' input' f editor keys reader editor' reader' part = record {
     read = part.read;
+    within = part.within;
     fault = part.fault;
     line = part.line;
     start = part.start;
@@ -157,13 +169,17 @@ module _ {X Y : Type 0} (e : editors.Ghosts X) (r : readers.Ghosts Y) where
   not_io (Io cause) is io = absurd (cc)
 
   -- memory ran out behind a part that was read
-  pub part_then_memory : {T S : Type 0} (Comes Told : List Item → Read → Type 0) (front front' : List Item) (from from' : Draft) (begun begun' : Command → Draft → Draft) (command : T → Command) (input : T → Input)
+  pub part_then_memory : {T S : Type 0} (Comes Told : List Item → Read → Type 0) (from from' : Draft) (begun begun' : Command → Draft → Draft) (command : T → Command) (input : T → Input)
       (command' : S → Command) (input' : S → Input) (x : T) (f : ReadlineError) (editor : X) (keys : KeyState) (reader : Y) (mid new : X) (reader' : Y)
+      → ((items : List Item) (read : Read) → Comes items read → (told : Read) × Told items told)
       → is_memory f ≡ true → Undrawn e mid new → KeepsLine (e.draft mid) (e.draft new)
-      → ReadsPart e r Comes front from begun command input (Ok x) editor keys reader mid reader'
-      → ReadsPart e r Told front' from' begun' command' input' (Err f) editor keys reader new reader'
-  part_then_memory Comes Told front front' from from' begun begun' command input command' input' x f editor keys reader mid new reader' memory undrawn line part = record {
+      → ReadsPart e r Comes [] from begun command input (Ok x) editor keys reader mid reader'
+      → ReadsPart e r Told [] from' begun' command' input' (Err f) editor keys reader new reader'
+  part_then_memory Comes Told from from' begun begun' command input command' input' x f editor keys reader mid new reader' tells memory undrawn line part = record {
     read = λ no. not_calm f memory no;
+    within =
+        let told = tells part.read.items part.read.read part.read.comes in
+        record { items = part.read.items; cut = part.read.cut; begins = is-there Told part.read.items told.0 told.1 };
     fault = λ is. not_io f memory is;
     line = record { line = line.line ∙ part.line.line; saved = line.saved ∙ part.line.saved; index = line.index ∙ part.line.index };
     start = λ no. not_calm f memory no;
@@ -171,6 +187,40 @@ module _ {X Y : Type 0} (e : editors.Ghosts X) (r : readers.Ghosts Y) where
     fewer = λ no. not_calm f memory no;
     keeps = record { frame = frame_then e editor mid new part.keeps.frame undrawn.frame; own = part.keeps.own; counts = part.keeps.counts };
     fails = record { io = λ is. not_io f memory is; quiet = λ no. (part.fails.quiet.0, undrawn.failures ∙ part.fails.quiet.1) };
+  }
+
+  -- a party that may fail was asked, and nothing was read
+  pub refused_part : {T : Type 0} (Comes : List Item → Read → Type 0) (front : List Item) (from : Draft) (begun : Command → Draft → Draft) (command : T → Command) (input : T → Input)
+      (f : ReadlineError) (editor : X) (keys : KeyState) (reader : Y)
+      → is_fault f ≡ true → (is_io f ≡ true → all_sure keys.bound ≡ false) → Begins Comes (front ++ [])
+      → ReadsPart e r Comes front from begun command input (Err f) editor keys reader editor reader
+  refused_part {T = T} Comes front from begun command input f editor keys reader fault unsure begins = record {
+    read = λ no. absurd (false_not_true (is_fault f) no fault);
+    within = record { items = []; cut = refl; begins = begins };
+    fault = io_stays {T = T} (Err f) (e.environment editor) (e.draft editor) from;
+    line = record { line = refl; saved = refl; index = refl };
+    start = λ no. refl;
+    redraws = λ no below. (omega arith, omega arith);
+    fewer = λ no. omega arith;
+    keeps = record { frame = frame_stays e editor; own = refl; counts = omega arith };
+    fails = record { io = λ is sure. absurd (false_not_true (all_sure keys.bound) (unsure is) sure.1); quiet = λ no. (refl, refl) };
+  }
+
+  -- memory ran out, and nothing was read
+  pub memory_part : {T : Type 0} (Comes : List Item → Read → Type 0) (front : List Item) (from : Draft) (begun : Command → Draft → Draft) (command : T → Command) (input : T → Input)
+      (f : ReadlineError) (editor new : X) (keys : KeyState) (reader : Y)
+      → is_memory f ≡ true → Undrawn e editor new → KeepsLine (e.draft editor) (e.draft new) → Begins Comes (front ++ [])
+      → ReadsPart e r Comes front from begun command input (Err f) editor keys reader new reader
+  memory_part Comes front from begun command input f editor new keys reader memory undrawn line begins = record {
+    read = λ no. not_calm f memory no;
+    within = record { items = []; cut = refl; begins = begins };
+    fault = λ is. not_io f memory is;
+    line = line;
+    start = λ no. not_calm f memory no;
+    redraws = λ no. not_calm f memory no;
+    fewer = λ no. not_calm f memory no;
+    keeps = record { frame = undrawn.frame; own = refl; counts = omega arith };
+    fails = record { io = λ is. not_io f memory is; quiet = λ no. (refl, undrawn.failures) };
   }
 
   -- a command that is the key's alone was read
@@ -190,6 +240,7 @@ module _ {X Y : Type 0} (e : editors.Ghosts X) (r : readers.Ghosts Y) where
       drew = record { display = refl; redraws = refl };
       hint = λ none. refl;
     };
+    within = tt;
     fault = tt;
     line = record { line = refl; saved = refl; index = refl };
     start = refl;

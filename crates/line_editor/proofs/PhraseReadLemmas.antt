@@ -30,6 +30,7 @@ use Rattle.line_editor.specs.Sequence.{sequences_of}
 use Rattle.line_editor.specs.ItemShown.{asked_behind}
 use Rattle.line_editor.specs.Tail.{Tailed}
 use Rattle.line_editor.specs.declared.input_state.tails.Behind.{Behind}
+use Rattle.line_editor.proofs.BeginLemmas.{counted-begins}
 use Rattle.line_editor.proofs.CountLemmas.{rises_stays, stays_then}
 use Rattle.line_editor.proofs.DrawnLemmas.{frame_then}
 use Rattle.line_editor.proofs.GroupLemmas.{start_ended}
@@ -101,6 +102,8 @@ module _ {X Y : Type 0} (e : editors.Ghosts X) (r : readers.Ghosts Y) {T : Type 
   count_part f editor' reader' begins count =
       count_goes_wrong e r SpelledHere SpelledHere (λ c d. d) command input editor keys reader k i.style f editor' reader' count
       (inside-begins (keymap_of keys (r.own_binding reader)) (e.environment editor) (e.draft editor) i k begins)
+      (λ number last ends. counted-begins (keymap_of keys (r.own_binding reader)) (e.environment editor) (e.draft editor) i k ends.more last
+      (is-count i.style i.mode k ends.more last begins ends.continue ends.ends))
 
   -- a phrase of the mode is a phrase, where its first key leaves the draft
   pub mode_part : (result : Result T ReadlineError) (editor' : X) (reader' : Y) → i ≡ keys.input
@@ -169,6 +172,11 @@ module _ {X Y : Type 0} (e : editors.Ghosts X) (r : readers.Ghosts Y) (editor : 
               drew = d.1.drew;
             },
           );
+      within = let w = part.within in record {
+        items = w.items;
+        cut = w.cut;
+        begins = record { rest = w.begins.rest; read = listed entry i w.begins.read; comes = by_row (w.items ++ w.begins.rest) w.begins.read w.begins.comes };
+      };
       fault = part.fault;
       line = part.line;
       start = part.start;
@@ -177,6 +185,14 @@ module _ {X Y : Type 0} (e : editors.Ghosts X) (r : readers.Ghosts Y) (editor : 
       keeps = part.keeps;
       fails = record { io = part.fails.io; quiet = part.fails.quiet };
     }
+
+    -- memory ran out for the row's group
+    pub row_memory : (f : ReadlineError) (b : Behind) (mid new : X) (reader' : Y) → is_memory f ≡ true → Undrawn e mid new → KeepsLine (e.draft mid) (e.draft new)
+        → ReadsPart e r TailedHere [] (e.draft editor) (λ c d. d) (λ (b : Behind). command_of b.command) (λ b. behind_input b i) (Ok b) editor keys reader mid reader'
+        → ReadsPart e r ByRow [] (e.draft editor) (λ c d. d) command input (Err f) editor keys reader new reader'
+    row_memory f b mid new reader' memory undrawn line part =
+        part_then_memory e r TailedHere ByRow (e.draft editor) (e.draft editor) (λ c d. d) (λ c d. d) (λ (b : Behind). command_of b.command) (λ b. behind_input b i) command input b f editor keys reader mid new reader'
+        (λ items read tailed. (listed entry i read, by_row items read tailed)) memory undrawn line part
 
     -- a command was read, and the row's group begins or ends
     pub row_read : (b : Behind) (y : S) (mid new : X) (reader' : Y)
@@ -202,6 +218,7 @@ module _ {X Y : Type 0} (e : editors.Ghosts X) (r : readers.Ghosts Y) (editor : 
             drew = counts_kept e was.read.shown editor mid new line.line hint undrawn.drew was.drew;
             hint = λ none. hint ∙ was.hint none;
           };
+          within = tt;
           fault = tt;
           line = record { line = line.line ∙ part.line.line; saved = line.saved ∙ part.line.saved; index = line.index ∙ part.line.index };
           start = start ∙ part.start;
@@ -288,6 +305,7 @@ module _ {X Y : Type 0} (e : editors.Ghosts X) (r : readers.Ghosts Y) (editor mi
             drew = counts_after e editor mid editor' undrawn.frame undrawn.drew was.read.shown was.drew;
             hint = λ none. was.hint none ∙ ap (λ (d : Draft). d.hint) ended;
           };
+          within = tt;
           fault = tt;
           line = record { line = part.line.line ∙ kept_line.line; saved = part.line.saved ∙ kept_line.saved; index = part.line.index ∙ kept_line.index };
           start = part.start ∙ ap start_text ended ∙ start_ended (e.draft editor);
@@ -322,6 +340,11 @@ module _ {X Y : Type 0} (e : editors.Ghosts X) (r : readers.Ghosts Y) (editor mi
               drew = so_far_after e editor mid editor' undrawn.frame undrawn.drew l.shown d.1.drew;
             },
           );
+      within = let w = part.within in record {
+        items = w.items;
+        cut = w.cut;
+        begins = record { rest = w.begins.rest; read = behind_alt keys.input w.begins.read; comes = nests (w.items ++ w.begins.rest) w.begins.read w.begins.comes };
+      };
       fault = io_ended f (e.environment mid) (e.environment editor) (e.draft editor) (e.draft mid) from_key (e.draft editor') undrawn.frame.environment (sym entered_is)
           (ap (λ (d : Draft). d.hint) ended) part.fault;
       line = record { line = part.line.line ∙ kept_line.line; saved = part.line.saved ∙ kept_line.saved; index = part.line.index ∙ kept_line.index };
@@ -411,8 +434,8 @@ module _ {X Y : Type 0} (e : editors.Ghosts X) (r : readers.Ghosts Y) where
       → ReadsPart e r (PhraseHere e r editor keys reader) [] (entered_here e r editor keys reader) (λ c d. d) command input (Ok t) editor keys reader mid reader'
       → ReadsCommand e r grouped (Err f) editor keys reader new keys reader'
   group_fails command input t f editor mid new keys reader reader' memory undrawn line part = record {
-    phrase = part_then_memory e r (PhraseHere e r editor keys reader) (PhraseHere e r editor keys reader) [] [] (entered_here e r editor keys reader) (entered_here e r editor keys reader)
-        (λ c d. d) grouped command input command_of (λ _. keys.input) t f editor keys reader mid new reader' memory undrawn line part;
+    phrase = part_then_memory e r (PhraseHere e r editor keys reader) (PhraseHere e r editor keys reader) (entered_here e r editor keys reader) (entered_here e r editor keys reader)
+        (λ c d. d) grouped command input command_of (λ _. keys.input) t f editor keys reader mid new reader' (λ items read phrase. (read, phrase)) memory undrawn line part;
     dry = λ none. absurd (
         let less = has_item _ _ _ _ reader reader' part.read.items part.read.read part.read.cut part.read.comes in
         let no = ap length none in
@@ -430,5 +453,5 @@ module _ {X Y : Type 0} (e : editors.Ghosts X) (r : readers.Ghosts Y) where
   told_part Comes from command input command' input' x (Ok y) editor keys reader editor' reader' memory same_command same_input part =
       part_retold e r Comes [] from (λ c d. d) command input command' input' x y editor keys reader editor' reader' same_command same_input part
   told_part Comes from command input command' input' x (Err f) editor keys reader editor' reader' memory same_command same_input part =
-      part_then_memory e r Comes Comes [] [] from from (λ c d. d) (λ c d. d) command input command' input' x f editor keys reader editor' editor' reader' memory
+      part_then_memory e r Comes Comes from from (λ c d. d) (λ c d. d) command input command' input' x f editor keys reader editor' editor' reader' (λ items read comes. (read, comes)) memory
       (record { drew = record { display = refl; redraws = refl }; failures = refl; frame = frame_stays e editor' }) (record { line = refl; saved = refl; index = refl }) part

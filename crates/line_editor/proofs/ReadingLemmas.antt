@@ -1,6 +1,6 @@
 -- Facts on phrases that are read.
 use Rattle.std.proofs.Common.{◌≡◌, ◌≢◌, ℕ, Bool, cond, ◌+◌, ◌≤◌, ◌++◌, append_assoc, List, [], ◌∷◌, length, map, Result, Ok, Err, true, false, inl, inr, refl, sym, ◌∙◌, ap, subst, arith}
-use Rattle.std.specs.Prelude.{OnOk}
+use Rattle.std.specs.Prelude.{OnErr, OnOk}
 use Rattle.std.proofs.lemmas.Bool.{cases_lt}
 use Rattle.std.proofs.lemmas.List.{length-append, length-map}
 use Rattle.line_buffer.specs.declared.layout.GraphemeClusterMode.{GraphemeClusterMode}
@@ -28,8 +28,8 @@ use Rattle.line_keys.specs.declared.raw_reader.RawReader as readers
 use Rattle.line_editor.specs.Editor.{Ruler, own_ruler, ruler_of}
 use Rattle.line_editor.specs.Input.{Input}
 use Rattle.line_editor.specs.Keymap.{KeyState}
-use Rattle.line_editor.specs.Read.{Lacks, Read, quiet_read, read_behind}
-use Rattle.line_editor.specs.Reading.{EitherRose, Ends, EndsCount, EndsQuietly, Gives, GivesQuietly, OnRead, ReadsCount, ReadsPart, TakesItems}
+use Rattle.line_editor.specs.Read.{Begins, Lacks, Read, quiet_read, read_behind}
+use Rattle.line_editor.specs.Reading.{EitherRose, Ends, EndsCount, EndsQuietly, Gives, GivesQuietly, OnRead, ReadsCount, ReadsPart, StopsWithin, TakesItems}
 use Rattle.line_editor.specs.ItemShown.{ItemShown, any_drawn, asked_behind, counting_on, kept, last_drawn, none_shown, shown_with, shows_line}
 use Rattle.line_editor.proofs.DrawnLemmas.{frame_then}
 use Rattle.line_editor.proofs.KeyFitLemmas.{enter}
@@ -39,6 +39,14 @@ use Rattle.line_editor.proofs.ShownLemmas.{counting-each, counts_then, drew_none
 pub on_answer_then : {T E P Q : Type 0} (result : Result T E) → (P → Q) → OnOk result P → OnOk result Q
 on_answer_then (Ok x) goes p = goes p
 on_answer_then (Err f) goes p = tt
+
+pub on_err : {T E P : Type 0} (result : Result T E) → P → OnErr result P
+on_err (Ok x) p = tt
+on_err (Err f) p = p
+
+pub on_err_then : {T E P Q : Type 0} (result : Result T E) → (P → Q) → OnErr result P → OnErr result Q
+on_err_then (Ok x) goes p = tt
+on_err_then (Err f) goes p = goes p
 
 pub unless_fault : {T P : Type 0} (result : Result T ReadlineError) → P → UnlessFault result P
 unless_fault (Ok x) p = p
@@ -105,6 +113,11 @@ module _ {X Y : Type 0} (e : editors.Ghosts X) (r : readers.Ghosts Y) where
           → ReadsPart e r Comes [] from begun command input result editor keys reader editor' reader'
       key_taken result part = record {
         read = taken result part.read;
+        within = on_err_then result (λ (w : StopsWithin r Comes (key k ∷ []) mid reader'). record {
+          items = key k ∷ w.items;
+          cut = took ∙ ap (λ t. key k ∷ t) w.cut;
+          begins = w.begins;
+        }) part.within;
         fault = part.fault;
         line = part.line;
         start = part.start;
@@ -178,6 +191,7 @@ module _ {X Y : Type 0} (e : editors.Ghosts X) (r : readers.Ghosts Y) where
               drew = record { display = refl; redraws = refl };
             },
           );
+      within = record { items = []; cut = sym stays; begins = record { rest = begins.0; read = begins.1; comes = begins.3 } };
       fault = io_cut f (e.environment editor) (e.draft editor) from (e.draft editor) (inl refl);
       line = record { line = refl; saved = refl; index = refl };
       start = λ calm. refl;
@@ -199,6 +213,15 @@ module _ {X Y : Type 0} (e : editors.Ghosts X) (r : readers.Ghosts Y) where
         → ReadsPart e r Comes (key k ∷ []) from begun command input result editor keys mid editor' reader'
     plainly from editor' reader' result leads part = record {
       read = plain result part.read;
+      within = on_err_then result (λ (w : StopsWithin r Behind [] mid reader'). record {
+        items = w.items;
+        cut = w.cut;
+        begins = record {
+          rest = w.begins.rest;
+          read = read_behind [] w.begins.read;
+          comes = leads (w.items ++ w.begins.rest) w.begins.read w.begins.comes;
+        };
+      }) part.within;
       fault = part.fault;
       line = part.line;
       start = part.start;
@@ -281,6 +304,7 @@ module _ {X Y : Type 0} (e : editors.Ghosts X) (r : readers.Ghosts Y) where
           let started = same_start (e.draft editor) (e.draft editor1) read.text in
           record {
             read = behind result part.read;
+            within = on_err_then result stopped part.within;
             fault = io_counted result (e.environment editor1) (e.environment editor) (e.draft editor) (e.draft editor1) (e.draft editor') read.keeps.frame.environment read.draft part.fault;
             line = record { line = part.line.line ∙ read.text.line; saved = part.line.saved ∙ read.text.saved; index = part.line.index ∙ read.text.index };
             start = unless_fault_then result (λ same. same ∙ started) part.start;
@@ -302,6 +326,21 @@ module _ {X Y : Type 0} (e : editors.Ghosts X) (r : readers.Ghosts Y) where
             };
           }
         where
+          stopped : StopsWithin r Behind [] mid1 reader' → StopsWithin r Comes (key k ∷ []) mid reader'
+          stopped w = record {
+            items = map key ends_count.more ++ (key last ∷ w.items);
+            cut = ends_count.cut ∙ ap (λ t. map key ends_count.more ++ (key last ∷ t)) w.cut
+                ∙ sym (append_assoc (map key ends_count.more) (key last ∷ w.items) (r.rest reader'));
+            begins = record {
+              rest = w.begins.rest;
+              read = read_behind (k ∷ ends_count.more) w.begins.read;
+              comes =
+                  subst (λ t. Comes (key k ∷ t) (read_behind (k ∷ ends_count.more) w.begins.read))
+                  (sym (append_assoc (map key ends_count.more) (key last ∷ w.items) w.begins.rest))
+                  (leads (w.items ++ w.begins.rest) w.begins.read w.begins.comes);
+            };
+          }
+
           behind : (result : Result T ReadlineError)
               → OnRead result (λ x. Gives e r Behind [] begun (command x) (input x) editor1 mid1 editor' reader') (Ends e r Behind [] (e.draft editor1) editor1 mid1 editor' reader')
               → OnRead result (λ x. Gives e r Comes (key k ∷ []) begun (command x) (input x) editor mid editor' reader') (Ends e r Comes (key k ∷ []) (e.draft editor) editor mid editor' reader')
@@ -349,8 +388,9 @@ module _ {X Y : Type 0} (e : editors.Ghosts X) (r : readers.Ghosts Y) where
     pub count_goes_wrong : (f : ReadlineError) (editor' : X) (reader' : Y) → ReadsCount e r style k (Err f) editor mid editor' reader'
         → ((more : List KeyEvent) → list_all (continues_count style) more ≡ true
         → (read : Read) × (later : List ItemShown) × Comes (map key (k ∷ more) ++ (key enter ∷ [])) read × (read.shown ≡ counting_on [] (k ∷ more) ++ later))
+        → ((number : Count) (last : KeyEvent) (ends : EndsCount r style k mid reader' number last) → Begins Comes (map key (k ∷ ends.more) ++ (key last ∷ [])))
         → ReadsPart e r Comes (key k ∷ []) (e.draft editor) begun command input (Err f) editor keys mid editor' reader'
-    count_goes_wrong f editor' reader' count ended = record {
+    count_goes_wrong f editor' reader' count ended over = record {
       read = λ no.
           let cut = (count.read no).1 in
           let inside = cut.inside in
@@ -375,6 +415,18 @@ module _ {X Y : Type 0} (e : editors.Ghosts X) (r : readers.Ghosts Y) where
               drew = so_far_counting e k inside.more editor editor' cut.drew;
             },
           );
+      within = elim count.within [
+        | inl inside ↦ record {
+          items = map key inside.more;
+          cut = inside.cut;
+          begins = let w = ended inside.more inside.continue in record { rest = key enter ∷ []; read = w.0; comes = w.2 };
+        }
+        | inr stop ↦ record {
+          items = map key stop.2.more ++ (key stop.1 ∷ []);
+          cut = stop.2.cut ∙ sym (append_assoc (map key stop.2.more) (key stop.1 ∷ []) (r.rest reader'));
+          begins = over stop.0 stop.1 stop.2;
+        }
+      ];
       fault = io_cut f (e.environment editor) (e.draft editor) (e.draft editor) (e.draft editor') count.left;
       line = record { line = count.text.line; saved = count.text.saved; index = count.text.index };
       start = λ no. same_start (e.draft editor) (e.draft editor') count.text;
@@ -398,9 +450,11 @@ module _ {X Y : Type 0} (e : editors.Ghosts X) (r : readers.Ghosts Y) where
   pub quiet_part : {T : Type 0} (Comes : List Item → Read → Type 0) (editor : X) (keys : KeyState) (reader reader' : Y) (command : T → Command) (input : T → Input) (result : Result T ReadlineError)
       → TakesItems r keys.bound result reader reader'
       → OnRead result (λ x. GivesQuietly r Comes (e.draft editor) (input x) (command x) reader reader') (EndsQuietly r Comes reader reader')
+      → OnErr result (StopsWithin r Comes [] reader reader')
       → ReadsPart e r Comes [] (e.draft editor) (λ c d. d) command input result editor keys reader editor reader'
-  quiet_part {T = T} Comes editor keys reader reader' command input result takes read = record {
+  quiet_part {T = T} Comes editor keys reader reader' command input result takes read stops = record {
     read = lifted result read;
+    within = stops;
     fault = io_stays result (e.environment editor) (e.draft editor) (e.draft editor);
     line = record { line = refl; saved = refl; index = refl };
     start = unless_fault result refl;

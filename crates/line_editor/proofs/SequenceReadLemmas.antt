@@ -6,9 +6,9 @@ use Rattle.line_keys.specs.Command.{Command}
 use Rattle.line_keys.specs.Item.{key}
 use Rattle.line_keys.specs.declared.keys.KeyEvent.{KeyEvent}
 use Rattle.line_keys.specs.declared.raw_reader.RawReader as readers
-use Rattle.line_editor.specs.Reading.{EndsInSequence, IsAnswered, IsInVain}
+use Rattle.line_editor.specs.Reading.{EndsInSequence, IsAnswered, IsInVain, StopsInSequence}
 use Rattle.line_editor.specs.Sequence.{IsReadOn, Sequences, sequence_command}
-use Rattle.line_editor.proofs.SequenceLemmas.{is_sequence, read_further}
+use Rattle.line_editor.proofs.SequenceLemmas.{is_sequence, none_read, read_further}
 
 module _ {Y : Type 0} (r : readers.Ghosts Y) (s : Sequences) (first : KeyEvent) (reader : Y) where
   -- the keys that were read so far lead on and have no command
@@ -51,6 +51,10 @@ module _ {Y : Type 0} (r : readers.Ghosts Y) (s : Sequences) (first : KeyEvent) 
       };
     }
 
+    -- reading stops behind the key
+    pub stops_further : StopsInSequence r reader next s first
+    stops_further = record { more = further; cut = cut_further; read_on = on_further }
+
     none_further : None ≡ s.command (typed ++ (k ∷ [])) → sequence_command s first further ≡ None
     none_further is = is_sequence s first i.more k ∙ ap s.command (sym typed_further) ∙ sym is
 
@@ -78,6 +82,13 @@ module _ {Y : Type 0} (r : readers.Ghosts Y) (s : Sequences) (first : KeyEvent) 
       quiet = quiet ∙ i.quiet;
       fewer = omega (arith, fewer_further, i.fewer);
     }
+
+  -- reading stops behind the first key, or behind those so far
+  pub stops_first : (next : Y) → r.rest next ≡ r.rest reader → StopsInSequence r reader next s first
+  stops_first next kept = record { more = []; cut = sym kept; read_on = none_read s first }
+
+  pub stops_inside : (typed : List KeyEvent) (now next : Y) → InSequence typed now → r.rest next ≡ r.rest now → StopsInSequence r reader next s first
+  stops_inside typed now next i kept = record { more = i.more; cut = i.cut ∙ ap (λ t. map key i.more ++ t) (sym kept); read_on = i.read_on }
 
   -- no item is left behind them
   pub ends_inside : (typed : List KeyEvent) (now next : Y) → InSequence typed now → r.rest now ≡ [] → r.rest next ≡ [] → EndsInSequence r reader next s first

@@ -19,9 +19,10 @@ use Rattle.line_editor.specs.Binding.{Bound}
 use Rattle.line_editor.specs.Input.{Input}
 use Rattle.line_editor.specs.Operation.{Reaches, operated_if, to_character, to_last}
 use Rattle.line_editor.specs.Read.{quiet_read, searched_read}
-use Rattle.line_editor.specs.Reading.{EndsInSequence, EndsQuietly, GivesQuietly, IsAnswered, IsInVain}
+use Rattle.line_editor.specs.Reading.{EndsInSequence, EndsQuietly, GivesQuietly, IsAnswered, IsInVain, StopsInSequence, StopsWithin}
 use Rattle.line_editor.specs.Sequence.{Sequenced, Sequences, sequences_of}
 use Rattle.line_editor.specs.Tail.{Tailed, alone, begins_sequences, by_character, by_last_search, by_second_in_vain, by_second_key, by_sequence, in_vain, move_or}
+use Rattle.line_editor.proofs.BeginLemmas.{goes-on, seconds-begin, tail-begins, unlisted-begins}
 use Rattle.line_editor.proofs.LacksLemmas.{LacksQuietly, motion-lacks, paste-lacks, replacement-lacks, search-lacks, second-lacks, seconds-lack, sequence-lacks}
 use Rattle.line_editor.proofs.SequenceLemmas.{goes_on}
 
@@ -158,6 +159,14 @@ module _ {Y : Type 0} (r : readers.Ghosts Y) (s : Sequences) (w : Environment) (
     pub second_ends : r.rest mid ≡ [] → r.rest next ≡ r.rest mid → EndsQuietly r (Tailed s w d i last (has_second by)) reader next
     second_ends dry stays = none_left (has_second by) (second-lacks s w d i last by lone) (same_rest ∙ dry) (stays ∙ dry)
 
+    -- it could not be read
+    pub second_stops : r.rest next ≡ r.rest mid → StopsWithin r (Tailed s w d i last (has_second by)) [] reader next
+    second_stops kept = record {
+      items = [];
+      cut = same_rest ∙ sym kept;
+      begins = goes-on (Tailed s w d i last (has_second by)) [] (second-lacks s w d i last by lone);
+    }
+
     -- the second key is read
     pub second_read : (k : KeyEvent) (command : Command) → r.rest mid ≡ key k ∷ r.rest next → command ≡ by k → GivesQuietly r (Tailed s w d i last (has_second by)) d i command reader next
     second_read k command took is = record {
@@ -187,6 +196,29 @@ module _ {Y : Type 0} (r : readers.Ghosts Y) (bound : Bound) (environment : Envi
   pub seconds_end : (by : KeyEvent → Command) → EndsQuietly r (Tailed those environment draft input last (has_second by)) reader next
   seconds_end by =
       keys_left (has_second by) (seconds-lack those environment draft input last by cut.more (goes_on bound draft input count last cut.more cut.read_on cut.leads cut.unanswered))
+
+module _ {Y : Type 0} (r : readers.Ghosts Y) (bound : Bound) (environment : Environment) (draft : Draft) (input : Input) (count : Count) (last : KeyEvent) (reader next : Y) where
+  -- reading stopped where nothing was taken behind the key
+  pub tail_stops : (meaning : Meaning) → r.rest next ≡ r.rest reader
+      → StopsWithin r (Tailed (sequences_of bound draft input count) environment draft input last meaning) [] reader next
+  tail_stops meaning kept = record { items = []; cut = sym kept; begins = tail-begins bound environment draft input count last meaning }
+
+  -- or where keys of a sequence were
+  pub unlisted_stops : StopsInSequence r reader next (sequences_of bound draft input count) last
+      → StopsWithin r (Tailed (sequences_of bound draft input count) environment draft input last unlisted) [] reader next
+  unlisted_stops stops = record {
+    items = map key stops.more;
+    cut = stops.cut;
+    begins = unlisted-begins bound environment draft input count last stops.more stops.read_on;
+  }
+
+  pub seconds_stop : (by : KeyEvent → Command) → StopsInSequence r reader next (sequences_of bound draft input count) last
+      → StopsWithin r (Tailed (sequences_of bound draft input count) environment draft input last (has_second by)) [] reader next
+  seconds_stop by stops = record {
+    items = map key stops.more;
+    cut = stops.cut;
+    begins = seconds-begin bound environment draft input count last by stops.more stops.read_on;
+  }
 
 module _ {Y : Type 0} (r : readers.Ghosts Y) (d : Draft) (i : Input) (operator : Operator) (reader next : Y) where
   -- no item is left for the search of a motion

@@ -3,6 +3,7 @@ use Rattle.std.specs.Prelude.{◌≡◌, ◌≢◌, ◌⊎◌, ℕ, ◌≤◌, �
 use Rattle.std.specs.Bool.{Decides}
 use Rattle.std.specs.List.{All, list_any}
 use Rattle.line_keys.specs.Command.{Command, history_search_backward, history_search_forward, undo}
+use Rattle.line_keys.specs.Count.{is_count_before}
 use Rattle.line_keys.specs.Draft.{Draft, KeepsText, start_text}
 use Rattle.line_keys.specs.Item.{Item, key}
 use Rattle.line_keys.specs.Key.{event}
@@ -17,7 +18,7 @@ use Rattle.line_editor.specs.HistoryMoves.{is_own_line}
 use Rattle.line_editor.specs.Input.{Input, is_vi_command}
 use Rattle.line_editor.specs.Keymap.{Keymap, key_handler, keymap_of}
 use Rattle.line_editor.specs.Phrase.{Phrase, count_in_front, entered}
-use Rattle.line_editor.specs.Read.{Read}
+use Rattle.line_editor.specs.Read.{Begins, Read}
 use Rattle.line_editor.specs.Reading.{LeftByCut}
 use Rattle.line_editor.specs.Run.{End, Run, Turn, Turns, commands_in, keys_in, ready, stopped, unread}
 use Rattle.line_editor.specs.Outcomes.{RunsTo, Session, TakesTurns, editor_of, turns_in}
@@ -35,6 +36,15 @@ IsPrefixFree = (keymap : Keymap) (environment : Environment) (draft : Draft) (in
     → Phrase keymap environment draft input items read
     → Phrase keymap environment draft input (items ++ more) read'
     → (more ≡ []) × (read ≡ read')
+
+-- each key begins a phrase, and so do the keys of a count with the key that ends it: with some items behind it, or with none, it comes
+-- to a command
+pub record EachKeyBegins : Type 0 where
+  pub alone : (keymap : Keymap) (environment : Environment) (draft : Draft) (input : Input) (k : KeyEvent)
+      → Begins (Phrase keymap environment draft input) (key k ∷ [])
+  pub behind_count : (keymap : Keymap) (environment : Environment) (draft : Draft) (input : Input) (first : KeyEvent) (more : List KeyEvent) (last : KeyEvent)
+      → is_count_before input.style input.mode (first ∷ more) last ≡ true
+      → Begins (Phrase keymap environment draft input) (map key (first ∷ more) ++ (key last ∷ []))
 
 -- what two runs leave is the same: the editor whole where a turn ended them, and all but its hint where they ran dry
 pub record SameEnd (last last' : Editor) (input input' : Input) (end end' : End) : Type 0 where

@@ -20,7 +20,7 @@ use Rattle.line_editor.specs.Editor.{Answer, Editor, Leaves, Ruler, Step, ended,
 use Rattle.line_editor.specs.Input.{Input}
 use Rattle.line_editor.specs.Keymap.{KeyState, keymap_of}
 use Rattle.line_editor.specs.Read.{Read}
-use Rattle.line_editor.specs.Reading.{FailsByReading, KeepsReading, LeftByCut, OutOfItems, PhraseHere, entered_here}
+use Rattle.line_editor.specs.Reading.{FailsByReading, KeepsReading, LeftByCut, OutOfItems, PhraseHere, StopsWithin, entered_here}
 use Rattle.line_editor.specs.Run.{End, Run, Turn, Turns, dry, kills_before, stopped}
 use Rattle.line_editor.specs.ItemShown.{DrewCounts, ruler_behind}
 use Rattle.line_editor.specs.Status.{ComesTo}
@@ -171,9 +171,11 @@ module _ {X Y : Type 0} (e : editors.Ghosts X) (r : readers.Ghosts Y) where
     pub keeps : KeepsReading e r before.state before.keys before.reader after.state after.keys after.reader
     pub fails : FailsByReading e r for_all result before.state before.keys before.reader after.state after.reader
 
-  -- reading went wrong: the line, the saved line, the history index, what is remembered of keys and the kill ring stay; after an error of
-  -- input or output the draft is the one from before, or the one that the phrase is read on from, but for its hint
+  -- reading went wrong: a phrase begins with the items that were taken, and no item more was taken; the line, the saved line, the history
+  -- index, what is remembered of keys and the kill ring stay; after an error of input or output the draft is the one from before, or the
+  -- one that the phrase is read on from, but for its hint
   pub record FailsInReading (error : ReadlineError) (before after : Session X Y) : Type 0 where
+    pub within : StopsWithin r (PhraseHere e r before.state before.keys before.reader) [] before.reader after.reader
     pub line : KeepsLine (e.draft before.state) (e.draft after.state)
     pub draft : IoLeft error (e.environment before.state) (e.draft before.state)
         (entered_here e r before.state before.keys before.reader) (e.draft after.state)

@@ -37,6 +37,12 @@ after_count environment (_ ∷ _) draft = hinted environment draft
 abbrev pub read_behind : List KeyEvent → Read → Read
 read_behind typed read = record read { shown = shown_with typed read.shown }
 
+-- items that something begins with: with some behind them, or with none, there is something that they come to
+pub record Begins (Comes : List Item → Read → Type 0) (items : List Item) : Type 0 where
+  pub rest : List Item
+  pub read : Read
+  pub comes : Comes (items ++ rest) read
+
 -- more items are to be read than these: with some behind them there is something that they come to. What is drawn after these is
 -- the beginning of what is drawn.
 pub record Lacks (Comes : List Item → Read → Type 0) (items : List Item) : Type 0 where

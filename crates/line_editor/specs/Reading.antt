@@ -26,7 +26,7 @@ use Rattle.line_editor.specs.Input.{Input}
 use Rattle.line_editor.specs.Binding.{Bound, all_sure}
 use Rattle.line_editor.specs.Keymap.{KeyState, keymap_of}
 use Rattle.line_editor.specs.Phrase.{Phrase, entered}
-use Rattle.line_editor.specs.Read.{Lacks, Read, quiet_read}
+use Rattle.line_editor.specs.Read.{Begins, Lacks, Read, quiet_read}
 use Rattle.line_editor.specs.Sequence.{IsReadOn, Sequenced, Sequences, sequence_command}
 use Rattle.line_editor.specs.ItemShown.{DrewCounts, DrewSoFar, any_drawn, asked_behind, none_shown}
 use Rattle.line_editor.specs.declared.input_state.sequences.Sequence.{Sequence}
@@ -98,6 +98,29 @@ module _ {Y : Type 0} (r : readers.Ghosts Y) where
     pub cut : r.rest reader ≡ map key more
     pub continue : list_all (continues_count style) more ≡ true
     pub empty : r.rest reader' ≡ []
+
+  -- keys were read that go on with a count
+  pub record GoesOnWithCount (style : EditMode) (reader reader' : Y) : Type 0 where
+    pub more : List KeyEvent
+    pub cut : r.rest reader ≡ map key more ++ r.rest reader'
+    pub continue : list_all (continues_count style) more ≡ true
+
+  -- reading a count that began with a key stopped: keys were read that go on with it, or also the one that ends it
+  abbrev pub StopsInCount : EditMode → KeyEvent → Y → Y → Type 0
+  StopsInCount style first reader reader' =
+      GoesOnWithCount style reader reader' ⊎ ((count : Count) × (last : KeyEvent) × EndsCount style first reader reader' count last)
+
+  -- reading a sequence that began with a key stopped: keys were read of which each shorter beginning leads on
+  pub record StopsInSequence (reader reader' : Y) (sequences : Sequences) (first : KeyEvent) : Type 0 where
+    pub more : List KeyEvent
+    pub cut : r.rest reader ≡ map key more ++ r.rest reader'
+    pub read_on : IsReadOn sequences first more
+
+  -- reading stopped: with the items that were taken, behind those in front, something begins, and no item more was taken
+  pub record StopsWithin (Comes : List Item → Read → Type 0) (front : List Item) (reader reader' : Y) : Type 0 where
+    pub items : List Item
+    pub cut : r.rest reader ≡ items ++ r.rest reader'
+    pub begins : Begins Comes (front ++ items)
 
   -- no item is left, before the call and behind it
   pub record IsDry (reader reader' : Y) : Type 0 where
@@ -180,6 +203,7 @@ module _ {X Y : Type 0} (e : editors.Ghosts X) (r : readers.Ghosts Y) where
   -- a step in reading a count: the count is shown, once, and a key is read
   pub record ReadsUnderCount (typed : TypedCount) (result : Result KeyEvent ReadlineError) (editor : X) (reader : Y) (editor' : X) (reader' : Y) : Type 0 where
     pub took : OnRead result (λ k. r.rest reader ≡ key k ∷ r.rest reader') (IsDry r reader reader')
+    pub kept : OnErr result (r.rest reader' ≡ r.rest reader)
     pub draft : UnlessFault result (e.draft editor' ≡ hinted (e.environment editor) (e.draft editor))
     pub left : LeftByCut (e.environment editor) (e.draft editor) (e.draft editor')
     pub text : KeepsText (e.draft editor) (e.draft editor')
@@ -202,6 +226,7 @@ module _ {X Y : Type 0} (e : editors.Ghosts X) (r : readers.Ghosts Y) where
   -- and at last again with its hint
   pub record ReadsCount (style : EditMode) (first : KeyEvent) (result : Result (Count × KeyEvent) ReadlineError) (editor : X) (reader : Y) (editor' : X) (reader' : Y) : Type 0 where
     pub read : OnRead result (λ ended. CountRead style first editor reader editor' reader' ended.0 ended.1) (CutInCount style first editor reader editor' reader')
+    pub within : OnErr result (StopsInCount r style first reader reader')
     pub draft : UnlessFault result (e.draft editor' ≡ hinted (e.environment editor) (e.draft editor))
     pub left : LeftByCut (e.environment editor) (e.draft editor) (e.draft editor')
     pub text : KeepsText (e.draft editor) (e.draft editor')
@@ -214,9 +239,11 @@ module _ {X Y : Type 0} (e : editors.Ghosts X) (r : readers.Ghosts Y) where
     pub bound : keys'.bound ≡ keys.bound
 
   -- what a call leaves that reads items, behind those in front: what they come to, or the items ran out; at most one full redraw is
-  -- made for each item. After an error of input or output the draft is the one from before, or the one to read on from, but for its hint
+  -- made for each item. After an error of input or output the draft is the one from before, or the one to read on from, but for its
+  -- hint. After any error something begins with the items that were taken, and no item more was taken
   pub record ReadsPart {T : Type 0} (Comes : List Item → Read → Type 0) (front : List Item) (from : Draft) (begun : Command → Draft → Draft) (command : T → Command) (input : T → Input) (result : Result T ReadlineError) (editor : X) (keys : KeyState) (reader : Y) (editor' : X) (reader' : Y) : Type 0 where
     pub read : OnRead result (λ x. Gives Comes front begun (command x) (input x) editor reader editor' reader') (Ends Comes front from editor reader editor' reader')
+    pub within : OnErr result (StopsWithin r Comes front reader reader')
     pub fault : IoLeaves result (e.environment editor) (e.draft editor) from (e.draft editor')
     pub line : KeepsLine (e.draft editor) (e.draft editor')
     pub start : UnlessFault result (start_text (e.draft editor') ≡ start_text (e.draft editor))

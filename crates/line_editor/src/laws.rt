@@ -1,6 +1,6 @@
 //! Laws of the definitions that the contracts cite. No call of the editor is made here.
 ghost use Rattle.line_editor.specs.BracketLaws.{GoingToTheMatchTwice, KilledToTheMatchComesBack};
-ghost use Rattle.line_editor.specs.Laws.{ComingBack, ComparesEvents, EnoughUndo, ExecutesNoMoreThanKeys, HasOneEnd, InsertionIsOneStep, IsPrefixFree, ReadFromTheCut, ReadingAgain, TurnsAndRun, TwoRenderers, TurnsBeforeMore, TurnsFollow, TurnsReadKeys};
+ghost use Rattle.line_editor.specs.Laws.{ComingBack, ComparesEvents, EachKeyBegins, EnoughUndo, ExecutesNoMoreThanKeys, HasOneEnd, InsertionIsOneStep, IsPrefixFree, ReadFromTheCut, ReadingAgain, TurnsAndRun, TwoRenderers, TurnsBeforeMore, TurnsFollow, TurnsReadKeys};
 
 use crate::edit::State;
 use line_config::Prompt;
@@ -16,6 +16,12 @@ pub fn events_are_compared_by_value()
 /// No phrase is a proper beginning of another, and one list of items has one command.
 pub fn phrases_are_prefix_free()
     ensures { IsPrefixFree }
+{}
+
+/// Each key begins a phrase, in each mode and whatever is bound, and so do the keys of a count with the key that ends it. So
+/// no key leads to where no command can be reached.
+pub fn each_key_begins_a_phrase()
+    ensures { EachKeyBegins }
 {}
 
 /// From one editor, one input and one list of items there is at most one run: it ends in one way, and leaves one line,

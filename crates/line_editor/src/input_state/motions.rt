@@ -1,5 +1,5 @@
 //! The motions of Vi's operators.
-ghost use Rattle.std.specs.Prelude.{◌≡◌, ◌∷◌, [], Option, false, option_map};
+ghost use Rattle.std.specs.Prelude.{◌≡◌, ◌∷◌, [], OnErr, Option, false, option_map};
 ghost use Rattle.line_editor.specs.Input.{Input};
 ghost use Rattle.line_editor.specs.InputState.{behind_input, input_of, keys_of};
 ghost use Rattle.line_editor.specs.Operation.{Operated, Reaches, motion_behind, operated_if};
@@ -76,6 +76,7 @@ impl InputState<'_> {
             OnRead result (λ b. GivesQuietly R.RawReader Comes draft (behind_input b i)
             (command_of b.command) rdr.old rdr.new)
             (EndsQuietly R.RawReader Comes rdr.old rdr.new) }
+        ensures kept { OnErr result (R.rest rdr.new ≡ R.rest rdr.old) }
         ensures items { let k =
             keys_of ⟦<dyn ConditionalEventHandler as ConditionalEventHandler>⟧ in
             TakesItems R.RawReader (k self.now).bound result rdr.old rdr.new }

@@ -1,5 +1,5 @@
 //! What belongs to a key, by what the key means.
-ghost use Rattle.std.specs.Prelude.{◌≡◌, ◌∷◌, [], IfOk, Option, false, option_map};
+ghost use Rattle.std.specs.Prelude.{◌≡◌, ◌∷◌, [], IfOk, OnErr, Option, false, option_map};
 ghost use Rattle.line_buffer.specs.Changes.{last_insert_of};
 ghost use Rattle.line_buffer.specs.Search.{opposite};
 ghost use Rattle.line_buffer.specs.declared.movement.CharSearch.{CharSearch};
@@ -7,7 +7,7 @@ ghost use Rattle.line_buffer.specs.declared.movement.Movement.TheVariants.{ViCha
 ghost use Rattle.line_config.specs.Error.{MemoryOnly};
 ghost use Rattle.line_editor.specs.Input.{in_mode};
 ghost use Rattle.line_editor.specs.InputState.{behind_input, input_of, keys_of};
-ghost use Rattle.line_editor.specs.Reading.{EndsQuietly, GivesQuietly, OnRead, ReadsPart, TakesItems};
+ghost use Rattle.line_editor.specs.Reading.{EndsQuietly, GivesQuietly, OnRead, ReadsPart, StopsWithin, TakesItems};
 ghost use Rattle.line_editor.specs.Sequence.{sequences_of};
 ghost use Rattle.line_editor.specs.Tail.{Tailed, changed_again, is_operation, move_or};
 ghost use Rattle.line_keys.specs.Command.{command_of};
@@ -82,6 +82,12 @@ impl InputState<'_> {
             OnRead result (λ b. GivesQuietly R.RawReader Comes draft (behind_input b i)
             (command_of b.command) rdr.old rdr.new)
             (EndsQuietly R.RawReader Comes rdr.old rdr.new) }
+        ensures within { let k =
+            keys_of ⟦<dyn ConditionalEventHandler as ConditionalEventHandler>⟧ self.now in
+            let e = W.EditorState in let draft = e.draft wrt.now in let i = in_mode mode k.input in
+            let s = sequences_of k.bound draft i count in
+            let Comes = Tailed s (e.environment wrt.now) draft i key (meaning_of meaning) in
+            OnErr result (StopsWithin R.RawReader Comes [] rdr.old rdr.new) }
         ensures items { let k =
             keys_of ⟦<dyn ConditionalEventHandler as ConditionalEventHandler>⟧ in
             TakesItems R.RawReader (k self.now).bound result rdr.old rdr.new }
@@ -130,6 +136,12 @@ impl InputState<'_> {
             OnRead result
             (λ c. GivesQuietly R.RawReader Comes draft i (command_of c) rdr.old rdr.new)
             (EndsQuietly R.RawReader Comes rdr.old rdr.new) }
+        ensures within { let k =
+            keys_of ⟦<dyn ConditionalEventHandler as ConditionalEventHandler>⟧ self.now in
+            let e = W.EditorState in let draft = e.draft wrt.now in let i = in_mode mode k.input in
+            let s = sequences_of k.bound draft i count in
+            let Comes = Tailed s (e.environment wrt.now) draft i key (has_second (second_at by)) in
+            OnErr result (StopsWithin R.RawReader Comes [] rdr.old rdr.new) }
         ensures items { let k =
             keys_of ⟦<dyn ConditionalEventHandler as ConditionalEventHandler>⟧ in
             TakesItems R.RawReader (k self.now).bound result rdr.old rdr.new }
@@ -158,6 +170,12 @@ impl InputState<'_> {
             OnRead result
             (λ c. GivesQuietly R.RawReader Comes draft i (command_of c) rdr.old rdr.new)
             (EndsQuietly R.RawReader Comes rdr.old rdr.new) }
+        ensures within { let k =
+            keys_of ⟦<dyn ConditionalEventHandler as ConditionalEventHandler>⟧ self.now in
+            let e = W.EditorState in let draft = e.draft wrt.now in let i = in_mode mode k.input in
+            let s = sequences_of k.bound draft i count in
+            let Comes = Tailed s (e.environment wrt.now) draft i key unlisted in
+            OnErr result (StopsWithin R.RawReader Comes [] rdr.old rdr.new) }
         ensures items { let k =
             keys_of ⟦<dyn ConditionalEventHandler as ConditionalEventHandler>⟧ in
             TakesItems R.RawReader (k self.now).bound result rdr.old rdr.new }

@@ -1,9 +1,9 @@
-use Rattle.std.proofs.Common.{rules, ◌≡◌, [], ◌∷◌, ◌++◌, ap, sym, ◌∙◌, option_map}
+use Rattle.std.proofs.Common.{rules, ◌≡◌, [], ◌∷◌, ◌++◌, ap, refl, sym, ◌∙◌, option_map}
 use Rattle.std.specs.Prelude.{slice_get}
 use Rattle.std.proofs.lemmas.Result.{err_from_is_err_and}
 use Rattle.line_keys.specs.Command.{command_of}
-use Rattle.line_editor.proofs.ReadingLemmas.{fault_dry}
-use Rattle.line_editor.proofs.SequenceReadLemmas.{answered, ends_inside, in_vain, leads_further}
+use Rattle.line_editor.proofs.ReadingLemmas.{fault_dry, on_err}
+use Rattle.line_editor.proofs.SequenceReadLemmas.{answered, ends_inside, in_vain, leads_further, stops_first, stops_further, stops_inside}
 use Rattle.line_editor.proofs.input_state.InputState.custom_seq_binding.Goals as goal
 
 pub returns-in-Some-clause-reads : goal.returns-in-Some-clause-reads
@@ -34,3 +34,15 @@ returns-in_err-next_key-clause-reads g c =
     rw (p.1, p.2) (λ no.
     let dry = fault_dry _ _ c.in_err-next_key.ensures.fault no in
     (dry.0, ends_inside _ _ _ _ _ _ _ c.keys.invariant dry.1 (c.in_err-next_key.ensures.kept ∙ dry.1)))
+
+pub returns-in_err-push-clause-within : goal.returns-in_err-push-clause-within
+returns-in_err-push-clause-within g c = on_err c.from_residual.result (stops_first _ _ _ _ c.args.rdr.now refl)
+
+pub returns-in_err-next_key-clause-within : goal.returns-in_err-next_key-clause-within
+returns-in_err-next_key-clause-within g c = on_err c.from_residual-in_err-next_key.result (stops_inside _ _ _ _ _ _ _ c.keys.invariant c.in_err-next_key.ensures.kept)
+
+pub returns-in_err-push-2-clause-within : goal.returns-in_err-push-2-clause-within
+returns-in_err-push-2-clause-within g c = on_err c.from_residual-in_err-push-2.result (stops_further _ _ _ _ _ _ _ _ c.keys.invariant c.in_ok-next_key.ensures.took)
+
+pub returns-in_err-command-clause-within : goal.returns-in_err-command-clause-within
+returns-in_err-command-clause-within g c = on_err c.from_residual-in_err-command.result (stops_further _ _ _ _ _ _ _ _ c.keys.invariant c.in_ok-next_key.ensures.took)

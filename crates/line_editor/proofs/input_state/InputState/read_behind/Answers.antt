@@ -1,4 +1,4 @@
-use Rattle.std.proofs.Common.{ap, sym, ◌∙◌, option_map}
+use Rattle.std.proofs.Common.{[], ap, sym, ◌∙◌, option_map}
 use Rattle.std.specs.Prelude.{unwrap_or}
 use Rattle.std.proofs.lemmas.Result.{err_from_is_err_and}
 use Rattle.line_keys.specs.Command.{command_of}
@@ -8,9 +8,10 @@ use Rattle.line_editor.specs.InputState.{input_of, keys_of, read_input}
 use Rattle.line_editor.specs.Keymap.{keymap_of}
 use Rattle.line_editor.specs.Phrase.{Keyed}
 use Rattle.line_editor.specs.declared.input_state.phrases.Read.{Read}
-use Rattle.line_editor.proofs.PartLemmas.{at_once_part}
+use Rattle.line_editor.proofs.BeginLemmas.{keyed-begins}
+use Rattle.line_editor.proofs.PartLemmas.{at_once_part, refused_part}
 use Rattle.line_editor.proofs.PhraseLemmas.{bound-read, own-read}
-use Rattle.line_editor.proofs.PhraseReadLemmas.{row_fails, row_read}
+use Rattle.line_editor.proofs.PhraseReadLemmas.{row_fails, row_memory, row_read}
 use Rattle.line_editor.proofs.input_state.InputState.read_behind.Goals as goal
 
 pub returns-in-Some : goal.returns-in-Some
@@ -59,3 +60,27 @@ returns g c =
     let group = c.in_ok-change_group.ensures in
     row_read g.W.EditorState g.R.RawReader c.args.wrt.now k c.args.rdr.now i c.args.key c.args.typed _ (entry_value c.entry_of_key-meaning.result) unbound c.in_default-own_command.ensures (sym c.requires) c.entry_of_key-meaning.ensures counted
     (λ (x : Read). command_of x.command) (λ x. read_input x k.input) _ _ _ _ _ c.in_ok-behind.ensures group.draft group.line.0 group.line.1 group.start group.undrawn c.listed.ensures.command c.listed.ensures.input
+
+pub returns-in_err-command : goal.returns-in_err-command
+returns-in_err-command g c =
+    let k = keys_of (λ v. (g.dyn-1.0.entry v).1) c.args.self.now in
+    let i = in_mode c.args.mode (input_of c.args.self.now) in
+    let keymap = keymap_of k (g.R.RawReader.own_binding c.args.rdr.now) in
+    let draft = g.W.EditorState.draft c.args.wrt.now in
+    let environment = g.W.EditorState.environment c.args.wrt.now in
+    let p = err_from_is_err_and c.from_residual.result c.from_residual.ensures.1 in
+    rw (p.1, p.2) (refused_part g.W.EditorState g.R.RawReader (λ items read. Keyed keymap environment draft i c.args.typed c.args.key items read) [] draft (λ c d. d)
+    (λ (x : Read). command_of x.command) (λ x. read_input x k.input) _ c.args.wrt.now k c.args.rdr.now c.in_err-command.ensures.faults c.in_err-command.ensures.io
+    (keyed-begins keymap environment draft i c.args.typed c.args.key c.requires))
+
+pub returns-in_err-change_group : goal.returns-in_err-change_group
+returns-in_err-change_group g c =
+    let k = keys_of (λ v. (g.dyn-1.0.entry v).1) c.args.self.now in
+    let i = in_mode c.args.mode (input_of c.args.self.now) in
+    let own = g.R.RawReader.own_binding c.args.rdr.now in
+    let unbound = ap (λ o. option_map command_of o) (sym c.in_default.is) ∙ c.in_ok-command.ensures.command own in
+    let counted = c.unwrap_or-count.ensures ∙ ap (λ n. unwrap_or c.args.typed n) c.one.ensures in
+    let group = c.in_err-change_group.ensures in
+    let p = err_from_is_err_and c.from_residual-in_err-change_group.result c.from_residual-in_err-change_group.ensures.1 in
+    rw (p.1, p.2) (row_memory g.W.EditorState g.R.RawReader c.args.wrt.now k c.args.rdr.now i c.args.key c.args.typed _ (entry_value c.entry_of_key-meaning.result) unbound c.in_default-own_command.ensures (sym c.requires) c.entry_of_key-meaning.ensures counted
+    (λ (x : Read). command_of x.command) (λ x. read_input x k.input) _ _ _ _ _ group.memory group.undrawn group.line.0 c.in_ok-behind.ensures)

@@ -21,4 +21,4 @@ returns-in_err-key g c =
 pub returns-in_err-refresh_line : goal.returns-in_err-refresh_line
 returns-in_err-refresh_line g c =
     let p = err_from_is_err_and c.from_residual-in_err-refresh_line.result c.from_residual-in_err-refresh_line.ensures.1 in
-    rw (p.1, p.2) (redraw_fails _ _ _ _ _ _ _ _ _ c.keys.invariant _ _ _ c.in_ok-key.ensures _ _ c.in_err-refresh_line.ensures)
+    rw (p.1, p.2) (redraw_fails _ _ _ _ _ _ _ _ _ c.keys.invariant _ _ _ c.in_ok-key.ensures _ _ (sym c.if-not-continues_count.ensures) c.in_err-refresh_line.ensures)

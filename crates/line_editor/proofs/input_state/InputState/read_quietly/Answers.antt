@@ -4,8 +4,11 @@ use Rattle.std.proofs.lemmas.Result.{err_from_is_err_and}
 use Rattle.line_buffer.specs.Search.{opposite}
 use Rattle.line_keys.specs.Item.{key, paste}
 use Rattle.line_editor.specs.Tail.{by_last_change, by_paste, by_replacement}
-use Rattle.line_editor.proofs.ReadingLemmas.{fault_dry}
-use Rattle.line_editor.proofs.TailLemmas.{again_read, changed_place, command_read, paste_ends, replacement_ends, search_ends, search_read, stays_read}
+use Rattle.line_editor.specs.Binding.{bound_of}
+use Rattle.line_editor.specs.Input.{in_mode}
+use Rattle.line_editor.specs.InputState.{input_of}
+use Rattle.line_editor.proofs.ReadingLemmas.{fault_dry, on_err}
+use Rattle.line_editor.proofs.TailLemmas.{again_read, changed_place, command_read, paste_ends, replacement_ends, search_ends, search_read, stays_read, tail_stops}
 use Rattle.line_editor.proofs.input_state.InputState.read_quietly.Goals as goal
 
 pub returns-in_err-next_key-in-Search-clause-reads : goal.returns-in_err-next_key-in-Search-clause-reads
@@ -70,3 +73,19 @@ pub returns-in_ok-again-in-Again-clause-reads : goal.returns-in_ok-again-in-Agai
 returns-in_ok-again-in-Again-clause-reads g c =
     rw c.in-Again.is (stays_read _ _ _ _ _ _ c.args.rdr.now c.args.rdr.now _ _ _ _ c.args.rdr.now c.behind-in-Again.ensures.search
     (c.behind-in-Again.ensures.command ∙ c.in_ok-again-in-Again.ensures.command) (record { items = []; cut = refl; comes = by_last_change _ }))
+
+pub returns-in_err-next_key-in-Search-clause-within : goal.returns-in_err-next_key-in-Search-clause-within
+returns-in_err-next_key-in-Search-clause-within g c =
+    on_err c.from_residual.result (rw c.in-Search.is (tail_stops _ (bound_of (λ v. (g.dyn-1.0.entry v).1) c.args.self.now.bindings.now) (g.W.EditorState.environment c.args.wrt.now) (g.W.EditorState.draft c.args.wrt.now) (in_mode c.args.mode (input_of c.args.self.now)) c.args.count _ _ _ _ c.in_err-next_key-in-Search.ensures.kept))
+
+pub returns-in_err-read_pasted_text-in-Paste-clause-within : goal.returns-in_err-read_pasted_text-in-Paste-clause-within
+returns-in_err-read_pasted_text-in-Paste-clause-within g c =
+    on_err c.from_residual-in_err-read_pasted_text-in-Paste.result (rw c.in-Paste.is (tail_stops _ (bound_of (λ v. (g.dyn-1.0.entry v).1) c.args.self.now.bindings.now) (g.W.EditorState.environment c.args.wrt.now) (g.W.EditorState.draft c.args.wrt.now) (in_mode c.args.mode (input_of c.args.self.now)) c.args.count _ _ _ _ c.in_err-read_pasted_text-in-Paste.ensures.kept))
+
+pub returns-in_err-next_key-in-ReplaceChar-clause-within : goal.returns-in_err-next_key-in-ReplaceChar-clause-within
+returns-in_err-next_key-in-ReplaceChar-clause-within g c =
+    on_err c.from_residual-in_err-next_key-in-ReplaceChar.result (rw c.in-ReplaceChar.is (tail_stops _ (bound_of (λ v. (g.dyn-1.0.entry v).1) c.args.self.now.bindings.now) (g.W.EditorState.environment c.args.wrt.now) (g.W.EditorState.draft c.args.wrt.now) (in_mode c.args.mode (input_of c.args.self.now)) c.args.count _ _ _ _ c.in_err-next_key-in-ReplaceChar.ensures.kept))
+
+pub returns-in_err-again-in-Again-clause-within : goal.returns-in_err-again-in-Again-clause-within
+returns-in_err-again-in-Again-clause-within g c =
+    on_err c.from_residual-in_err-again-in-Again.result (rw c.in-Again.is (tail_stops _ (bound_of (λ v. (g.dyn-1.0.entry v).1) c.args.self.now.bindings.now) (g.W.EditorState.environment c.args.wrt.now) (g.W.EditorState.draft c.args.wrt.now) (in_mode c.args.mode (input_of c.args.self.now)) c.args.count _ c.args.rdr.now c.args.rdr.now _ refl))

@@ -3,8 +3,8 @@ use Rattle.std.proofs.lemmas.Result.{err_from_is_err_and}
 use Rattle.line_editor.specs.Binding.{bound_of}
 use Rattle.line_editor.specs.Input.{in_mode}
 use Rattle.line_editor.specs.InputState.{input_of}
-use Rattle.line_editor.proofs.ReadingLemmas.{fault_dry}
-use Rattle.line_editor.proofs.TailLemmas.{answered_read, second_ends, second_read, seconds_end, vain_read}
+use Rattle.line_editor.proofs.ReadingLemmas.{fault_dry, on_err}
+use Rattle.line_editor.proofs.TailLemmas.{answered_read, second_ends, second_read, second_stops, seconds_end, seconds_stop, vain_read}
 use Rattle.line_editor.proofs.input_state.InputState.read_second.Goals as goal
 
 pub returns-in_err-command-clause-reads : goal.returns-in_err-command-clause-reads
@@ -37,3 +37,12 @@ returns-in-InVain-Some-clause-reads g c =
     let found = c.in_ok-command.ensures.reads in
     let vain = rw c.in-InVain-Some.field-0-is at (rw c.in-InVain-Some.is at found) in
     vain_read _ _ _ _ _ _ _ _ _ _ _ vain c.second_key.ensures
+
+pub returns-in_err-command-clause-within : goal.returns-in_err-command-clause-within
+returns-in_err-command-clause-within g c = on_err c.from_residual.result (seconds_stop _ (bound_of (λ v. (g.dyn-1.0.entry v).1) c.args.self.now.bindings.now) (g.W.EditorState.environment c.args.wrt.now) (g.W.EditorState.draft c.args.wrt.now) (in_mode c.args.mode (input_of c.args.self.now)) c.args.count _ _ _ _ c.in_err-command.ensures.within)
+
+pub returns-in_err-next_key-in-InVain-None-clause-within : goal.returns-in_err-next_key-in-InVain-None-clause-within
+returns-in_err-next_key-in-InVain-None-clause-within g c =
+    let found = c.in_ok-command.ensures.reads in
+    let vain = rw c.in-InVain-None.field-0-is at (rw c.in-InVain-None.is at found) in
+    on_err c.from_residual-in_err-next_key-in-InVain-None.result (second_stops _ _ _ _ _ _ _ _ _ _ vain c.in_err-next_key-in-InVain-None.ensures.kept)

@@ -18,4 +18,4 @@ pub returns-in_default : goal.returns-in_default
 returns-in_default g c =
     let i = in_mode c.args.mode (input_of c.args.self.now) in
     (quiet_part g.W.EditorState g.R.RawReader _ c.args.wrt.now (keys_of (λ v. (g.dyn-1.0.entry v).1) c.args.self.now) c.args.rdr.now _
-    (λ (b : Behind). command_of b.command) (λ b. behind_input b i) _ c.read_quietly.ensures.items c.read_quietly.ensures.reads)
+    (λ (b : Behind). command_of b.command) (λ b. behind_input b i) _ c.read_quietly.ensures.items c.read_quietly.ensures.reads c.read_quietly.ensures.within)

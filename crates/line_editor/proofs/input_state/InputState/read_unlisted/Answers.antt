@@ -3,7 +3,8 @@ use Rattle.std.proofs.lemmas.Result.{err_from_is_err_and}
 use Rattle.line_editor.specs.Binding.{bound_of}
 use Rattle.line_editor.specs.Input.{in_mode}
 use Rattle.line_editor.specs.InputState.{input_of}
-use Rattle.line_editor.proofs.TailLemmas.{answered_read, sequence_ends, unlisted_read}
+use Rattle.line_editor.proofs.ReadingLemmas.{on_err}
+use Rattle.line_editor.proofs.TailLemmas.{answered_read, sequence_ends, unlisted_read, unlisted_stops}
 use Rattle.line_editor.proofs.input_state.InputState.read_unlisted.Goals as goal
 
 pub returns-in_err-command-clause-reads : goal.returns-in_err-command-clause-reads
@@ -18,3 +19,6 @@ returns-in-Command-clause-reads g c = answered_read _ _ _ _ _ _ _ _ _ _ refl (rw
 
 pub returns-in-InVain-clause-reads : goal.returns-in-InVain-clause-reads
 returns-in-InVain-clause-reads g c = unlisted_read _ _ _ _ _ _ _ _ _ (rw c.in-InVain.is at c.in_ok-command.ensures.reads)
+
+pub returns-in_err-command-clause-within : goal.returns-in_err-command-clause-within
+returns-in_err-command-clause-within g c = on_err c.from_residual.result (unlisted_stops _ (bound_of (λ v. (g.dyn-1.0.entry v).1) c.args.self.now.bindings.now) (g.W.EditorState.environment c.args.wrt.now) (g.W.EditorState.draft c.args.wrt.now) (in_mode c.args.mode (input_of c.args.self.now)) c.args.count _ _ _ c.in_err-command.ensures.within)
