@@ -1,16 +1,15 @@
 //! An editor on a bench: parties that write down what they are asked, and can fail.
-ghost use Rattle.std.specs.Prelude.{◌<◌, IsCharBoundary};
 
 use crate::report::{Row, Seen, looks_at};
 use crate::setup::{Failing, Setup, keys_named};
-use line_buffer::{GraphemeClusterMode, KillRing, Unit};
-use line_config::{Config, EditMode, ReadlineError, Result};
+use line_buffer::{GraphemeClusterMode, KillRing};
+use line_config::{Config, EditMode, Result};
 use line_editor::command::{Status, execute};
 use line_editor::edit::State;
 use line_editor::input_state::InputState;
 use line_editor::run::run;
-use line_editor::{Turned, advance};
-use line_keys::cmd::{Anchor, Cmd};
+use line_editor::{Bindings, Turned, advance};
+use line_keys::cmd::Cmd;
 use line_keys::keys::{KeyCode, KeyEvent, Modifiers};
 use line_keys::raw_reader::RawReader;
 use line_keys::refresher::Refresher;
@@ -24,6 +23,9 @@ use tests_parties::shelf::Shelf;
 use tests_stand_ins::recorder::Recorder;
 use tests_stand_ins::typist::Typist;
 use tests_steps::calls::{Editor, done, executed, proceeds, starts};
+
+/// The key x.
+const X: &[KeyEvent] = &[KeyEvent(KeyCode::Char('x'), Modifiers::NONE)];
 
 /// What lies on the bench beside the editor: its reader, its kill ring, its settings, and what was seen.
 #[derive(Drop)]
@@ -52,14 +54,14 @@ impl Bench {
         &mut self,
         alloc: Global,
         setup: &Setup<'_>,
-        input: &mut InputState<'_>,
+        bindings: &Bindings,
         row: &Row<'_>,
     ) -> Result<()> {
         let mut screen = screen_of(alloc, setup);
         let mut helper = helper_of(setup);
         let history = shelved(alloc, setup)?;
         let asked = Some(&mut helper).filter(|_| setup.helped);
-        self.makes(alloc, setup, input, &mut screen, asked, &history, row)?;
+        self.makes(alloc, setup, bindings, &mut screen, asked, &history, row)?;
         let (kinds, entries) = (helper.kinds(), history.len());
         writeln!(self.seen.lines, "kinds {kinds:?}\nentries {entries}")?;
         Ok(())
@@ -70,7 +72,7 @@ impl Bench {
         &mut self,
         alloc: Global,
         setup: &Setup<'_>,
-        input: &mut InputState<'_>,
+        bindings: &Bindings,
         screen: &mut Recorder,
         helper: Option<&mut Advisor>,
         history: &Shelf,
@@ -87,138 +89,91 @@ impl Bench {
         let prompt = prompt_of(alloc, setup)?;
         let context = Context::new(history);
         let mut state = State::with_line(alloc, screen, &prompt, helper, context, &text, cursor)?;
-        self.begins(alloc, setup.both_ways, &mut state, input, row)
-    }
-
-    /// Does what a row says with its editor.
-    fn begins(
-        &mut self,
-        alloc: Global,
-        both_ways: bool,
-        state: &mut Editor<'_, '_>,
-        input: &mut InputState<'_>,
-        row: &Row<'_>,
-    ) -> Result<()> {
         match row.phrase {
-            Some(names) => self.reads(alloc, state, input, row, names)?,
-            None if both_ways => self.one_by_one(alloc, state, input, row)?,
-            None => self.goes_through(alloc, state, input, row)?,
+            Some(names) => self.reads(alloc, &mut state, bindings, row, names),
+            None if setup.both_ways => self.one_by_one(alloc, &mut state, bindings, row),
+            None => self.goes_through(alloc, &mut state, bindings, row),
         }
-        looks_at(alloc, state, input, &self.typist, &mut self.seen)?;
-        if self.seen.is_fault()
-            && row.phrase.is_none()
-            && !both_ways
-            && self.recovers(state, input)?
-        {
-            self.seen.lines.write_all(b"recovers\n")?;
-        }
-        Ok(())
     }
 
-    /// Goes through the lines of a row, and reads what they type where none of them does.
+    /// Goes through the lines of a row, and reads what they type where none of them does. Looks at what is left and, after
+    /// a fault, at whether the line recovers.
     fn goes_through(
         &mut self,
         alloc: Global,
         state: &mut Editor<'_, '_>,
-        input: &mut InputState<'_>,
+        bindings: &Bindings,
         row: &Row<'_>,
     ) -> Result<()> {
+        let mut input = InputState::new(&self.config, bindings);
         for (number, line) in row.items.as_slice() {
-            match self.does(alloc, state, input, line) {
-                Some(outcome) => self.seen.ends(alloc, outcome)?,
-                None => {
-                    self.seen.bad_line = Some(*number);
-                    return Ok(());
+            let (typist, kills) = (&mut self.typist, &mut self.kills);
+            let outcome = match *line {
+                "run" => Some(ran(run(state, &mut input, typist, kills, &self.config))),
+                "turn" => Some(turned(advance(state, &mut input, typist, kills, &self.config))),
+                "next" | "next abort" => {
+                    let command = state.next_cmd(&mut input, typist, *line == "next abort");
+                    Some(self.executes(state, &input, command))
                 }
-            }
-            if line.starts_with("start ") || *line == "from here" {
-                self.seen.calls_before = state.out().log().lines().count();
+                "read" => Some(
+                    self.seen
+                        .read(alloc, state.next_cmd(&mut input, typist, false)),
+                ),
+                line => self.step(alloc, state, &input, line),
+            };
+            if !self.ends(alloc, state, outcome, line)? {
+                self.seen.bad_line = Some(*number);
+                return Ok(());
             }
         }
         if row.is_keys_alone {
-            let outcome = self.runs(state, input);
+            let (typist, kills) = (&mut self.typist, &mut self.kills);
+            let outcome = ran(run(state, &mut input, typist, kills, &self.config));
             self.seen.ends(alloc, outcome)?;
         }
-        Ok(())
+        self.looks(alloc, state, &input)
     }
 
-    /// Does what a line says. None where there is no such line.
-    fn does(
+    /// Executes a command that was read. Returns how that ended, in a word.
+    fn executes(
+        &mut self,
+        state: &mut Editor<'_, '_>,
+        input: &InputState<'_>,
+        command: Result<Cmd>,
+    ) -> Result<&'static str> {
+        done(execute(command?, state, input, &mut self.kills, &self.config))
+    }
+
+    /// A line of a row ended so; None where there is no such line, and then this returns false.
+    fn ends(
         &mut self,
         alloc: Global,
-        state: &mut Editor<'_, '_>,
-        input: &mut InputState<'_>,
+        state: &Editor<'_, '_>,
+        outcome: Option<Result<&'static str>>,
         line: &str,
-    ) -> Option<Result<&'static str>> {
-        Some(match line {
-            "run" => self.runs(state, input),
-            "turn" => self.turns(state, input),
-            "next" | "next abort" => self.next(state, input, line == "next abort"),
-            "read" => self.read(alloc, state, input),
-            "from here" => Ok("proceeds"),
-            "take pasted" => taken(self.typist.read_pasted_text()),
-            line => return self.step(alloc, state, input, line),
-        })
+    ) -> Result<bool> {
+        let Some(outcome) = outcome else {
+            return Ok(false);
+        };
+        self.seen.ends(alloc, outcome)?;
+        if line.starts_with("start ") || line == "from here" {
+            self.seen.calls_before = state.out().log().lines().count();
+        }
+        Ok(true)
     }
 
-    /// How a run ended, in a word.
-    fn runs(
-        &mut self,
-        state: &mut Editor<'_, '_>,
-        input: &mut InputState<'_>,
-    ) -> Result<&'static str> {
-        run(
-            state,
-            input,
-            &mut self.typist,
-            &mut self.kills,
-            &self.config,
-        )?;
-        Ok("submitted")
-    }
-
-    /// How a turn ended, in a word.
-    fn turns(
-        &mut self,
-        state: &mut Editor<'_, '_>,
-        input: &mut InputState<'_>,
-    ) -> Result<&'static str> {
-        let turned = advance(
-            state,
-            input,
-            &mut self.typist,
-            &mut self.kills,
-            &self.config,
-        )?;
-        Ok(match turned {
-            Turned::Proceeds => "proceeds",
-            Turned::Submitted => "submitted",
-            Turned::NeedsMore => "needs more",
-            Turned::Ended => "eof",
-            Turned::Interrupted => "interrupted",
-        })
-    }
-
-    /// Reads a command and executes it. Returns how it ended, in a word.
-    fn next(
-        &mut self,
-        state: &mut Editor<'_, '_>,
-        input: &mut InputState<'_>,
-        single_esc_abort: bool,
-    ) -> Result<&'static str> {
-        let command = state.next_cmd(input, &mut self.typist, single_esc_abort)?;
-        done(execute(command, state, input, &mut self.kills, &self.config))
-    }
-
-    /// Reads a command.
-    fn read(
+    /// Looks at what is left and, after a fault, at whether the line recovers.
+    fn looks(
         &mut self,
         alloc: Global,
         state: &mut Editor<'_, '_>,
-        input: &mut InputState<'_>,
-    ) -> Result<&'static str> {
-        let command = state.next_cmd(input, &mut self.typist, false)?;
-        self.seen.read(alloc, &command)
+        input: &InputState<'_>,
+    ) -> Result<()> {
+        looks_at(alloc, state, input, &self.typist, &mut self.seen)?;
+        if self.seen.is_fault() && self.recovers(state, input)? {
+            self.seen.lines.write_all(b"recovers\n")?;
+        }
+        Ok(())
     }
 
     /// After a fault the cursor is on a boundary, and all changes can be taken back, which leaves the empty line, and it
@@ -246,10 +201,11 @@ impl Bench {
         &mut self,
         alloc: Global,
         state: &mut Editor<'_, '_>,
-        input: &mut InputState<'_>,
+        bindings: &Bindings,
         row: &Row<'_>,
         names: &str,
     ) -> Result<()> {
+        let mut input = InputState::new(&self.config, bindings);
         state.hint()?;
         let before = keys_of(alloc, row.items.as_slice())?;
         let keys = keys_named(alloc, names)?;
@@ -259,55 +215,42 @@ impl Bench {
         };
         self.typist.press(before.as_slice())?;
         for _ in before.as_slice() {
-            let _ = state.next_cmd(input, &mut self.typist, false);
+            let _ = state.next_cmd(&mut input, &mut self.typist, false);
         }
         for cut in 1..keys.len() {
-            self.typist
-                .press(keys.as_slice().get(..cut).unwrap_or(&[]))?;
-            self.seen
-                .is_cut(state.next_cmd(input, &mut self.typist, false));
+            let front = keys.as_slice().get(..cut).unwrap_or(&[]);
+            self.typist.press(front)?;
+            let command = state.next_cmd(&mut input, &mut self.typist, false);
+            self.seen.is_cut(command);
         }
-        self.reads_phrase(alloc, state, input, keys.as_slice())
+        self.typist.press(keys.as_slice())?;
+        let phrase = state.next_cmd(&mut input, &mut self.typist, false);
+        self.typist.press(X)?;
+        let next = state.next_cmd(&mut input, &mut self.typist, false);
+        self.seen.reads_phrase(alloc, phrase, next)?;
+        looks_at(alloc, state, &input, &self.typist, &mut self.seen)
     }
 
-    /// Reads keys that are one phrase. Sees its command, and what x stands for then.
-    fn reads_phrase(
-        &mut self,
-        alloc: Global,
-        state: &mut Editor<'_, '_>,
-        input: &mut InputState<'_>,
-        keys: &[KeyEvent],
-    ) -> Result<()> {
-        self.typist.press(keys)?;
-        if let Err(error) = self.read(alloc, state, input) {
-            self.seen.ends(alloc, Err(error))?;
-        }
-        self.typist
-            .press(&[KeyEvent(KeyCode::Char('x'), Modifiers::NONE)])?;
-        match state.next_cmd(input, &mut self.typist, false) {
-            Ok(command) => self.seen.stands_for(alloc, &command),
-            Err(error) => self.seen.ends(alloc, Err(error)),
-        }
-    }
-
-    /// Gives the keys of a row one by one, those of a phrase so far again with each new one.
+    /// Gives the keys of a row one by one, those of a phrase so far again with each new one. Looks at what is left.
     fn one_by_one(
         &mut self,
         alloc: Global,
         state: &mut Editor<'_, '_>,
-        input: &mut InputState<'_>,
+        bindings: &Bindings,
         row: &Row<'_>,
     ) -> Result<()> {
         let Some(keys) = keys_of(alloc, row.items.as_slice())? else {
             self.seen.bad_line = Some(row.number);
             return Ok(());
         };
+        let mut input = InputState::new(&self.config, bindings);
         state.refresh_line()?;
         let mut phrase = Vec::new(alloc);
         for key in keys.as_slice() {
             phrase.push(*key)?;
             self.typist.press(phrase.as_slice())?;
-            let outcome = self.turns(state, input);
+            let (typist, kills) = (&mut self.typist, &mut self.kills);
+            let outcome = turned(advance(state, &mut input, typist, kills, &self.config));
             self.seen.ends(alloc, outcome)?;
             match self.seen.outcome {
                 "proceeds" => phrase.clear(),
@@ -316,7 +259,7 @@ impl Bench {
             }
         }
         self.seen.runs_out();
-        Ok(())
+        looks_at(alloc, state, &input, &self.typist, &mut self.seen)
     }
 
     /// Does a step that reads nothing. None where there is no such step.
@@ -327,6 +270,11 @@ impl Bench {
         input: &InputState<'_>,
         line: &str,
     ) -> Option<Result<&'static str>> {
+        match line {
+            "from here" => return Some(Ok("proceeds")),
+            "take pasted" => return Some(taken(self.typist.read_pasted_text())),
+            _ => {}
+        }
         let (kind, text) = line.split_once(' ')?;
         let outcome = match kind {
             "do" => return executed(alloc, state, input, &mut self.kills, &self.config, text),
@@ -341,7 +289,7 @@ impl Bench {
     }
 }
 
-/// Adds the line that the settings give to a text. Returns its cursor, None where it is no line.
+/// Adds to a text the line that the settings give. Returns its cursor, None where it is no line.
 fn fill(alloc: Global, setup: &Setup<'_>, text: &mut String) -> Result<Option<usize>> {
     let (before, behind) = setup.line;
     let (Some(before), Some(behind)) = (unescape(alloc, before)?, unescape(alloc, behind)?) else {
@@ -396,10 +344,27 @@ fn shelved(alloc: Global, setup: &Setup<'_>) -> Result<Shelf> {
 }
 
 /// The settings of a style.
-pub fn config_of(edit_mode: EditMode) -> Config {
+fn config_of(edit_mode: EditMode) -> Config {
     Config::builder(GraphemeClusterMode::Unicode)
         .edit_mode(edit_mode)
         .build()
+}
+
+/// How a run ended, in a word.
+fn ran(outcome: Result<()>) -> Result<&'static str> {
+    outcome?;
+    Ok("submitted")
+}
+
+/// How a turn ended, in a word.
+fn turned(outcome: Result<Turned>) -> Result<&'static str> {
+    Ok(match outcome? {
+        Turned::Proceeds => "proceeds",
+        Turned::Submitted => "submitted",
+        Turned::NeedsMore => "needs more",
+        Turned::Ended => "eof",
+        Turned::Interrupted => "interrupted",
+    })
 }
 
 /// A pasted text was taken, in a word.
@@ -427,23 +392,6 @@ fn keys_of(alloc: Global, items: &[(usize, &str)]) -> Result<Option<Vec<KeyEvent
         }
     }
     Ok(Some(keys))
-}
-
-/// How a run ended, in a word.
-fn ran(outcome: Result<()>) -> Result<&'static str> {
-    outcome?;
-    Ok("submitted")
-}
-
-/// How a turn ended, in a word.
-fn turned(outcome: Result<Turned>) -> Result<&'static str> {
-    Ok(match outcome? {
-        Turned::Proceeds => "proceeds",
-        Turned::Submitted => "submitted",
-        Turned::NeedsMore => "needs more",
-        Turned::Ended => "eof",
-        Turned::Interrupted => "interrupted",
-    })
 }
 
 /// Gives the reader what a line types. None where it types nothing.

@@ -1,12 +1,11 @@
 //! A file of cases, line by line.
 
-use crate::bench::{Bench, config_of};
+use crate::bench::Bench;
 use crate::report::{Row, differs};
 use crate::setup::{Setup, Target, binding};
 use line_config::Result;
 use line_editor::Bindings;
 use line_editor::binding::EventHandler;
-use line_editor::input_state::InputState;
 use line_script::edit;
 use std::alloc::Global;
 use std::io::{Read, Write};
@@ -414,41 +413,38 @@ fn tries_set_up<O: Write>(
     if setup.screen.is_none() {
         return tries_script(alloc, setup, &bindings, row, out);
     }
-    let config = config_of(setup.parsed.edit_mode);
-    let mut input = InputState::new(&config, &bindings);
-    let mut again = InputState::new(&config, &bindings);
-    tries_on_bench(alloc, setup, (&mut input, &mut again), row, out)
+    tries_on_bench(alloc, setup, &bindings, row, out)
 }
 
 /// Tries a case on the bench, in both ways where it is to be.
 fn tries_on_bench<O: Write>(
     alloc: Global,
     setup: &mut Setup<'_>,
-    (input, again): (&mut InputState<'_>, &mut InputState<'_>),
+    bindings: &Bindings,
     row: &Row<'_>,
     out: &mut O,
 ) -> Result<Tried> {
     let both_ways = setup.both_ways;
     setup.both_ways = false;
-    match tries_one_way(alloc, setup, input, row, out)? {
+    match tries_one_way(alloc, setup, bindings, row, out)? {
         Tried::Same if both_ways => {
             setup.both_ways = true;
-            tries_one_way(alloc, setup, again, row, out)
+            tries_one_way(alloc, setup, bindings, row, out)
         }
         first => Ok(first),
     }
 }
 
-/// Tries a case on the bench.
+/// Tries a case on the bench, in the way that its settings ask for.
 fn tries_one_way<O: Write>(
     alloc: Global,
     setup: &Setup<'_>,
-    input: &mut InputState<'_>,
+    bindings: &Bindings,
     row: &Row<'_>,
     out: &mut O,
 ) -> Result<Tried> {
     let mut bench = Bench::new(alloc, setup);
-    bench.tries(alloc, setup, input, row)?;
+    bench.tries(alloc, setup, bindings, row)?;
     match bench.seen.bad_line {
         Some(number) => Ok(Tried::BadLine(number)),
         None => compares(row, &bench.seen.lines, out),

@@ -94,14 +94,31 @@ impl Seen {
         matches!(self.outcome, "fails" | "is denied")
     }
 
-    /// A command was read.
-    pub fn read(&mut self, alloc: Global, command: &Cmd) -> Result<&'static str> {
+    /// A command was read, which is written down.
+    pub fn read(&mut self, alloc: Global, outcome: Result<Cmd>) -> Result<&'static str> {
+        let command = outcome?;
         self.reads = format!(in alloc; "{command:?}")?;
         Ok("proceeds")
     }
 
+    /// A phrase was read, and then the key x.
+    pub fn reads_phrase(
+        &mut self,
+        alloc: Global,
+        phrase: Result<Cmd>,
+        next: Result<Cmd>,
+    ) -> Result<()> {
+        if let Err(error) = self.read(alloc, phrase) {
+            self.ends(alloc, Err(error))?;
+        }
+        match next {
+            Ok(command) => self.stands_for(alloc, &command),
+            Err(error) => self.ends(alloc, Err(error)),
+        }
+    }
+
     /// The key x stands for a command, which tells the mode.
-    pub fn stands_for(&mut self, alloc: Global, command: &Cmd) -> Result<()> {
+    fn stands_for(&mut self, alloc: Global, command: &Cmd) -> Result<()> {
         self.mode = match command {
             Cmd::SelfInsert(1, 'x') => "insert",
             Cmd::Overwrite('x') => "replace",
@@ -140,6 +157,7 @@ pub fn looks_at(
     let mut out = Vec::new(alloc);
     looks_at_line(state, seen.outcome, &mut out)?;
     looks_at_layout(state, &mut out)?;
+    looks_at_hint(state, &mut out)?;
     looks_at_rest(state, input, seen, &mut out)?;
     let before = seen.calls_before;
     looks_at_calls(alloc, state.out().log(), typist.flags(), before, &mut out)?;
@@ -147,7 +165,7 @@ pub fn looks_at(
     Ok(())
 }
 
-/// Writes down what was read, the mode, and the last insert.
+/// Writes down the style, what the error says, what was read, the mode, and the last insert.
 fn looks_at_rest(
     state: &Editor<'_, '_>,
     input: &InputState<'_>,
@@ -201,10 +219,11 @@ fn looks_at_layout(state: &Editor<'_, '_>, out: &mut Vec<u8>) -> Result<()> {
     if cursor == end {
         out.write_all(b"at the end of what is drawn\n")?;
     }
-    looks_at_hint(state, out)
+    Ok(())
 }
 
-/// Writes down the hint, and what tells how the line was drawn.
+/// Writes down the hint, whether there is a highlighter, how often the line was drawn in full, whose prompt stands there,
+/// and whether the cursor is at the end of the line.
 fn looks_at_hint(state: &Editor<'_, '_>, out: &mut Vec<u8>) -> Result<()> {
     let (is_lit, redraws) = (state.highlighter().is_some(), state.out().redraws());
     let (has_hint, hint) = (state.has_hint(), state.hint_text());
