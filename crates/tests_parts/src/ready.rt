@@ -95,8 +95,7 @@ pub(super) fn broken_history(alloc: Global) -> Shelf {
     history
 }
 
-/// Whether the answer is the right one. What is also asked with an allocation refused hands its error on; the rest ends
-/// the test.
+/// Whether the answer is the right one. What is also asked with an allocation refused hands its error on.
 fn is_right(rt: &impl Abort, alloc: Global, text: &str, asked: Asked<'_>) -> Result<bool> {
     match asked {
         Asked::Verdict(name, message) => {

@@ -63,8 +63,8 @@ fn prints_what_became_of_the_line(rt: HostRuntime) {
     }
 }
 
-/// So many kills, of the numbers from 1 on, each by itself, so many steps back, and what is printed behind a yank. The ring has 60 slots: the 61st kill takes the place of
-/// the first, and the 60th step comes back to where it began.
+/// How many numbers from 1 on are killed, each by itself; how many steps back follow a yank; and what is printed. The ring has
+/// 60 slots: the 61st kill takes the place of the first, and the 60th step comes back to where it began.
 const RING: &[(usize, usize, &str)] = &[
     (
         4,

@@ -261,7 +261,7 @@ pub(crate) fn marked(alloc: Global, line: &str, pos: usize) -> Result<String> {
     Ok(format!(in alloc; "{before}|{behind}")?)
 }
 
-/// How a run ended, in a word.
+/// How a turn or a run ended, in a word.
 pub(crate) fn ended(outcome: &Result<()>) -> &'static str {
     match outcome {
         Ok(()) => "submits",
@@ -403,8 +403,8 @@ impl Bench<'_, '_, '_> {
         "eof"
     }
 
-    /// Runs, or makes turns until one does not proceed, from the mark on. Each reads an item at least. How the last one ended, if it
-    /// needs no more.
+    /// Runs, or makes turns until one does not proceed, from the mark on. Each reads an item at least. Returns how the last one
+    /// ended, None where it needs more.
     fn turns(&mut self, rt: &impl Abort, way: Way) -> Option<&'static str> {
         if way == Way::Run {
             let (input, keys, kills) = (&mut self.input, &mut self.keys, &mut self.kills);
@@ -427,7 +427,7 @@ impl Bench<'_, '_, '_> {
         Some("proceeds")
     }
 
-    /// Makes a turn. How that ended, if it needs no more.
+    /// Makes a turn. Returns how that ended, None where it needs more.
     fn advances(&mut self) -> Option<&'static str> {
         let (input, keys, kills) = (&mut self.input, &mut self.keys, &mut self.kills);
         match advance(&mut self.state, input, keys, kills, &self.config) {

@@ -67,9 +67,10 @@ fn commands(rt: &impl Abort, alloc: Global, op: Op, movement: &Movement) -> Vec<
     commands
 }
 
-/// The line that an operation leaves, as a range of the text and what comes in its place, and the cursor. What a kill takes away is kept, unless its movement goes by characters. A copy
-/// takes what a kill takes away, but for the newline before the line at whose start the cursor is. By some movements the lines of
-/// the range are indented, and by the others the cursor's alone.
+/// The line that an operation leaves, as a range of the text and what comes in its place, and the cursor; an empty range
+/// leaves the text. What a kill takes away is kept, unless its movement goes by characters. A copy takes what a kill takes
+/// away, but for the newline before the line at whose start the cursor is. By some movements the lines of the range are
+/// indented, and by the others the cursor's alone.
 fn wanted(case: Case<'_>, op: Op, mode: Mode) -> ((usize, usize), &'static str, usize) {
     let Case {
         text,
