@@ -15,7 +15,12 @@ fn shown(rt: &impl Abort, alloc: Global, parsed: &mut Parsed) -> Vec<u8> {
     writeln!(out, "prompt {:?} columns {}", parsed.prompt, parsed.columns).expect(rt, "no fault");
     let helper = parsed.helper;
     writeln!(out, "hints {} brackets {}", helper.hints, helper.brackets).expect(rt, "no fault");
-    shows_history(rt, alloc, &mut out, parsed);
+    let mut lines = Vec::new(alloc);
+    for line in parsed.history.iter() {
+        lines.push(line.as_str()).expect(rt, "no fault");
+    }
+    writeln!(out, "history {lines:?}").expect(rt, "no fault");
+    drop(lines);
     out.write_all(b"items").expect(rt, "no fault");
     for _ in 0..parsed.items.len() {
         if !parsed.items.is_empty() {
@@ -23,15 +28,6 @@ fn shown(rt: &impl Abort, alloc: Global, parsed: &mut Parsed) -> Vec<u8> {
         }
     }
     out
-}
-
-/// Writes down the lines of the history.
-fn shows_history(rt: &impl Abort, alloc: Global, out: &mut Vec<u8>, parsed: &Parsed) {
-    let mut lines = Vec::new(alloc);
-    for line in parsed.history.iter() {
-        lines.push(line.as_str()).expect(rt, "no fault");
-    }
-    writeln!(out, "history {lines:?}").expect(rt, "no fault");
 }
 
 /// Writes down the next item: a typed character alone, a key, or a key and the pasted text behind it.
@@ -200,130 +196,142 @@ fn keeps_a_hundred_lines(rt: HostRuntime) {
     }
 }
 
-const BAD: &[(&[u8], usize)] = &[
-    (b"key Foo", 1),
-    (b"type a\nkey Left\nkey Foo\ntype b\n", 3),
-    (b"\n\nkey\n", 3),
-    (b"key ", 1),
-    (b"type", 1),
-    (b"type\ta", 1),
-    (b" type a", 1),
-    (b"Type a", 1),
-    (b"types a", 1),
-    (b"\r\n", 1),
-    (b" ", 1),
-    (b" \ntype a", 1),
-    (b"\n\n\ntype a\n\nfoo bar\n\nfoo", 6),
-    (b"# a", 1),
-    (b"\xef\xbb\xbftype a", 1),
-    (b"key Enter\r\n", 1),
-    (b"type \\t", 1),
-    (b"type a\\", 1),
-    (b"type \\\\\\", 1),
+const BAD: &[(&str, usize)] = &[
+    ("key Foo", 1),
+    ("type a\nkey Left\nkey Foo\ntype b\n", 3),
+    ("\n\nkey\n", 3),
+    ("key ", 1),
+    ("type", 1),
+    ("type\ta", 1),
+    (" type a", 1),
+    ("Type a", 1),
+    ("types a", 1),
+    ("\r\n", 1),
+    (" ", 1),
+    (" \ntype a", 1),
+    ("\n\n\ntype a\n\nfoo bar\n\nfoo", 6),
+    ("# a", 1),
+    ("\u{feff}type a", 1),
+    ("key Enter\r\n", 1),
+    ("type \\t", 1),
+    ("type a\\", 1),
+    ("type \\\\\\", 1),
+    ("mode", 1),
+    ("mode ", 1),
+    ("mode  ", 1),
+    ("mode  vi", 1),
+    ("mode vi ", 1),
+    ("mode  emacs", 1),
+    ("mode emacs ", 1),
+    ("mode VI", 1),
+    ("mode Vi", 1),
+    ("mode Emacs", 1),
+    ("mode EMACS", 1),
+    ("mode v", 1),
+    ("mode vim", 1),
+    ("mode vi emacs", 1),
+    ("mode emacs vi", 1),
+    ("mode v\\i", 1),
+    ("mode\tvi", 1),
+    ("mode vi\r\n", 1),
+    ("Mode vi", 1),
+    (" mode vi", 1),
+    ("modes vi", 1),
+    ("mode=vi", 1),
+    ("vi", 1),
+    ("emacs", 1),
+    ("mode vi\nmode emacs\nmode vi \n", 3),
+    ("mode vi\nmode\nmode emacs", 2),
+    ("type a\nmode vi", 2),
+    ("mode vi\n\ntype \nmode vi", 4),
+    ("mode emacs\nkey Enter\nmode emacs\nkey Foo", 3),
+    ("paste a\nmode vi", 2),
+    ("history", 1),
+    ("history\ta", 1),
+    ("history a\nhistory \\q", 2),
+    ("history a\\", 1),
+    ("history a\n history a", 2),
+    ("type a\nhistory a", 2),
+    ("history a\ntype \n\nhistory b", 4),
+    ("key Enter\nhistory a\nkey Foo", 2),
+    ("load", 1),
+    ("load\ta", 1),
+    ("load\r\n", 1),
+    ("Load a", 1),
+    ("loads a", 1),
+    (" load a", 1),
+    ("load x\\q", 1),
+    ("load #V3\\na\\r", 1),
+    ("load a\nload a\\", 2),
+    ("type a\nload a", 2),
+    ("load a\nkey Enter\nload b", 3),
+    ("hints ", 1),
+    ("hints x", 1),
+    ("Hints", 1),
+    ("hint", 1),
+    ("hints\r\n", 1),
+    ("brackets ", 1),
+    ("brackets ()", 1),
+    ("hints brackets", 1),
+    ("bracket", 1),
+    ("columns", 1),
+    ("columns ", 1),
+    ("columns 0", 1),
+    ("columns 000", 1),
+    ("columns 9", 1),
+    ("columns 1001", 1),
+    ("columns 65536", 1),
+    ("columns 65616", 1),
+    ("columns 4294967376", 1),
+    ("columns 18446744073709551696", 1),
+    ("columns ٣٠", 1),
+    ("type a\ncolumns 9", 2),
+    ("columns +80", 1),
+    ("columns -1", 1),
+    ("columns 8 0", 1),
+    ("columns 80 ", 1),
+    ("columns  80", 1),
+    ("columns 80\ncolumns 9", 2),
+    ("columns 80\r\n", 1),
+    ("columns ten", 1),
+    ("type a\ncolumns 80", 2),
+    ("prompt", 1),
+    ("prompt \\t", 1),
+    ("prompt a\\", 1),
+    ("paste a\nprompt $", 2),
+    ("paste \nhistory a", 2),
+    ("type a\nprompt \\t", 2),
+    ("paste", 1),
+    ("paste \\t", 1),
+    ("key a\npaste a\\\nkey Foo", 2),
+    ("hints\n\ntype a\nhints", 4),
+    ("key Enter\nbrackets\nkey Foo", 2),
+];
+
+/// The same of scripts that are no texts.
+const BAD_BYTES: &[(&[u8], usize)] = &[
     (b"type \xff", 1),
     (b"type a\n\xc3\n", 2),
     (b"key Foo\n\xff", 1),
     (b"\n\xff\nkey Foo", 2),
-    (b"mode", 1),
-    (b"mode ", 1),
-    (b"mode  ", 1),
-    (b"mode  vi", 1),
-    (b"mode vi ", 1),
-    (b"mode  emacs", 1),
-    (b"mode emacs ", 1),
-    (b"mode VI", 1),
-    (b"mode Vi", 1),
-    (b"mode Emacs", 1),
-    (b"mode EMACS", 1),
-    (b"mode v", 1),
-    (b"mode vim", 1),
-    (b"mode vi emacs", 1),
-    (b"mode emacs vi", 1),
-    (b"mode v\\i", 1),
-    (b"mode\tvi", 1),
-    (b"mode vi\r\n", 1),
-    (b"Mode vi", 1),
-    (b" mode vi", 1),
-    (b"modes vi", 1),
-    (b"mode=vi", 1),
-    (b"vi", 1),
-    (b"emacs", 1),
-    (b"mode vi\nmode emacs\nmode vi \n", 3),
-    (b"mode vi\nmode\nmode emacs", 2),
-    (b"type a\nmode vi", 2),
-    (b"mode vi\n\ntype \nmode vi", 4),
-    (b"mode emacs\nkey Enter\nmode emacs\nkey Foo", 3),
-    (b"paste a\nmode vi", 2),
-    (b"history", 1),
-    (b"history\ta", 1),
-    (b"history a\nhistory \\q", 2),
-    (b"history a\\", 1),
-    (b"history a\n history a", 2),
-    (b"type a\nhistory a", 2),
-    (b"history a\ntype \n\nhistory b", 4),
-    (b"key Enter\nhistory a\nkey Foo", 2),
-    (b"load", 1),
-    (b"load\ta", 1),
-    (b"load\r\n", 1),
-    (b"Load a", 1),
-    (b"loads a", 1),
-    (b" load a", 1),
-    (b"load x\\q", 1),
-    (b"load #V3\\na\\r", 1),
-    (b"load a\nload a\\", 2),
     (b"load \xff", 1),
-    (b"type a\nload a", 2),
-    (b"load a\nkey Enter\nload b", 3),
-    (b"hints ", 1),
-    (b"hints x", 1),
-    (b"Hints", 1),
-    (b"hint", 1),
-    (b"hints\r\n", 1),
-    (b"brackets ", 1),
-    (b"brackets ()", 1),
-    (b"hints brackets", 1),
-    (b"bracket", 1),
-    (b"columns", 1),
-    (b"columns ", 1),
-    (b"columns 0", 1),
-    (b"columns 000", 1),
-    (b"columns 9", 1),
-    (b"columns 1001", 1),
-    (b"columns 65536", 1),
-    (b"columns 65616", 1),
-    (b"columns 4294967376", 1),
-    (b"columns 18446744073709551696", 1),
-    (b"columns \xd9\xa3\xd9\xa0", 1),
-    (b"type a\ncolumns 9", 2),
-    (b"columns +80", 1),
-    (b"columns -1", 1),
-    (b"columns 8 0", 1),
-    (b"columns 80 ", 1),
-    (b"columns  80", 1),
-    (b"columns 80\ncolumns 9", 2),
-    (b"columns 80\r\n", 1),
-    (b"columns ten", 1),
-    (b"type a\ncolumns 80", 2),
-    (b"prompt", 1),
-    (b"prompt \\t", 1),
-    (b"prompt a\\", 1),
-    (b"paste a\nprompt $", 2),
-    (b"paste \nhistory a", 2),
-    (b"type a\nprompt \\t", 2),
-    (b"paste", 1),
-    (b"paste \\t", 1),
-    (b"key a\npaste a\\\nkey Foo", 2),
-    (b"hints\n\ntype a\nhints", 4),
-    (b"key Enter\nbrackets\nkey Foo", 2),
 ];
+
+/// A script is refused by the number of this line.
+fn is_refused(rt: &impl Abort, alloc: Global, script: &[u8], line: usize) {
+    let bad = match read_script(alloc, script) {
+        Err(ScriptError::BadLine(number)) => Some(number),
+        _ => None,
+    };
+    assert_eq!(rt; bad, Some(line), "{script:?}");
+}
 
 #[test]
 fn names_the_first_bad_line(rt: HostRuntime) {
     for (script, line) in BAD {
-        let bad = match read_script(rt.alloc(), *script) {
-            Err(ScriptError::BadLine(number)) => Some(number),
-            _ => None,
-        };
-        assert_eq!(rt; bad, Some(*line), "{script:?}");
+        is_refused(&rt, rt.alloc(), script.as_bytes(), *line);
+    }
+    for (script, line) in BAD_BYTES {
+        is_refused(&rt, rt.alloc(), script, *line);
     }
 }
