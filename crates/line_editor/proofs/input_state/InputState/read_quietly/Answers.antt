@@ -1,4 +1,5 @@
-use Rattle.std.proofs.Common.{[], ◌∷◌, refl, ◌∙◌}
+use Rattle.std.proofs.Common.{arith, rules, [], ◌∷◌, refl, ◌∙◌}
+use Rattle.std.proofs.lemmas.Grind.{common_steps}
 use Rattle.std.specs.String.{string_bytes}
 use Rattle.std.proofs.lemmas.Result.{err_from_is_err_and}
 use Rattle.line_buffer.specs.Search.{opposite}
@@ -89,3 +90,36 @@ returns-in_err-next_key-in-ReplaceChar-clause-within g c =
 pub returns-in_err-again-in-Again-clause-within : goal.returns-in_err-again-in-Again-clause-within
 returns-in_err-again-in-Again-clause-within g c =
     on_err c.from_residual-in_err-again-in-Again.result (rw c.in-Again.is (tail_stops _ (bound_of (λ v. (g.dyn-1.0.entry v).1) c.args.self.now.bindings.now) (g.W.EditorState.environment c.args.wrt.now) (g.W.EditorState.draft c.args.wrt.now) (in_mode c.args.mode (input_of c.args.self.now)) c.args.count _ c.args.rdr.now c.args.rdr.now _ refl))
+
+pub returns-in_ok-next_key-in-Search-clause-items : goal.returns-in_ok-next_key-in-Search-clause-items
+returns-in_ok-next_key-in-Search-clause-items g c =
+    record {
+      own = search rules;
+      counts = search rules;
+      fewer = grind (arith, common_steps);
+      not_interrupted = search rules;
+      io = search rules;
+      quiet = search rules;
+    }
+
+pub returns-in_ok-read_pasted_text-in-Paste-clause-items : goal.returns-in_ok-read_pasted_text-in-Paste-clause-items
+returns-in_ok-read_pasted_text-in-Paste-clause-items g c =
+    record {
+      own = search rules;
+      counts = search rules;
+      fewer = grind (arith, common_steps);
+      not_interrupted = search rules;
+      io = search rules;
+      quiet = search rules;
+    }
+
+pub returns-in_ok-next_key-in-ReplaceChar-clause-items : goal.returns-in_ok-next_key-in-ReplaceChar-clause-items
+returns-in_ok-next_key-in-ReplaceChar-clause-items g c =
+    record {
+      own = search rules;
+      counts = search rules;
+      fewer = grind (arith, common_steps);
+      not_interrupted = search rules;
+      io = search rules;
+      quiet = search rules;
+    }

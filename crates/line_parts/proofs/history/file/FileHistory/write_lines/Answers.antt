@@ -1,4 +1,5 @@
-use Rattle.std.proofs.Common.{arith}
+use Rattle.std.proofs.Common.{arith, rules}
+use Rattle.std.proofs.lemmas.Grind.{common_steps}
 use Rattle.line_parts.proofs.SaveLemmas.{written_more, written_out}
 use Rattle.line_parts.proofs.history.file.FileHistory.write_lines.Goals as goal
 use Rattle.line_parts.proofs.history.file.FileHistory.write_lines.Goals.{then-len-ge-BUFFERED+in_ok-write_out, else-len-ge-BUFFERED}
@@ -13,3 +14,11 @@ loop-index-preserved g c =
           (written_out c.args.escapes _ _ (g.T.Write.contents w.write_out.new.out) _ w.write_out.new.text.items _ _ _ more w.in_ok-write_out.ensures.text w.in_ok-write_out.ensures.empty)
       | else-len-ge-BUFFERED w ↦ rw (w.text-is, w.out-is) more
     ]
+
+pub returns : goal.returns
+returns g c =
+    record {
+      text = grind (arith, common_steps);
+      kind = search rules;
+      faults = search rules;
+    }

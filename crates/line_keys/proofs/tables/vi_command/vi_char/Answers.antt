@@ -1,0 +1,6 @@
+use Rattle.std.proofs.Common.{arith, rules}
+use Rattle.std.proofs.lemmas.Grind.{common_steps}
+use Rattle.line_keys.proofs.tables.vi_command.vi_char.Goals as goal
+
+pub returns : goal.returns
+returns g c = grind (arith, common_steps)
