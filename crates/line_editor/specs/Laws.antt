@@ -37,7 +37,7 @@ IsPrefixFree = (keymap : Keymap) (environment : Environment) (draft : Draft) (in
     → Phrase keymap environment draft input (items ++ more) read'
     → (more ≡ []) × (read ≡ read')
 
--- each key begins a phrase, and so do the keys of a count with the key that ends it: with some items behind it, or with none, it comes
+-- each key begins a phrase, and so do the keys of a count with the key that ends it: with some items behind them, or with none, they come
 -- to a command
 pub record EachKeyBegins : Type 0 where
   pub alone : (keymap : Keymap) (environment : Environment) (draft : Draft) (input : Input) (k : KeyEvent)

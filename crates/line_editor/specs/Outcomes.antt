@@ -171,7 +171,7 @@ module _ {X Y : Type 0} (e : editors.Ghosts X) (r : readers.Ghosts Y) where
     pub keeps : KeepsReading e r before.state before.keys before.reader after.state after.keys after.reader
     pub fails : FailsByReading e r for_all result before.state before.keys before.reader after.state after.reader
 
-  -- reading went wrong: a phrase begins with the items that were taken, and no item more was taken; the line, the saved line, the history
+  -- reading went wrong: the items that were taken are a beginning of a phrase, or all of it; the line, the saved line, the history
   -- index, what is remembered of keys and the kill ring stay; after an error of input or output the draft is the one from before, or the
   -- one that the phrase is read on from, but for its hint
   pub record FailsInReading (error : ReadlineError) (before after : Session X Y) : Type 0 where

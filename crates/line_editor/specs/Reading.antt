@@ -99,7 +99,7 @@ module _ {Y : Type 0} (r : readers.Ghosts Y) where
     pub continue : list_all (continues_count style) more ≡ true
     pub empty : r.rest reader' ≡ []
 
-  -- keys were read that go on with a count
+  -- keys were read that go on with a count, or none
   pub record GoesOnWithCount (style : EditMode) (reader reader' : Y) : Type 0 where
     pub more : List KeyEvent
     pub cut : r.rest reader ≡ map key more ++ r.rest reader'
@@ -110,13 +110,13 @@ module _ {Y : Type 0} (r : readers.Ghosts Y) where
   StopsInCount style first reader reader' =
       GoesOnWithCount style reader reader' ⊎ ((count : Count) × (last : KeyEvent) × EndsCount style first reader reader' count last)
 
-  -- reading a sequence that began with a key stopped: keys were read of which each shorter beginning leads on
+  -- reading a sequence that began with a key stopped: keys were read of which each shorter beginning leads on and has no command
   pub record StopsInSequence (reader reader' : Y) (sequences : Sequences) (first : KeyEvent) : Type 0 where
     pub more : List KeyEvent
     pub cut : r.rest reader ≡ map key more ++ r.rest reader'
     pub read_on : IsReadOn sequences first more
 
-  -- reading stopped: with the items that were taken, behind those in front, something begins, and no item more was taken
+  -- reading stopped: the items that were taken, behind those in front, are a beginning of something, or all of it
   pub record StopsWithin (Comes : List Item → Read → Type 0) (front : List Item) (reader reader' : Y) : Type 0 where
     pub items : List Item
     pub cut : r.rest reader ≡ items ++ r.rest reader'
@@ -200,7 +200,7 @@ module _ {X Y : Type 0} (e : editors.Ghosts X) (r : readers.Ghosts Y) where
     pub own : r.own_binding reader' ≡ r.own_binding reader
     pub counts : r.failures reader ≤ r.failures reader'
 
-  -- a step in reading a count: the count is shown, once, and a key is read
+  -- a step in reading a count: the count is shown, once, and a key is read; after an error none is taken
   pub record ReadsUnderCount (typed : TypedCount) (result : Result KeyEvent ReadlineError) (editor : X) (reader : Y) (editor' : X) (reader' : Y) : Type 0 where
     pub took : OnRead result (λ k. r.rest reader ≡ key k ∷ r.rest reader') (IsDry r reader reader')
     pub kept : OnErr result (r.rest reader' ≡ r.rest reader)
@@ -223,7 +223,7 @@ module _ {X Y : Type 0} (e : editors.Ghosts X) (r : readers.Ghosts Y) where
     pub drew : DrewCount e (first ∷ ends.more) editor editor'
 
   -- the rest of a count that began with a key was read, and the key that ends it; the line is drawn once for each key of the count,
-  -- and at last again with its hint
+  -- and at last again with its hint; after an error at most these keys were taken
   pub record ReadsCount (style : EditMode) (first : KeyEvent) (result : Result (Count × KeyEvent) ReadlineError) (editor : X) (reader : Y) (editor' : X) (reader' : Y) : Type 0 where
     pub read : OnRead result (λ ended. CountRead style first editor reader editor' reader' ended.0 ended.1) (CutInCount style first editor reader editor' reader')
     pub within : OnErr result (StopsInCount r style first reader reader')
@@ -240,7 +240,7 @@ module _ {X Y : Type 0} (e : editors.Ghosts X) (r : readers.Ghosts Y) where
 
   -- what a call leaves that reads items, behind those in front: what they come to, or the items ran out; at most one full redraw is
   -- made for each item. After an error of input or output the draft is the one from before, or the one to read on from, but for its
-  -- hint. After any error something begins with the items that were taken, and no item more was taken
+  -- hint. After any error the items that were taken, behind those in front, are a beginning of something, or all of it
   pub record ReadsPart {T : Type 0} (Comes : List Item → Read → Type 0) (front : List Item) (from : Draft) (begun : Command → Draft → Draft) (command : T → Command) (input : T → Input) (result : Result T ReadlineError) (editor : X) (keys : KeyState) (reader : Y) (editor' : X) (reader' : Y) : Type 0 where
     pub read : OnRead result (λ x. Gives Comes front begun (command x) (input x) editor reader editor' reader') (Ends Comes front from editor reader editor' reader')
     pub within : OnErr result (StopsWithin r Comes front reader reader')

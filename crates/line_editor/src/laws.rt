@@ -18,8 +18,8 @@ pub fn phrases_are_prefix_free()
     ensures { IsPrefixFree }
 {}
 
-/// Each key begins a phrase, in each mode and whatever is bound, and so do the keys of a count with the key that ends it. So
-/// no key leads to where no command can be reached.
+/// Each key begins a phrase, in each mode and whatever is bound, and so do the keys of a count with the key that ends it: with
+/// some items behind them, or with none, they come to a command.
 pub fn each_key_begins_a_phrase()
     ensures { EachKeyBegins }
 {}
@@ -35,8 +35,8 @@ pub fn a_run_executes_no_more_commands_than_keys()
     ensures { ExecutesNoMoreThanKeys }
 {}
 
-/// Turns that proceed read at least one key each. So a run that a fault ends has executed at most as many commands as it
-/// read keys, too.
+/// Turns that proceed read at least one key each. With what `run` says of the turn that failed, a run that a fault ends has
+/// executed at most as many commands as it read keys, too.
 pub fn turns_read_keys<
     'out,
     'prompt,

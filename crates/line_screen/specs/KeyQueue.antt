@@ -64,8 +64,8 @@ pub record Appends (result : Result (Unit {0}) ReadlineError) (items : List inpu
   pub refused : OnErr result (new ≡ old)
   pub memory : MemoryOnly result
 
--- what a call leaves that takes the next item, as one of its kind: after an error none is taken, and one of input or output is counted;
--- what stands in the queue stays
+-- what a call leaves that takes the next item, where it is of this kind; after an error none is taken; one of input or output is
+-- counted once, the end comes only where nothing is left, an interrupt never; what stands in the queue, and what it binds, stay
 pub record Takes {T : Type 0} (result : Result T ReadlineError) (as_item : T → input.Item) (old new : Queued) : Type 0 where
   pub took : IfOk result (λ t. old.rest ≡ as_item t ∷ new.rest)
   pub kept : OnErr result (new.rest ≡ old.rest)
