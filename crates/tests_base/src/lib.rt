@@ -11,8 +11,8 @@ mod settings;
 #[cfg(test)]
 mod values;
 
-/// It holds in this row of a table.
+/// It holds; where it does not, the test fails and tells this name and number.
 #[cfg(test)]
-fn holds(rt: &impl Abort, found: bool, name: &str, row: usize) {
-    assert!(rt; found, "{name} {row}");
+fn holds(rt: &impl Abort, found: bool, name: &str, number: usize) {
+    assert!(rt; found, "{name} {number}");
 }

@@ -3,6 +3,7 @@
 mod copies;
 
 use crate::holds;
+use crate::values::debug_text;
 use line_buffer::{GraphemeClusterMode, OutOfMemory};
 use line_config::{
     Behavior, BellStyle, Builder, ColorMode, CompletionType, Config, Configurer, EditMode,
@@ -204,11 +205,11 @@ const HOLDERS: &[(Made, Settings)] = &[
 fn are_read_back(rt: HostRuntime) {
     for (index, (how, wanted)) in HOLDERS.iter().enumerate() {
         let config = config_by(&rt, how);
-        holds(&rt, settings(&config) == *wanted, "settings", index);
-        holds(&rt, config == config_by(&rt, how), "again", index);
+        let again = config == config_by(&rt, how);
+        holds(&rt, again && settings(&config) == *wanted, "row", index);
     }
-    assert!(&rt; BellStyle::default() == BellStyle::Audible);
-    assert!(&rt; Behavior::default() == Behavior::Stdio);
+    let audible = BellStyle::default() == BellStyle::Audible;
+    assert!(&rt; audible && Behavior::default() == Behavior::Stdio);
 }
 
 /// What is set, the value of `NO_COLOR`, and what is shown.
@@ -232,16 +233,20 @@ fn colors_and_timeouts(rt: HostRuntime) {
     // the style sets the timeout
     let before = Config::builder(GraphemeClusterMode::Unicode)
         .keyseq_timeout(Some(7))
-        .edit_mode(EditMode::Vi);
+        .edit_mode(EditMode::Vi)
+        .build()
+        .keyseq_timeout();
     let behind = Config::builder(GraphemeClusterMode::Unicode)
         .edit_mode(EditMode::Vi)
-        .keyseq_timeout(Some(7));
+        .keyseq_timeout(Some(7))
+        .build()
+        .keyseq_timeout();
     let back = Config::builder(GraphemeClusterMode::Unicode)
         .edit_mode(EditMode::Vi)
-        .edit_mode(EditMode::Emacs);
-    assert!(&rt; before.build().keyseq_timeout() == Some(500));
-    assert!(&rt; behind.build().keyseq_timeout() == Some(7));
-    assert!(&rt; back.build().keyseq_timeout() == None);
+        .edit_mode(EditMode::Emacs)
+        .build()
+        .keyseq_timeout();
+    assert!(&rt; before == Some(500) && behind == Some(7) && back == None);
 }
 
 /// Where an error comes from.
@@ -311,21 +316,21 @@ const ERRORS: &[Error] = &[
 
 #[test]
 fn errors_by_their_cause(rt: HostRuntime) {
-    for (index, (cause, text, name, kind)) in ERRORS.iter().enumerate() {
-        let error = error_of(cause);
-        let shown = format!(in rt.alloc(); "{error}").expect(&rt, "no fault");
-        let named = format!(in rt.alloc(); "{error:?}").expect(&rt, "no fault");
-        let found = match error {
-            ReadlineError::Io(cause) => Some(cause.kind()),
-            _ => None,
+    for (index, row) in ERRORS.iter().enumerate() {
+        let (text, name, kind) = (row.1, row.2, row.3);
+        let error = error_of(&row.0);
+        let shown = error.to_string(rt.alloc()).expect(&rt, "no fault");
+        let is_told = shown.as_str() == text.unwrap_or(shown.as_str());
+        let named = debug_text(&rt, rt.alloc(), &error);
+        let is_named = named.as_str() == name.unwrap_or(named.as_str());
+        let is_kind = match error {
+            ReadlineError::Io(cause) => kind == Some(cause.kind()),
+            _ => kind.is_none(),
         };
-        let (shown, named) = (shown.as_str(), named.as_str());
-        let texts = shown == text.unwrap_or(shown) && named == name.unwrap_or(named);
-        holds(&rt, texts && found == *kind, named, index);
+        holds(&rt, is_told && is_named && is_kind, "row", index);
     }
-    let error = OutOfMemory;
-    let shown = format!(in rt.alloc(); "{error}").expect(&rt, "no fault");
-    holds(&rt, shown.as_str() == "out of memory", shown.as_str(), 0);
+    let shown = OutOfMemory.to_string(rt.alloc()).expect(&rt, "no fault");
+    assert!(&rt; shown.as_str() == "out of memory");
 }
 
 fn forms_are<P: Prompt>(prompt: &P, raw: &str, styled: &str) -> bool {
@@ -334,9 +339,10 @@ fn forms_are<P: Prompt>(prompt: &P, raw: &str, styled: &str) -> bool {
 
 #[test]
 fn the_raw_prompt_comes_first(rt: HostRuntime) {
+    let plain = forms_are(&"> ", "> ", "> ") && forms_are(&("> ", "styled"), "> ", "styled");
     let raw = String::from_str(rt.alloc(), "> ").expect(&rt, "no fault");
+    let owned = forms_are(&raw, "> ", "> ");
     let styled = String::from_str(rt.alloc(), "\x1b[1m> \x1b[0m").expect(&rt, "no fault");
-    assert!(rt; forms_are(&"> ", "> ", "> ") && forms_are(&raw, "> ", "> "));
-    assert!(rt; forms_are(&("> ", "styled"), "> ", "styled"));
-    assert!(rt; forms_are(&(raw, styled), "> ", "\x1b[1m> \x1b[0m"));
+    let both = forms_are(&(raw, styled), "> ", "\x1b[1m> \x1b[0m");
+    assert!(rt; plain && owned && both);
 }

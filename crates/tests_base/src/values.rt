@@ -10,13 +10,12 @@ use line_config::{
     ReadlineError,
 };
 use std::alloc::Global;
-use std::cmp::Ordering;
 use std::fmt::Debug;
 use std::io;
 use std::process::Abort;
 
 /// The text that `Debug` shows.
-fn debug_text<T: Debug + Drop>(rt: &impl Abort, alloc: Global, value: T) -> String {
+pub(super) fn debug_text<T: Debug + Drop>(rt: &impl Abort, alloc: Global, value: T) -> String {
     format!(in alloc; "{value:?}").expect(rt, "no fault")
 }
 
@@ -33,11 +32,12 @@ fn are_distinct<T: Copy + Drop + PartialEq + Debug>(
 ) {
     for (index, (one, name)) in values.iter().enumerate() {
         let shown = debug_text(rt, alloc, *one);
-        holds(rt, shown.as_str() == *name, name, index);
+        let mut apart = shown.as_str() == *name;
         for (place, (other, _)) in values.iter().enumerate() {
             let copy = *other;
-            holds(rt, compare(one, &copy, index == place), name, place);
+            apart = apart && compare(one, &copy, index == place);
         }
+        holds(rt, apart, name, index);
     }
 }
 
@@ -127,7 +127,7 @@ const POSITIONS: &[(Position, &str)] = &[
     ),
 ];
 
-/// No two of a list are equal: what the line buffer has.
+/// No two of a list are equal: what the line buffer has, and the settings.
 #[test]
 fn no_two_are_equal(rt: HostRuntime) {
     let alloc = rt.alloc();
@@ -140,12 +140,6 @@ fn no_two_are_equal(rt: HostRuntime) {
     are_distinct(&rt, alloc, SIDES);
     are_distinct(&rt, alloc, POSITIONS);
     are_distinct(&rt, alloc, &[(OutOfMemory, "OutOfMemory")]);
-}
-
-/// No two of a list are equal: the settings.
-#[test]
-fn no_two_settings_are_equal(rt: HostRuntime) {
-    let alloc = rt.alloc();
     are_distinct(&rt, alloc, BELLS);
     are_distinct(&rt, alloc, DUPLICATES);
     are_distinct(&rt, alloc, COMPLETIONS);
@@ -158,19 +152,19 @@ fn no_two_settings_are_equal(rt: HostRuntime) {
 #[test]
 fn positions_are_in_order(rt: HostRuntime) {
     for (index, (one, name)) in POSITIONS.iter().enumerate() {
+        let mut ordered = true;
         for (place, (other, _)) in POSITIONS.iter().enumerate() {
             let order = index.cmp(&place);
-            let less = order == Ordering::Less;
-            let ordered = one.cmp(other) == order && one.partial_cmp(other) == Some(order);
-            holds(&rt, ordered && (*one < *other) == less, name, place);
+            let same = one.cmp(other) == order && one.partial_cmp(other) == Some(order);
+            ordered = ordered && same && (*one < *other) == (index < place);
         }
+        holds(&rt, ordered, name, index);
     }
     // the defaults are looked at without a comparison of the type too
     let origin = Position::default();
-    assert!(&rt; origin.row == 0 && origin.col == 0);
-    assert!(&rt; origin == Position { row: 0, col: 0 });
-    assert!(&rt; matches!(BellStyle::default(), BellStyle::Audible));
-    assert!(&rt; matches!(Behavior::default(), Behavior::Stdio));
+    let is_first = origin.row == 0 && origin.col == 0 && origin == Position { row: 0, col: 0 };
+    let audible = matches!(BellStyle::default(), BellStyle::Audible);
+    assert!(&rt; is_first && audible && matches!(Behavior::default(), Behavior::Stdio));
 }
 
 /// Movements, and how each is shown.
@@ -228,11 +222,12 @@ const MOVEMENTS: &[(Movement, &str)] = &[
 fn no_two_movements_are_equal(rt: HostRuntime) {
     for (index, (one, name)) in MOVEMENTS.iter().enumerate() {
         let shown = debug_text(&rt, rt.alloc(), one);
-        holds(&rt, shown.as_str() == *name, name, index);
+        let mut apart = shown.as_str() == *name;
         for (place, (other, _)) in MOVEMENTS.iter().enumerate() {
             let copy = other.clone().expect(&rt, "no fault");
-            holds(&rt, compare(one, &copy, index == place), name, place);
+            apart = apart && compare(one, &copy, index == place);
         }
+        holds(&rt, apart, name, index);
     }
 }
 
@@ -310,12 +305,13 @@ const PIECES: &[(Shown, &str)] = &[
 /// What `Debug` shows. A builder is shown with its settings.
 #[test]
 fn debug_shows_each_piece(rt: HostRuntime) {
-    for (which, piece) in PIECES {
+    for (index, (which, piece)) in PIECES.iter().enumerate() {
         let text = text_of(&rt, rt.alloc(), which);
-        assert!(&rt; text.as_str().contains(*piece), "{piece} in {text}");
+        holds(&rt, text.as_str().contains(*piece), piece, index);
     }
-    let builder = text_of(&rt, rt.alloc(), &Shown::Builder);
     let config = text_of(&rt, rt.alloc(), &Shown::Config);
-    assert!(&rt; builder.as_str().contains(config.as_str()));
-    assert!(&rt; builder.as_str().starts_with("Builder") && config.as_str().starts_with("Config"));
+    let builder = text_of(&rt, rt.alloc(), &Shown::Builder);
+    let (config, builder) = (config.as_str(), builder.as_str());
+    let named = builder.starts_with("Builder") && config.starts_with("Config");
+    assert!(&rt; named && builder.contains(config));
 }

@@ -5,8 +5,6 @@ use line_config::ReadlineError;
 use line_parts::{CmdKind, Highlighter, MatchingBracketHighlighter};
 use std::alloc::Global;
 use std::process::Abort;
-use std::result;
-use std::test::Fail;
 
 /// Whether a new highlighter that is told of the line remembers a bracket or not, as it is to; a line that is handed over
 /// has none.
@@ -36,23 +34,22 @@ pub(super) fn shows(
     line: &str,
     wanted: &str,
 ) -> bool {
+    let mut right = true;
     for (kind, cursor) in [(CmdKind::MoveCursor, 0), (CmdKind::Other, line.len())] {
         let mut highlighter = match kind {
             CmdKind::MoveCursor => MatchingBracketHighlighter::new(),
             _ => MatchingBracketHighlighter::default(),
         };
         let stands = is_text(highlighter.highlight(alloc, line, cursor), line);
-        let stands = stands.expect(rt, "no fault");
+        right = right && stands.expect(rt, "no fault");
         let _ = highlighter.highlight_char(told.0, told.1, kind);
         if let Some((next, other)) = told.2 {
             let _ = highlighter.highlight_char(other, 0, next);
         }
         let shown = is_text(highlighter.highlight(alloc, line, cursor), wanted);
-        if !stands || !shown.expect(rt, "no fault") {
-            return false;
-        }
+        right = right && shown.expect(rt, "no fault");
     }
-    true
+    right
 }
 
 /// Texts with a bracket at fault.
@@ -252,16 +249,15 @@ pub(super) const CASES: &[Case<'_>] = &[
 /// Run with any one allocation refused, this passes: a line that is shown is the right one, and the bracket is
 /// remembered.
 #[test]
-fn of_a_refused_line(rt: HostRuntime) -> result::Result<(), Fail> {
+fn of_a_refused_line(rt: HostRuntime) {
     let mut highlighter = MatchingBracketHighlighter::new();
     assert!(rt; highlighter.highlight_char("日(é)", 3, CmdKind::MoveCursor));
     for _ in 0..3 {
         let shown = highlighter.highlight(rt.alloc(), "日(é)", 3);
-        match is_text(shown, "日(é\x1b[1;34m)\x1b[0m") {
-            Ok(right) => assert!(rt; right),
-            Err(ReadlineError::Memory) => {}
-            Err(_) => return Err(Fail::from("no other error")),
-        }
+        let right = match is_text(shown, "日(é\x1b[1;34m)\x1b[0m") {
+            Ok(right) => right,
+            Err(error) => matches!(error, ReadlineError::Memory),
+        };
+        assert!(rt; right);
     }
-    Ok(())
 }

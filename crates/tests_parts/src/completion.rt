@@ -69,13 +69,13 @@ pub(super) fn are_paired(
     common: &str,
 ) -> Result<bool> {
     let first = pair_of(alloc, display, replacement)?;
-    let copy = first.clone()?;
+    let is_copied = {
+        let copy = first.clone()?;
+        (copy.display(), copy.replacement()) == (display, replacement)
+    };
     let second = pair_of(alloc, "other", other)?;
     let pairs = vec![in alloc; first, second]?;
-    Ok(
-        (copy.display(), copy.replacement()) == (display, replacement)
-            && longest_common_prefix(pairs.as_slice()) == Some(common),
-    )
+    Ok(is_copied && longest_common_prefix(pairs.as_slice()) == Some(common))
 }
 
 pub(super) const CASES: &[Case<'_>] = &[

@@ -7,6 +7,7 @@ mod searches;
 mod streams;
 mod texts;
 
+use crate::holds;
 use Lines::*;
 use line_config::{ReadlineError, Result};
 use line_parts::{Escapes, FileHistory, History, SearchDirection};
@@ -100,31 +101,41 @@ fn fills<H: History>(rt: &impl Abort, alloc: Global, history: &mut H, lines: &st
     let mut owned = false;
     for line in lines.split_terminator('|') {
         let taken = added(alloc, history, line, owned).expect(rt, "no fault");
-        assert!(rt; taken, "{line:?}");
+        holds(rt, taken, line, 0);
         owned = !owned;
     }
 }
 
+/// Whether a history gives this line by an index, borrowed, in both directions; or none.
+fn has<H: History>(rt: &impl Abort, history: &H, index: usize, wanted: Option<&str>) -> bool {
+    let mut right = true;
+    for dir in [SearchDirection::Forward, SearchDirection::Reverse] {
+        let found = history.get(index, dir).expect(rt, "no fault");
+        let is_so = match &found {
+            Some(found) => {
+                let borrowed = matches!(found.entry, CowStr::Borrowed(_));
+                let is_line = borrowed && wanted == Some(found.entry.as_str());
+                is_line && found.idx == index && found.pos == 0
+            }
+            None => wanted.is_none(),
+        };
+        right = right && is_so;
+    }
+    right
+}
+
 /// What a history gives by index: each of these lines, and none from their number on.
 fn gives<H: History>(rt: &impl Abort, history: &H, lines: &str) {
-    for dir in [SearchDirection::Forward, SearchDirection::Reverse] {
-        let mut count: usize = 0;
-        for line in lines.split_terminator('|') {
-            let found = history.get(count, dir).expect(rt, "no fault");
-            let found = found.expect(rt, "a line at each index");
-            assert!(rt; matches!(found.entry, CowStr::Borrowed(_)));
-            assert_eq!(rt;
-                (found.entry.as_str(), found.idx, found.pos),
-                (line, count, 0)
-            );
-            count = count.saturating_add(1);
-        }
-        assert_eq!(rt; (history.len(), history.is_empty()), (count, count == 0));
-        for index in [count, count.saturating_add(1_000), usize::MAX] {
-            let found = history.get(index, dir).expect(rt, "no fault");
-            assert!(rt; found.is_none());
-        }
+    let mut count: usize = 0;
+    for line in lines.split_terminator('|') {
+        holds(rt, has(rt, history, count, Some(line)), line, count);
+        count = count.saturating_add(1);
     }
+    let counted = history.len() == count && history.is_empty() == (count == 0);
+    let next = has(rt, history, count, None);
+    let far = has(rt, history, count.saturating_add(1_000), None);
+    let last = has(rt, history, usize::MAX, None);
+    holds(rt, counted && next && far && last, "lines", count);
 }
 
 /// The answer, and None where the error is of this kind, and has this text if one is told. There is no other error: the
@@ -149,7 +160,7 @@ fn answer_of<T>(
             .is_answer(alloc, &failed)
             .expect(rt, "no fault")
     };
-    assert!(rt; known, "{kind:?} {failed:?}");
+    assert!(rt; known, "{kind:?}");
     None
 }
 
@@ -173,15 +184,14 @@ fn is_saved(
     history: &mut FileHistory,
     escapes: Escapes,
     append: bool,
-    text: &[u8],
+    text: &str,
 ) -> bool {
     let mut out = Vec::new(alloc);
     let outcome = save(history, escapes, &mut out, append);
     let answer = answer_of(rt, alloc, outcome, ErrorKind::OutOfMemory, "");
-    if answer.is_some() {
-        assert_eq!(rt; out.as_slice(), text);
-    }
-    answer.is_some()
+    let saved = answer.is_some();
+    holds(rt, !saved || out.as_slice() == text.as_bytes(), text, 0);
+    saved
 }
 
 /// What a history keeps: each of these lines, of which this text is appended. Returns whether the save found its memory.
@@ -191,7 +201,7 @@ fn keeps(
     history: &mut FileHistory,
     lines: &str,
     escapes: Escapes,
-    appended: &[u8],
+    appended: &str,
 ) -> bool {
     gives(rt, history, lines);
     is_saved(rt, alloc, history, escapes, true, appended)

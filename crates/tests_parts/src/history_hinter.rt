@@ -31,8 +31,9 @@ fn hints_from<S: History>(
     if index < history.len() {
         ctx.set_history_index(index);
     }
+    let none = ().hint(alloc, line, pos, &ctx)?.is_none();
     let hint = hinter.hint(alloc, line, pos, &ctx)?;
-    Ok(is_hint(&hint, wanted) && ().hint(alloc, line, pos, &ctx)?.is_none())
+    Ok(none && is_hint(&hint, wanted))
 }
 
 /// Whether the line has this hint by the lines between the strokes.

@@ -2,7 +2,7 @@
 
 use crate::history::built;
 use crate::ready::{Asked, are_right};
-use crate::{completion, parties};
+use crate::{completion, holds, parties};
 use line_parts::Quote;
 use std::alloc::Global;
 use std::process::Abort;
@@ -41,61 +41,55 @@ const YES: (Option<&str>, Verdict) = (Some("!"), (true, true, None));
 
 /// Each answer about a text is the right one.
 fn answers(rt: &impl Abort, alloc: Global, long: Long, text: &str, wanted: &str) {
-    match long {
-        Long::Verdict(name, message) => {
-            are_right(rt, alloc, &[(text, Asked::Verdict(name, message))]);
-        }
+    let asked = match long {
+        Long::Verdict(name, message) => Asked::Verdict(name, message),
         Long::Match(pos) => {
-            let remembered = (text, Asked::Remembered(pos, true));
-            are_right(rt, alloc, &[remembered, (text, Asked::Match(pos, wanted))]);
+            are_right(rt, alloc, &[(text, Asked::Remembered(pos, true))]);
+            Asked::Match(pos, wanted)
         }
         // the escapes can be left out again; without an escape character both texts stay
-        Long::Escaped(quote, same) => are_right(
-            rt,
-            alloc,
-            &[
+        Long::Escaped(quote, same) => {
+            let table = [
                 (text, Asked::Escaped(Some('\\'), quote, wanted)),
                 (wanted, Asked::Unescaped(Some('\\'), text, same)),
                 (text, Asked::Escaped(None, quote, text)),
                 (text, Asked::Unescaped(None, text, true)),
                 (wanted, Asked::Escaped(None, quote, wanted)),
                 (wanted, Asked::Unescaped(None, wanted, true)),
-            ],
-        ),
-        Long::Word(pos, start) => {
-            let asked = Asked::Word(pos, Some('\\'), start, wanted);
-            are_right(rt, alloc, &[(text, asked)]);
+            ];
+            return are_right(rt, alloc, &table);
         }
+        Long::Word(pos, start) => Asked::Word(pos, Some('\\'), start, wanted),
         Long::Alike => {
             let words = format!(in alloc; "{text}a|{text}b").expect(rt, "no fault");
-            are_right(rt, alloc, &[(words.as_str(), Asked::Alike(2, Some(text)))]);
+            return are_right(rt, alloc, &[(words.as_str(), Asked::Alike(2, Some(text)))]);
         }
         Long::Hint(pos) => {
             let line = text.get(..pos).expect(rt, "a line");
             let rest = text.get(pos..).expect(rt, "its rest");
-            let asked = Asked::Hint(text, 1, pos, Some(rest));
-            are_right(rt, alloc, &[(line, asked)]);
+            return are_right(rt, alloc, &[(line, Asked::Hint(text, 1, pos, Some(rest)))]);
         }
-        Long::Plain => are_right(rt, alloc, &[(text, Asked::Plain)]),
-        Long::Paired => {
-            are_right(rt, alloc, &[(text, Asked::Paired(wanted, wanted, wanted))]);
-        }
+        Long::Plain => Asked::Plain,
+        Long::Paired => Asked::Paired(wanted, wanted, wanted),
         Long::Put(pos, end) => {
             let put = (text, pos, wanted, (wanted, end, 1));
-            assert!(rt; completion::holds(rt, alloc, completion::Which::Plain, put));
+            let found = completion::holds(rt, alloc, completion::Which::Plain, put);
+            return holds(rt, found, "put", pos);
         }
         Long::Helped => {
             let hint = (YES, 0, parties::Answer::Hint(Some("!")), false);
-            assert!(rt; parties::helped(rt, alloc, &hint, text, GONE));
+            let hinted = parties::helped(rt, alloc, &hint, text, GONE);
             let verdict = (YES, 0, parties::Answer::Verdict("valid", ""), false);
-            assert!(rt; parties::helped(rt, alloc, &verdict, text, GONE));
+            let valid = parties::helped(rt, alloc, &verdict, text, GONE);
+            return holds(rt, hinted && valid, "helped", text.len());
         }
         Long::Path => {
             let offers = format!(in alloc; "{wanted} → {text}{wanted}").expect(rt, "no fault");
             let asked = Asked::Path(text.len(), text, wanted, 0, offers.as_str());
-            are_right(rt, alloc, &[(text, asked)]);
+            return are_right(rt, alloc, &[(text, asked)]);
         }
-    }
+    };
+    are_right(rt, alloc, &[(text, asked)]);
 }
 
 /// What is asked, the text, and the answer that is a text, as they are built of pieces.

@@ -2,6 +2,9 @@
 #![tactic(auto)]
 
 #[cfg(test)]
+use std::process::Abort;
+
+#[cfg(test)]
 mod brackets;
 #[cfg(test)]
 mod completion;
@@ -19,3 +22,9 @@ mod parties;
 mod ready;
 #[cfg(test)]
 mod values;
+
+/// It holds; where it does not, the test fails and tells this name and number.
+#[cfg(test)]
+fn holds(rt: &impl Abort, found: bool, name: &str, number: usize) {
+    assert!(rt; found, "{name} {number}");
+}

@@ -1,7 +1,7 @@
 //! The ready helpers: a case is a text, what is asked about it, and the right answer.
 
 use crate::completion::breaks;
-use crate::{brackets, completion, filename, history_hinter, parties};
+use crate::{brackets, completion, filename, history_hinter, holds, parties};
 use line_config::{ReadlineError, Result};
 use line_parts::{
     CmdKind, Hint, MatchingBracketValidator, Quote, ValidationContext, ValidationResult, Validator,
@@ -10,8 +10,6 @@ use line_parts::{
 use std::alloc::Global;
 use std::borrow::CowStr;
 use std::process::Abort;
-use std::result;
-use std::test::Fail;
 use tests_parties::fault::GONE;
 use tests_parties::shelf::{Failing, Shelf};
 
@@ -137,11 +135,10 @@ fn is_right(rt: &impl Abort, alloc: Global, text: &str, asked: Asked<'_>) -> Res
             history_hinter::hints(alloc, lines, index, (text, pos, wanted))
         }
         Asked::Plain => Ok(parties::stays(rt, alloc, text)),
-        Asked::Path(pos, path, names, start, offers) => {
-            filename::completes(alloc, true, (text, pos), (path, names), (start, offers))
-        }
-        Asked::Listed(pos, path, names, start, offers) => {
-            filename::completes(alloc, false, (text, pos), (path, names), (start, offers))
+        Asked::Path(pos, path, names, start, offers)
+        | Asked::Listed(pos, path, names, start, offers) => {
+            let sorted = matches!(asked, Asked::Path(..));
+            filename::completes(alloc, sorted, (text, pos), (path, names), (start, offers))
         }
     }
 }
@@ -150,19 +147,15 @@ fn is_right(rt: &impl Abort, alloc: Global, text: &str, asked: Asked<'_>) -> Res
 pub(super) fn are_right(rt: &impl Abort, alloc: Global, table: &[Case<'_>]) {
     for (row, (text, asked)) in table.iter().enumerate() {
         let right = is_right(rt, alloc, text, *asked).expect(rt, "no fault");
-        assert!(rt; right, "row {row}: {text:?}");
+        holds(rt, right, text, row);
     }
 }
 
 #[test]
-fn brackets_and_parties(rt: HostRuntime) {
+fn texts_and_parties(rt: HostRuntime) {
     are_right(&rt, rt.alloc(), brackets::AT_FAULT);
     are_right(&rt, rt.alloc(), brackets::CASES);
     are_right(&rt, rt.alloc(), parties::CASES);
-}
-
-#[test]
-fn words_and_hints(rt: HostRuntime) {
     are_right(&rt, rt.alloc(), completion::CASES);
     are_right(&rt, rt.alloc(), history_hinter::CASES);
 }
@@ -214,15 +207,14 @@ const REFUSED: &[Case<'_>] = &[
 
 /// Run with any one allocation refused, this passes: an answer that is given is the right one.
 #[test]
-fn a_refused_allocation_has_no_answer(rt: HostRuntime) -> result::Result<(), Fail> {
+fn a_refused_allocation_has_no_answer(rt: HostRuntime) {
     for table in [brackets::AT_FAULT, REFUSED] {
-        for (text, asked) in table {
-            match is_right(&rt, rt.alloc(), text, *asked) {
-                Ok(right) => assert!(rt; right, "{text:?}"),
-                Err(ReadlineError::Memory) => {}
-                Err(_) => return Err(Fail::from("no other error")),
-            }
+        for (row, (text, asked)) in table.iter().enumerate() {
+            let right = match is_right(&rt, rt.alloc(), text, *asked) {
+                Ok(right) => right,
+                Err(error) => matches!(error, ReadlineError::Memory),
+            };
+            holds(&rt, right, text, row);
         }
     }
-    Ok(())
 }

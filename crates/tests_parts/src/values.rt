@@ -1,22 +1,11 @@
 //! Types that are compared, copied and shown: no two values of a list are equal, and `Debug` names each.
 
+use crate::holds;
 use line_parts::{CmdKind, Escapes, Quote, SearchDirection, SearchResult};
 use std::alloc::Global;
 use std::borrow::CowStr;
 use std::fmt::Debug;
 use std::process::Abort;
-
-/// The first place, if there is one, whose value equals this one where it is not to, or does not where it is to, a copy
-/// included.
-fn misplaced<T: Copy + PartialEq>(values: &[T], index: usize, one: &T) -> Option<usize> {
-    for (place, other) in values.iter().enumerate() {
-        let copy = *other;
-        if (*one == copy) != (index == place) || (*one != copy) != (index != place) {
-            return Some(place);
-        }
-    }
-    None
-}
 
 /// Each value is shown by its name, and equals what stands at its own place alone, a copy included.
 fn are_told_apart<T: Copy + PartialEq + Debug>(
@@ -25,11 +14,16 @@ fn are_told_apart<T: Copy + PartialEq + Debug>(
     values: &[T],
     names: &[&str],
 ) {
-    assert_eq!(rt; values.len(), names.len());
+    assert!(rt; values.len() == names.len());
     for (index, (one, name)) in values.iter().zip(names).enumerate() {
         let shown = format!(in alloc; "{one:?}").expect(rt, "no fault");
-        assert_eq!(rt; shown.as_str(), *name);
-        assert_eq!(rt; misplaced(values, index, one), None, "{index}");
+        let mut apart = shown.as_str() == *name;
+        for (place, other) in values.iter().enumerate() {
+            let copy = *other;
+            let same = index == place;
+            apart = apart && (*one == copy) == same && (*one != copy) != same;
+        }
+        holds(rt, apart, name, index);
     }
 }
 
@@ -81,26 +75,21 @@ const RESULTS: &[Found] = &[
 fn no_two_results_are_equal(rt: HostRuntime) {
     let alloc = rt.alloc();
     for (index, one) in RESULTS.iter().enumerate() {
+        let mut apart = true;
         for (place, other) in RESULTS.iter().enumerate() {
             let same = index == place;
             let mine = result_of(&rt, alloc, one, false);
-            let copy = mine.clone().expect(&rt, "no fault");
-            let owned = result_of(&rt, alloc, one, true).clone();
-            let owned = owned.expect(&rt, "no fault");
             let theirs = result_of(&rt, alloc, other, false);
-            let found = (
-                mine == theirs,
-                mine != theirs,
-                owned == theirs,
-                copy == result_of(&rt, alloc, other, true),
-            );
-            assert_eq!(rt; found, (same, !same, same, same), "{index} {place}");
+            let compared = (mine == theirs) == same && (mine != theirs) != same;
+            let copy = mine.clone().expect(&rt, "no fault");
+            let copied = (copy == result_of(&rt, alloc, other, true)) == same;
+            let owned = result_of(&rt, alloc, one, true).clone();
+            let owned = (owned.expect(&rt, "no fault") == theirs) == same;
+            apart = apart && compared && copied && owned;
         }
+        holds(&rt, apart, one.0, index);
     }
     let found = result_of(&rt, alloc, &("ab", 7, 3), false);
     let shown = format!(in alloc; "{found:?}").expect(&rt, "no fault");
-    assert_eq!(rt;
-        shown.as_str(),
-        "SearchResult { entry: \"ab\", idx: 7, pos: 3 }"
-    );
+    assert!(rt; shown.as_str() == "SearchResult { entry: \"ab\", idx: 7, pos: 3 }");
 }

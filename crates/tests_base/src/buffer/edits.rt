@@ -7,6 +7,7 @@ use self::Edit::*;
 use self::Line::*;
 use self::Wanted::*;
 use super::{FAMILY, indents, large, line_at, text_of, undo};
+use crate::holds;
 use line_buffer::WordAction::*;
 use line_buffer::{Changeset, LineBuffer, Movement, OutOfMemory, RepeatCount, WordAction};
 use std::alloc::Global;
@@ -55,23 +56,24 @@ fn handed(
     requires { Tells changes.old.entries line.old.text }
     ensures { OnOk result (Tells changes.new.entries line.new.text) }
 {
-    match call {
+    let outcome = match call {
         Yank(n) => return line.yank(text, *n, changes),
         YankPop(size) => return line.yank_pop(*size, text, changes),
         InsertText(place) => {
             assert!(rt; line.as_str().is_char_boundary(*place) && line.pos() <= *place);
-            line.insert_str(*place, text, changes)?;
+            line.insert_str(*place, text, changes)
         }
         Update(pos) => {
             assert!(rt; text.is_char_boundary(*pos));
-            line.update(text, *pos, changes)?;
+            line.update(text, *pos, changes)
         }
         Replace(start, end) => {
             assert!(rt; start <= end && line.as_str().is_char_boundary(*start));
             assert!(rt; line.as_str().is_char_boundary(*end));
-            line.replace(*start..*end, text, changes)?;
+            line.replace(*start..*end, text, changes)
         }
-    }
+    };
+    outcome?;
     Ok(None)
 }
 
@@ -87,19 +89,19 @@ pub(super) fn edited(
     ensures { OnOk result (Tells changes.new.entries line.new.text) }
 {
     let answer = match step {
-        Insert(c, n) => line.insert(*c, *n, changes)?,
-        Delete(n) => line.delete(*n, changes)?.is_some(),
-        Discard(n) => line.discard(*n, changes)?,
-        TransposeChars => line.transpose_chars(changes)?,
-        TransposeWords(n) => line.transpose_words(*n, changes)?,
-        EditWord(action) => line.edit_word(*action, changes)?,
-        Indent(mvt, amount) => line.indent(mvt, *amount, false, changes)?,
-        Dedent(mvt, amount) => line.indent(mvt, *amount, true, changes)?,
-        End => changes.end()?,
-        Undo(n) => changes.undo(line, *n)?,
+        Insert(c, n) => line.insert(*c, *n, changes),
+        Delete(n) => Ok(line.delete(*n, changes)?.is_some()),
+        Discard(n) => line.discard(*n, changes),
+        TransposeChars => line.transpose_chars(changes),
+        TransposeWords(n) => line.transpose_words(*n, changes),
+        EditWord(action) => line.edit_word(*action, changes),
+        Indent(mvt, amount) => line.indent(mvt, *amount, false, changes),
+        Dedent(mvt, amount) => line.indent(mvt, *amount, true, changes),
+        End => return Ok(Some(changes.end()?)),
+        Undo(n) => changes.undo(line, *n),
         _ => return composed(rt, alloc, line, changes, step),
     };
-    Ok(Some(answer))
+    Ok(Some(answer?))
 }
 
 /// Makes a call that answers nothing or is handed a text, or several calls.
@@ -113,7 +115,7 @@ fn composed(
     requires { Tells changes.old.entries line.old.text }
     ensures { OnOk result (Tells changes.new.entries line.new.text) }
 {
-    match step {
+    let place = match step {
         Text(call, text) => return handed(rt, line, changes, call, text),
         Much(call) => {
             let text = text_of(rt, alloc, "日 ", 1_000);
@@ -121,21 +123,22 @@ fn composed(
         }
         Written(c, n, place) => {
             let _ = line.insert(*c, *n, changes)?;
-            assert!(rt; line.as_str().is_char_boundary(*place));
-            line.set_pos(*place);
+            *place
         }
-        Go(place) => {
-            assert!(rt; line.as_str().is_char_boundary(*place));
-            line.set_pos(*place);
+        Go(place) => *place,
+        Begin => {
+            changes.begin()?;
+            return Ok(None);
         }
-        Begin => changes.begin()?,
         Group => {
             changes.begin()?;
             let _ = line.insert('a', 1, changes)?;
             return Ok(Some(changes.end()?));
         }
-        _ => {}
-    }
+        _ => return Ok(None),
+    };
+    assert!(rt; line.as_str().is_char_boundary(place));
+    line.set_pos(place);
     Ok(None)
 }
 
@@ -197,30 +200,34 @@ fn is_left(
     wanted: &Wanted,
 ) {
     let (text, place, entries) = (line.as_str(), line.pos(), changes.len());
-    match *wanted {
-        Any => {}
+    let found = match *wanted {
+        Any => true,
         Is(last, left, cursor, count) => {
-            assert_eq!(rt; (answer, text, place, entries), (last, left, cursor, count));
+            text == left && (answer, place, entries) == (last, cursor, count)
         }
         Long(last, len, cursor, count) => {
-            assert_eq!(rt;
-                (answer, text.len(), place, entries),
-                (last, len, cursor, count)
-            );
+            (answer, text.len(), place, entries) == (last, len, cursor, count)
         }
-        Back(last, left) => assert_eq!(rt; (answer, text), (Some(last), left)),
+        Back(last, left) => text == left && answer == Some(last),
+    };
+    holds(rt, found, text, place);
+}
+
+/// Each row of a table leaves what it wants, one after another.
+fn are_left(rt: &impl Abort, alloc: Global, table: &[Row]) {
+    let mut line = LineBuffer::new(alloc);
+    let mut changes = Changeset::new(alloc);
+    for row in table {
+        leaves(rt, alloc, &mut line, &mut changes, row);
     }
 }
 
 #[test]
 fn leave_a_line_and_its_changes(rt: HostRuntime) {
-    let mut line = LineBuffer::new(rt.alloc());
-    let mut changes = Changeset::new(rt.alloc());
-    for table in [ROWS, undo::ROWS, indents::ROWS, large::ROWS] {
-        for row in table {
-            leaves(&rt, rt.alloc(), &mut line, &mut changes, row);
-        }
-    }
+    are_left(&rt, rt.alloc(), ROWS);
+    are_left(&rt, rt.alloc(), undo::ROWS);
+    are_left(&rt, rt.alloc(), indents::ROWS);
+    are_left(&rt, rt.alloc(), large::ROWS);
 }
 
 const WORDS: &str = "foo bar baz";

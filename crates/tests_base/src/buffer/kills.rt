@@ -172,9 +172,8 @@ fn by_movements(rt: HostRuntime) {
             (_, Some((place, text, _))) => (*place, Some(*text)),
         };
         let killed = kills(&rt, rt.alloc(), mvt, gone, (text, *pos, after), left);
-        holds(&rt, killed, "kill", index);
         let cut = cuts(&rt, rt.alloc(), mvt, (text, *pos, after), left);
-        holds(&rt, cut, "cut", index);
+        holds(&rt, killed && cut, text, index);
     }
 }
 

@@ -321,18 +321,20 @@ const ASKED: &[Asked] = &[
 
 #[test]
 fn of_the_line(rt: HostRuntime) {
-    for (text, pos, next, prev, at_end, white) in ASKED {
-        let line = line_at(&rt, rt.alloc(), text, *pos);
-        let found = line.next_pos(1) == *next
-            && line.prev_pos(1) == *prev
-            && line.is_cursor_at_end() == *at_end
-            && line.is_end_of_input() == *white
+    for row in ASKED {
+        let (text, pos, next, prev, at_end, white) = *row;
+        let line = line_at(&rt, rt.alloc(), text, pos);
+        let found = line.next_pos(1) == next
+            && line.prev_pos(1) == prev
+            && line.is_cursor_at_end() == at_end
+            && line.is_end_of_input() == white
             && line.is_empty() == text.is_empty()
             && line.len() == text.len();
-        holds(&rt, found, text, *pos);
+        holds(&rt, found, text, pos);
     }
     // a large text
     let text = text_of(&rt, rt.alloc(), "日", 5_000);
     let line = line_at(&rt, rt.alloc(), text.as_str(), 3);
-    assert!(&rt; line.as_str() == text.as_str() && line.pos() == 3);
+    let found = line.pos() == 3 && line.as_str() == text.as_str();
+    holds(&rt, found, "large", line.pos());
 }

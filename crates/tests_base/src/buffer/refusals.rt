@@ -1,5 +1,6 @@
 //! What each call leaves where a growth is refused. Run with any one allocation refused, each test passes: it looks at
 //! what is left, or the call was not reached.
+ghost use Rattle.line_buffer.specs.Undo.{Tells};
 
 use super::edits::Call::*;
 use super::edits::Edit::{self, *};
@@ -12,42 +13,54 @@ use line_buffer::WordAction::Uppercase;
 use line_buffer::{Changeset, KillRing, LineBuffer, OutOfMemory};
 use std::alloc::Global;
 use std::process::Abort;
-use std::test::Fail;
 
 /// The cursor stands behind its first two characters.
 const TEXT: &str = "aé b日";
 
 /// The list is empty with no open group, and the cursor stands on a boundary.
-fn settled(rt: &impl Abort, line: &LineBuffer, changes: &mut Changeset) -> Result<(), Fail> {
-    assert!(rt; changes.is_empty() && !changes.end()?);
-    assert!(rt; line.as_str().is_char_boundary(line.pos()));
-    Ok(())
+fn is_settled(line: &LineBuffer, changes: &mut Changeset) -> bool {
+    let empty = changes.is_empty() && matches!(changes.end(), Ok(false));
+    empty && line.as_str().is_char_boundary(line.pos())
+}
+
+/// Makes the calls, one after another, up to the first that fails. The last answer.
+fn all_edited(
+    rt: &impl Abort,
+    alloc: Global,
+    line: &mut LineBuffer,
+    changes: &mut Changeset,
+    steps: &[Edit],
+) -> Result<Option<bool>, OutOfMemory>
+    requires { Tells changes.old.entries line.old.text }
+{
+    let mut last = None;
+    for step in steps {
+        last = edited(rt, alloc, line, changes, step)?;
+    }
+    Ok(last)
 }
 
 /// Calls; the last answer, and the text that they leave with ample memory. Where there is none of these, there is never
 /// memory enough, and the line stays as it was.
 type Case = (&'static [Edit], Option<(Option<bool>, &'static str)>);
 
-fn edits(rt: &impl Abort, alloc: Global, case: &Case) -> Result<(), Fail> {
+fn edits(rt: &impl Abort, alloc: Global, case: &Case) {
     let (steps, wanted) = case;
     assert!(rt; TEXT.is_char_boundary(3));
     let Ok(mut line) = LineBuffer::init(alloc, TEXT, 3) else {
-        return Ok(());
+        return;
     };
     let mut changes = Changeset::new(alloc);
-    let mut last = None;
-    for step in *steps {
-        match edited(rt, alloc, &mut line, &mut changes, step) {
-            Ok(answer) => last = answer,
-            Err(OutOfMemory) => {
-                let found = (line.as_str(), line.pos());
-                assert!(rt; wanted.is_some() || found == (TEXT, 3));
-                return settled(rt, &line, &mut changes);
-            }
+    let outcome = all_edited(rt, alloc, &mut line, &mut changes, steps);
+    let place = line.pos();
+    let found = match outcome {
+        Ok(last) => *wanted == Some((last, line.as_str())),
+        Err(OutOfMemory) => {
+            let stays = place == 3 && line.as_str() == TEXT;
+            (stays || wanted.is_some()) && is_settled(&line, &mut changes)
         }
-    }
-    assert_eq!(rt; Some((last, line.as_str())), *wanted);
-    Ok(())
+    };
+    holds(rt, found, line.as_str(), place);
 }
 
 const INDENT: Edit = Indent(WholeBuffer, 4);
@@ -92,39 +105,37 @@ const EDITS: &[Case] = &[
 ];
 
 #[test]
-fn of_edits(rt: HostRuntime) -> Result<(), Fail> {
+fn of_edits(rt: HostRuntime) {
     for case in EDITS {
-        edits(&rt, rt.alloc(), case)?;
+        edits(&rt, rt.alloc(), case);
     }
-    Ok(())
 }
 
 /// A call, the text that it gives with ample memory, and whether it changes the line.
 type TakingCase = (Taking, &'static str, bool);
 
 /// Where a call that changes nothing is refused, the line is as it was before.
-fn takes(rt: &impl Abort, alloc: Global, case: &TakingCase) -> Result<(), Fail> {
-    let (step, wanted, changing) = case;
+fn takes(rt: &impl Abort, alloc: Global, case: &TakingCase) {
+    let (step, wanted, changing) = (&case.0, case.1, case.2);
     assert!(rt; TEXT.is_char_boundary(3));
     let Ok(mut line) = LineBuffer::init(alloc, TEXT, 3) else {
-        return Ok(());
+        return;
     };
     let mut changes = Changeset::new(alloc);
     if line.insert('日', 1, &mut changes).is_err() {
-        return Ok(());
+        return;
     }
-    let outcome = taken(alloc, &mut line, &mut changes, step);
-    match &outcome {
-        Ok(text) => assert!(rt; is_text(text, wanted)),
-        Err(OutOfMemory) if *changing => settled(rt, &line, &mut changes)?,
-        Err(OutOfMemory) => stays(rt, &line, &changes),
-    }
-    Ok(())
-}
-
-/// The line is as it was before the call.
-fn stays(rt: &impl Abort, line: &LineBuffer, changes: &Changeset) {
-    assert_eq!(rt; (line.as_str(), changes.len()), ("aé日 b日", 1));
+    let found = match taken(alloc, &mut line, &mut changes, step) {
+        Ok(text) => is_text(&text, wanted),
+        Err(OutOfMemory) => {
+            if changing {
+                is_settled(&line, &mut changes)
+            } else {
+                changes.len() == 1 && line.as_str() == "aé日 b日"
+            }
+        }
+    };
+    holds(rt, found, wanted, line.pos());
 }
 
 const TAKINGS: &[TakingCase] = &[
@@ -135,36 +146,37 @@ const TAKINGS: &[TakingCase] = &[
 ];
 
 #[test]
-fn of_texts(rt: HostRuntime) -> Result<(), Fail> {
+fn of_texts(rt: HostRuntime) {
     for case in TAKINGS {
-        takes(&rt, rt.alloc(), case)?;
+        takes(&rt, rt.alloc(), case);
     }
-    Ok(())
 }
 
 /// Three kills into a ring of two texts.
 const KILLS: &[[&str; 3]] = &[["a", "bc", "def"], ["a", "bcdefghijklmnopqrstuvwxyz", "b"]];
+
+/// The length of the text that a yank-pop takes away, and zero where it gives nothing.
+fn popped(ring: &mut KillRing) -> usize {
+    match ring.yank_pop() {
+        Some((size, _)) => size,
+        None => 0,
+    }
+}
 
 /// A ring that refused a kill holds no more texts than its size: every other yank-pop gives the same.
 #[test]
 fn of_kills(rt: HostRuntime) {
     for (index, texts) in KILLS.iter().enumerate() {
         let mut ring = KillRing::new(rt.alloc(), 2);
+        let mut found = true;
         for text in texts {
-            let outcome = ring.kill(text, Append);
+            let killed = ring.kill(text, Append).is_ok();
             ring.reset();
-            if outcome.is_ok() {
-                holds(&rt, ring.yank() == Some(*text), text, index);
-            }
+            found = found && (!killed || ring.yank() == Some(*text));
         }
         let _ = ring.yank();
-        let mut sizes = [0; 4];
-        for size in &mut sizes {
-            if let Some((yanked, _)) = ring.yank_pop() {
-                *size = yanked;
-            }
-        }
-        let same = sizes[0] == sizes[2] && sizes[1] == sizes[3];
-        holds(&rt, same, "sizes", index);
+        let sizes = (popped(&mut ring), popped(&mut ring));
+        let same = sizes.0 == popped(&mut ring) && sizes.1 == popped(&mut ring);
+        holds(&rt, found && same, "ring", index);
     }
 }

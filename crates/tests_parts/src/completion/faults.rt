@@ -87,11 +87,11 @@ fn offers_nothing<C: Completer>(
     }
     let history = broken_history(alloc);
     let outcome = completer.complete(alloc, line, pos, &Context::new(&history));
-    let found = match &outcome {
-        Ok((start, candidates)) => (*start, candidates.len()),
-        Err(_) => (0, 0),
+    let nothing = match &outcome {
+        Ok((start, candidates)) => *start == 0 && candidates.is_empty(),
+        Err(_) => true,
     };
-    found == (0, 0) && is_outcome(rt, alloc, &outcome, fault)
+    nothing && is_outcome(rt, alloc, &outcome, fault)
 }
 
 /// A line and its cursor, a text that is elected to stand at its start, and the line, its cursor and how many changes
@@ -183,7 +183,8 @@ fn of_a_completer_in_a_box(rt: HostRuntime) {
             (Which::Stubborn(None, fault), unput),
             (Which::Stubborn(fault, fault), unput),
         ] {
-            assert!(rt; holds(&rt, rt.alloc(), which, put), "{fault:?} {put:?}");
+            let found = holds(&rt, rt.alloc(), which, put);
+            crate::holds(&rt, found, put.3.0, put.3.1);
         }
     }
 }

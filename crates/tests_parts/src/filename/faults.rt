@@ -1,6 +1,7 @@
 //! A lister that fails in one call or for one folder: the error is handed on, and no other call is made.
 
 use super::{Boxed, Broken, ByTrait, NAMES, Sorted, Unsorted, folder_of, found, is_offered};
+use crate::holds;
 use std::alloc::Global;
 use std::io::ErrorKind;
 use std::process::Abort;
@@ -23,18 +24,17 @@ fn asks(rt: &impl Abort, alloc: Global, case: &Case, broken: Broken, fault: Faul
     if !line.is_char_boundary(pos) {
         return false;
     }
+    let mut right = true;
     for way in [Sorted, Unsorted, ByTrait, Boxed] {
         let lister = folder_of(alloc, (path, names), broken, fault).expect(rt, "no fault");
         let outcome = found(alloc, way, lister, line, pos);
-        let holds = match broken {
+        let answer = match broken {
             Broken::Call(1) | Broken::At(_) => fault.is_answer(alloc, &outcome),
-            _ => is_offered(alloc, &outcome.expect(rt, "no fault"), (start, offers)),
+            _ => Ok(is_offered(&outcome.expect(rt, "no fault"), (start, offers))),
         };
-        if !holds.expect(rt, "no fault") {
-            return false;
-        }
+        right = right && answer.expect(rt, "no fault");
     }
-    true
+    right
 }
 
 const CASES: &[Case] = &[
@@ -64,7 +64,7 @@ const LOST: Fault = Fault {
 
 #[test]
 fn of_a_lister(rt: HostRuntime) {
-    for case in CASES {
+    for (row, case) in CASES.iter().enumerate() {
         for fault in [USUAL, GONE, CUT, LOST] {
             for broken in [
                 Broken::Call(1),
@@ -72,10 +72,8 @@ fn of_a_lister(rt: HostRuntime) {
                 Broken::At(case.2),
                 Broken::ButAt(case.2),
             ] {
-                assert!(rt;
-                    asks(&rt, rt.alloc(), case, broken, fault),
-                    "{case:?} {broken:?} {fault:?}"
-                );
+                let found = asks(&rt, rt.alloc(), case, broken, fault);
+                holds(&rt, found, fault.text, row);
             }
         }
     }

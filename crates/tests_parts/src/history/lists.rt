@@ -3,6 +3,7 @@
 use super::Lines::Numbered;
 use super::texts::{HEADERS, READ, SAVED};
 use super::{Lines, added, answer_of, fills, gives, is_saved, lines_of};
+use crate::holds;
 use Escapes::{V2, V3};
 use Step::*;
 use line_buffer::GraphemeClusterMode;
@@ -28,12 +29,14 @@ pub(super) enum Step {
     IgnoreSpace(bool),
     Clear,
     /// What a save writes.
-    Save(&'static [u8]),
-    Append(&'static [u8]),
-    SaveV3(&'static [u8]),
-    AppendV3(&'static [u8]),
-    /// What a load of a text answers, None where a line is not UTF-8.
-    Load(&'static [u8], Option<bool>),
+    Save(&'static str),
+    Append(&'static str),
+    SaveV3(&'static str),
+    AppendV3(&'static str),
+    /// What a load of a text answers.
+    Load(&'static str, bool),
+    /// A load of a text in which a line is not UTF-8 fails.
+    LoadBytes(&'static [u8]),
     /// These lines are there, by index, and the case goes on.
     Has(Lines),
     /// These lines are left, with a bar between two of them.
@@ -54,7 +57,7 @@ fn stepped<H: History>(rt: &impl Abort, alloc: Global, history: &mut H, step: &S
         _ => panic!(rt; "a call of any history"),
     };
     let answer = added(alloc, history, line, owned).expect(rt, "no fault");
-    assert_eq!(rt; answer, *taken, "{line:?}");
+    holds(rt, answer == *taken, line, 0);
 }
 
 /// A call of a history that can be saved.
@@ -65,9 +68,14 @@ fn file_stepped(rt: &impl Abort, alloc: Global, history: &mut FileHistory, step:
         SaveV3(text) => (V3, false, text),
         AppendV3(text) => (V3, true, text),
         Load(text, wanted) => {
+            let answer = history.load_from(text.as_bytes()).expect(rt, "no fault");
+            holds(rt, answer == *wanted, text, 0);
+            return;
+        }
+        LoadBytes(text) => {
             let outcome = history.load_from(*text);
             let answer = answer_of(rt, alloc, outcome, ErrorKind::InvalidData, "");
-            assert_eq!(rt; answer, *wanted, "{text:?}");
+            assert!(rt; answer.is_none(), "{text:?}");
             return;
         }
         _ => return stepped(rt, alloc, history, step),
@@ -85,37 +93,31 @@ fn config_of(rt: &impl Abort, max_len: usize, ignore_dups: bool, ignore_space: b
     config
 }
 
-/// Whether these lines come from the front.
-fn come(mut entries: Iter<'_, String>, lines: &str) -> bool {
-    for line in lines.split_terminator('|') {
-        if !matches!(entries.next(), Some(entry) if entry.as_str() == line) {
-            return false;
-        }
+/// Whether these lines come from the front of the one, and from the back of the other.
+fn come(mut entries: Iter<'_, String>, mut behind: Iter<'_, String>, lines: &str) -> bool {
+    let mut right = true;
+    for (first, last) in lines
+        .split_terminator('|')
+        .zip(lines.rsplit_terminator('|'))
+    {
+        let comes = matches!(entries.next(), Some(entry) if entry.as_str() == first);
+        let comes_back = matches!(behind.next_back(), Some(entry) if entry.as_str() == last);
+        right = right && comes && comes_back;
     }
-    entries.next().is_none()
-}
-
-/// Whether they come from the back.
-fn come_back(mut entries: Iter<'_, String>, lines: &str) -> bool {
-    for line in lines.rsplit_terminator('|') {
-        if !matches!(entries.next_back(), Some(entry) if entry.as_str() == line) {
-            return false;
-        }
-    }
-    entries.next_back().is_none()
+    right && entries.next().is_none() && behind.next_back().is_none()
 }
 
 /// Whether they come from both ends at once.
 fn come_from_both(mut entries: Iter<'_, String>, lines: &str) -> bool {
     let mut wanted = lines.split_terminator('|');
     while let Some(line) = wanted.next() {
-        if !matches!(entries.next(), Some(entry) if entry.as_str() == line) {
+        let first = matches!(entries.next(), Some(entry) if entry.as_str() == line);
+        let last = match wanted.next_back() {
+            Some(line) => matches!(entries.next_back(), Some(entry) if entry.as_str() == line),
+            None => true,
+        };
+        if !first || !last {
             return false;
-        }
-        if let Some(line) = wanted.next_back() {
-            if !matches!(entries.next_back(), Some(entry) if entry.as_str() == line) {
-                return false;
-            }
         }
     }
     entries.next().is_none()
@@ -123,23 +125,26 @@ fn come_from_both(mut entries: Iter<'_, String>, lines: &str) -> bool {
 
 fn mem_gives(rt: &impl Abort, history: &MemHistory, lines: &str) {
     gives(rt, history, lines);
-    assert!(rt; come(history.into_iter(), lines));
-    assert!(rt; come_back(history.into_iter(), lines));
-    assert!(rt; come_from_both(history.into_iter(), lines));
+    let each = come(history.into_iter(), history.into_iter(), lines);
+    holds(
+        rt,
+        each && come_from_both(history.into_iter(), lines),
+        lines,
+        0,
+    );
     for (index, line) in history.into_iter().enumerate() {
         assert!(rt; index < history.len());
-        assert_eq!(rt; history.entry(index), line.as_str());
+        holds(rt, history.entry(index) == line.as_str(), lines, index);
     }
 }
 
 fn file_gives(rt: &impl Abort, history: &FileHistory, lines: &str) {
     gives(rt, history, lines);
-    assert!(rt; come(history.iter(), lines));
-    assert!(rt; come_back(history.into_iter(), lines));
-    assert!(rt; come_from_both(history.iter(), lines));
+    let each = come(history.iter(), history.into_iter(), lines);
+    holds(rt, each && come_from_both(history.iter(), lines), lines, 0);
     for (index, line) in history.iter().enumerate() {
         assert!(rt; index < history.len());
-        assert_eq!(rt; history.entry(index), line.as_str());
+        holds(rt, history.entry(index) == line.as_str(), lines, index);
     }
 }
 

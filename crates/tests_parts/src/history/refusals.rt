@@ -3,6 +3,7 @@
 
 use super::streams::{BROKEN, Stream};
 use super::{added, answer_of, gives, is_saved, keeps};
+use crate::holds;
 use ErrorKind::OutOfMemory;
 use Escapes::{V2, V3};
 use line_config::ReadlineError;
@@ -11,25 +12,17 @@ use std::alloc::Global;
 use std::borrow::CowStr;
 use std::io::ErrorKind;
 use std::process::Abort;
-use std::result;
-use std::test::Fail;
 
 /// Lines that are all taken, and for which a list grows more than once.
 const LINES: &str = "a|b\n\\\rb|0123456789\n0123456789\n0123456789\n0123456789|c|d|e";
 
 /// A refused line leaves the list as it was: it does not drop the oldest of a full history, which keeps one line.
-fn adds<H: History>(
-    rt: &impl Abort,
-    alloc: Global,
-    history: &mut H,
-    owned: bool,
-    full: bool,
-) -> result::Result<(), Fail> {
+fn adds<H: History>(rt: &impl Abort, alloc: Global, history: &mut H, owned: bool, full: bool) {
     let Ok(mut kept) = String::with_capacity(alloc, 100) else {
-        return Ok(());
+        return;
     };
     if full {
-        history.set_max_len(1)?;
+        history.set_max_len(1).expect(rt, "no fault");
     }
     for line in LINES.split_terminator('|') {
         let outcome = added(alloc, history, line, owned);
@@ -38,76 +31,63 @@ fn adds<H: History>(
             if full {
                 kept.clear();
             }
-            kept.push_str(line)?;
-            kept.push('|')?;
+            kept.push_str(line).expect(rt, "no fault");
+            kept.push('|').expect(rt, "no fault");
         }
         gives(rt, history, kept.as_str());
     }
-    Ok(())
 }
 
 #[test]
-fn of_lines(rt: HostRuntime) -> result::Result<(), Fail> {
+fn of_lines(rt: HostRuntime) {
+    let alloc = rt.alloc();
     for (owned, full) in [(false, false), (true, false), (false, true)] {
-        adds(
-            &rt,
-            rt.alloc(),
-            &mut MemHistory::new(rt.alloc()),
-            owned,
-            full,
-        )?;
-        adds(
-            &rt,
-            rt.alloc(),
-            &mut FileHistory::new(rt.alloc()),
-            owned,
-            full,
-        )?;
+        adds(&rt, alloc, &mut MemHistory::new(alloc), owned, full);
+        adds(&rt, alloc, &mut FileHistory::new(alloc), owned, full);
     }
-    Ok(())
 }
 
 /// How four lines are written.
 struct Written {
     escapes: Escapes,
     /// The text of all.
-    saved: &'static [u8],
+    saved: &'static str,
     /// As many of the lines as were read, and what is appended of them.
-    left: &'static [(&'static str, &'static [u8])],
+    left: &'static [(&'static str, &'static str)],
 }
 
 const WRITTEN: &[Written] = &[
     Written {
         escapes: V2,
-        saved: b"#V2\na\nb\\n\\\\\rb\n0123456789\\n0123456789\\n0123456789\\n0123456789\nc\n",
+        saved: "#V2\na\nb\\n\\\\\rb\n0123456789\\n0123456789\\n0123456789\\n0123456789\nc\n",
         left: &[
-            ("", b""),
-            ("a", b"a\n"),
-            ("a|b\n\\\rb", b"a\nb\\n\\\\\rb\n"),
+            ("", ""),
+            ("a", "a\n"),
+            ("a|b\n\\\rb", "a\nb\\n\\\\\rb\n"),
             (
                 "a|b\n\\\rb|0123456789\n0123456789\n0123456789\n0123456789",
-                b"a\nb\\n\\\\\rb\n0123456789\\n0123456789\\n0123456789\\n0123456789\n",
+                "a\nb\\n\\\\\rb\n0123456789\\n0123456789\\n0123456789\\n0123456789\n",
             ),
             (
                 FOUR,
-                b"a\nb\\n\\\\\rb\n0123456789\\n0123456789\\n0123456789\\n0123456789\nc\n",
+                "a\nb\\n\\\\\rb\n0123456789\\n0123456789\\n0123456789\\n0123456789\nc\n",
             ),
         ],
     },
     Written {
         escapes: V3,
-        saved: b"#V3\na\nb\\n\\\\\\rb\n0123456789\\n0123456789\\n0123456789\\n0123456789\nc\n",
+        saved: "#V3\na\nb\\n\\\\\\rb\n0123456789\\n0123456789\\n0123456789\\n0123456789\nc\n",
         left: &[
-            ("", b""),
-            ("a", b"a\n"),
-            ("a|b\n\\\rb", b"a\nb\\n\\\\\\rb\n"),
+            ("", ""),
+            ("a", "a\n"),
+            ("a|b\n\\\rb", "a\nb\\n\\\\\\rb\n"),
             (
                 "a|b\n\\\rb|0123456789\n0123456789\n0123456789\n0123456789",
-                b"a\nb\\n\\\\\\rb\n0123456789\\n0123456789\\n0123456789\\n0123456789\n",
+                "a\nb\\n\\\\\\rb\n0123456789\\n0123456789\\n0123456789\\n0123456789\n",
             ),
             (
                 FOUR,
-                b"a\nb\\n\\\\\\rb\n0123456789\\n0123456789\\n0123456789\\n0123456789\nc\n",
+                "a\nb\\n\\\\\\rb\n0123456789\\n0123456789\\n0123456789\\n0123456789\nc\n",
             ),
         ],
     },
@@ -117,73 +97,72 @@ const WRITTEN: &[Written] = &[
 const FOUR: &str = "a|b\n\\\rb|0123456789\n0123456789\n0123456789\n0123456789|c";
 
 /// The lines before the refusal are there, and are new.
-fn reads(rt: &impl Abort, alloc: Global, written: &Written) -> result::Result<(), Fail> {
+fn reads(rt: &impl Abort, alloc: Global, written: &Written) {
     let mut history = FileHistory::new(alloc);
-    let answer = answer_of(rt, alloc, history.load_from(written.saved), OutOfMemory, "");
+    let outcome = history.load_from(written.saved.as_bytes());
+    let answer = answer_of(rt, alloc, outcome, OutOfMemory, "");
     let count = history.len();
-    assert_eq!(rt; answer, if count == 4 { Some(true) } else { None });
-    let Some((lines, appended)) = written.left.get(count) else {
-        return Err(Fail::from("no more lines than there are"));
-    };
-    let left = if answer.is_some() { b"" } else { *appended };
+    holds(
+        rt,
+        answer == if count == 4 { Some(true) } else { None },
+        "lines",
+        count,
+    );
+    let (lines, appended) = *written
+        .left
+        .get(count)
+        .expect(rt, "no more lines than there are");
+    let left = if answer.is_some() { "" } else { appended };
     let _ = keeps(rt, alloc, &mut history, lines, written.escapes, left);
-    Ok(())
 }
 
 /// The lines are there, and are new where the save was refused.
-fn saves(
-    rt: &impl Abort,
-    alloc: Global,
-    written: &Written,
-    append: bool,
-) -> result::Result<(), Fail> {
+fn saves(rt: &impl Abort, alloc: Global, written: &Written, append: bool) {
+    let (_, all) = *written.left.last().expect(rt, "the text of all");
+    let whole = if append { all } else { written.saved };
     let mut history = FileHistory::new(alloc);
     for line in FOUR.split_terminator('|') {
         if answer_of(rt, alloc, history.add(line), OutOfMemory, "").is_none() {
-            return Ok(());
+            return;
         }
     }
-    let Some((_, all)) = written.left.last() else {
-        return Err(Fail::from("the text of all"));
-    };
-    let whole = if append { *all } else { written.saved };
     let saved = is_saved(rt, alloc, &mut history, written.escapes, append, whole);
-    let left = if saved { b"" } else { *all };
+    let left = if saved { "" } else { all };
     let _ = keeps(rt, alloc, &mut history, FOUR, written.escapes, left);
-    Ok(())
 }
 
 #[test]
-fn of_texts(rt: HostRuntime) -> result::Result<(), Fail> {
+fn of_texts(rt: HostRuntime) {
     for written in WRITTEN {
-        reads(&rt, rt.alloc(), written)?;
+        reads(&rt, rt.alloc(), written);
         for append in [false, true] {
-            saves(&rt, rt.alloc(), written, append)?;
+            saves(&rt, rt.alloc(), written, append);
         }
     }
-    Ok(())
 }
 
 /// The line before the fault is there, and is new; none may be where memory ran out.
 #[test]
-fn of_a_text_that_breaks_off(rt: HostRuntime) -> result::Result<(), Fail> {
+fn of_a_text_that_breaks_off(rt: HostRuntime) {
     let mut history = FileHistory::new(rt.alloc());
-    let outcome = history.load_from(Stream::new(rt.alloc(), b"#V2\na\nb", 7, &BROKEN));
+    let outcome = history.load_from(Stream::new(rt.alloc(), "#V2\na\nb", 7, &BROKEN));
     if matches!(&outcome, Err(ReadlineError::Memory)) {
         if history.is_empty() {
-            return Ok(());
+            return;
         }
     } else {
         assert!(rt; answer_of(&rt, rt.alloc(), outcome, BROKEN.0, BROKEN.1).is_none());
     }
-    let _ = keeps(&rt, rt.alloc(), &mut history, "a", V2, b"a\n");
-    Ok(())
+    let _ = keeps(&rt, rt.alloc(), &mut history, "a", V2, "a\n");
 }
 
-/// A line of so many characters that a result owns is copied. Returns how many of the two copies were refused.
-fn copies(rt: &impl Abort, alloc: Global, count: usize) -> result::Result<usize, Fail> {
-    let (Ok(line), Ok(text)) = ("日".repeat(alloc, count), "日".repeat(alloc, count)) else {
-        return Ok(1);
+/// A line of so many characters that a result owns is copied. Returns 1 where an allocation was refused, and else 0.
+fn copies(rt: &impl Abort, alloc: Global, count: usize) -> usize {
+    let Ok(text) = "日".repeat(alloc, count) else {
+        return 1;
+    };
+    let Ok(line) = "日".repeat(alloc, count) else {
+        return 1;
     };
     let found = SearchResult {
         entry: CowStr::Owned(line),
@@ -191,24 +170,21 @@ fn copies(rt: &impl Abort, alloc: Global, count: usize) -> result::Result<usize,
         pos: 3,
     };
     let copy = answer_of(rt, alloc, found.clone(), OutOfMemory, "");
-    assert_eq!(rt;
-        (found.entry.as_str(), found.idx, found.pos),
-        (text.as_str(), 7, 3)
-    );
-    let Some(copy) = copy else {
-        return Ok(1);
+    let stays = (found.idx, found.pos) == (7, 3) && found.entry.as_str() == text.as_str();
+    let (same, refused) = match copy {
+        Some(copy) => (copy == found, 0),
+        None => (true, 1),
     };
-    assert!(rt; copy == found);
-    Ok(0)
+    holds(rt, stays && same, "copy", count);
+    refused
 }
 
 /// Each length stands twice, so that one of them is copied.
 #[test]
-fn of_a_copied_result(rt: HostRuntime) -> result::Result<(), Fail> {
+fn of_a_copied_result(rt: HostRuntime) {
     let mut refused: usize = 0;
     for count in [0, 1, 400, 5_000, 0, 1, 400, 5_000] {
-        refused = refused.saturating_add(copies(&rt, rt.alloc(), count)?);
+        refused = refused.saturating_add(copies(&rt, rt.alloc(), count));
     }
     assert!(rt; refused <= 1);
-    Ok(())
 }

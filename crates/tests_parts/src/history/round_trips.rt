@@ -3,6 +3,7 @@
 
 use super::Lines::{Cut, Numbered, Pieces, Short, These};
 use super::{Lines, fills, gives, lines_of, save};
+use crate::holds;
 use Escapes::{V2, V3};
 use line_parts::{Escapes, FileHistory, History};
 use std::alloc::Global;
@@ -33,9 +34,8 @@ fn text_of(rt: &impl Abort, alloc: Global, trip: &Trip) -> Vec<u8> {
             save(&mut history, escapes, &mut text, append).expect(rt, "no fault");
         }
     }
-    if let Some(length) = length {
-        assert_eq!(rt; text.len(), length);
-    }
+    let len = text.len();
+    holds(rt, length.unwrap_or(len) == len, "text", len);
     text
 }
 
@@ -46,7 +46,7 @@ fn come_back(rt: &impl Abort, alloc: Global, trip: &Trip) {
     let mut copy = FileHistory::new(alloc);
     copy.set_max_len(limit).expect(rt, "no fault");
     let has_header = copy.load_from(text.as_slice()).expect(rt, "no fault");
-    assert_eq!(rt; has_header, saved.is_some());
+    assert!(rt; has_header == saved.is_some());
     let mut lines = lines_of(rt, alloc, these);
     let others = lines_of(rt, alloc, those);
     lines.push_str(others.as_str()).expect(rt, "no fault");

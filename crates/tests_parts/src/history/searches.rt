@@ -1,7 +1,8 @@
 //! What a search finds: the nearest line on its side, and the place in it.
 
 use super::Lines::{Numbered, Pieces, These};
-use super::{Lines, fills, gives, lines_of};
+use super::{Lines, fills, gives, has, lines_of};
+use crate::holds;
 use Place::{Anywhere, Start};
 use SearchDirection::{Forward, Reverse};
 use line_parts::{FileHistory, History, MemHistory, SearchDirection, SearchResult};
@@ -28,14 +29,12 @@ fn is_at<H: History>(
     let Some(found) = found else {
         return at == "-";
     };
-    let line = history.get(found.idx, Forward).expect(rt, "no fault");
-    let line = line.expect(rt, "a line at each index");
     let shown = format!(in alloc; "{}:{}", found.idx, found.pos).expect(rt, "no fault");
-    let is_so = (shown.as_str(), line.entry.as_str()) == (at, found.entry.as_str());
+    let is_there = shown.as_str() == at;
+    let is_line = has(rt, history, found.idx, Some(found.entry.as_str()));
     let copy = found.clone().expect(rt, "no fault");
-    let both = matches!(found.entry, CowStr::Borrowed(_))
-        && matches!(copy.entry, CowStr::Borrowed(_));
-    is_so && both && copy == *found
+    let is_copy = matches!(copy.entry, CowStr::Borrowed(_)) && copy == *found;
+    is_there && is_line && is_copy && matches!(found.entry, CowStr::Borrowed(_))
 }
 
 /// Lines, where a term has to stand, the term and how often it is repeated, the direction, the indices at which a search
@@ -67,7 +66,7 @@ fn finds<H: History>(rt: &impl Abort, alloc: Global, history: &mut H, case: &Cas
             Start => history.starts_with(term.as_str(), *start, dir),
         };
         let found = found.expect(rt, "no fault");
-        assert!(rt; is_at(rt, alloc, history, &found, at), "{at}");
+        holds(rt, is_at(rt, alloc, history, &found, at), at, *start);
     }
 }
 

@@ -3,6 +3,7 @@
 
 use super::Lines::Pieces;
 use super::{Lines, answer_of, fills, keeps, lines_of, save};
+use crate::holds;
 use Escapes::{V2, V3};
 use How::{Always, Full, Interrupted, Once};
 use line_parts::{Escapes, FileHistory, History};
@@ -30,7 +31,7 @@ pub(super) type Manner = (ErrorKind, &'static str, How);
 /// a second try would succeed.
 #[derive(Drop)]
 pub(super) struct Stream {
-    text: &'static [u8],
+    text: &'static str,
     at: usize,
     taken: Vec<u8>,
     place: usize,
@@ -39,7 +40,7 @@ pub(super) struct Stream {
 }
 
 impl Stream {
-    pub(super) fn new(alloc: Global, text: &'static [u8], place: usize, manner: &Manner) -> Stream {
+    pub(super) fn new(alloc: Global, text: &'static str, place: usize, manner: &Manner) -> Stream {
         Stream {
             text,
             at: 0,
@@ -72,7 +73,7 @@ impl Stream {
 impl Read for Stream {
     fn read(&mut self, buf: &mut [u8]) -> io::Result<usize> {
         self.broken(self.at)?;
-        let Some(byte) = self.text.get(self.at) else {
+        let Some(byte) = self.text.as_bytes().get(self.at) else {
             return Ok(0);
         };
         let Some(first) = buf.first_mut() else {
@@ -182,12 +183,12 @@ fn history_of(rt: &impl Abort, alloc: Global, settled: &str, new: &str) -> FileH
 /// A text, the first place and the last one at which its reader fails, the answer, None where it fails, the lines that are
 /// then there, and what is appended of those that are new, with a carriage return escaped.
 type Load = (
-    &'static [u8],
+    &'static str,
     usize,
     usize,
     Option<bool>,
     &'static str,
-    &'static [u8],
+    &'static str,
 );
 
 /// A load leaves the lines that came before the place where its reader fails: in an empty history, or behind a settled line
@@ -199,50 +200,50 @@ fn reads(rt: &impl Abort, alloc: Global, load: &Load, place: usize, manner: &Man
     let mut history = history_of(rt, alloc, settled, "");
     let outcome = history.load_from(Stream::new(alloc, text, place, manner));
     let answer = answer_of(rt, alloc, outcome, kind, words);
-    assert_eq!(rt; answer, wanted, "{place} {kind:?}");
+    holds(rt, answer == wanted, text, place);
     let lines = format!(in alloc; "{settled}{lines}").expect(rt, "no fault");
     assert!(rt; keeps(rt, alloc, &mut history, lines.as_str(), V3, appended));
 }
 
-const HEADED: &[u8] = b"#V2\nab\n\ncd\ne";
+const HEADED: &str = "#V2\nab\n\ncd\ne";
 
-const HEADED_LINES: &[u8] = b"#V2\na\\nb\n\ncd\ne";
+const HEADED_LINES: &str = "#V2\na\\nb\n\ncd\ne";
 
-const HEADED_V3: &[u8] = b"#V3\na\\r\n\ncd\ne";
+const HEADED_V3: &str = "#V3\na\\r\n\ncd\ne";
 
-const HEADED_RETURN: &[u8] = b"#V3\na\\rb\n\ncd\ne";
+const HEADED_RETURN: &str = "#V3\na\\rb\n\ncd\ne";
 
-const PLAIN: &[u8] = b"a\r\nb";
+const PLAIN: &str = "a\r\nb";
 
 const LOADS: &[Load] = &[
-    (b"", 0, 0, None, "", b""),
-    (b"", WHOLE, WHOLE, Some(false), "", b""),
+    ("", 0, 0, None, "", ""),
+    ("", WHOLE, WHOLE, Some(false), "", ""),
     // two lines behind a header, an empty one, and a last one without a line feed
-    (HEADED, 0, 6, None, "", b""),
-    (HEADED, 7, 10, None, "ab|", b"ab\n"),
-    (HEADED, 11, 12, None, "ab|cd|", b"ab\ncd\n"),
-    (HEADED, WHOLE, WHOLE, Some(true), "ab|cd|e|", b""),
-    (b"#V2\na\nb", 7, 7, None, "a|", b"a\n"),
+    (HEADED, 0, 6, None, "", ""),
+    (HEADED, 7, 10, None, "ab|", "ab\n"),
+    (HEADED, 11, 12, None, "ab|cd|", "ab\ncd\n"),
+    (HEADED, WHOLE, WHOLE, Some(true), "ab|cd|e|", ""),
+    ("#V2\na\nb", 7, 7, None, "a|", "a\n"),
     // the same with a newline in the first line
-    (HEADED_LINES, 0, 8, None, "", b""),
-    (HEADED_LINES, 9, 12, None, "a\nb|", b"a\\nb\n"),
-    (HEADED_LINES, 13, 14, None, "a\nb|cd|", b"a\\nb\ncd\n"),
+    (HEADED_LINES, 0, 8, None, "", ""),
+    (HEADED_LINES, 9, 12, None, "a\nb|", "a\\nb\n"),
+    (HEADED_LINES, 13, 14, None, "a\nb|cd|", "a\\nb\ncd\n"),
     // with a carriage return at its end
-    (HEADED_V3, 0, 7, None, "", b""),
-    (HEADED_V3, 8, 11, None, "a\r|", b"a\\r\n"),
-    (HEADED_V3, 12, 13, None, "a\r|cd|", b"a\\r\ncd\n"),
-    (HEADED_V3, WHOLE, WHOLE, Some(true), "a\r|cd|e|", b""),
+    (HEADED_V3, 0, 7, None, "", ""),
+    (HEADED_V3, 8, 11, None, "a\r|", "a\\r\n"),
+    (HEADED_V3, 12, 13, None, "a\r|cd|", "a\\r\ncd\n"),
+    (HEADED_V3, WHOLE, WHOLE, Some(true), "a\r|cd|e|", ""),
     // and within it
-    (HEADED_RETURN, 0, 8, None, "", b""),
-    (HEADED_RETURN, 9, 12, None, "a\rb|", b"a\\rb\n"),
-    (HEADED_RETURN, 13, 14, None, "a\rb|cd|", b"a\\rb\ncd\n"),
+    (HEADED_RETURN, 0, 8, None, "", ""),
+    (HEADED_RETURN, 9, 12, None, "a\rb|", "a\\rb\n"),
+    (HEADED_RETURN, 13, 14, None, "a\rb|cd|", "a\\rb\ncd\n"),
     // a line with a NUL, and one with a backslash that begins no escape
-    (b"#V2\na\0b\n", WHOLE, WHOLE, Some(true), "a\0b|", b""),
-    (b"#V2\na\\b\n", WHOLE, WHOLE, Some(true), "a\\b|", b""),
+    ("#V2\na\0b\n", WHOLE, WHOLE, Some(true), "a\0b|", ""),
+    ("#V2\na\\b\n", WHOLE, WHOLE, Some(true), "a\\b|", ""),
     // without a header
-    (PLAIN, 0, 2, None, "", b""),
-    (PLAIN, 3, 4, None, "a|", b"a\n"),
-    (PLAIN, WHOLE, WHOLE, Some(false), "a|b|", b""),
+    (PLAIN, 0, 2, None, "", ""),
+    (PLAIN, 3, 4, None, "a|", "a\n"),
+    (PLAIN, WHOLE, WHOLE, Some(false), "a|b|", ""),
 ];
 
 #[test]
@@ -258,7 +259,7 @@ fn that_are_read(rt: HostRuntime) {
 
 /// The settled lines and the new ones, the escapes, whether the new ones are appended, what is written, and what is
 /// appended of the new ones.
-type Save<'a> = (&'a str, &'a str, Escapes, bool, &'a [u8], &'a [u8]);
+type Save<'a> = (&'a str, &'a str, Escapes, bool, &'a str, &'a str);
 
 /// Whether a save writes all. It answers the fault of its writer, which took all before the place where it fails.
 fn is_whole(
@@ -271,12 +272,13 @@ fn is_whole(
 ) -> bool {
     let (_, _, escapes, append, whole, _) = *case;
     let (kind, text, _) = *manner;
-    let mut out = Stream::new(alloc, b"", place, manner);
+    let mut out = Stream::new(alloc, "", place, manner);
     let outcome = save(history, escapes, &mut out, append);
     let done = answer_of(rt, alloc, outcome, kind, text).is_some();
-    let is_taken = Some(out.taken.as_slice()) == whole.get(..place.min(whole.len()));
-    let found = (done, is_taken);
-    assert_eq!(rt; found, (place > whole.len(), true), "{place} {kind:?}");
+    let taken = whole.as_bytes().get(..place.min(whole.len()));
+    let is_taken = taken == Some(out.taken.as_slice());
+    let is_so = is_taken && done == (place > whole.len());
+    holds(rt, is_so, whole, place);
     done
 }
 
@@ -286,7 +288,7 @@ fn writes(rt: &impl Abort, alloc: Global, case: &Save<'_>, place: usize, manner:
     let mut history = history_of(rt, alloc, settled, new);
     let done = is_whole(rt, alloc, &mut history, case, place, manner);
     let lines = format!(in alloc; "{settled}{new}").expect(rt, "no fault");
-    let left = if done { b"" } else { appended };
+    let left = if done { "" } else { appended };
     assert!(rt; keeps(rt, alloc, &mut history, lines.as_str(), escapes, left));
 }
 
@@ -296,54 +298,47 @@ const SAVES: &[Save<'static>] = &[
         "a\nb\rc|",
         V2,
         false,
-        b"#V2\nx\na\\nb\rc\n",
-        b"a\\nb\rc\n",
+        "#V2\nx\na\\nb\rc\n",
+        "a\\nb\rc\n",
     ),
-    ("x|", "a\nb\rc|", V2, true, b"a\\nb\rc\n", b"a\\nb\rc\n"),
+    ("x|", "a\nb\rc|", V2, true, "a\\nb\rc\n", "a\\nb\rc\n"),
     (
         "x|",
         "a\nb\rc|",
         V3,
         false,
-        b"#V3\nx\na\\nb\\rc\n",
-        b"a\\nb\\rc\n",
+        "#V3\nx\na\\nb\\rc\n",
+        "a\\nb\\rc\n",
     ),
-    ("x|", "a\nb\rc|", V3, true, b"a\\nb\\rc\n", b"a\\nb\\rc\n"),
+    ("x|", "a\nb\rc|", V3, true, "a\\nb\\rc\n", "a\\nb\\rc\n"),
     (
         "",
         "a\nb\rc|d|",
         V2,
         false,
-        b"#V2\na\\nb\rc\nd\n",
-        b"a\\nb\rc\nd\n",
+        "#V2\na\\nb\rc\nd\n",
+        "a\\nb\rc\nd\n",
     ),
-    (
-        "",
-        "a\nb\rc|d|",
-        V2,
-        true,
-        b"a\\nb\rc\nd\n",
-        b"a\\nb\rc\nd\n",
-    ),
+    ("", "a\nb\rc|d|", V2, true, "a\\nb\rc\nd\n", "a\\nb\rc\nd\n"),
     (
         "",
         "a\nb\rc|d|",
         V3,
         false,
-        b"#V3\na\\nb\\rc\nd\n",
-        b"a\\nb\\rc\nd\n",
+        "#V3\na\\nb\\rc\nd\n",
+        "a\\nb\\rc\nd\n",
     ),
     (
         "",
         "a\nb\rc|d|",
         V3,
         true,
-        b"a\\nb\\rc\nd\n",
-        b"a\\nb\\rc\nd\n",
+        "a\\nb\\rc\nd\n",
+        "a\\nb\\rc\nd\n",
     ),
     // where no line is new, an appended save still flushes
-    ("x|", "", V2, true, b"", b""),
-    ("x|", "", V3, true, b"", b""),
+    ("x|", "", V2, true, "", ""),
+    ("x|", "", V3, true, "", ""),
 ];
 
 /// The writer fails at each byte, at the flush behind the last one, and not at all.
@@ -372,8 +367,8 @@ fn writes_much(rt: &impl Abort, alloc: Global, escapes: Escapes, append: bool, p
         V2 => lines_of(rt, alloc, TEXT),
         V3 => lines_of(rt, alloc, TEXT_V3),
     };
-    let appended = text.as_bytes().get(4..).expect(rt, "a header");
-    let whole = if append { appended } else { text.as_bytes() };
+    let appended = text.as_str().get(4..).expect(rt, "a header");
+    let whole = if append { appended } else { text.as_str() };
     let case = ("", lines.as_str(), escapes, append, whole, appended);
     writes(rt, alloc, &case, place, &GONE);
 }

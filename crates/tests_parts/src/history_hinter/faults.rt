@@ -2,6 +2,7 @@
 //! dropped.
 
 use super::{Hinted, LINES, fill, hints_from};
+use crate::holds;
 use line_parts::{History, HistoryHinter, SearchDirection};
 use std::alloc::Global;
 use std::process::Abort;
@@ -26,14 +27,13 @@ fn asks(rt: &impl Abort, alloc: Global, case: &Case, fault: Fault) -> bool {
         history.fail_in(failing, fault);
     }
     let outcome = hints_from(alloc, &HistoryHinter::default(), &history, index, hinted);
-    if number > 0 && history.get(0, SearchDirection::Reverse).is_ok() {
-        return false;
-    }
-    if faulty {
-        fault.is_answer(alloc, &outcome).expect(rt, "no fault")
+    let fails_next = number == 0 || history.get(0, SearchDirection::Reverse).is_err();
+    let right = if faulty {
+        fault.is_answer(alloc, &outcome)
     } else {
-        outcome.expect(rt, "no fault")
-    }
+        outcome
+    };
+    fails_next && right.expect(rt, "no fault")
 }
 
 const CASES: &[Case] = &[
@@ -173,9 +173,10 @@ const CASES: &[Case] = &[
 
 #[test]
 fn of_one_look_up(rt: HostRuntime) {
-    for case in CASES {
+    for (row, case) in CASES.iter().enumerate() {
         for fault in FAULTS {
-            assert!(rt; asks(&rt, rt.alloc(), case, *fault), "{case:?} {fault:?}");
+            let found = asks(&rt, rt.alloc(), case, *fault);
+            holds(&rt, found, fault.text, row);
         }
     }
 }

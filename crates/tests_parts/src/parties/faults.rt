@@ -1,5 +1,6 @@
 //! Errors of a helper or a history, handed on by the parties that an editor asks.
 
+use crate::holds;
 use crate::ready::{broken_history, is_hint, said};
 use line_buffer::LineBuffer;
 use line_config::Result;
@@ -10,7 +11,7 @@ use tests_parties::advisor::{Advisor, Verdict};
 use tests_parties::fault::{FAULTS, Fault};
 
 /// The right answer of the parties: a hint, if there is one, or the name and message of a verdict.
-#[derive(Clone, Copy, Debug)]
+#[derive(Clone, Copy)]
 pub(crate) enum Answer {
     Hint(Option<&'static str>),
     Verdict(&'static str, &'static str),
@@ -27,12 +28,16 @@ fn answers<H: Helper, S: History>(
         return Ok(false);
     }
     let line = LineBuffer::init(alloc, text, text.len())?;
-    Ok(match wanted {
-        Answer::Hint(hint) => is_hint(&parties.hint(alloc, &line)?, hint),
-        Answer::Verdict(name, message) => {
-            said(&parties.validate(alloc, &line)?) == (name, message)
-        }
-    })
+    match wanted {
+        Answer::Hint(hint) => match parties.hint(alloc, &line) {
+            Ok(found) => Ok(is_hint(&found, hint)),
+            Err(error) => Err(error),
+        },
+        Answer::Verdict(name, message) => match parties.validate(alloc, &line) {
+            Ok(verdict) => Ok(said(&verdict) == (name, message)),
+            Err(error) => Err(error),
+        },
+    }
 }
 
 /// Whether there is no hint and the line is valid; the history, of which each call fails, is not asked.
@@ -191,12 +196,10 @@ const CASES: &[Case] = &[
 
 #[test]
 fn of_a_helper(rt: HostRuntime) {
-    for case in CASES {
+    for (row, case) in CASES.iter().enumerate() {
         for fault in FAULTS {
-            assert!(rt;
-                helped(&rt, rt.alloc(), case, "ab", *fault),
-                "{case:?} {fault:?}"
-            );
+            let found = helped(&rt, rt.alloc(), case, "ab", *fault);
+            holds(&rt, found, fault.text, row);
         }
     }
 }
