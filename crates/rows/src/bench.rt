@@ -3,8 +3,8 @@
 use crate::report::{Row, Seen, looks_at};
 use crate::setup::{Failing, Setup, keys_named};
 use line_buffer::{GraphemeClusterMode, KillRing};
-use line_config::{Config, EditMode, Result};
-use line_editor::command::{Status, execute};
+use line_config::{Config, Result};
+use line_editor::command::execute;
 use line_editor::edit::State;
 use line_editor::input_state::InputState;
 use line_editor::run::run;
@@ -39,12 +39,15 @@ pub struct Bench {
 impl Bench {
     /// A bench for these settings, where nothing was seen yet.
     pub fn new(alloc: Global, setup: &Setup<'_>) -> Bench {
+        let config = Config::builder(GraphemeClusterMode::Unicode)
+            .edit_mode(setup.parsed.edit_mode)
+            .build();
         let mut typist = Typist::new(alloc);
         typist.cut_at(setup.failing[3].call);
         Bench {
             typist,
             kills: KillRing::new(alloc, setup.kill_ring_size),
-            config: config_of(setup.parsed.edit_mode),
+            config,
             seen: Seen::new(alloc),
         }
     }
@@ -106,53 +109,55 @@ impl Bench {
         row: &Row<'_>,
     ) -> Result<()> {
         let mut input = InputState::new(&self.config, bindings);
-        for (number, line) in row.items.as_slice() {
+        let count = row
+            .items
+            .len()
+            .saturating_add(usize::from(row.is_keys_alone));
+        for place in 0..count {
+            let (number, line) = row.step(place);
             let (typist, kills) = (&mut self.typist, &mut self.kills);
-            let outcome = match *line {
+            let outcome = match line {
                 "run" => Some(ran(run(state, &mut input, typist, kills, &self.config))),
                 "turn" => Some(turned(advance(state, &mut input, typist, kills, &self.config))),
-                "next" | "next abort" => {
-                    let command = state.next_cmd(&mut input, typist, *line == "next abort");
-                    Some(self.executes(state, &input, command))
+                "next" | "next abort" | "read" => {
+                    let command = state.next_cmd(&mut input, typist, line == "next abort");
+                    Some(self.takes(alloc, state, &input, command, line == "read"))
                 }
-                "read" => Some(
-                    self.seen
-                        .read(alloc, state.next_cmd(&mut input, typist, false)),
-                ),
                 line => self.step(alloc, state, &input, line),
             };
-            if !self.ends(alloc, state, outcome, line)? {
-                self.seen.bad_line = Some(*number);
+            if !self.ends(alloc, state, outcome, number, line)? {
                 return Ok(());
             }
-        }
-        if row.is_keys_alone {
-            let (typist, kills) = (&mut self.typist, &mut self.kills);
-            let outcome = ran(run(state, &mut input, typist, kills, &self.config));
-            self.seen.ends(alloc, outcome)?;
         }
         self.looks(alloc, state, &input)
     }
 
-    /// Executes a command that was read. Returns how that ended, in a word.
-    fn executes(
+    /// Takes a command that was read: writes it down, or else executes it. Returns how that ended, in a word.
+    fn takes(
         &mut self,
+        alloc: Global,
         state: &mut Editor<'_, '_>,
         input: &InputState<'_>,
         command: Result<Cmd>,
+        is_read: bool,
     ) -> Result<&'static str> {
+        if is_read {
+            return self.seen.read(alloc, command);
+        }
         done(execute(command?, state, input, &mut self.kills, &self.config))
     }
 
-    /// A line of a row ended so; None where there is no such line, and then this returns false.
+    /// A line of a row ended so; None where there is no such line: then its number is noted, and this returns false.
     fn ends(
         &mut self,
         alloc: Global,
         state: &Editor<'_, '_>,
         outcome: Option<Result<&'static str>>,
+        number: usize,
         line: &str,
     ) -> Result<bool> {
         let Some(outcome) = outcome else {
+            self.seen.bad_line = Some(number);
             return Ok(false);
         };
         self.seen.ends(alloc, outcome)?;
@@ -170,7 +175,8 @@ impl Bench {
         input: &InputState<'_>,
     ) -> Result<()> {
         looks_at(alloc, state, input, &self.typist, &mut self.seen)?;
-        if self.seen.is_fault() && self.recovers(state, input)? {
+        let is_fault = matches!(self.seen.outcome, "fails" | "is denied");
+        if is_fault && self.recovers(alloc, state, input)? {
             self.seen.lines.write_all(b"recovers\n")?;
         }
         Ok(())
@@ -178,21 +184,25 @@ impl Bench {
 
     /// After a fault the cursor is on a boundary, and all changes can be taken back, which leaves the empty line, and it
     /// can be drawn again. Returns whether that is so.
-    fn recovers(&mut self, state: &mut Editor<'_, '_>, input: &InputState<'_>) -> Result<bool> {
+    fn recovers(
+        &mut self,
+        alloc: Global,
+        state: &mut Editor<'_, '_>,
+        input: &InputState<'_>,
+    ) -> Result<bool> {
         if !state.line().is_char_boundary(state.pos()) {
             return Ok(false);
         }
-        let undone = execute(
-            Cmd::Undo(65535),
-            state,
-            input,
-            &mut self.kills,
-            &self.config,
-        )?;
-        let drawn = execute(Cmd::Repaint, state, input, &mut self.kills, &self.config)?;
-        let proceeds = undone == Status::Proceed && drawn == Status::Proceed;
-        let starts = state.layout().cursor == state.layout().prompt_size;
-        Ok(proceeds && state.line().is_empty() && starts)
+        for command in ["Undo(65535)", "Repaint"] {
+            match executed(alloc, state, input, &mut self.kills, &self.config, command) {
+                Some(Ok("proceeds")) => {}
+                Some(Err(error)) => return Err(error),
+                _ => return Ok(false),
+            }
+        }
+        let layout = state.layout();
+        let starts = layout.cursor == layout.prompt_size;
+        Ok(starts && state.line().is_empty())
     }
 
     /// Reads what the lines of a row type as phrases, and then keys that are one phrase: cut anywhere they are none yet,
@@ -205,29 +215,20 @@ impl Bench {
         row: &Row<'_>,
         names: &str,
     ) -> Result<()> {
-        let mut input = InputState::new(&self.config, bindings);
         state.hint()?;
-        let before = keys_of(alloc, row.items.as_slice())?;
-        let keys = keys_named(alloc, names)?;
-        let (Some(before), Some(keys)) = (before, keys) else {
+        let Some((before, keys)) = phrase_of(alloc, row, names)? else {
             self.seen.bad_line = Some(row.number);
             return Ok(());
         };
-        self.typist.press(before.as_slice())?;
-        for _ in before.as_slice() {
-            let _ = state.next_cmd(&mut input, &mut self.typist, false);
-        }
-        for cut in 1..keys.len() {
-            let front = keys.as_slice().get(..cut).unwrap_or(&[]);
-            self.typist.press(front)?;
+        let mut input = InputState::new(&self.config, bindings);
+        for count in 0..=keys.len() {
+            self.typist.press(pressed(keys.as_slice(), before, count))?;
             let command = state.next_cmd(&mut input, &mut self.typist, false);
-            self.seen.is_cut(command);
+            if count >= before {
+                self.seen
+                    .reads(alloc, keys.len().saturating_sub(count), command)?;
+            }
         }
-        self.typist.press(keys.as_slice())?;
-        let phrase = state.next_cmd(&mut input, &mut self.typist, false);
-        self.typist.press(X)?;
-        let next = state.next_cmd(&mut input, &mut self.typist, false);
-        self.seen.reads_phrase(alloc, phrase, next)?;
         looks_at(alloc, state, &input, &self.typist, &mut self.seen)
     }
 
@@ -243,19 +244,22 @@ impl Bench {
             self.seen.bad_line = Some(row.number);
             return Ok(());
         };
-        let mut input = InputState::new(&self.config, bindings);
         state.refresh_line()?;
-        let mut phrase = Vec::new(alloc);
-        for key in keys.as_slice() {
-            phrase.push(*key)?;
-            self.typist.press(phrase.as_slice())?;
+        let mut input = InputState::new(&self.config, bindings);
+        let mut start = 0;
+        for end in 1..=keys.len() {
+            self.typist
+                .press(keys.as_slice().get(start..end).unwrap_or(&[]))?;
             let (typist, kills) = (&mut self.typist, &mut self.kills);
-            let outcome = turned(advance(state, &mut input, typist, kills, &self.config));
-            self.seen.ends(alloc, outcome)?;
-            match self.seen.outcome {
-                "proceeds" => phrase.clear(),
-                "needs more" => {}
-                _ => break,
+            let outcome = advance(state, &mut input, typist, kills, &self.config);
+            let proceeds = matches!(outcome, Ok(Turned::Proceeds));
+            let goes_on = proceeds || matches!(outcome, Ok(Turned::NeedsMore));
+            self.seen.ends(alloc, turned(outcome))?;
+            if !goes_on {
+                break;
+            }
+            if proceeds {
+                start = end;
             }
         }
         self.seen.runs_out();
@@ -283,7 +287,11 @@ impl Bench {
                 let (before, behind) = plain.split_once('^')?;
                 starts(state, input, before, behind)
             }
-            kind => types(alloc, &mut self.typist, kind, text)?,
+            kind => match types(alloc, &mut self.typist, kind, text) {
+                Ok(true) => Ok(()),
+                Ok(false) => return None,
+                Err(error) => Err(error),
+            },
         };
         Some(proceeds(outcome))
     }
@@ -343,13 +351,6 @@ fn shelved(alloc: Global, setup: &Setup<'_>) -> Result<Shelf> {
     Ok(history)
 }
 
-/// The settings of a style.
-fn config_of(edit_mode: EditMode) -> Config {
-    Config::builder(GraphemeClusterMode::Unicode)
-        .edit_mode(edit_mode)
-        .build()
-}
-
 /// How a run ended, in a word.
 fn ran(outcome: Result<()>) -> Result<&'static str> {
     outcome?;
@@ -394,24 +395,44 @@ fn keys_of(alloc: Global, items: &[(usize, &str)]) -> Result<Option<Vec<KeyEvent
     Ok(Some(keys))
 }
 
-/// Gives the reader what a line types. None where it types nothing.
-fn types(alloc: Global, typist: &mut Typist, kind: &str, text: &str) -> Option<Result<()>> {
-    match kind {
-        "type" => Some(types_text(alloc, typist, text)),
-        "key" | "keys" => match keys_named(alloc, text) {
-            Ok(Some(keys)) => Some(presses(typist, keys.as_slice())),
-            Ok(None) => None,
-            Err(error) => Some(Err(error)),
-        },
-        "paste" => Some(pastes(alloc, typist, text, true)),
-        "pasted" => Some(pastes(alloc, typist, text, false)),
-        _ => None,
-    }
+/// The keys that the lines of a row type and then those of a phrase, behind the number of the first ones. None where a line
+/// or a name is of another kind.
+fn phrase_of(alloc: Global, row: &Row<'_>, names: &str) -> Result<Option<(usize, Vec<KeyEvent>)>> {
+    let Some(mut keys) = keys_of(alloc, row.items.as_slice())? else {
+        return Ok(None);
+    };
+    let Some(phrase) = keys_named(alloc, names)? else {
+        return Ok(None);
+    };
+    let before = keys.len();
+    keys.extend_from_slice(phrase.as_slice())?;
+    Ok(Some((before, keys)))
 }
 
-fn presses(typist: &mut Typist, keys: &[KeyEvent]) -> Result<()> {
-    typist.press(keys)?;
-    Ok(())
+/// The keys that are pressed before the read of this number: at first all of those before the phrase, then none until
+/// these are read, then more and more of the phrase, and x.
+fn pressed(keys: &[KeyEvent], before: usize, count: usize) -> &[KeyEvent] {
+    let (start, end) = match count {
+        count if count >= before => (before, count.saturating_add(1)),
+        0 => (0, before),
+        _ => (0, 0),
+    };
+    keys.get(start..end).unwrap_or(X)
+}
+
+/// Gives the reader what a line types. False where it types nothing.
+fn types(alloc: Global, typist: &mut Typist, kind: &str, text: &str) -> Result<bool> {
+    match kind {
+        "type" => types_text(alloc, typist, text)?,
+        "key" | "keys" => match keys_named(alloc, text)? {
+            Some(keys) => typist.press(keys.as_slice())?,
+            None => return Ok(false),
+        },
+        "paste" => pastes(alloc, typist, text, true)?,
+        "pasted" => pastes(alloc, typist, text, false)?,
+        _ => return Ok(false),
+    }
+    Ok(true)
 }
 
 /// Types each character.

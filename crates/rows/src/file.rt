@@ -2,13 +2,14 @@
 
 use crate::bench::Bench;
 use crate::report::{Row, differs};
-use crate::setup::{Setup, Target, binding};
+use crate::setup::{Setup, Target};
 use line_config::Result;
 use line_editor::Bindings;
 use line_editor::binding::EventHandler;
 use line_script::edit;
 use std::alloc::Global;
 use std::io::{Read, Write};
+use std::mem;
 
 /// The lines that a file may hold, in short, printed for a file whose first line is `help`.
 const HELP: &str = "\
@@ -53,13 +54,6 @@ enum Tried {
     Same,
     Differs,
     BadLine(usize),
-}
-
-impl Tried {
-    /// What comes of a case that differs or not.
-    fn of(differs: bool) -> Tried {
-        if differs { Tried::Differs } else { Tried::Same }
-    }
 }
 
 /// Reads a file of cases, and prints each that differs and how many there are; or the number of its first bad line.
@@ -229,11 +223,7 @@ fn tries_way<O: Write>(
     tally: &mut Tally,
     out: &mut O,
 ) -> Result<Option<usize>> {
-    let mut text = String::from_str(alloc, begun.name)?;
-    text.push('\n')?;
-    for (_, line) in begun.lines.as_slice() {
-        fill(&mut text, line, way)?;
-    }
+    let text = filled(alloc, begun, way)?;
     let Some((name, filled)) = text.split_once('\n') else {
         return Ok(None);
     };
@@ -243,6 +233,16 @@ fn tries_way<O: Write>(
     }
     let row = row_of(alloc, name, lines.as_slice())?;
     tallies(alloc, begun, &row, tally, out)
+}
+
+/// The name of a case and, behind it, its lines as they are in one way.
+fn filled(alloc: Global, begun: &Begun<'_>, way: &str) -> Result<String> {
+    let mut text = String::from_str(alloc, begun.name)?;
+    text.push('\n')?;
+    for (_, line) in begun.lines.as_slice() {
+        fill(&mut text, line, way)?;
+    }
+    Ok(text)
 }
 
 /// Adds a line, in which the keys of the first count of a way stand for `@`, those of the second for `&`, and its number
@@ -400,13 +400,10 @@ fn tries_set_up<O: Write>(
     out: &mut O,
 ) -> Result<Tried> {
     let mut bindings = Bindings::new(alloc);
-    for text in setup.bound.as_slice() {
-        let Some((event, target)) = binding(alloc, text)? else {
-            return Ok(Tried::BadLine(row.number));
-        };
+    for (event, target) in mem::replace(&mut setup.bound, Vec::new(alloc)) {
         let handler = match target {
             Target::Does(command) => EventHandler::Simple(command),
-            Target::Asks(watcher) => EventHandler::Conditional(Box::new(alloc, watcher)?),
+            Target::Asks(watcher) => EventHandler::Conditional(watcher),
         };
         let _ = bindings.insert(event, handler)?;
     }
@@ -478,5 +475,6 @@ fn tries_script<O: Write>(
 /// Compares what was seen with what a case wants.
 fn compares<O: Write>(row: &Row<'_>, seen: &[u8], out: &mut O) -> Result<Tried> {
     let text = str::from_utf8(seen).unwrap_or("");
-    Ok(Tried::of(differs(row, text, out)?))
+    let differs = differs(row, text, out)?;
+    Ok(if differs { Tried::Differs } else { Tried::Same })
 }

@@ -25,6 +25,16 @@ pub struct Row<'t> {
     pub wanted: &'t str,
 }
 
+impl<'t> Row<'t> {
+    /// The line of this place, with its number; behind the last one stands `run`.
+    pub fn step(&self, place: usize) -> (usize, &'t str) {
+        match self.items.get(place) {
+            Some(item) => *item,
+            None => (self.number, "run"),
+        }
+    }
+}
+
 /// What was seen of an editor on the bench.
 #[derive(Drop)]
 pub struct Seen {
@@ -73,25 +83,12 @@ impl Seen {
         Ok(())
     }
 
-    /// A phrase was cut short, which is to be known by its error.
-    pub fn is_cut(&mut self, outcome: Result<Cmd>) {
-        match outcome {
-            Err(ReadlineError::Eof) => {}
-            _ => self.outcome = "read too soon",
-        }
-    }
-
     /// The keys have run out, which is how a run ends.
     pub fn runs_out(&mut self) {
         match self.outcome {
             "proceeds" | "needs more" => self.outcome = "eof",
             _ => {}
         }
-    }
-
-    /// Whether a party failed in the last step.
-    pub fn is_fault(&self) -> bool {
-        matches!(self.outcome, "fails" | "is denied")
     }
 
     /// A command was read, which is written down.
@@ -101,25 +98,31 @@ impl Seen {
         Ok("proceeds")
     }
 
-    /// A phrase was read, and then the key x.
-    pub fn reads_phrase(
-        &mut self,
-        alloc: Global,
-        phrase: Result<Cmd>,
-        next: Result<Cmd>,
-    ) -> Result<()> {
-        if let Err(error) = self.read(alloc, phrase) {
-            self.ends(alloc, Err(error))?;
-        }
-        match next {
-            Ok(command) => self.stands_for(alloc, &command),
-            Err(error) => self.ends(alloc, Err(error)),
+    /// A read ended so: with `left` 0 it was one of the key x behind the phrase, with 1 of the whole phrase, and with more of a
+    /// phrase that is cut short, which is to end for want of keys.
+    pub fn reads(&mut self, alloc: Global, left: usize, outcome: Result<Cmd>) -> Result<()> {
+        match left {
+            0 => self.stands_for(alloc, outcome),
+            1 => match self.read(alloc, outcome) {
+                Ok(_) => Ok(()),
+                Err(error) => self.ends(alloc, Err(error)),
+            },
+            _ => {
+                if !matches!(outcome, Err(ReadlineError::Eof)) {
+                    self.outcome = "read too soon";
+                }
+                Ok(())
+            }
         }
     }
 
     /// The key x stands for a command, which tells the mode.
-    fn stands_for(&mut self, alloc: Global, command: &Cmd) -> Result<()> {
-        self.mode = match command {
+    fn stands_for(&mut self, alloc: Global, outcome: Result<Cmd>) -> Result<()> {
+        let command = match outcome {
+            Ok(command) => command,
+            Err(error) => return self.ends(alloc, Err(error)),
+        };
+        self.mode = match &command {
             Cmd::SelfInsert(1, 'x') => "insert",
             Cmd::Overwrite('x') => "replace",
             Cmd::Kill(Movement::ForwardChar(1)) => "command",
@@ -172,66 +175,98 @@ fn looks_at_rest(
     seen: &Seen,
     out: &mut Vec<u8>,
 ) -> Result<()> {
-    let style = match (input.is_emacs_mode(), input.is_vi_cmd_mode()) {
-        (true, _) => "emacs",
-        (false, true) => "vi, command mode",
-        (false, false) => "vi",
+    let style = if input.is_emacs_mode() {
+        "emacs"
+    } else if input.is_vi_cmd_mode() {
+        "vi, command mode"
+    } else {
+        "vi"
     };
-    let (says, reads, next) = (seen.says.as_str(), seen.reads.as_str(), seen.next.as_str());
-    let (mode, last) = (seen.mode, state.last_insert()?);
-    writeln!(
-        out,
-        "style {style}\nsays {says}\nreads {reads}\nmode {mode}\nthen {next}\nlast insert {:?}",
-        last.as_deref()
-    )?;
+    for (name, text) in [
+        ("style ", style),
+        ("\nsays ", seen.says.as_str()),
+        ("\nreads ", seen.reads.as_str()),
+        ("\nmode ", seen.mode),
+        ("\nthen ", seen.next.as_str()),
+    ] {
+        out.extend_from_slice(name.as_bytes())?;
+        out.extend_from_slice(text.as_bytes())?;
+    }
+    let last = state.last_insert()?;
+    writeln!(out, "\nlast insert {:?}", last.as_deref())?;
     Ok(())
 }
 
-/// Writes down how the last step ended, the line, with a mark at its cursor too, and the place in the history.
+/// Writes down how the last step ended, the line, with a mark at its cursor too, and whether it has one character alone.
 fn looks_at_line(state: &Editor<'_, '_>, outcome: &'static str, out: &mut Vec<u8>) -> Result<()> {
-    let (line, pos) = (state.line(), state.pos());
-    write!(out, "outcome {outcome}\nline ")?;
-    write_escaped(line, out)?;
-    out.write_all(b"\nshows ")?;
-    write_escaped(line.get(..pos).unwrap_or("?"), out)?;
-    out.write_all(b"^")?;
-    write_escaped(line.get(pos..).unwrap_or("?"), out)?;
-    let (len, place) = (line.len(), state.place());
-    writeln!(out, "\ncursor {pos}\nlen {len}\nplace {place}")?;
+    let line = state.line();
+    let (before, behind) = line.split_at_checked(state.pos()).unwrap_or(("?", "?"));
+    for (name, text) in [
+        ("outcome ", outcome),
+        ("\nline ", line),
+        ("\nshows ", before),
+        ("^", behind),
+    ] {
+        out.write_all(name.as_bytes())?;
+        write_escaped(text, out)?;
+    }
+    out.write_all(b"\n")?;
     if let Some(first) = line.chars().next()
-        && line.chars().all(|c| c == first)
+        && line.trim_start_matches(first).is_empty()
     {
         writeln!(out, "all {first}")?;
     }
     Ok(())
 }
 
-/// Writes down what is kept of the layout.
+/// Writes down the numbers of the cursor, the line and the history, how often the line was drawn in full, and what is
+/// kept of the layout.
 fn looks_at_layout(state: &Editor<'_, '_>, out: &mut Vec<u8>) -> Result<()> {
+    let (pos, len, place) = (state.pos(), state.line().len(), state.place());
+    let redraws = state.out().redraws();
     let layout = state.layout();
-    let (cursor, end, prompt) = (layout.cursor, layout.end, layout.prompt_size);
-    let (mode, trails) = (layout.grapheme_cluster_mode, layout.has_info);
-    writeln!(
-        out,
-        "at {} {}\nend {} {}\nprompt {} {} {mode:?}\ntrails {trails}",
-        cursor.row, cursor.col, end.row, end.col, prompt.row, prompt.col
-    )?;
-    if cursor == end {
-        out.write_all(b"at the end of what is drawn\n")?;
+    let (at, end, prompt) = (layout.cursor, layout.end, layout.prompt_size);
+    for (name, number) in [
+        ("cursor ", pos as u64),
+        ("\nlen ", len as u64),
+        ("\nplace ", place as u64),
+        ("\nredraws ", redraws),
+        ("\nat ", u64::from(at.row)),
+        (" ", u64::from(at.col)),
+        ("\nend ", u64::from(end.row)),
+        (" ", u64::from(end.col)),
+        ("\nprompt ", u64::from(prompt.row)),
+        (" ", u64::from(prompt.col)),
+    ] {
+        write!(out, "{name}{number}")?;
     }
+    writeln!(out, " {:?}", layout.grapheme_cluster_mode)?;
     Ok(())
 }
 
-/// Writes down the hint, whether there is a highlighter, how often the line was drawn in full, whose prompt stands there,
-/// and whether the cursor is at the end of the line.
+/// Writes down whether there is a highlighter, whose prompt stands there, whether the cursor is at the end of the line and
+/// of what is drawn, whether a text trails the line, and the hint.
 fn looks_at_hint(state: &Editor<'_, '_>, out: &mut Vec<u8>) -> Result<()> {
-    let (is_lit, redraws) = (state.highlighter().is_some(), state.out().redraws());
-    let (has_hint, hint) = (state.has_hint(), state.hint_text());
-    let (is_default, at_end) = (state.is_default_prompt(), state.is_cursor_at_end());
-    writeln!(
-        out,
-        "highlighter {is_lit}\nredraws {redraws}\nhint {has_hint} {hint:?}\nown prompt {is_default}\nbehind the line {at_end}"
-    )?;
+    let (is_lit, is_default) = (state.highlighter().is_some(), state.is_default_prompt());
+    let (has_hint, is_at_end) = (state.has_hint(), state.is_cursor_at_end());
+    let layout = state.layout();
+    let trails = layout.has_info;
+    let behind = if layout.cursor == layout.end {
+        "\nat the end of what is drawn"
+    } else {
+        ""
+    };
+    for (name, is_so) in [
+        ("highlighter", is_lit),
+        ("\nown prompt", is_default),
+        ("\nbehind the line", is_at_end),
+        ("\ntrails", trails),
+        ("\nhint", has_hint),
+    ] {
+        out.extend_from_slice(name.as_bytes())?;
+        out.extend_from_slice(if is_so { b" true" } else { b" false" })?;
+    }
+    writeln!(out, " {:?}{behind}", state.hint_text())?;
     Ok(())
 }
 
@@ -243,16 +278,17 @@ fn looks_at_calls(
     before: usize,
     out: &mut Vec<u8>,
 ) -> Result<()> {
-    let calls = letters(alloc, log, before)?;
-    let calls = if calls.is_empty() { "none" } else { &calls };
-    write!(out, "calls {calls}\nflags ")?;
-    for flag in flags {
-        out.write_all(if *flag { b"y" } else { b"n" })?;
-    }
-    out.write_all(if flags.is_empty() { b"none\n" } else { b"\n" })?;
     for call in log.lines().skip(before) {
         writeln!(out, "log {call}")?;
     }
+    out.write_all(b"flags ")?;
+    for flag in flags {
+        out.push(if *flag { b'y' } else { b'n' })?;
+    }
+    out.write_all(if flags.is_empty() { b"none\n" } else { b"\n" })?;
+    let calls = letters(alloc, log, before)?;
+    let calls = if calls.is_empty() { "none" } else { &calls };
+    writeln!(out, "calls {calls}")?;
     Ok(())
 }
 
@@ -262,14 +298,26 @@ pub fn differs<O: Write>(row: &Row<'_>, seen: &str, out: &mut O) -> Result<bool>
     let mut before = false;
     for field in row.wanted.split(" | ") {
         let field = if field == "empty" { "line " } else { field };
-        let outcome = seen.strip_prefix("outcome ").unwrap_or("");
-        let is_outcome = outcome.split('\n').next() == Some(field);
-        if !is_outcome && !seen.split('\n').any(|line| line == field) {
+        if !is_seen(seen, field) {
             shows(row, before, field, came(seen, field), out)?;
             before = true;
         }
     }
-    Ok(before | logs_differ(row, before, seen, out)?)
+    if let Some((next, came)) = log_difference(row.log.as_slice(), seen) {
+        shows(row, before, next, came, out)?;
+        before = true;
+    }
+    Ok(before)
+}
+
+/// Whether a value was seen, or is the word of the outcome.
+fn is_seen(seen: &str, field: &str) -> bool {
+    for line in seen.split('\n') {
+        if line.strip_prefix("outcome ").unwrap_or(line) == field {
+            return true;
+        }
+    }
+    false
 }
 
 /// The value that came of the kind that a field is of.
@@ -283,29 +331,22 @@ fn came<'s>(seen: &'s str, field: &str) -> &'s str {
     seen.split('\n').next().unwrap_or("")
 }
 
-/// Compares the calls of the renderer, where a row names them.
-fn logs_differ<O: Write>(row: &Row<'_>, before: bool, seen: &str, out: &mut O) -> Result<bool> {
-    if row.log.is_empty() {
-        return Ok(false);
+/// The first call of the renderer that is another than a row names, where it names any: what is wanted, and what came.
+fn log_difference<'w, 's>(log: &[&'w str], seen: &'s str) -> Option<(&'w str, &'s str)> {
+    if log.is_empty() {
+        return None;
     }
-    let mut wanted = row.log.as_slice().iter();
-    for line in seen.split('\n').filter(|line| line.starts_with("log ")) {
-        let next = match wanted.next() {
-            Some(next) => *next,
-            None => "no more calls",
-        };
-        if line != next {
-            shows(row, before, next, line, out)?;
-            return Ok(true);
+    let mut count = 0_usize;
+    for line in seen.split('\n') {
+        if line.starts_with("log ") {
+            let next = log.get(count).copied().unwrap_or("no more calls");
+            if line != next {
+                return Some((next, line));
+            }
+            count = count.saturating_add(1);
         }
     }
-    match wanted.next() {
-        Some(next) => {
-            shows(row, before, next, "no more calls", out)?;
-            Ok(true)
-        }
-        None => Ok(false),
-    }
+    Some((*log.get(count)?, "no more calls"))
 }
 
 /// Prints a value that differs, behind the row's name where it is the first.

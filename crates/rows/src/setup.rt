@@ -51,8 +51,8 @@ pub struct Setup<'t> {
     pub both_ways: bool,
     /// The line that the editor is made of: the text before its cursor, and the text behind it.
     pub line: (&'t str, &'t str),
-    /// What keys are bound to, a line for each binding.
-    pub bound: Vec<&'t str>,
+    /// What keys are bound to.
+    pub bound: Vec<(Event, Target)>,
 }
 
 impl<'t> Setup<'t> {
@@ -84,10 +84,7 @@ impl<'t> Setup<'t> {
             return self.parsed.push_line(alloc, line);
         };
         match name {
-            "bind" => {
-                self.bound.push(text)?;
-                Ok(true)
-            }
+            "bind" => self.binds(alloc, text),
             "screen" | "ring" | "dups" | "lines" => self.set_number(name, text),
             "hint" => {
                 self.hint = Some(tip(lasting(alloc, text)?));
@@ -97,6 +94,21 @@ impl<'t> Setup<'t> {
             "line" | "styled" | "lit" | "fails" | "cut" => Ok(self.set(name, text)),
             _ => self.parsed.push_line(alloc, line),
         }
+    }
+
+    /// Binds the keys of these names to what stands behind them. False where the text is of no such form.
+    fn binds(&mut self, alloc: Global, text: &str) -> Result<bool> {
+        let Some((names, target)) = text.split_once(" = ") else {
+            return Ok(false);
+        };
+        let Some(event) = event_named(alloc, names)? else {
+            return Ok(false);
+        };
+        let Some(target) = target_named(alloc, target)? else {
+            return Ok(false);
+        };
+        self.bound.push((event, target))?;
+        Ok(true)
     }
 
     /// Switches on or off what the setting of this name asks for. False where there is no such setting.
@@ -143,12 +155,13 @@ impl<'t> Setup<'t> {
             Some((name, message)) => (name, Some(message)),
             None => (text, None),
         };
-        self.verdict = match name {
-            "incomplete" => (false, false, message),
-            "valid" => (true, true, message),
-            "invalid" => (true, false, message),
+        let (is_whole, is_valid) = match name {
+            "incomplete" => (false, false),
+            "valid" => (true, true),
+            "invalid" => (true, false),
             _ => return false,
         };
+        self.verdict = (is_whole, is_valid, message);
         true
     }
 
@@ -187,28 +200,14 @@ impl<'t> Setup<'t> {
 #[derive(Drop)]
 pub enum Target {
     Does(Cmd),
-    Asks(Watcher),
-}
-
-/// The event of a binding, and what it is bound to. None where the line is of no such form.
-pub fn binding(alloc: Global, text: &str) -> Result<Option<(Event, Target)>> {
-    let Some((names, target)) = text.split_once(" = ") else {
-        return Ok(None);
-    };
-    let Some(target) = target_named(alloc, target)? else {
-        return Ok(None);
-    };
-    match event_named(alloc, names)? {
-        Some(event) => Ok(Some((event, target))),
-        None => Ok(None),
-    }
+    Asks(Box<Watcher>),
 }
 
 /// The command of a text, or the handler behind `asks`.
 fn target_named(alloc: Global, text: &str) -> Result<Option<Target>> {
     if let Some(handler) = text.strip_prefix("asks ") {
         return Ok(match watcher(handler) {
-            Some(watcher) => Some(Target::Asks(watcher)),
+            Some(watcher) => Some(Target::Asks(Box::new(alloc, watcher)?)),
             None => None,
         });
     }
@@ -274,20 +273,20 @@ pub fn keys_named(alloc: Global, names: &str) -> Result<Option<Vec<KeyEvent>>> {
 /// The handler of this name, with its numbers.
 fn watcher(text: &str) -> Option<Watcher> {
     let mut source = Source::new(text);
-    let watcher = match source.word()? {
+    let name = source.word()?;
+    let (first, second, third) = (source.word()?, source.word()?, source.word()?);
+    let (n, len) = (first.parse::<u16>().ok(), second.parse::<u16>().ok());
+    let last = third.parse::<u16>().ok();
+    let watcher = match name {
         "nothing" => Watcher::Nothing,
-        "count" => Watcher::ForCount(source.count()?, source.word()? == "forth"),
+        "count" => Watcher::ForCount(n?, second == "forth"),
         "at" => Watcher::At(
-            usize::from(source.count()?),
-            usize::from(source.count()?),
-            usize::from(source.count()?),
+            usize::from(n?),
+            usize::from(len?),
+            usize::from(last?),
             source.word()? == "hinted",
         ),
-        "sees" => Watcher::Sees(
-            source.word()? == "emacs",
-            source.word()? == "inserting",
-            usize::from(source.count()?),
-        ),
+        "sees" => Watcher::Sees(first == "emacs", second == "inserting", usize::from(last?)),
         "fails" => Watcher::Fails,
         _ => return None,
     };
