@@ -107,15 +107,15 @@ fn writes(rt: &impl Abort, alloc: Global, state: &Editor<'_, '_>) {
 #[test]
 fn is_written(rt: HostRuntime) {
     let alloc = rt.alloc();
-    let mut screen = Recorder::new(alloc, 80, false, 0);
-    let mut history = Shelf::new(alloc, 0);
-    let _ = history.add("one").expect(&rt, "no fault");
-    let _ = history.add("two").expect(&rt, "no fault");
-    let context = Context::new(&history);
     let prompt = (
         String::from_str(alloc, "> ").expect(&rt, "no fault"),
         String::from_str(alloc, "> ").expect(&rt, "no fault"),
     );
+    let mut history = Shelf::new(alloc, 0);
+    let _ = history.add("one").expect(&rt, "no fault");
+    let _ = history.add("two").expect(&rt, "no fault");
+    let mut screen = Recorder::new(alloc, 80, false, 0);
+    let context = Context::new(&history);
     let text = "日本";
     assert!(rt; text.is_char_boundary(3));
     let state = State::with_line(alloc, &mut screen, &prompt, None, context, text, 3).expect(

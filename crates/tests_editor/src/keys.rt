@@ -319,39 +319,41 @@ const COMBINED: &[Sets] = &[
 fn modifiers_are_sets(rt: HostRuntime) {
     for case in COMBINED {
         let (bits, a, b, both, common, either, first, lacks) = *case;
+        let mut set = a;
+        set.insert(b);
+        let inserted = set;
+        set.remove(b);
+        let removed = set;
+        set.toggle(both);
+        let found = [a | b, a & b, a ^ b, a - b, !a, inserted, removed, set];
+        let left = both - first;
         assert_eq!(rt;
-            (a | b, a & b, a ^ b, a - b, !a),
-            (both, common, either, first, lacks)
+            found,
+            [both, common, either, first, lacks, both, first, left]
         );
         let found = (a.contains(b), a.intersects(b), a.is_empty());
         assert_eq!(rt; found, (common == b, common != M::NONE, a == M::NONE));
         let found = (a.bits(), M::from_bits(bits), M::from_bits(bits | 1));
         assert_eq!(rt; found, (bits, Some(a), None));
-        let mut set = a;
-        set.insert(b);
-        assert_eq!(rt; set, both);
-        set.remove(b);
-        assert_eq!(rt; set, first);
-        set.toggle(both);
-        assert_eq!(rt; set, both - first);
     }
-    assert_eq!(rt; !M::from_bits_retain(0xf1), M::CTRL_ALT_SHIFT);
-    assert_eq!(rt;
-        (M::from_bits(16), M::empty(), M::all()),
-        (None, M::NONE, M::CTRL_ALT_SHIFT)
-    );
+    let found = (!M::from_bits_retain(0xf1), M::from_bits(16));
+    assert_eq!(rt; found, (M::CTRL_ALT_SHIFT, None));
+    assert_eq!(rt; (M::empty(), M::all()), (M::NONE, M::CTRL_ALT_SHIFT));
 }
 
 /// Equal events are one key of a map.
 #[test]
 fn of_a_map(rt: HostRuntime) {
-    let mut commands = HashMap::new(rt.alloc());
-    for (key, number) in [(KeyEvent::ctrl('A'), 1), (KeyEvent::alt('A'), 2)] {
-        let outcome: Result<_, _> = commands.insert(key, number);
-        let _ = outcome.expect(&rt, "no fault");
-    }
-    assert_eq!(rt; commands.get(&KeyEvent::from('\u{1}')).copied(), Some(1));
-    assert_eq!(rt; commands.get(&KeyEvent::from('A')).copied(), None);
+    let found = {
+        let mut commands = HashMap::new(rt.alloc());
+        for (key, number) in [(KeyEvent::ctrl('A'), 1), (KeyEvent::alt('A'), 2)] {
+            let outcome: Result<_, _> = commands.insert(key, number);
+            let _ = outcome.expect(&rt, "no fault");
+        }
+        let bound = commands.get(&KeyEvent::from('\u{1}')).copied();
+        (bound, commands.get(&KeyEvent::from('A')).copied())
+    };
+    assert_eq!(rt; found, (Some(1), None));
     let text = format!(in rt.alloc(); "{:?}", KeyEvent::ctrl('A')).expect(&rt, "no fault");
     assert_eq!(rt; text.as_str(), "KeyEvent(Char('A'), Modifiers(8))");
 }

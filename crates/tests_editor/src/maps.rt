@@ -111,23 +111,31 @@ const STEPS: &[Step] = &[
 /// Does a step. Where memory runs out, the number of nodes is as it was.
 fn takes(rt: &impl Abort, alloc: Global, bindings: &mut Bindings, step: &Step) -> Result<()> {
     let (does, on, wanted, nodes) = step;
-    let event = event(alloc, on)?;
     let before = bindings.nodes();
-    match does {
-        Starts => *bindings = Bindings::new(alloc),
-        Binds(n) => {
-            let outcome = bindings.insert(event, EventHandler::from(Cmd::SelfInsert(*n, 'x')));
-            let left = if outcome.is_ok() { *nodes } else { before };
-            assert_eq!(rt; bindings.nodes(), left);
-            assert_eq!(rt; number(outcome?.as_ref()), *wanted);
+    let (found, as_wanted) = match does {
+        Starts => {
+            *bindings = Bindings::new(alloc);
+            (None, true)
         }
-        Finds(begins) => assert_eq!(rt;
-            (number(bindings.get(&event)), bindings.begins(&event)),
-            (*wanted, *begins),
-            "{event:?}"
-        ),
-    }
-    assert_eq!(rt; bindings.nodes(), *nodes);
+        Binds(n) => {
+            let event = event(alloc, on)?;
+            let handler = EventHandler::from(Cmd::SelfInsert(*n, 'x'));
+            match bindings.insert(event, handler) {
+                Ok(old) => (number(old.as_ref()), true),
+                Err(error) => {
+                    assert_eq!(rt; bindings.nodes(), before);
+                    return Err(error);
+                }
+            }
+        }
+        Finds(begins) => {
+            let event = event(alloc, on)?;
+            let found = number(bindings.get(&event));
+            (found, bindings.begins(&event) == *begins)
+        }
+    };
+    let left = bindings.nodes();
+    assert_eq!(rt; (found, as_wanted, left), (*wanted, true, *nodes));
     Ok(())
 }
 
@@ -144,15 +152,16 @@ fn events_are_bound_and_found(rt: HostRuntime) {
 fn five_hundred_keys_share_a_node(rt: HostRuntime) {
     for front in ["", "X"] {
         let mut bindings = Bindings::new(rt.alloc());
-        let all = front.len().saturating_add(500);
-        for i in 0..500u16 {
-            let own = usize::from(i);
-            let nodes = front.len().saturating_add(own).saturating_add(1);
-            let step = (Binds(i), Keys(front, own, 1), None, nodes);
-            takes(&rt, rt.alloc(), &mut bindings, &step).expect(&rt, "no fault");
-        }
-        for i in 0..500u16 {
-            let step = (Finds(true), Keys(front, usize::from(i), 1), Some(i), all);
+        for i in 0..1000u16 {
+            let own = i % 500;
+            let (does, wanted) = if i < 500 {
+                (Binds(own), None)
+            } else {
+                (Finds(true), Some(own))
+            };
+            let nodes = front.len().saturating_add(usize::from(i.min(499)));
+            let on = Keys(front, usize::from(own), 1);
+            let step = (does, on, wanted, nodes.saturating_add(1));
             takes(&rt, rt.alloc(), &mut bindings, &step).expect(&rt, "no fault");
         }
     }
@@ -161,16 +170,22 @@ fn five_hundred_keys_share_a_node(rt: HostRuntime) {
 /// How many of forty keys are bound to 1, and how many to 2; or 0, where none are.
 type Bound = (usize, usize);
 
-/// How many keys are bound to a number, what is bound before that, and then. An empty map is another one.
-const FORTY: &[(usize, u16, Bound, Bound)] = &[
+/// How many keys are bound to a number, what is bound before that, and then. Where nothing is bound before, a new map is begun.
+type Binding = (usize, u16, Bound, Bound);
+
+const FORTY: &[Binding] = &[
     (3, 1, (0, 0), (3, 0)),
     (40, 2, (3, 0), (3, 40)),
     (40, 2, (0, 0), (0, 40)),
 ];
 
-/// These beginnings of forty keys are bound, and no other one.
-fn looked_at(rt: &impl Abort, alloc: Global, bindings: &mut Bindings, bound: &Bound) -> Result<()> {
-    let (first, second) = *bound;
+/// Binds a beginning of forty keys; where memory runs out, the map is as it was. What is bound then, and nothing else, is
+/// found.
+fn binds(rt: &impl Abort, alloc: Global, bindings: &mut Bindings, case: &Binding) -> Result<()> {
+    let (len, n, before, after) = case;
+    let step = (Binds(*n), Keys("", 0, *len), None, *len);
+    let outcome = takes(rt, alloc, bindings, &step);
+    let (first, second) = if outcome.is_ok() { *after } else { *before };
     let longest = first.max(second);
     for len in 0..41 {
         let wanted = match len {
@@ -183,21 +198,18 @@ fn looked_at(rt: &impl Abort, alloc: Global, bindings: &mut Bindings, bound: &Bo
         let step = (Finds(leads), Keys("", 0, len), wanted, longest);
         takes(rt, alloc, bindings, &step)?;
     }
-    Ok(())
+    outcome
 }
 
-/// Binds beginnings of forty keys. Where memory runs out, the map is as it was.
+/// Binds beginnings of forty keys.
 fn forty(rt: &impl Abort, alloc: Global) -> Result<()> {
     let mut bindings = Bindings::new(alloc);
-    for (len, n, before, after) in FORTY {
-        if *before == (0, 0) {
+    for case in FORTY {
+        let (first, second) = case.2;
+        if first == 0 && second == 0 {
             bindings = Bindings::new(alloc);
         }
-        let step = (Binds(*n), Keys("", 0, *len), None, *len);
-        let outcome = takes(rt, alloc, &mut bindings, &step);
-        let bound = if outcome.is_ok() { after } else { before };
-        looked_at(rt, alloc, &mut bindings, bound)?;
-        outcome?;
+        binds(rt, alloc, &mut bindings, case)?;
     }
     Ok(())
 }

@@ -71,21 +71,6 @@ fn count_keys(rt: &impl Abort, alloc: Global, text: &str) -> Vec<KeyEvent> {
     keys
 }
 
-/// A key as it is typed behind the keys of a count.
-fn typed(rt: &impl Abort, alloc: Global, digits: &str, way: &Way, key: KeyEvent) -> Typist {
-    let mut typist = Typist::new(alloc);
-    typist
-        .press(count_keys(rt, alloc, digits).as_slice())
-        .expect(rt, "no fault");
-    let outcome = match way {
-        Way::Second => typist.press(&[CONTROL_X, key]),
-        Way::Search => typist.press(&[key, KeyEvent(K::Char('é'), M::NONE)]),
-        _ => typist.press(&[key]),
-    };
-    outcome.expect(rt, "no fault");
-    typist
-}
-
 /// What a key means by the tables.
 fn meant(
     rt: &impl Abort,
@@ -106,6 +91,34 @@ fn meant(
     outcome.expect(rt, "no fault")
 }
 
+/// The command of a key where it is typed behind the keys of a count.
+fn commanded(
+    rt: &impl Abort,
+    alloc: Global,
+    state: &mut Editor<'_, '_>,
+    digits: &str,
+    way: &Way,
+    key: KeyEvent,
+) -> String {
+    let mut typist = Typist::new(alloc);
+    typist
+        .press(count_keys(rt, alloc, digits).as_slice())
+        .expect(rt, "no fault");
+    let outcome = match way {
+        Way::Second => typist.press(&[CONTROL_X, key]),
+        Way::Search => typist.press(&[key, KeyEvent(K::Char('é'), M::NONE)]),
+        _ => typist.press(&[key]),
+    };
+    outcome.expect(rt, "no fault");
+    let config = Config::builder(GraphemeClusterMode::Unicode).build();
+    let bindings = Bindings::new(alloc);
+    let mut input = InputState::new(&config, &bindings);
+    let command = state
+        .next_cmd(&mut input, &mut typist, true)
+        .expect(rt, "no fault");
+    format!(in alloc; "{command:?}").expect(rt, "no fault")
+}
+
 /// What comes of a key on a line: its meaning for a count that is handed over, or the command where it is typed.
 fn found(
     rt: &impl Abort,
@@ -116,13 +129,9 @@ fn found(
     count: &Counted,
 ) -> String {
     let (text, cursor, hint) = *line;
-    let mut typist = typed(rt, alloc, count.1, way, key);
-    let config = Config::builder(GraphemeClusterMode::Unicode).build();
-    let bindings = Bindings::new(alloc);
     let history = MemHistory::new(alloc);
     let mut screen = Recorder::new(alloc, 80, false, 0);
     let mut helper = Advisor::new(hint, (true, true, None), None);
-    let mut input = InputState::new(&config, &bindings);
     let advisor = Some(&mut helper);
     let context = Context::new(&history);
     assert!(rt; text.is_char_boundary(cursor));
@@ -138,12 +147,7 @@ fn found(
     state.hint().expect(rt, "no fault");
     match count.0 {
         Some(count) => meant(rt, alloc, &state, way, key, count),
-        None => {
-            let command = state
-                .next_cmd(&mut input, &mut typist, true)
-                .expect(rt, "no fault");
-            format!(in alloc; "{command:?}").expect(rt, "no fault")
-        }
+        None => commanded(rt, alloc, &mut state, count.1, way, key),
     }
 }
 
@@ -210,9 +214,9 @@ fn of_counts(rt: HostRuntime) {
         for key in others {
             count.push(*key);
         }
-        assert_eq!(rt; count.count(), Count { n, positive }, "{prompt}");
+        let found = count.count();
         let shown = count.prompt(rt.alloc()).expect(&rt, "no fault");
-        assert_eq!(rt; shown.as_str(), prompt);
+        assert_eq!(rt; (found, shown.as_str()), (Count { n, positive }, prompt));
     }
 }
 
@@ -243,30 +247,23 @@ fn of_count_keys_and_searches(rt: HostRuntime) {
         let vi = begins_count(EditMode::Vi, InputMode::Command, key);
         let inserting = begins_count(EditMode::Vi, InputMode::Insert, key);
         let replacing = begins_count(EditMode::Vi, InputMode::Replace, key);
-        let found = (
-            (emacs, continues_count(EditMode::Emacs, key)),
-            (vi, continues_count(EditMode::Vi, key)),
-            (inserting, replacing),
-        );
-        let wanted = (
-            (*begins, *goes_on),
-            (*vi_begins, *vi_goes_on),
-            (false, false),
-        );
+        let emacs_goes_on = continues_count(EditMode::Emacs, key);
+        let vi_continues = continues_count(EditMode::Vi, key);
+        let found = [emacs, emacs_goes_on, vi, vi_continues, inserting, replacing];
+        let wanted = [*begins, *goes_on, *vi_begins, *vi_goes_on, false, false];
         assert_eq!(rt; found, wanted, "{key:?}");
     }
-    assert_eq!(rt;
-        (
-            SearchKind::Forward.search('é'),
-            SearchKind::ForwardBefore.search('é'),
-            SearchKind::Backward.search('é'),
-            SearchKind::BackwardAfter.search('é'),
-        ),
-        (
-            CharSearch::Forward('é'),
-            CharSearch::ForwardBefore('é'),
-            CharSearch::Backward('é'),
-            CharSearch::BackwardAfter('é'),
-        )
-    );
+    let found = [
+        SearchKind::Forward.search('é'),
+        SearchKind::ForwardBefore.search('é'),
+        SearchKind::Backward.search('é'),
+        SearchKind::BackwardAfter.search('é'),
+    ];
+    let wanted = [
+        CharSearch::Forward('é'),
+        CharSearch::ForwardBefore('é'),
+        CharSearch::Backward('é'),
+        CharSearch::BackwardAfter('é'),
+    ];
+    assert_eq!(rt; found, wanted);
 }

@@ -44,7 +44,8 @@ pub fn executed(
 ) -> Option<Result<&'static str>> {
     let mut last = Ok("proceeds");
     for text in text.split("; ") {
-        last = match Source::new(text).command(alloc) {
+        let command = Source::new(text).command(alloc);
+        last = match command {
             Ok(Some(command)) => done(execute(command, state, input, kills, config)),
             Ok(None) => proceeds(call(alloc, state, input, kills, text)?),
             Err(error) => Err(error),
@@ -83,8 +84,10 @@ fn call(
             return Some(state.edit_yank(input, &text, anchor, n));
         }
         "edit_indent" => {
-            let (movement, amount) = (source.movement()?, source.amount()?);
-            return Some(state.edit_indent(&movement, amount, source.word()? == "back"));
+            let movement = source.movement()?;
+            let amount = source.word()?.parse().ok()?;
+            let is_back = source.word()? == "back";
+            return Some(state.edit_indent(&movement, amount, is_back));
         }
         "go" => return Some(goes(state, &source.movement()?)),
         "move_cursor_at_leftmost" => {
@@ -132,18 +135,12 @@ fn asks(state: &mut Editor<'_, '_>, name: &str) -> Option<Result<()>> {
         "repaint_min" => state.repaint(RefreshKind::Min),
         "clear_screen" => state.clear_screen(),
         "hint" => state.hint(),
-        "validate" => without_answer(state.validate()),
-        "last_insert" => without_answer(state.last_insert()),
+        "validate" => state.validate().and(Ok(())),
+        "last_insert" => state.last_insert().and(Ok(())),
         "move_cursor_to_end" => state.move_cursor_to_end(),
         _ => return None,
     };
     Some(outcome)
-}
-
-/// How a call ended, whatever its answer.
-fn without_answer<T: Drop>(outcome: Result<T>) -> Result<()> {
-    let _ = outcome?;
-    Ok(())
 }
 
 /// The kind of this name.
@@ -168,8 +165,8 @@ fn goes(state: &mut Editor<'_, '_>, movement: &Movement) -> Result<()> {
         Movement::BackwardWord(n, word) => state.edit_move_to_prev_word(*word, *n),
         Movement::ForwardWord(n, at, word) => state.edit_move_to_next_word(*at, *word, *n),
         Movement::ViCharSearch(n, search) => state.edit_move_to(*search, *n),
-        Movement::LineUp(n) => without_answer(state.edit_move_line_up(*n)),
-        Movement::LineDown(n) => without_answer(state.edit_move_line_down(*n)),
+        Movement::LineUp(n) => state.edit_move_line_up(*n).and(Ok(())),
+        Movement::LineDown(n) => state.edit_move_line_down(*n).and(Ok(())),
         _ => Ok(()),
     }
 }

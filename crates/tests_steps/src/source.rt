@@ -59,11 +59,6 @@ impl<'t> Source<'t> {
         self.word()?.parse().ok()
     }
 
-    /// The next number of columns of an indentation.
-    pub fn amount(&mut self) -> Option<u8> {
-        self.word()?.parse().ok()
-    }
-
     /// The next character, between single quotes.
     pub fn character(&mut self) -> Option<char> {
         let text = self.rest.strip_prefix('\'')?;
@@ -89,15 +84,6 @@ impl<'t> Source<'t> {
         match self.text() {
             Some(text) => unescape(alloc, text),
             None => Ok(None),
-        }
-    }
-
-    /// The next text behind `Some`, or none behind `None`.
-    fn some_text(&mut self) -> Option<Option<&'t str>> {
-        match self.word()? {
-            "None" => Some(None),
-            "Some" => Some(Some(self.text()?)),
-            _ => None,
         }
     }
 
@@ -145,21 +131,26 @@ impl<'t> Source<'t> {
 
     /// The next movement.
     pub fn movement(&mut self) -> Option<Movement> {
-        let movement = match self.word()? {
-            "WholeLine" => Movement::WholeLine,
-            "BeginningOfLine" => Movement::BeginningOfLine,
-            "EndOfLine" => Movement::EndOfLine,
-            "BackwardWord" => Movement::BackwardWord(self.count()?, self.word_kind()?),
-            "ForwardWord" => Movement::ForwardWord(self.count()?, self.at()?, self.word_kind()?),
-            "ViCharSearch" => Movement::ViCharSearch(self.count()?, self.search()?),
-            "ViFirstPrint" => Movement::ViFirstPrint,
-            "BackwardChar" => Movement::BackwardChar(self.count()?),
-            "ForwardChar" => Movement::ForwardChar(self.count()?),
-            "LineUp" => Movement::LineUp(self.count()?),
-            "LineDown" => Movement::LineDown(self.count()?),
-            "WholeBuffer" => Movement::WholeBuffer,
-            "BeginningOfBuffer" => Movement::BeginningOfBuffer,
-            "EndOfBuffer" => Movement::EndOfBuffer,
+        let name = self.word()?;
+        match name {
+            "WholeLine" => return Some(Movement::WholeLine),
+            "BeginningOfLine" => return Some(Movement::BeginningOfLine),
+            "EndOfLine" => return Some(Movement::EndOfLine),
+            "ViFirstPrint" => return Some(Movement::ViFirstPrint),
+            "WholeBuffer" => return Some(Movement::WholeBuffer),
+            "BeginningOfBuffer" => return Some(Movement::BeginningOfBuffer),
+            "EndOfBuffer" => return Some(Movement::EndOfBuffer),
+            _ => {}
+        }
+        let n = self.count()?;
+        let movement = match name {
+            "BackwardWord" => Movement::BackwardWord(n, self.word_kind()?),
+            "ForwardWord" => Movement::ForwardWord(n, self.at()?, self.word_kind()?),
+            "ViCharSearch" => Movement::ViCharSearch(n, self.search()?),
+            "BackwardChar" => Movement::BackwardChar(n),
+            "ForwardChar" => Movement::ForwardChar(n),
+            "LineUp" => Movement::LineUp(n),
+            "LineDown" => Movement::LineDown(n),
             _ => return None,
         };
         Some(movement)
@@ -175,6 +166,7 @@ impl<'t> Source<'t> {
         }
         match name {
             "Insert" | "Replace" | "ReplaceToBracket" => self.command_with_text(alloc, name),
+            "Dedent" | "Indent" | "Kill" | "Move" | "ViYankTo" => Ok(self.moved_command(name)),
             name => Ok(self.counted_command(name)),
         }
     }
@@ -186,18 +178,18 @@ impl<'t> Source<'t> {
             "Replace" => (None, self.movement()),
             _ => (None, None),
         };
-        let quoted = match name {
-            "Insert" => self.text().map(Some),
-            _ => self.some_text(),
+        // the text of an Insert stands there as it is, the others have `Some` or `None` in front
+        let front = match name {
+            "Insert" => Some("Some"),
+            _ => self.word(),
         };
-        let text = match quoted {
-            Some(Some(text)) => match unescape(alloc, text)? {
-                None => return Ok(None),
-                plain => plain,
-            },
-            Some(None) => None,
-            None => return Ok(None),
+        let text = match front {
+            Some("Some") => self.plain_text(alloc)?,
+            _ => None,
         };
+        if text.is_none() && front != Some("None") {
+            return Ok(None);
+        }
         Ok(match (name, count, movement, text) {
             ("Insert", Some(n), _, Some(text)) => Some(Cmd::Insert(n, text)),
             ("Replace", _, Some(movement), text) => Some(Cmd::Replace(movement, text)),
@@ -206,31 +198,47 @@ impl<'t> Source<'t> {
         })
     }
 
-    /// The command of this name, which has a count or a movement.
+    /// The command of this name, which has a movement alone.
+    fn moved_command(&mut self, name: &str) -> Option<Cmd> {
+        let movement = self.movement()?;
+        Some(match name {
+            "Dedent" => Cmd::Dedent(movement),
+            "Indent" => Cmd::Indent(movement),
+            "Kill" => Cmd::Kill(movement),
+            "Move" => Cmd::Move(movement),
+            _ => Cmd::ViYankTo(movement),
+        })
+    }
+
+    /// The command of this name, which has a count, a character, a side or a yes or no.
     fn counted_command(&mut self, name: &str) -> Option<Cmd> {
-        let command = match name {
-            "Dedent" => Cmd::Dedent(self.movement()?),
-            "Indent" => Cmd::Indent(self.movement()?),
-            "Kill" => Cmd::Kill(self.movement()?),
-            "Move" => Cmd::Move(self.movement()?),
-            "ViYankTo" => Cmd::ViYankTo(self.movement()?),
-            "Overwrite" => Cmd::Overwrite(self.character()?),
-            "ReplaceChar" => Cmd::ReplaceChar(self.count()?, self.character()?),
-            "SelfInsert" => Cmd::SelfInsert(self.count()?, self.character()?),
-            "TransposeWords" => Cmd::TransposeWords(self.count()?),
-            "Undo" => Cmd::Undo(self.count()?),
-            "Yank" => Cmd::Yank(self.count()?, self.anchor()?),
-            "LineUpOrPreviousHistory" => Cmd::LineUpOrPreviousHistory(self.count()?),
-            "LineDownOrNextHistory" => Cmd::LineDownOrNextHistory(self.count()?),
-            "AcceptOrInsertLine" => {
-                let _field = self.word()?;
-                Cmd::AcceptOrInsertLine {
-                    accept_in_the_middle: self.word()? == "true",
-                }
-            }
-            _ => return None,
+        if name == "AcceptOrInsertLine" {
+            let _field = self.word();
+            let accept_in_the_middle = self.word() == Some("true");
+            return Some(Cmd::AcceptOrInsertLine {
+                accept_in_the_middle,
+            });
+        }
+        // what a command has no use for is not read
+        let n = match name {
+            "Overwrite" => 1,
+            _ => self.count()?,
         };
-        Some(command)
+        let c = match name {
+            "Overwrite" | "ReplaceChar" | "SelfInsert" => self.character()?,
+            _ => ' ',
+        };
+        Some(match name {
+            "Overwrite" => Cmd::Overwrite(c),
+            "ReplaceChar" => Cmd::ReplaceChar(n, c),
+            "SelfInsert" => Cmd::SelfInsert(n, c),
+            "TransposeWords" => Cmd::TransposeWords(n),
+            "Undo" => Cmd::Undo(n),
+            "Yank" => Cmd::Yank(n, self.anchor()?),
+            "LineUpOrPreviousHistory" => Cmd::LineUpOrPreviousHistory(n),
+            "LineDownOrNextHistory" => Cmd::LineDownOrNextHistory(n),
+            _ => return None,
+        })
     }
 }
 

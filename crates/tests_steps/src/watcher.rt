@@ -44,35 +44,29 @@ impl ConditionalEventHandler for Watcher {
         positive: bool,
         ctx: &EventContext<'_>,
     ) -> Result<Option<Cmd>> {
-        match self {
-            Watcher::Nothing => Ok(None),
-            Watcher::ForCount(wanted, forth) => {
-                if n == *wanted && positive == *forth {
-                    return Ok(Some(Cmd::Insert(1, String::from_str(alloc, "k")?)));
-                }
-                Ok(Some(Cmd::Noop))
-            }
+        let is_met = match self {
+            Watcher::Nothing => false,
+            Watcher::ForCount(wanted, forth) => n == *wanted && positive == *forth,
             Watcher::At(count, len, pos, hinted) => {
-                let keys = count_of(evt);
                 let there = ctx.line().len() == *len && ctx.pos() == *pos;
-                if keys == *count && there && ctx.has_hint() == *hinted {
-                    return Ok(Some(Cmd::Insert(1, String::from_str(alloc, "k")?)));
-                }
-                Ok(None)
+                count_of(evt) == *count && there && ctx.has_hint() == *hinted
             }
             Watcher::Sees(emacs, inserting, len) => {
                 let style = matches!(ctx.mode(), EditMode::Emacs) == *emacs;
                 let mode = matches!(ctx.input_mode(), InputMode::Insert) == *inserting;
-                if style && mode && ctx.hint_text().unwrap_or("").len() == *len {
-                    return Ok(Some(Cmd::Insert(1, String::from_str(alloc, "k")?)));
-                }
-                Ok(None)
+                style && mode && ctx.hint_text().unwrap_or("").len() == *len
             }
-            Watcher::Fails => Err(ReadlineError::Io(Error::new(
-                ErrorKind::PermissionDenied,
-                REFUSED,
-            ))),
+            Watcher::Fails => {
+                return Err(ReadlineError::Io(Error::new(ErrorKind::PermissionDenied, REFUSED)));
+            }
+        };
+        if is_met {
+            return Ok(Some(Cmd::Insert(1, String::from_str(alloc, "k")?)));
         }
+        Ok(match self {
+            Watcher::ForCount(..) => Some(Cmd::Noop),
+            _ => None,
+        })
     }
 }
 

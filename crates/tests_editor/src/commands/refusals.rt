@@ -20,7 +20,7 @@ use tests_stand_ins::recorder::Recorder;
 use tests_steps::calls::{Editor, starts};
 
 /// What the editor stands on beside its line: nothing, a history of the line `one`, a hint, or a helper that takes no line.
-#[derive(Clone, Copy, PartialEq, Eq)]
+#[derive(Clone, Copy)]
 enum With {
     Nothing,
     History,
@@ -45,25 +45,26 @@ fn halves<'l>(rt: &impl Abort, marked: &'l str) -> (&'l str, &'l str) {
 fn tries(rt: &impl Abort, alloc: Global, case: &Case) -> Result<()> {
     let with = case.0;
     let mut history = Shelf::new(alloc, 0);
-    if with == History {
+    if matches!(with, With::History) {
         let _ = history.add("one")?;
     }
     let lines = history.len();
-    let mut screen = Recorder::new(alloc, 80, false, 0);
-    let hint = if with == Hint { Some("日") } else { None };
-    let verdict = if with == Refusal {
-        (true, false, Some("no"))
-    } else {
-        (true, true, None)
-    };
-    let mut helper = Advisor::new(hint, verdict, None);
-    let context = Context::new(&history);
     let prompt = (
         String::from_str(alloc, "> ")?,
         String::from_str(alloc, "> ")?,
     );
-    let mut state = State::new(alloc, &mut screen, &prompt, Some(&mut helper), context)?;
-    let outcome = leaves(rt, alloc, case, &mut state);
+    let (hint, verdict) = match with {
+        With::Hint => (Some("日"), (true, true, None)),
+        With::Refusal => (None, (true, false, Some("no"))),
+        _ => (None, (true, true, None)),
+    };
+    let mut screen = Recorder::new(alloc, 80, false, 0);
+    let mut helper = Advisor::new(hint, verdict, None);
+    let context = Context::new(&history);
+    let outcome = match State::new(alloc, &mut screen, &prompt, Some(&mut helper), context) {
+        Ok(mut state) => leaves(rt, alloc, case, &mut state),
+        Err(error) => Err(error),
+    };
     assert_eq!(rt; history.len(), lines);
     outcome
 }
@@ -71,13 +72,16 @@ fn tries(rt: &impl Abort, alloc: Global, case: &Case) -> Result<()> {
 /// Does the steps; where memory runs out in one of them, looks at what is left.
 fn leaves(rt: &impl Abort, alloc: Global, case: &Case, state: &mut Editor<'_, '_>) -> Result<()> {
     let (_, start, steps, after) = case;
-    let mut kills = KillRing::new(alloc, 60);
     let (before, behind) = halves(rt, start);
     begins(alloc, state, before, behind)?;
-    for step in steps.split("; ") {
-        if let Err(error) = does(rt, alloc, state, &mut kills, step) {
-            return settled(rt, alloc, state, &mut kills, error);
-        }
+    let mut kills = KillRing::new(alloc, 60);
+    let refused = match does(rt, alloc, state, &mut kills, steps) {
+        Ok(()) => None,
+        Err(error) => Some(matches!(error, ReadlineError::Memory)),
+    };
+    if let Some(is_memory) = refused {
+        assert!(rt; is_memory);
+        return settled(rt, alloc, state, &mut kills);
     }
     assert_eq!(rt; at(rt, state), halves(rt, after));
     Ok(())
@@ -105,19 +109,23 @@ fn settled(
     alloc: Global,
     state: &mut Editor<'_, '_>,
     kills: &mut KillRing,
-    error: ReadlineError,
 ) -> Result<()> {
-    assert!(rt; matches!(error, ReadlineError::Memory));
     let _ = at(rt, state);
     let len = state.line().len();
+    let status = undone(alloc, state, kills)?;
+    assert_eq!(rt; status, Status::Proceed);
+    let _ = at(rt, state);
+    let left = state.line().len();
+    assert!(rt; left == 0 || left == len);
+    Ok(())
+}
+
+/// Takes back all changes.
+fn undone(alloc: Global, state: &mut Editor<'_, '_>, kills: &mut KillRing) -> Result<Status> {
     let config = Config::new(GraphemeClusterMode::Unicode);
     let bindings = Bindings::new(alloc);
     let input = InputState::new(&config, &bindings);
-    let status = execute(Cmd::Undo(65535), state, &input, kills, &config)?;
-    assert_eq!(rt; status, Status::Proceed);
-    let _ = at(rt, state);
-    assert!(rt; state.line().is_empty() || state.line().len() == len);
-    Ok(())
+    execute(Cmd::Undo(65535), state, &input, kills, &config)
 }
 
 /// Edits, commands of other kinds, moves, and the calls of the state that no command makes as they stand.
@@ -255,16 +263,19 @@ fn of_steps(rt: HostRuntime) -> std::result::Result<(), Fail> {
 
 /// A state of a line to begin with, its cursor behind so many bytes.
 fn is_made(rt: &impl Abort, alloc: Global, text: &str, cursor: usize) -> Result<()> {
-    let history = Shelf::new(alloc, 0);
-    let mut screen = Recorder::new(alloc, 80, false, 0);
-    let context = Context::new(&history);
     assert!(rt; text.is_char_boundary(cursor));
+    let wanted = (&text[..cursor], &text[cursor..]);
     let prompt = (
         String::from_str(alloc, "> ")?,
         String::from_str(alloc, "> ")?,
     );
-    let state = State::with_line(alloc, &mut screen, &prompt, None, context, text, cursor)?;
-    assert_eq!(rt; at(rt, &state), (&text[..cursor], &text[cursor..]));
+    let history = Shelf::new(alloc, 0);
+    let mut screen = Recorder::new(alloc, 80, false, 0);
+    let context = Context::new(&history);
+    match State::with_line(alloc, &mut screen, &prompt, None, context, text, cursor) {
+        Ok(state) => assert_eq!(rt; at(rt, &state), wanted),
+        Err(error) => return Err(error),
+    }
     Ok(())
 }
 

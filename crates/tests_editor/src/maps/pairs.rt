@@ -62,17 +62,16 @@ fn agrees(
     own: u16,
 ) {
     let (wanted, begins) = looked_up(pairs, &event);
-    assert_eq!(rt;
-        (number(bindings.get(&event)), bindings.begins(&event)),
-        (wanted, begins),
-        "{event:?}"
-    );
+    let found = number(bindings.get(&event));
+    let is_begun = bindings.begins(&event);
+    assert_eq!(rt; (found, is_begun), (wanted, begins), "{event:?}");
     if own % 3 == 0 {
         let copy = event.clone(alloc).expect(rt, "no fault");
         pairs.push((copy, own)).expect(rt, "no fault");
         let handler = EventHandler::from(Cmd::SelfInsert(own, 'x'));
         let old = bindings.insert(event, handler).expect(rt, "no fault");
-        assert_eq!(rt; number(old.as_ref()), wanted);
+        let found = number(old.as_ref());
+        assert_eq!(rt; found, wanted);
     }
 }
 
