@@ -1,11 +1,11 @@
 //! The queue of keys, by what it gives.
 
+use crate::holds;
 use line_config::ReadlineError;
 use line_keys::cmd::Cmd;
 use line_keys::keys::{KeyCode, KeyEvent, Modifiers};
 use line_keys::raw_reader::RawReader;
 use line_screen::KeyQueue;
-use std::process::Abort;
 
 const CTRL_A: KeyEvent = KeyEvent(KeyCode::Char('A'), Modifiers::CTRL);
 
@@ -37,40 +37,38 @@ enum Call {
     BindsNot(KeyEvent),
 }
 
-fn called(rt: &impl Abort, queue: &mut KeyQueue, call: &Call) {
+/// Makes a call. Whether it reads, fails or has what is wanted.
+fn called(queue: &mut KeyQueue, call: &Call) -> bool {
     match call {
-        Call::Press(key) => queue.press(*key).expect(rt, "no fault"),
-        Call::Type(text) => queue.type_text(text).expect(rt, "no fault"),
-        Call::Paste(text) => queue.paste(text).expect(rt, "no fault"),
-        Call::Mark => queue.mark(),
-        Call::Rewind => queue.rewind(),
-        Call::ReadsKey(key) => {
-            let read = queue.next_key(false).expect(rt, "no fault");
-            assert_eq!(rt; read, *key);
+        Call::Press(key) => queue.press(*key).is_ok(),
+        Call::Type(text) => queue.type_text(text).is_ok(),
+        Call::Paste(text) => queue.paste(text).is_ok(),
+        Call::Mark => {
+            queue.mark();
+            true
         }
-        Call::ReadsChar(c) => assert_eq!(rt; queue.next_char().expect(rt, "no fault"), *c),
-        Call::ReadsPasted(text) => {
-            let pasted = queue.read_pasted_text().expect(rt, "no fault");
-            assert_eq!(rt; pasted.as_str(), *text);
+        Call::Rewind => {
+            queue.rewind();
+            true
         }
-        Call::FailsKey => assert!(rt; matches!(queue.next_key(true), Err(ReadlineError::Io(_)))),
-        Call::FailsChar => assert!(rt; matches!(queue.next_char(), Err(ReadlineError::Io(_)))),
-        Call::FailsPasted => {
-            assert!(rt; matches!(queue.read_pasted_text(), Err(ReadlineError::Io(_))));
-        }
+        Call::ReadsKey(key) => matches!(queue.next_key(false), Ok(read) if read == *key),
+        Call::ReadsChar(c) => matches!(queue.next_char(), Ok(read) if read == *c),
+        Call::ReadsPasted(text) => match queue.read_pasted_text() {
+            Ok(pasted) => pasted.as_str() == *text,
+            Err(_) => false,
+        },
+        Call::FailsKey => matches!(queue.next_key(true), Err(ReadlineError::Io(_))),
+        Call::FailsChar => matches!(queue.next_char(), Err(ReadlineError::Io(_))),
+        Call::FailsPasted => matches!(queue.read_pasted_text(), Err(ReadlineError::Io(_))),
         Call::Ends => {
-            assert!(rt; matches!(queue.next_key(false), Err(ReadlineError::Eof)));
-            assert!(rt; matches!(queue.next_char(), Err(ReadlineError::Eof)));
-            assert!(rt; matches!(queue.read_pasted_text(), Err(ReadlineError::Eof)));
+            matches!(queue.next_key(false), Err(ReadlineError::Eof))
+                && matches!(queue.next_char(), Err(ReadlineError::Eof))
+                && matches!(queue.read_pasted_text(), Err(ReadlineError::Eof))
         }
-        Call::Has(len) => assert_eq!(rt; (queue.len(), queue.is_empty()), (*len, *len == 0)),
-        Call::Interrupts(key) => {
-            assert!(rt; matches!(queue.find_binding(key), Some(Cmd::Interrupt)));
-        }
-        Call::EndsInput(key) => {
-            assert!(rt; matches!(queue.find_binding(key), Some(Cmd::EndOfFile)));
-        }
-        Call::BindsNot(key) => assert!(rt; queue.find_binding(key).is_none()),
+        Call::Has(len) => queue.len() == *len && queue.is_empty() == (*len == 0),
+        Call::Interrupts(key) => matches!(queue.find_binding(key), Some(Cmd::Interrupt)),
+        Call::EndsInput(key) => matches!(queue.find_binding(key), Some(Cmd::EndOfFile)),
+        Call::BindsNot(key) => queue.find_binding(key).is_none(),
     }
 }
 
@@ -217,8 +215,9 @@ fn gives_what_was_handed_over(rt: HostRuntime) {
             KeyQueue::without_bindings(rt.alloc())
         };
         for call in *calls {
-            called(&rt, &mut queue, call);
+            let is_so = called(&mut queue, call);
+            holds(&rt, is_so, "a call", queue.len());
         }
-        assert_eq!(rt; queue.failures(), *failures);
+        holds(&rt, queue.failures() == *failures, "failures", calls.len());
     }
 }

@@ -2,6 +2,9 @@
 #![tactic(auto)]
 
 #[cfg(test)]
+use std::process::Abort;
+
+#[cfg(test)]
 mod by_keys;
 #[cfg(test)]
 mod caller;
@@ -19,3 +22,9 @@ mod programs;
 mod read_line;
 #[cfg(test)]
 mod scripts;
+
+/// It holds in this case, of which this number tells more.
+#[cfg(test)]
+fn holds(rt: &impl Abort, is_so: bool, case: &str, number: usize) {
+    assert!(rt; is_so, "{case:?} {number}");
+}

@@ -1,5 +1,6 @@
 //! Where texts end on a screen.
 
+use crate::holds;
 use line_buffer::{LineBuffer, Position, Unit};
 use line_screen::{KeyQueue, Plain, measured};
 use line_state::Renderer;
@@ -56,11 +57,8 @@ fn puts_clusters_on_rows(rt: HostRuntime) {
             col: *col,
         };
         let place = measured(*columns, text, origin);
-        assert_eq!(rt;
-            (place.row, place.col),
-            *end,
-            "{text:?} on {columns} columns"
-        );
+        let is_so = (place.row, place.col) == *end;
+        holds(&rt, is_so, text, usize::from(*columns));
     }
 }
 
@@ -98,15 +96,9 @@ fn measures_a_line_once(rt: HostRuntime) {
         let screen: Plain<KeyQueue> = Plain::new(rt.alloc(), *columns);
         let line = LineBuffer::init(rt.alloc(), text, *pos).expect(&rt, "no fault");
         let layout = screen.compute_layout(Position { row: 0, col: 2 }, true, &line, *info);
-        let found = (
-            (layout.cursor.row, layout.cursor.col),
-            (layout.end.row, layout.end.col),
-            (layout.default_prompt, layout.has_info),
-        );
-        assert_eq!(rt;
-            found,
-            (*cursor, *end, (true, info.is_some())),
-            "{pos} in {text:?} on {columns} columns"
-        );
+        let is_placed = (layout.cursor.row, layout.cursor.col) == *cursor;
+        let is_ended = (layout.end.row, layout.end.col) == *end;
+        let is_told = layout.default_prompt && layout.has_info == info.is_some();
+        holds(&rt, is_placed && is_ended && is_told, text, *pos);
     }
 }

@@ -1,5 +1,6 @@
 //! The screen, by what it shows.
 
+use crate::holds;
 use line_buffer::{LineBuffer, Position, Unit};
 use line_screen::{KeyQueue, Plain};
 use line_state::Renderer;
@@ -113,8 +114,9 @@ fn keeps_what_it_shows(rt: HostRuntime) {
             called(&rt, rt.alloc(), &mut screen, call);
         }
         let cursor = screen.cursor();
-        assert_eq!(rt; (screen.text(), (cursor.row, cursor.col)), (*text, *place));
-        assert_eq!(rt; (screen.prompt(), screen.hint()), (*prompt, *hint));
-        assert_eq!(rt; (screen.redraws(), screen.get_columns()), (*redraws, 10));
+        let is_shown = screen.text() == *text && (cursor.row, cursor.col) == *place;
+        let is_beside = screen.prompt() == *prompt && screen.hint() == *hint;
+        let is_drawn = screen.redraws() == *redraws && screen.get_columns() == 10;
+        holds(&rt, is_shown && is_beside && is_drawn, text, calls.len());
     }
 }

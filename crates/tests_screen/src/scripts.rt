@@ -3,6 +3,7 @@
 mod names;
 mod script;
 
+use crate::holds;
 use line_buffer::Position;
 use line_script::play;
 use line_script::report::{Outcome, Report};
@@ -15,12 +16,12 @@ type Case = (&'static str, &'static str, u8);
 
 /// Plays a script, at once and byte by byte: each prints the same and ends with the same status.
 fn prints(rt: &impl Abort, alloc: Global, case: Case) {
+    prints_by_bytes(rt, alloc, case);
     let (script, printed, status) = case;
     let mut out = Vec::new(alloc);
     let ended = play(alloc, script.as_bytes(), &mut out);
-    let shown = str::from_utf8(&out).expect(rt, "a text");
-    assert_eq!(rt; (shown, ended), (printed, status), "{script}");
-    prints_by_bytes(rt, alloc, case);
+    let is_so = out.as_slice() == printed.as_bytes() && ended == status;
+    holds(rt, is_so, script, usize::from(ended));
 }
 
 /// Each outcome, bad lines, and what stands behind a submit, which has to be good too.
@@ -63,6 +64,15 @@ fn prints_what_became_of_the_line(rt: HostRuntime) {
     }
 }
 
+/// Writes so many numbers from 1 on, each between two texts.
+fn numbered(rt: &impl Abort, alloc: Global, count: usize, before: &str, behind: &str) -> Vec<u8> {
+    let mut script = Vec::new(alloc);
+    for number in 1..=count {
+        write!(script, "{before}{number}{behind}").expect(rt, "no fault");
+    }
+    script
+}
+
 /// How many numbers from 1 on are killed, each by itself; how many steps back follow a yank; and what is printed. The ring has
 /// 60 slots: the 61st kill takes the place of the first, and the 60th step comes back to where it began.
 const RING: &[(usize, usize, &str)] = &[
@@ -92,18 +102,15 @@ const RING: &[(usize, usize, &str)] = &[
 fn keeps_sixty_killed_texts(rt: HostRuntime) {
     let alloc = rt.alloc();
     for (kills, turns, printed) in RING {
-        let mut script = Vec::new(alloc);
-        for number in 1..=*kills {
-            write!(script, "type {number}\nkey C-u\n").expect(&rt, "no fault");
-        }
-        writeln!(script, "key C-y").expect(&rt, "no fault");
-        for _ in 0..*turns {
-            writeln!(script, "key M-y").expect(&rt, "no fault");
+        let mut script = numbered(&rt, alloc, *kills, "type ", "\nkey C-u\n");
+        {
+            let steps = "key M-y\n".repeat(alloc, *turns).expect(&rt, "no fault");
+            write!(script, "key C-y\n{steps}").expect(&rt, "no fault");
         }
         let mut out = Vec::new(alloc);
         let ended = play(alloc, script.as_slice(), &mut out);
-        let shown = str::from_utf8(&out).expect(&rt, "a text");
-        assert_eq!(rt; (shown, ended), (*printed, 1), "{kills} {turns}");
+        let is_so = out.as_slice() == printed.as_bytes() && ended == 1;
+        holds(&rt, is_so, printed, *kills);
     }
 }
 
@@ -119,10 +126,8 @@ fn takes_no_refused_allocation_for_a_bad_line(rt: HostRuntime) {
     for script in GOOD {
         let mut out = Vec::new(rt.alloc());
         let ended = play(rt.alloc(), script.as_bytes(), &mut out);
-        assert!(rt;
-            ended < 4 && !out.starts_with(b"bad"),
-            "{ended} of {script}"
-        );
+        let is_good = ended < 4 && !out.starts_with(b"bad");
+        holds(&rt, is_good, script, usize::from(ended));
     }
 }
 
@@ -153,7 +158,7 @@ fn is_cut(rt: &impl Abort, alloc: Global, script: &'static str, at: usize, at_on
         fails: true,
     };
     let ended = play(alloc, input, &mut out);
-    assert_eq!(rt; (ended, out.len()), (3, 0), "{script} at {at}");
+    holds(rt, ended == 3 && out.is_empty(), script, at);
 }
 
 /// Scripts that are good or bad by where they are cut.
@@ -224,11 +229,8 @@ fn prints_by_bytes(rt: &impl Abort, alloc: Global, case: Case) {
         flushes: true,
     };
     let ended = play(alloc, input, &mut out);
-    assert_eq!(rt;
-        (out.bytes.as_slice(), ended),
-        (printed.as_bytes(), status),
-        "{script}"
-    );
+    let is_so = out.bytes.as_slice() == printed.as_bytes() && ended == status;
+    holds(rt, is_so, script, usize::from(ended));
 }
 
 /// How each of the six lines begins.
@@ -238,9 +240,7 @@ const HEADS: &[&str] = &["outcome ", "line ", "cursor ", "place ", "at ", "redra
 fn is_beginning(printed: &str) -> bool {
     let mut lines = printed.lines();
     for head in HEADS {
-        let Some(line) = lines.next() else {
-            return true;
-        };
+        let line = lines.next().unwrap_or("");
         if !line.starts_with(head) {
             return head.starts_with(line) && lines.next().is_none();
         }
@@ -281,7 +281,7 @@ fn prints_a_beginning_without_memory(rt: HostRuntime) {
         } else {
             (shown, ended) == (*whole, *status)
         };
-        assert!(rt; is_right, "{ended}, {shown:?} of {script}");
+        holds(&rt, is_right, script, usize::from(ended));
     }
 }
 
@@ -320,11 +320,8 @@ fn faults(
     } else {
         status
     };
-    assert_eq!(rt;
-        (out.bytes.as_slice(), ended),
-        (&whole.as_bytes()[..printed], wanted),
-        "{failing}"
-    );
+    let is_so = out.bytes.as_slice() == &whole.as_bytes()[..printed] && ended == wanted;
+    holds(rt, is_so, script, failing);
 }
 
 /// Which writes fail, from one on or that one alone, and whether a flush does.
@@ -359,23 +356,8 @@ const OUTCOMES: &[(Outcome, &str)] = &[
 fn names_each_outcome(rt: HostRuntime) {
     for (outcome, name) in OUTCOMES {
         let shown = format!(in rt.alloc(); "{outcome}").expect(&rt, "no fault");
-        assert_eq!(rt; shown.as_str(), *name);
+        holds(&rt, shown.as_str() == *name, name, 0);
     }
-}
-
-fn writes(rt: &impl Abort, alloc: Global, case: (&str, &str)) {
-    let (line, printed) = case;
-    let report = Report {
-        outcome: Outcome::Eof,
-        line,
-        cursor: 3,
-        place: 7,
-        at: Position { row: 2, col: 5 },
-        redraws: 9,
-    };
-    let mut out = Vec::new(alloc);
-    report.write_to(&mut out).expect(rt, "no fault");
-    assert_eq!(rt; out.as_slice(), printed.as_bytes(), "{line:?}");
 }
 
 const LINES: &[(&str, &str)] = &[
@@ -396,7 +378,17 @@ const LINES: &[(&str, &str)] = &[
 
 #[test]
 fn escapes_the_line(rt: HostRuntime) {
-    for case in LINES {
-        writes(&rt, rt.alloc(), *case);
+    for (line, printed) in LINES {
+        let report = Report {
+            outcome: Outcome::Eof,
+            line,
+            cursor: 3,
+            place: 7,
+            at: Position { row: 2, col: 5 },
+            redraws: 9,
+        };
+        let mut out = Vec::new(rt.alloc());
+        report.write_to(&mut out).expect(&rt, "no fault");
+        holds(&rt, out.as_slice() == printed.as_bytes(), line, 0);
     }
 }

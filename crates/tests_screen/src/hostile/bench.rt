@@ -21,7 +21,7 @@ use tests_parties::guide::Guide;
 use tests_parties::shelf::Shelf;
 
 /// The style of Emacs, and two modes of Vi.
-#[derive(Clone, Copy, Debug, PartialEq, Eq)]
+#[derive(Clone, Copy, Debug)]
 pub(crate) enum Mode {
     Emacs,
     Insert,
@@ -118,7 +118,7 @@ fn key(c: char, mods: M) -> KeyEvent {
 }
 
 /// A key, or a pasted text with the mark before it.
-#[derive(Clone, Copy, Debug)]
+#[derive(Clone, Copy)]
 pub(crate) enum Item {
     Key(KeyEvent),
     Paste(&'static str),
@@ -134,9 +134,11 @@ pub(crate) fn items(rt: &impl Abort, alloc: Global, text: &str) -> Vec<Item> {
     items
 }
 
-/// What keys are bound to. A text that is put again is the one that came in last, and a yanked one comes behind the cursor.
+/// What keys are bound to. A move goes to the line's beginning, a text that is put again is the one that came in last, and a yanked
+/// one comes behind the cursor.
+#[derive(Clone, Copy)]
 pub(crate) enum To {
-    Moves(Movement),
+    Moves,
     PutsAgain,
     Undoes(RepeatCount),
     Yanks(RepeatCount),
@@ -187,17 +189,26 @@ impl Desk {
     fn bindings(&self, rt: &impl Abort, alloc: Global) -> Bindings {
         let mut bindings = Bindings::new(alloc);
         for (typed, to) in self.bound {
-            let command = match to {
-                To::Moves(movement) => Cmd::Move(movement.clone().expect(rt, "no fault")),
+            let event = Event::KeySeq(keys(alloc, typed).expect(rt, "no fault"));
+            let handler = EventHandler::Simple(match to {
+                To::Moves => Cmd::Move(Movement::BeginningOfLine),
                 To::PutsAgain => Cmd::Replace(Movement::ForwardChar(0), None),
                 To::Undoes(n) => Cmd::Undo(*n),
                 To::Yanks(n) => Cmd::Yank(*n, Anchor::After),
-            };
-            let event = Event::KeySeq(keys(alloc, typed).expect(rt, "no fault"));
-            let handler = EventHandler::Simple(command);
+            });
             let _ = bindings.insert(event, handler).expect(rt, "no fault");
         }
         bindings
+    }
+
+    /// What was killed before.
+    fn kills(&self, rt: &impl Abort, alloc: Global) -> KillRing {
+        let mut kills = KillRing::new(alloc, 60);
+        if !self.killed.is_empty() {
+            let killed = kills.kill(self.killed, Side::Append);
+            killed.expect(rt, "no fault");
+        }
+        kills
     }
 
     /// A history of its lines, of which no call fails.
@@ -223,7 +234,7 @@ impl Desk {
 
 /// How items are read: by a run; by turns; by turns where they come one by one; or where so many come first. Where a phrase is cut
 /// in turns, its items are read again.
-#[derive(Clone, Copy, Debug, PartialEq, Eq)]
+#[derive(Clone, Copy)]
 pub(crate) enum Way {
     Run,
     Turns,
@@ -275,6 +286,42 @@ pub(crate) fn ended(outcome: &Result<()>) -> &'static str {
 /// An editor of which a call may fail.
 pub(crate) type Editor<'out, 'prompt, W> = State<'out, 'prompt, W, Guide, &'static str, Shelf>;
 
+/// What an editor shows: its line and the cursor, the place in the history, whether there is a hint and what it completes the line
+/// with, and the kept layout.
+#[derive(Clone, Copy, PartialEq)]
+pub(crate) struct Look<'s> {
+    pub(crate) text: &'s str,
+    pub(crate) pos: usize,
+    pub(crate) place: usize,
+    has_hint: bool,
+    hint: Option<&'s str>,
+    prompt_end: Position,
+    pub(crate) cursor: Position,
+    end: Position,
+    has_info: bool,
+    default_prompt: bool,
+    mode: GraphemeClusterMode,
+}
+
+/// What an editor shows, and its screen.
+pub(crate) fn looks<'s, W: Renderer>(state: &'s Editor<'_, '_, W>) -> (Look<'s>, &'s W) {
+    let layout = state.layout();
+    let look = Look {
+        text: state.line(),
+        pos: state.pos(),
+        place: state.place(),
+        has_hint: state.has_hint(),
+        hint: state.hint_text(),
+        prompt_end: layout.prompt_size,
+        cursor: layout.cursor,
+        end: layout.end,
+        has_info: layout.has_info,
+        default_prompt: layout.default_prompt,
+        mode: layout.grapheme_cluster_mode,
+    };
+    (look, state.out())
+}
+
 /// Lets an editor do its work, and returns what is left. What is looked at on the way: after each turn the cursor is on a
 /// boundary, the place within the history, and the redraws within their bound; after one that proceeds, and after each command,
 /// the layout is a full redraw's and the screen shows the line; a run or a turn fails where the reader counts a failure. At the
@@ -310,26 +357,31 @@ fn sits(
     state: Editor<'_, '_, Plain<KeyQueue>>,
     work: Work<'_>,
 ) -> Left {
-    let config = desk.config();
     let bindings = desk.bindings(rt, alloc);
+    let config = desk.config();
+    let input = InputState::new(&config, &bindings);
     let mut bench = Bench {
         alloc,
         desk: *desk,
         state,
-        input: InputState::new(&config, &bindings),
+        input,
         keys: KeyQueue::new(alloc),
-        kills: KillRing::new(alloc, 60),
+        kills: desk.kills(rt, alloc),
         config,
         given: 0,
         amiss: "",
     };
-    bench.is_laid(rt);
-    let end = bench.does(rt, work);
-    bench.leaves(rt, end)
+    bench.does(rt, work)
 }
+
+/// Where a prompt begins.
+const ORIGIN: Position = Position { row: 0, col: 0 };
 
 /// What is amiss where the line is not drawn as in a full redraw.
 const UNDRAWN: &str = "what is drawn";
+
+/// How a turn ended that needs more items.
+const UNREAD: &str = "needs more";
 
 /// An editor with all that it needs, how many items it was handed, and what was amiss.
 #[derive(Drop)]
@@ -346,38 +398,27 @@ struct Bench<'b, 'out, 'prompt> {
 }
 
 impl Bench<'_, '_, '_> {
-    /// Kills what is to be killed before, and reads the Esc that leads to Vi's command mode, where that is wanted. The move that
-    /// it stands for is not executed.
-    fn is_laid(&mut self, rt: &impl Abort) {
-        if !self.desk.killed.is_empty() {
-            let killed = self.kills.kill(self.desk.killed, Side::Append);
-            killed.expect(rt, "no fault");
-        }
-        if self.desk.mode == Mode::Command {
+    /// Does its work, and returns what is left. The Esc that leads to Vi's command mode is read first, where that is wanted, and the
+    /// move that it stands for is not executed. Before a run nothing is drawn.
+    fn does(&mut self, rt: &impl Abort, work: Work<'_>) -> Left {
+        if matches!(self.desk.mode, Mode::Command) {
             let esc = KeyEvent(K::Esc, M::NONE);
             self.keys.press(esc).expect(rt, "no fault");
             let read = self.state.next_cmd(&mut self.input, &mut self.keys, false);
             let _ = read.expect(rt, "no fault");
             self.keys.mark();
         }
-    }
-
-    /// Does its work. How that ended.
-    fn does(&mut self, rt: &impl Abort, work: Work<'_>) -> &'static str {
-        match work {
-            Work::Reads(Way::Run, items) => self.reads(rt, Way::Run, items),
-            Work::Reads(way, items) => {
-                self.state.refresh_line().expect(rt, "no fault");
-                if !self.is_drawn(rt) {
-                    self.amiss = UNDRAWN;
-                }
-                self.reads(rt, way, items)
-            }
-            Work::Executes(commands) => {
-                self.state.refresh_line().expect(rt, "no fault");
-                self.executes(rt, commands)
+        if !matches!(work, Work::Reads(Way::Run, _)) {
+            self.state.refresh_line().expect(rt, "no fault");
+            if !self.is_drawn(rt) {
+                self.amiss = UNDRAWN;
             }
         }
+        let end = match work {
+            Work::Reads(way, items) => self.reads(rt, way, items),
+            Work::Executes(commands) => self.executes(rt, commands),
+        };
+        self.leaves(rt, end)
     }
 
     /// Hands items over, and reads where this way has it. How that ended.
@@ -390,33 +431,32 @@ impl Bench<'_, '_, '_> {
             };
             self.given = index;
             if is_read || index == items.len() {
-                if let Some(end) = self.turns(rt, way) {
+                let end = self.turns(rt, way);
+                if end != UNREAD {
                     return end;
                 }
             }
-            match items.get(index) {
-                Some(Item::Key(key)) => self.keys.press(*key).expect(rt, "no fault"),
-                Some(Item::Paste(text)) => self.keys.paste(text).expect(rt, "no fault"),
-                None => {}
-            }
+            let handed = match items.get(index) {
+                Some(Item::Key(key)) => self.keys.press(*key),
+                Some(Item::Paste(text)) => self.keys.paste(text),
+                None => Ok(()),
+            };
+            handed.expect(rt, "no fault");
         }
         "eof"
     }
 
     /// Runs, or makes turns until one does not proceed, from the mark on. Each reads an item at least. Returns how the last one
-    /// ended, None where it needs more.
-    fn turns(&mut self, rt: &impl Abort, way: Way) -> Option<&'static str> {
-        if way == Way::Run {
+    /// ended.
+    fn turns(&mut self, rt: &impl Abort, way: Way) -> &'static str {
+        if matches!(way, Way::Run) {
             let (input, keys, kills) = (&mut self.input, &mut self.keys, &mut self.kills);
-            let outcome = run(&mut self.state, input, keys, kills, &self.config);
-            return Some(ended(&outcome));
+            return ended(&run(&mut self.state, input, keys, kills, &self.config));
         }
         self.keys.rewind();
         for _ in 0..70 {
-            let before = (self.state.out().redraws(), self.keys.len());
             let end = self.advances();
-            self.amiss = self.sees(before);
-            if end != Some("proceeds") {
+            if end != "proceeds" {
                 return end;
             }
             self.keys.mark();
@@ -424,32 +464,35 @@ impl Bench<'_, '_, '_> {
                 self.amiss = UNDRAWN;
             }
         }
-        Some("proceeds")
+        "proceeds"
     }
 
-    /// Makes a turn. Returns how that ended, None where it needs more.
-    fn advances(&mut self) -> Option<&'static str> {
+    /// Makes a turn, and looks at what it left. Returns how it ended.
+    fn advances(&mut self) -> &'static str {
+        let before = (self.state.out().redraws(), self.keys.len());
         let (input, keys, kills) = (&mut self.input, &mut self.keys, &mut self.kills);
-        match advance(&mut self.state, input, keys, kills, &self.config) {
-            Ok(Turned::Proceeds) => Some("proceeds"),
-            Ok(Turned::NeedsMore) => None,
-            Ok(Turned::Submitted) => Some("submits"),
-            Ok(Turned::Ended) => Some("eof"),
-            Ok(Turned::Interrupted) => Some("interrupted"),
-            Err(error) => Some(ended(&Err(error))),
-        }
+        let end = match advance(&mut self.state, input, keys, kills, &self.config) {
+            Ok(Turned::Proceeds) => "proceeds",
+            Ok(Turned::NeedsMore) => UNREAD,
+            Ok(Turned::Submitted) => "submits",
+            Ok(Turned::Ended) => "eof",
+            Ok(Turned::Interrupted) => "interrupted",
+            Err(error) => ended(&Err(error)),
+        };
+        self.amiss = self.sees(before);
+        end
     }
 
     /// What is amiss behind a turn that began with so many redraws and so many items unread.
     fn sees(&self, before: (u64, usize)) -> &'static str {
-        let read = before.1.saturating_sub(self.keys.len());
-        let drawn = self.state.out().redraws().saturating_sub(before.0);
-        let (text, pos) = (self.state.line(), self.state.pos());
-        if drawn > (read as u64).saturating_add(3) {
+        let read = before.1.saturating_sub(self.keys.len()) as u64;
+        let (look, screen) = looks(&self.state);
+        let drawn = screen.redraws().saturating_sub(before.0);
+        if drawn > read.saturating_add(3) {
             "the number of redraws"
-        } else if self.state.place() > self.desk.entries.len() {
+        } else if look.place > self.desk.entries.len() {
             "the place in the history"
-        } else if !text.is_char_boundary(pos) {
+        } else if !look.text.is_char_boundary(look.pos) {
             "the cursor"
         } else {
             self.amiss
@@ -479,20 +522,21 @@ impl Bench<'_, '_, '_> {
     /// Whether the layout is a full redraw's with what stands behind the line, and the screen shows the line behind the prompt,
     /// with its cursor there.
     fn is_drawn(&self, rt: &impl Abort) -> bool {
-        let (text, pos) = (self.state.line(), self.state.pos());
-        if !text.is_char_boundary(pos) {
+        let (look, screen) = looks(&self.state);
+        if !look.text.is_char_boundary(look.pos) {
             return false;
         }
-        let line = LineBuffer::init(self.alloc, text, pos).expect(rt, "no fault");
-        let screen = self.state.out();
         let prompt = self.desk.prompt;
-        let prompt_end = screen.calculate_position(prompt, Position { row: 0, col: 0 });
-        let wanted = screen.compute_layout(prompt_end, true, &line, screen.hint());
-        let kept = self.state.layout();
-        let kept = (kept.prompt_size, kept.cursor, kept.end, kept.has_info);
-        let measured = (prompt_end, wanted.cursor, wanted.end, wanted.has_info);
-        let shown = (screen.prompt(), screen.text(), screen.cursor());
-        kept == measured && shown == (prompt, text, wanted.cursor)
+        let shows_so = screen.prompt() == prompt && screen.text() == look.text;
+        let is_placed = screen.cursor() == look.cursor;
+        let (prompt_end, hint) = (screen.calculate_position(prompt, ORIGIN), screen.hint());
+        let (cursor, end, has_info) = {
+            let line = LineBuffer::init(self.alloc, look.text, look.pos).expect(rt, "no fault");
+            let layout = screen.compute_layout(prompt_end, true, &line, hint);
+            (layout.cursor, layout.end, layout.has_info)
+        };
+        let is_laid = look.prompt_end == prompt_end && look.cursor == cursor;
+        shows_so && is_placed && is_laid && look.end == end && look.has_info == has_info
     }
 
     /// What is left behind this end. Then all is taken back. What proceeded was looked at last.
@@ -500,29 +544,24 @@ impl Bench<'_, '_, '_> {
         if (self.keys.failures() > 0) != (end == "fails") {
             self.amiss = "a failure of the reader";
         }
-        let mut left = self.left(rt, end);
+        let is_drawn = end == "proceeds" || self.is_drawn(rt);
+        let (look, screen) = looks(&self.state);
+        let (place, cursor, redraws) = (look.place, look.cursor, screen.redraws());
+        let line = marked(self.alloc, look.text, look.pos).expect(rt, "no fault");
         let _ = self.executed(rt, Cmd::Undo(65535));
         if self.state.line() != self.desk.start.0 {
             self.amiss = "what was taken back";
         }
-        left.amiss = self.amiss;
-        left
-    }
-
-    fn left(&mut self, rt: &impl Abort, end: &'static str) -> Left {
-        let is_drawn = end == "proceeds" || self.is_drawn(rt);
-        let cursor = self.state.layout().cursor;
         let yanked = match self.kills.yank() {
             Some(text) => Some(String::from_str(self.alloc, text).expect(rt, "no fault")),
             None => None,
         };
-        let line = marked(self.alloc, self.state.line(), self.state.pos());
         Left {
-            line: line.expect(rt, "no fault"),
-            place: self.state.place(),
+            line,
+            place,
             yanked,
             at: (cursor.row, cursor.col),
-            redraws: self.state.out().redraws(),
+            redraws,
             end,
             given: self.given,
             is_drawn,

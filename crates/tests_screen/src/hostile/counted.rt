@@ -9,7 +9,7 @@ use std::alloc::Global;
 use std::process::Abort;
 
 /// A command with a count. An undo comes behind two characters that are typed.
-#[derive(Clone, Copy, Debug, PartialEq, Eq)]
+#[derive(Clone, Copy)]
 enum Op {
     Types,
     Puts,
@@ -26,13 +26,13 @@ const OPS: &[Op] = &[
     Op::Types,
     Op::Puts,
     Op::PutsOver,
+    Op::Yanks,
+    Op::YanksBehind,
     Op::Undoes,
     Op::GoesUp,
     Op::GoesDown,
     Op::Transposes,
 ];
-
-const YANKS: &[Op] = &[Op::Yanks, Op::YanksBehind];
 
 const COUNTS: [RepeatCount; 3] = [0, 1, 65535];
 
@@ -88,7 +88,7 @@ fn commands(rt: &impl Abort, alloc: Global, op: Op, n: RepeatCount) -> Vec<Cmd> 
         Op::Transposes => Cmd::TransposeWords(n),
     };
     let mut commands = Vec::new(alloc);
-    if op == Op::Undoes {
+    if matches!(op, Op::Undoes) {
         for _ in 0..2 {
             let dash = Cmd::SelfInsert(1, '-');
             commands.push(dash).expect(rt, "no fault");
@@ -109,31 +109,28 @@ fn wanted(
     cell: (Swap, usize),
 ) -> (String, usize) {
     let (text, cursor) = place;
-    match op {
-        Op::Types => with(rt, alloc, place, "-", n, Mode::Insert),
-        Op::Puts => with(rt, alloc, place, "e", n, mode),
-        Op::Yanks => with(rt, alloc, place, KILLED, n, mode),
-        Op::YanksBehind => {
-            let width = match text.get(cursor..).unwrap_or("").chars().next() {
-                Some(c) => c.len_utf8(),
-                None => 0,
-            };
-            let place = (text, cursor.saturating_add(width));
-            with(rt, alloc, place, KILLED, n, mode)
-        }
-        Op::PutsOver => over(rt, alloc, place, n),
-        Op::Transposes => (swapped(rt, alloc, text, cell.0), cell.1),
+    // one text alone has a second line, which is empty
+    let has_two = text.ends_with('\n');
+    let width = match text.get(cursor..).unwrap_or("").chars().next() {
+        Some(c) if matches!(op, Op::YanksBehind) => c.len_utf8(),
+        _ => 0,
+    };
+    let (copy, n, mode) = match op {
+        Op::PutsOver => return over(rt, alloc, place, n),
+        Op::Transposes => return (swapped(rt, alloc, text, cell.0), cell.1),
+        Op::Types => ("-", n, Mode::Insert),
+        Op::Puts => ("e", n, mode),
+        Op::Yanks | Op::YanksBehind => (KILLED, n, mode),
         // two characters are two steps
-        Op::Undoes if n < 2 => with(rt, alloc, place, "-", 1, Mode::Insert),
-        // one text alone has a second line, which is empty
-        Op::GoesUp if text.ends_with('\n') && cursor == text.len() => {
-            (spliced(rt, alloc, text, (0, 0), ""), 0)
-        }
-        Op::GoesDown if text.ends_with('\n') => {
-            (spliced(rt, alloc, text, (0, 0), ""), text.len())
-        }
-        Op::Undoes | Op::GoesUp | Op::GoesDown => (spliced(rt, alloc, text, (0, 0), ""), cursor),
-    }
+        Op::Undoes if n < 2 => ("-", 1, Mode::Insert),
+        Op::Undoes | Op::GoesUp | Op::GoesDown => ("", 0, Mode::Insert),
+    };
+    let start = match op {
+        Op::GoesUp if has_two && cursor == text.len() => 0,
+        Op::GoesDown if has_two => text.len(),
+        _ => cursor.saturating_add(width),
+    };
+    with(rt, alloc, (text, start), copy, n, mode)
 }
 
 /// So many copies of a text come in, with the cursor behind them.
@@ -157,11 +154,11 @@ fn with(
 fn over(rt: &impl Abort, alloc: Global, place: (&str, usize), n: RepeatCount) -> (String, usize) {
     let (text, cursor) = place;
     let behind = text.get(cursor..).unwrap_or("");
-    let len = match behind.char_indices().nth(usize::from(n)) {
+    let count = behind.chars().count().min(usize::from(n));
+    let len = match behind.char_indices().nth(count) {
         Some((len, _)) => len,
         None => behind.len(),
     };
-    let count = behind.get(..len).unwrap_or("").chars().count();
     let crosses = "x".repeat(alloc, count).expect(rt, "no fault");
     let end = cursor.saturating_add(len);
     let line = spliced(rt, alloc, text, (cursor, end), crosses.as_str());
@@ -186,7 +183,7 @@ fn by_counts(rt: &impl Abort, alloc: Global, place: &Place, op: Op) {
     for (n, cell) in COUNTS.iter().zip(cells.iter()) {
         let commands = commands(rt, alloc, op, *n);
         for mode in MODES {
-            if makes_long && *n == 65535 && *mode != Mode::Command {
+            if makes_long && *n == 65535 && !matches!(mode, Mode::Command) {
                 continue;
             }
             let desk = Desk {
@@ -205,15 +202,6 @@ fn by_counts(rt: &impl Abort, alloc: Global, place: &Place, op: Op) {
 fn by_each_count(rt: HostRuntime) {
     for place in PLACES {
         for op in OPS {
-            by_counts(&rt, rt.alloc(), place, *op);
-        }
-    }
-}
-
-#[test]
-fn of_yanks(rt: HostRuntime) {
-    for place in PLACES {
-        for op in YANKS {
             by_counts(&rt, rt.alloc(), place, *op);
         }
     }

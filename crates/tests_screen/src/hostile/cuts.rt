@@ -2,7 +2,8 @@
 //! phrase that was cut are read again with the rest behind them, what the whole list leaves.
 
 use super::bench::{Desk, Item, Left, Mode, PLAIN, To, Way, Work, items, left_by};
-use line_buffer::{Movement, Unit};
+use crate::holds;
+use line_buffer::Unit;
 use std::alloc::Global;
 use std::process::Abort;
 
@@ -33,7 +34,7 @@ const VI: Desk = Desk {
 };
 
 const BOUND: Desk = Desk {
-    bound: &[("⌃Xa", To::Moves(Movement::BeginningOfLine))],
+    bound: &[("⌃Xa", To::Moves)],
     ..PLAIN
 };
 
@@ -203,21 +204,19 @@ fn cuts(rt: &impl Abort, alloc: Global, row: &Row, keys: &[Item], at: usize) {
     let typed = row.typed.get(..at).unwrap_or(row.typed);
     let first = format!(in alloc; "{typed}|").expect(rt, "no fault");
     let (read, drawn, line, kill) = stage(row, first.as_str(), at);
-    let work = Work::Reads(Way::Run, keys.get(..at).unwrap_or(keys));
-    let left = left_by(rt, alloc, &row.desk, work);
     let end = if at < keys.len() { "eof" } else { row.end };
-    assert_eq!(rt;
-        (seen(&left), left.is_drawn || read != at),
-        ((line, 0, kill, end, at, ""), true)
-    );
+    {
+        let work = Work::Reads(Way::Run, keys.get(..at).unwrap_or(keys));
+        let left = left_by(rt, alloc, &row.desk, work);
+        let is_so = seen(&left) == (line, 0, kill, end, at, "");
+        holds(rt, is_so && (left.is_drawn || read != at), row.typed, at);
+    }
     let (count, redraws) = (keys.len(), row.redraws.saturating_add(drawn));
     let (_, _, line, kill) = stage(row, first.as_str(), count);
     let left = left_by(rt, alloc, &row.desk, Work::Reads(Way::CutAt(at), keys));
-    assert_eq!(rt;
-        (seen(&left), left.at, left.redraws, left.is_drawn),
-        ((line, 0, kill, row.end, count, ""), row.at, redraws, true),
-        "cut at {at}, and read again"
-    );
+    let is_so = seen(&left) == (line, 0, kill, row.end, count, "");
+    let is_drawn = left.at == row.at && left.redraws == redraws && left.is_drawn;
+    holds(rt, is_so && is_drawn, row.typed, at);
 }
 
 /// Cuts a row at every place.

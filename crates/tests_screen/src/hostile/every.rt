@@ -66,11 +66,8 @@ fn ends(rt: &impl Abort, alloc: Global, mode: Mode, before: &str, key: KeyEvent,
     let one_by_one = left_by(rt, alloc, &desk, Work::Reads(Way::OneByOne, typed));
     let ends_so = (at_once.end, at_once.amiss) == (wanted, "");
     let (line, end) = (one_by_one.line.as_str(), one_by_one.end);
-    assert_eq!(rt;
-        (line, end, one_by_one.amiss, ends_so),
-        (at_once.line.as_str(), wanted, "", true),
-        "{mode:?} {before:?}, then {key:?}"
-    );
+    let is_same = line == at_once.line.as_str() && (end, one_by_one.amiss) == (wanted, "");
+    assert!(rt; ends_so && is_same, "{mode:?} {before:?}, then {key:?}");
 }
 
 /// Types each key behind what is typed before it.

@@ -1,9 +1,10 @@
 //! Each call of each party fails once, and each run answers that party's own error. The history stays, and once the party
 //! fails no more, what is left is drawn as an editor that is made of it draws it.
 
-use super::bench::{self, Desk, Mode, PLAIN, ended, keys, marked};
+use super::bench::{self, Desk, Look, Mode, PLAIN, ended, keys, looks, marked};
 use super::handler::Handler;
-use line_buffer::{GraphemeClusterMode, KillRing, Position, Unit};
+use crate::holds;
+use line_buffer::{KillRing, Unit};
 use line_config::{ReadlineError, Result};
 use line_editor::binding::{Event, EventHandler};
 use line_editor::run::run;
@@ -22,7 +23,7 @@ use tests_stand_ins::typist::{self, Typist};
 type Editor<'out, 'prompt> = bench::Editor<'out, 'prompt, Recorder>;
 
 /// Who is asked in a run: the handlers are one of each key and one of a sequence.
-#[derive(Clone, Copy, Debug, PartialEq, Eq)]
+#[derive(Clone, Copy, PartialEq, Eq)]
 enum Party {
     Screen,
     Reader,
@@ -177,7 +178,7 @@ const TO_THE_MATCH: Scene = Scene {
 };
 
 /// How a run is to end.
-#[derive(Clone, Copy, Debug)]
+#[derive(Clone, Copy)]
 enum Ending {
     Fails,
     Well,
@@ -201,15 +202,24 @@ impl Take<'_> {
 
     /// The map of both handlers.
     fn bindings(&self, alloc: Global) -> Result<Bindings> {
-        let mut bindings = Bindings::new(alloc);
-        let party = Party::OfEachKey;
-        let handler = Handler::new(false, self.failing(party), party.fault());
+        let sequence = Event::KeySeq(keys(alloc, "⌃Xa")?);
+        let bindings = Bindings::new(alloc);
+        let bindings = self.binds(alloc, bindings, Party::OfSequence, sequence)?;
+        self.binds(alloc, bindings, Party::OfEachKey, Event::Any)
+    }
+
+    /// Binds an event to the handler that is this party.
+    fn binds(
+        &self,
+        alloc: Global,
+        mut bindings: Bindings,
+        party: Party,
+        event: Event,
+    ) -> Result<Bindings> {
+        let moves = matches!(party, Party::OfSequence);
+        let handler = Handler::new(moves, self.failing(party), party.fault());
         let handler = EventHandler::Conditional(Box::new(alloc, handler)?);
-        let _ = bindings.insert(Event::Any, handler)?;
-        let party = Party::OfSequence;
-        let handler = Handler::new(true, self.failing(party), party.fault());
-        let handler = EventHandler::Conditional(Box::new(alloc, handler)?);
-        let _ = bindings.insert(Event::KeySeq(keys(alloc, "⌃Xa")?), handler)?;
+        let _ = bindings.insert(event, handler)?;
         Ok(bindings)
     }
 }
@@ -225,14 +235,16 @@ fn plays(rt: &impl Abort, alloc: Global, take: Take<'_>) -> Result<()> {
     let context = Context::new(&history);
     let mut state = State::new(alloc, &mut screen, &"> ", Some(&mut helper), context)?;
     let outcome = runs(alloc, take, &mut state)?;
-    ends(rt, alloc, take, outcome, &history, &mut state)
+    ends(rt, alloc, take, &outcome, &history, &mut state)
 }
 
 /// Runs on what is typed. How that ended.
 fn runs(alloc: Global, take: Take<'_>, state: &mut Editor<'_, '_>) -> Result<Result<()>> {
+    let typed = keys(alloc, take.scene.typed)?;
     let mut typist = Typist::new(alloc);
-    typist.press(keys(alloc, take.scene.typed)?.as_slice())?;
+    typist.press(typed.as_slice())?;
     typist.cut_at(take.failing(Party::Reader));
+    drop(typed);
     let bindings = take.bindings(alloc)?;
     let config = take.scene.desk.config();
     let mut input = InputState::new(&config, &bindings);
@@ -245,40 +257,36 @@ fn ends(
     rt: &impl Abort,
     alloc: Global,
     take: Take<'_>,
-    outcome: Result<()>,
+    outcome: &Result<()>,
     history: &Shelf,
     state: &mut Editor<'_, '_>,
 ) -> Result<()> {
-    let is_right = match (take.ending, &outcome) {
-        (Ending::Fails, _) => {
-            take.party.fault().is_answer(alloc, &outcome)?
-                && is_mended(rt, alloc, take.scene, history, state)?
-        }
-        (Ending::WellOrByMemory, Err(ReadlineError::Memory)) => {
-            is_mended(rt, alloc, take.scene, history, state)?
-        }
-        _ => is_as_wanted(alloc, take.scene, ended(&outcome), state)?,
+    let is_well = match take.ending {
+        Ending::Fails => false,
+        Ending::Well => true,
+        Ending::WellOrByMemory => !matches!(outcome, Err(ReadlineError::Memory)),
     };
-    assert!(rt;
-        is_right,
-        "{:?} {} {outcome:?} {:?}",
-        take.party,
-        take.call,
-        state.line()
-    );
+    let is_right = if is_well {
+        is_as_wanted(alloc, take.scene, ended(outcome), state)?
+    } else {
+        let is_answer = match take.ending {
+            Ending::Fails => take.party.fault().is_answer(alloc, outcome)?,
+            _ => true,
+        };
+        is_answer && is_mended(rt, alloc, take.scene, history, state)?
+    };
+    holds(rt, is_right, take.party.fault().text, take.call as usize);
     Ok(())
 }
 
 /// Whether the run ended so, and left what the scene has.
 fn is_as_wanted(alloc: Global, scene: &Scene, end: &str, state: &Editor<'_, '_>) -> Result<bool> {
-    let line = marked(alloc, state.line(), state.pos())?;
-    let cursor = state.layout().cursor;
-    let left = (line.as_str(), state.place(), (cursor.row, cursor.col));
-    Ok(
-        end == scene.end
-            && left == (scene.left, scene.place, scene.at)
-            && state.out().redraws() == scene.redraws,
-    )
+    let (look, screen) = looks(state);
+    let is_drawn = (look.cursor.row, look.cursor.col) == scene.at
+        && screen.redraws() == scene.redraws;
+    let ends_so = look.place == scene.place && end == scene.end;
+    let line = marked(alloc, look.text, look.pos)?;
+    Ok(is_drawn && ends_so && line.as_str() == scene.left)
 }
 
 /// Whether the history has its lines and no others, and the line is drawn again as an editor that is made of it draws it.
@@ -290,48 +298,38 @@ fn is_mended(
     state: &mut Editor<'_, '_>,
 ) -> Result<bool> {
     let is_kept = scene.desk.is_kept(history)?;
-    let (text, pos) = (state.line(), state.pos());
-    if !is_kept || !text.is_char_boundary(pos) || state.place() > history.len() {
+    state.refresh_line()?;
+    let shown = looks(state);
+    let (look, _) = shown;
+    let is_within = look.place <= history.len();
+    if !is_kept || !is_within || !look.text.is_char_boundary(look.pos) {
         return Ok(false);
     }
+    let (text, pos) = (look.text, look.pos);
     let mut screen = Recorder::new(alloc, 80, false, 0);
     let mut helper = Guide::new(scene.desk.hints, false);
     let mut context = Context::new(history);
-    context.set_history_index(state.place());
+    context.set_history_index(look.place);
     let advisor = Some(&mut helper);
     let mut anew = State::with_line(alloc, &mut screen, &"> ", advisor, context, text, pos)?;
     anew.refresh_line()?;
-    state.refresh_line()?;
-    Ok(shown(rt, &anew) == shown(rt, state))
+    Ok(shows_alike(rt, looks(&anew), shown))
 }
 
-/// What the screen shows; the line's hint; what the screen was handed last, before and behind the old layout; and the kept layout.
-type Shown<'s> = (
-    (&'s str, Position, Position),
-    (bool, Option<&'s str>),
-    (&'s str, &'s str),
-    (Position, Position, Position),
-    (GraphemeClusterMode, bool, bool),
-);
+/// Whether two editors that have drawn their lines show the same, on their screens too, which were handed the same last.
+fn shows_alike(rt: &impl Abort, one: (Look<'_>, &Recorder), other: (Look<'_>, &Recorder)) -> bool {
+    let (screen, second) = (one.1, other.1);
+    one.0 == other.0
+        && screen.shows() == second.shows()
+        && handed_last(rt, screen.log()) == handed_last(rt, second.log())
+}
 
-/// What an editor shows that has drawn its line. A line of the screen's log can miss its end, where memory ran out.
-fn shown<'s>(rt: &impl Abort, state: &'s Editor<'_, '_>) -> Shown<'s> {
-    let screen = state.out();
-    let (_, last) = screen.log().rsplit_once("draw ").expect(rt, "a drawing");
+/// What a screen was handed last, before and behind the old layout. A line of its log can miss its end, where memory ran out.
+fn handed_last<'l>(rt: &impl Abort, log: &'l str) -> (&'l str, &'l str) {
+    let (_, last) = log.rsplit_once("draw ").expect(rt, "a drawing");
     let (before, rest) = last.split_once(" old ").expect(rt, "an old layout");
     let (_, behind) = rest.split_once(" new ").expect(rt, "a new layout");
-    let layout = state.layout();
-    (
-        screen.shows(),
-        (state.has_hint(), state.hint_text()),
-        (before, behind),
-        (layout.prompt_size, layout.cursor, layout.end),
-        (
-            layout.grapheme_cluster_mode,
-            layout.default_prompt,
-            layout.has_info,
-        ),
-    )
+    (before, behind)
 }
 
 const SCENES: &[Scene] = &[

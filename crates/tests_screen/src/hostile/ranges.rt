@@ -27,7 +27,7 @@ struct Case<'m> {
 }
 
 /// A command that takes a movement. What is killed or copied is yanked then.
-#[derive(Clone, Copy, Debug, PartialEq, Eq)]
+#[derive(Clone, Copy)]
 enum Op {
     Moves,
     Kills,

@@ -13,15 +13,10 @@ pub(crate) fn leaves(
     commands: &[Cmd],
     wanted: (&str, usize),
 ) {
-    let line = marked(alloc, wanted.0, wanted.1).expect(rt, "no fault");
     let left = left_by(rt, alloc, desk, Work::Executes(commands));
-    assert_eq!(rt;
-        (left.line.as_str(), left.end, left.amiss),
-        (line.as_str(), "proceeds", ""),
-        "{commands:?} {:?} {:?}",
-        desk.start,
-        desk.mode
-    );
+    let line = marked(alloc, wanted.0, wanted.1).expect(rt, "no fault");
+    let is_so = left.line.as_str() == line.as_str() && (left.end, left.amiss) == ("proceeds", "");
+    assert!(rt; is_so, "{commands:?} {:?} {:?}", desk.start, desk.mode);
 }
 
 /// The text with another one in place of a range.

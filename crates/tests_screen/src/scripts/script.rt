@@ -1,56 +1,62 @@
 //! Scripts, line by line.
 
+use super::numbered;
+use crate::holds;
 use line_keys::keys::{KeyCode, KeyEvent, Modifiers};
 use line_keys::raw_reader::RawReader;
 use line_parts::History;
-use line_script::{Parsed, ScriptError, read_script};
+use line_script::{Parsed, Script, ScriptError, read_script};
 use std::alloc::Global;
 use std::io::Write;
 use std::process::Abort;
 
-/// Writes down what a script gives, a line for each kind.
+/// Writes down what a script gives, a line for each kind, between two ends of lines.
 fn shown(rt: &impl Abort, alloc: Global, parsed: &mut Parsed) -> Vec<u8> {
-    let mut out = Vec::new(alloc);
-    writeln!(out, "style {:?}", parsed.edit_mode).expect(rt, "no fault");
-    writeln!(out, "prompt {:?} columns {}", parsed.prompt, parsed.columns).expect(rt, "no fault");
-    let helper = parsed.helper;
-    writeln!(out, "hints {} brackets {}", helper.hints, helper.brackets).expect(rt, "no fault");
     let mut lines = Vec::new(alloc);
     for line in parsed.history.iter() {
         lines.push(line.as_str()).expect(rt, "no fault");
     }
-    writeln!(out, "history {lines:?}").expect(rt, "no fault");
+    let mut out = Vec::new(alloc);
+    let (style, prompt, columns) = (parsed.edit_mode, parsed.prompt.as_str(), parsed.columns);
+    let (hints, brackets) = (parsed.helper.hints, parsed.helper.brackets);
+    write!(
+        out,
+        "\nhistory {lines:?}\nstyle {style:?}\nprompt {prompt:?} columns {columns}\nhints {hints} brackets {brackets}\nitems"
+    )
+    .expect(rt, "no fault");
     drop(lines);
-    out.write_all(b"items").expect(rt, "no fault");
-    for _ in 0..parsed.items.len() {
-        if !parsed.items.is_empty() {
-            shows_item(rt, &mut out, parsed);
+    let items = &mut parsed.items;
+    for _ in 0..items.len() {
+        if !items.is_empty() {
+            shows_item(rt, &mut out, items);
         }
     }
+    out.push(b'\n').expect(rt, "no fault");
     out
 }
 
-/// Writes down the next item: a typed character alone, a key, or a key and the pasted text behind it.
-fn shows_item(rt: &impl Abort, out: &mut Vec<u8>, parsed: &mut Parsed) {
-    let written = match parsed.items.next_key(false).expect(rt, "no fault") {
+/// Writes down the next item: a typed character alone, a key, or a pasted text with the key that comes before it.
+fn shows_item(rt: &impl Abort, out: &mut Vec<u8>, items: &mut Script) {
+    let written = match items.next_key(false).expect(rt, "no fault") {
         KeyEvent(KeyCode::Char(c), Modifiers::NONE) => write!(out, " {c:?}"),
-        key @ KeyEvent(KeyCode::BracketedPasteStart, _) => {
-            let pasted = parsed.items.read_pasted_text().expect(rt, "no fault");
-            write!(out, " {key:?} pasted {pasted:?}")
+        KeyEvent(KeyCode::BracketedPasteStart, Modifiers::NONE) => {
+            let pasted = items.read_pasted_text().expect(rt, "no fault");
+            write!(out, " pasted {pasted:?}")
         }
         key => write!(out, " {key:?}"),
     };
     written.expect(rt, "no fault");
 }
 
+/// One of the lines that are written down of a script is this one.
 fn gives(rt: &impl Abort, alloc: Global, script: &str, wanted: &str) {
-    let mut parsed = read_script(alloc, script.as_bytes()).expect(rt, "a good script");
-    let bytes = shown(rt, alloc, &mut parsed);
+    let line = format!(in alloc; "\n{wanted}\n").expect(rt, "no fault");
+    let bytes = {
+        let mut parsed = read_script(alloc, script.as_bytes()).expect(rt, "a good script");
+        shown(rt, alloc, &mut parsed)
+    };
     let text = str::from_utf8(&bytes).expect(rt, "a text");
-    assert!(rt;
-        text.split('\n').any(|line| line == wanted),
-        "{wanted} not {text} of {script}"
-    );
+    holds(rt, text.contains(line.as_str()), text, script.len());
 }
 
 /// A script, and one of the lines that say what it gives.
@@ -146,30 +152,12 @@ const GOOD: &[(&str, &str)] = &[
         "style Emacs",
     ),
     ("mode vi\ntype \\nmode emacs\npaste mode emacs", "style Vi"),
-    (
-        "paste ",
-        "items KeyEvent(BracketedPasteStart, Modifiers(0)) pasted \"\"",
-    ),
-    (
-        "paste a",
-        "items KeyEvent(BracketedPasteStart, Modifiers(0)) pasted \"a\"",
-    ),
-    (
-        r"paste a\nb\\",
-        "items KeyEvent(BracketedPasteStart, Modifiers(0)) pasted \"a\\nb\\\\\"",
-    ),
-    (
-        "paste  é\n",
-        "items KeyEvent(BracketedPasteStart, Modifiers(0)) pasted \" é\"",
-    ),
-    (
-        "paste a\r\n",
-        "items KeyEvent(BracketedPasteStart, Modifiers(0)) pasted \"a\\r\"",
-    ),
-    (
-        r"paste a\\nb",
-        "items KeyEvent(BracketedPasteStart, Modifiers(0)) pasted \"a\\\\nb\"",
-    ),
+    ("paste ", "items pasted \"\""),
+    ("paste a", "items pasted \"a\""),
+    (r"paste a\nb\\", "items pasted \"a\\nb\\\\\""),
+    ("paste  é\n", "items pasted \" é\""),
+    ("paste a\r\n", "items pasted \"a\\r\""),
+    (r"paste a\\nb", "items pasted \"a\\\\nb\""),
 ];
 
 #[test]
@@ -185,14 +173,13 @@ const LIMITED: &[(usize, usize, &str)] = &[(100, 100, "1"), (101, 100, "2"), (25
 #[test]
 fn keeps_a_hundred_lines(rt: HostRuntime) {
     for (lines, kept, oldest) in LIMITED {
-        let mut script = Vec::new(rt.alloc());
-        for number in 1..=*lines {
-            writeln!(script, "history {number}").expect(&rt, "no fault");
-        }
-        let parsed = read_script(rt.alloc(), script.as_slice()).expect(&rt, "a good script");
+        let parsed = {
+            let script = numbered(&rt, rt.alloc(), *lines, "history ", "\n");
+            read_script(rt.alloc(), script.as_slice()).expect(&rt, "a good script")
+        };
         let first = parsed.history.iter().next().expect(&rt, "a line");
-        let found = (parsed.history.len(), first.as_str());
-        assert_eq!(rt; found, (*kept, *oldest), "{lines}");
+        let is_so = parsed.history.len() == *kept && first.as_str() == *oldest;
+        holds(&rt, is_so, oldest, *lines);
     }
 }
 
@@ -320,10 +307,15 @@ const BAD_BYTES: &[(&[u8], usize)] = &[
 /// A script is refused by the number of this line.
 fn is_refused(rt: &impl Abort, alloc: Global, script: &[u8], line: usize) {
     let bad = match read_script(alloc, script) {
-        Err(ScriptError::BadLine(number)) => Some(number),
-        _ => None,
+        Err(ScriptError::BadLine(number)) => number,
+        _ => 0,
     };
-    assert_eq!(rt; bad, Some(line), "{script:?}");
+    holds(
+        rt,
+        bad == line,
+        str::from_utf8(script).unwrap_or("no text"),
+        line,
+    );
 }
 
 #[test]
