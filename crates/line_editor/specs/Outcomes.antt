@@ -36,8 +36,8 @@ pub record Session (X Y : Type 0) : Type 0 where
   pub reader : Y
   pub kills : Ring
 
--- a fault leaves the kill ring that the call leaves without one; or, where memory ran out, the one from before, or that one but that a
--- kill was done last
+-- after a fault the kill ring is as without one; or, where memory ran out, the one from before, or that one with a kill as its last
+-- action
 abbrev pub KillsLeft : ReadlineError → Ring → Ring → Ring → Type 0
 KillsLeft error before left kills =
     (kills ≡ left) ⊎ ((is_memory error ≡ true) × ((kills ≡ before) ⊎ (kills ≡ with_last before killed)))
@@ -77,7 +77,7 @@ module _ {X : Type 0} (e : editors.Ghosts X) where
       Leaves (step_from state input indent kills command) (editor_of state' kills') answer
 
   -- what is drawn once a command has answered: where it proceeds, what is drawn stays good; a submitted line and the end of the input
-  -- are drawn without a hint; an interrupt takes the cursor to the end
+  -- are drawn without a hint, if the line was shown; an interrupt takes the cursor to the end
   abbrev pub DrawnAfter : Answer → X → X → Type 0
   DrawnAfter proceeds state state' = KeepsDrawn e state state'
   DrawnAfter submitted state state' = LosesHint e state state'
@@ -103,7 +103,7 @@ module _ {X : Type 0} (e : editors.Ghosts X) where
     pub start : start_text (e.draft state') ≡ start_text (e.draft state)
 
   -- what a command leaves that goes wrong: after a fault the draft of a moment of its step, or, where memory ran out, one that has lost
-  -- its changes; and the kill ring of its step, or, where memory ran out, the one from before
+  -- its changes; and the kill ring of its step, or, where memory ran out, the one from before, or that one with a kill as its last action
   pub record FailsIn (error : ReadlineError) (state : X) (input : Input) (indent : ℕ) (kills : Ring) (command : Command) (state' : X) (kills' : Ring) : Type 0 where
     pub draft : FaultLeft error (e.environment state) (e.draft state) (halfway_of (e.environment state) (editor_of state kills) command)
         (step_from state input indent kills command).editor.draft (e.draft state')
@@ -171,7 +171,7 @@ module _ {X Y : Type 0} (e : editors.Ghosts X) (r : readers.Ghosts Y) where
     pub keeps : KeepsReading e r before.state before.keys before.reader after.state after.keys after.reader
     pub fails : FailsByReading e r for_all result before.state before.keys before.reader after.state after.reader
 
-  -- reading went wrong: the items that were taken are a beginning of a phrase, or all of it; the line, the saved line, the history
+  -- reading went wrong: the items that were taken are a prefix of a phrase, or all of it; the line, the saved line, the history
   -- index, what is remembered of keys and the kill ring stay; after an error of input or output the draft is the one from before, or the
   -- one that the phrase is read on from, but for its hint
   pub record FailsInReading (error : ReadlineError) (before after : Session X Y) : Type 0 where
@@ -243,7 +243,7 @@ module _ {X Y : Type 0} (e : editors.Ghosts X) (r : readers.Ghosts Y) where
     pub right : HasRightLayout e found.state
     pub shown : ShowsLine e found.state
 
-  -- what a run that is underway ends with: its last turn; or that the items ran dry, inside these
+  -- what a run that is underway ends with: its last turn; or that the items ran out, with these read of a phrase
   abbrev pub EndsWith : ℕ → Session X Y → End → Session X Y → Type 0
   EndsWith indent found (stopped answer rest) after = TakesTurn indent found after answer
   EndsWith indent found (dry inside) after = NeedsMoreItems found after × (r.rest found.reader ≡ inside)
@@ -289,8 +289,8 @@ module _ {X Y : Type 0} (e : editors.Ghosts X) (r : readers.Ghosts Y) where
   EndsAs (Err Interrupted) end rest = end ≡ stopped interrupted rest
   EndsAs (Err _) end rest = ⊥
 
-  -- what a run leaves: without a fault it came to an end that the result stands for; with one, what the first drawing leaves that goes
-  -- wrong, or a turn that goes wrong behind turns that proceed
+  -- what a run leaves: without a fault it came to an end that the result stands for; with one, what a failed first
+  -- drawing leaves, or a turn that goes wrong behind turns that proceed
   pub record Runs {T : Type 0} (indent : ℕ) (result : Result T ReadlineError) (before after : Session X Y) : Type 0 where
     pub ran : UnlessFault result ((end : End) × EndsAs result end (r.rest after.reader) × Ran indent before after end)
     pub wrong : IfErr result (λ error. is_fault error ≡ true → FailsAtFirst before after ⊎ FailsLater indent error before after)

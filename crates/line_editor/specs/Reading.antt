@@ -116,7 +116,7 @@ module _ {Y : Type 0} (r : readers.Ghosts Y) where
     pub cut : r.rest reader ≡ map key more ++ r.rest reader'
     pub read_on : IsReadOn sequences first more
 
-  -- reading stopped: the items that were taken, behind those in front, are a beginning of something, or all of it
+  -- reading stopped: the items that were taken, behind those in front, are a prefix of something, or all of it
   pub record StopsWithin (Comes : List Item → Read → Type 0) (front : List Item) (reader reader' : Y) : Type 0 where
     pub items : List Item
     pub cut : r.rest reader ≡ items ++ r.rest reader'
@@ -239,8 +239,8 @@ module _ {X Y : Type 0} (e : editors.Ghosts X) (r : readers.Ghosts Y) where
     pub bound : keys'.bound ≡ keys.bound
 
   -- what a call leaves that reads items, behind those in front: what they come to, or the items ran out; at most one full redraw is
-  -- made for each item. After an error of input or output the draft is the one from before, or the one to read on from, but for its
-  -- hint. After any error the items that were taken, behind those in front, are a beginning of something, or all of it
+  -- made for each item, unless it fails. After an error of input or output the draft is the one from before, or the one to read on from, but for its
+  -- hint. After any error the items that were taken, behind those in front, are a prefix of something, or all of it
   pub record ReadsPart {T : Type 0} (Comes : List Item → Read → Type 0) (front : List Item) (from : Draft) (begun : Command → Draft → Draft) (command : T → Command) (input : T → Input) (result : Result T ReadlineError) (editor : X) (keys : KeyState) (reader : Y) (editor' : X) (reader' : Y) : Type 0 where
     pub read : OnRead result (λ x. Gives Comes front begun (command x) (input x) editor reader editor' reader') (Ends Comes front from editor reader editor' reader')
     pub within : OnErr result (StopsWithin r Comes front reader reader')
@@ -252,8 +252,8 @@ module _ {X Y : Type 0} (e : editors.Ghosts X) (r : readers.Ghosts Y) where
     pub keeps : KeepsBoth editor reader editor' reader'
     pub fails : FailsByReading for_hint result editor keys reader editor' reader'
 
-  -- what a call leaves that reads a command: its phrase, or the items ran out; where none was left nothing changes; after an error
-  -- the input value stays
+  -- what a call leaves that reads a command: its phrase, or the items ran out; where none was left the draft and what is drawn stay;
+  -- after an error the input value stays
   pub record ReadsCommand (begun : Command → Draft → Draft) (result : Result Cmd ReadlineError) (editor : X) (keys : KeyState) (reader : Y) (editor' : X) (keys' : KeyState) (reader' : Y) : Type 0 where
     pub phrase : ReadsPart (PhraseHere editor keys reader) [] (entered_here editor keys reader) begun command_of (λ _. keys'.input) result editor keys reader editor' reader'
     pub dry : r.rest reader ≡ [] → (e.draft editor' ≡ e.draft editor) × DrewNothing e editor editor'

@@ -60,8 +60,8 @@ edited_by ruler environment input draft clear_screen = hinted environment draft
 edited_by ruler environment input draft repaint = hinted environment draft
 edited_by ruler environment input draft _ = draft
 
--- what such a command may leave that goes wrong halfway: of a move in two steps the first; of one that leaves the line that is being
--- written, that line saved
+-- what such a command may leave that goes wrong halfway: of a move in two steps the first; of a move back in the history, and of a move
+-- up that may become one, the own line saved
 abbrev pub edited_halfway : Environment → Draft → Command → Draft
 edited_halfway environment draft (move movement) = record draft { line = on_way movement draft.line }
 edited_halfway environment draft (line_up_or_previous_history n) = saved_at_end environment draft
@@ -69,7 +69,7 @@ edited_halfway environment draft previous_history = saved_at_end environment dra
 edited_halfway environment draft beginning_of_history = saved_at_end environment draft
 edited_halfway environment draft _ = draft
 
--- what a command may leave that goes wrong halfway: of a replacement the kill; of a newline in an incomplete line, its validation
+-- what a command may leave that goes wrong halfway: of a replacement the kill; of an Enter that may type a newline, the line validated
 abbrev pub halfway_of : Environment → Editor → Command → Draft
 halfway_of environment editor (replace movement text) =
     (killed_by environment movement editor (killed_range editor.draft.line movement)).draft

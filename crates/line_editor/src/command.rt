@@ -42,9 +42,10 @@ pub enum Status {
 /// # Errors
 /// `Eof` for the end of the input on an empty line alone, and `Interrupted` for an interrupt alone, with the kept cursor at
 /// the kept end. Another error is one of input or output, where the renderer has failed or a party was asked that may fail,
-/// or that memory ran out. Then the line, its cursor, changes and place in the history are those of one moment of the command:
-/// before it, halfway or behind it; or, where memory ran out, the line has no changes. The kill ring is the one that the
-/// command leaves, unless memory ran out.
+/// or that memory ran out. Then the line, its cursor, changes and history index are those of one moment of the command:
+/// before it, halfway or after it; or, where memory ran out, there are no changes, the saved line and the history index are
+/// those of one moment, and the text, the cursor and the hint may be any. The kill ring is the one that the command leaves;
+/// or, where memory ran out, the one from before, or that one with a kill as its last action.
 pub fn execute<'out, 'prompt, W: Renderer, H: Helper, P: Prompt, S: History>(
     cmd: Cmd,
     state: &mut State<'out, 'prompt, W, H, P, S>,

@@ -52,9 +52,9 @@ fn reset_kills(command: &Cmd, kill_ring: &mut KillRing)
 ///
 /// # Errors
 /// An error of input or output, where the reader or the renderer has failed or a party was asked that may fail, or that
-/// memory ran out. Where reading failed, the line and its cursor, what is remembered of the keys and the kill ring are as
-/// they were, and no item past the phrase that was begun is read. Where the command failed, its phrase is read and no item
-/// more, and the line is left as `execute` leaves it.
+/// memory ran out. Either reading failed: the line and its cursor, what is remembered of the keys and the kill ring are as
+/// they were, and no item past the phrase that was begun is read. Or the command failed: its phrase is read and no item more,
+/// and the line is left as `execute` leaves it. The error does not tell which.
 pub fn advance<'out, 'prompt, W: Renderer, H: Helper, P: Prompt, S: History>(
     state: &mut State<'out, 'prompt, W, H, P, S>,
     input_state: &mut InputState<'_>,

@@ -167,7 +167,8 @@ pub data ShowsChange {X : Type 0} (e : Ghosts X) (most : ℕ) (old new : X) : Ty
   drawn_plainly : ChangedPlainly e old new → ShowsChange e most old new
 
 -- what a call leaves that edits the line or moves its cursor: the draft, and the text that all changes taken back give; and what it
--- draws, a line with so many full redraws: what is drawn stays good, and a changed text is drawn; of the parties it asks these alone.
+-- draws, a line with so many full redraws: what is drawn stays good, and a changed text is drawn; of the parties, an error of input or
+-- output comes of these alone.
 -- After a fault the draft is that of a moment of the call, but for its hint: before it, halfway or behind it; or, where memory ran out,
 -- one that has lost its changes
 pub record DoesInTwo {X T : Type 0} (e : Ghosts X) (asks : Asks) (result : Result T ReadlineError) (old new : X) (halfway left : Draft) (drawing : Drawing) (times : ℕ) : Type 0 where

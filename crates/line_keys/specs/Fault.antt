@@ -22,7 +22,7 @@ pub data IsOfMoment (environment : Environment) (before halfway left draft : Dra
   as_halfway : IsOf environment before halfway halfway draft → IsOfMoment environment before halfway left draft
   as_left : IsOf environment before halfway left draft → IsOfMoment environment before halfway left draft
 
--- a draft has lost its changes; its saved line and its history index are those of a moment
+-- a draft has lost its changes; its saved line and its history index are those of a moment, its line and its hint may be any
 pub record LosesChanges (moment draft : Draft) : Type 0 where
   pub changes : draft.changes ≡ no_changes
   pub saved : draft.saved ≡ moment.saved
