@@ -1,5 +1,5 @@
 -- Facts on turns of a program's state.
-use Rattle.std.proofs.Common.{◌≡◌, inr, ◌∙◌, ℕ, ◌+◌, ◌-◌, ◌<◌, Bool, true, false, cond, List, [], length, sym, Result, Ok, Err, refl, ap, subst, arith}
+use Rattle.std.proofs.Common.{◌≡◌, inl, inr, ◌∙◌, ℕ, ◌+◌, ◌-◌, ◌<◌, Bool, true, false, cond, List, [], length, sym, Result, Ok, Err, refl, ap, subst, arith}
 use Rattle.line_buffer.specs.KillRing.{Ring}
 use Rattle.line_buffer.specs.Line.{Line}
 use Rattle.line_config.specs.Error.{is_fault, is_io, max_count}
@@ -15,7 +15,7 @@ use Rattle.line_keys.specs.ShownLine.{KeepsDrawn}
 use Rattle.line_keys.specs.declared.cmd.Cmd.{Cmd}
 use Rattle.line_keys.specs.declared.editor_state.EditorState as editors
 use Rattle.line_keys.specs.declared.raw_reader.RawReader as readers
-use Rattle.line_parts.specs.Asks.{for_all, is_sure}
+use Rattle.line_parts.specs.Asks.{for_all, for_hint, is_sure}
 use Rattle.line_editor.proofs.AskedLemmas.{sure_all}
 use Rattle.line_editor.specs.Editor.{Answer, ended, grouped, interrupted, own_ruler, proceeds, ruler_of, submitted}
 use Rattle.line_editor.specs.Input.{Input}
@@ -176,6 +176,28 @@ module _ {X Y : Type 0} (e : editors.Ghosts X) (r : readers.Ghosts Y) (old middl
         };
         faults = fault;
       }
+
+-- reading went wrong
+pub stops_reading : {X Y : Type 0} (e : editors.Ghosts X) (r : readers.Ghosts Y) (old new : X) (keys keys' : KeyState) (indent : ℕ) (reader reader' : Y) (kills : Ring) (f : ReadlineError)
+    → ReadsCommand e r grouped (Err f) old keys reader new keys' reader' → is_fault f ≡ true
+    → Advances e r indent (Err f) (session old keys reader kills) (session new keys' reader' kills)
+stops_reading e r old new keys keys' indent reader reader' kills f read fault =
+    record {
+      turned = tt;
+      wrong = inl (record {
+        within = read.phrase.within;
+        line = read.phrase.line;
+        draft = read.phrase.fault;
+        nothing_read = read.dry;
+        input_left = read.remembers;
+        kills_left = refl;
+      });
+      stays = record {
+        keeps = record { both = read.phrase.keeps; bound = read.bound };
+        fails = record { io = λ is sure. read.phrase.fails.io is (sure_all (e.sure old) for_hint sure.0, sure.1); quiet = read.phrase.fails.quiet };
+      };
+      faults = fault;
+    }
 
 -- the items ran out
 pub needs_more : {X Y : Type 0} (e : editors.Ghosts X) (r : readers.Ghosts Y) (old new : X) (keys keys' : KeyState) (indent : ℕ) (reader reader' : Y) (kills : Ring) (f : ReadlineError)

@@ -173,12 +173,14 @@ module _ {X Y : Type 0} (e : editors.Ghosts X) (r : readers.Ghosts Y) where
 
   -- reading went wrong: the items that were taken are a prefix of a phrase, or all of it; the line, the saved line, the history
   -- index, what is remembered of keys and the kill ring stay; after an error of input or output the draft is the one from before, or the
-  -- one that the phrase is read on from, but for its hint
+  -- one that the phrase is read on from, but for its hint; and where no item was left the draft and what is drawn stay
   pub record FailsInReading (error : ReadlineError) (before after : Session X Y) : Type 0 where
     pub within : StopsWithin r (PhraseHere e r before.state before.keys before.reader) [] before.reader after.reader
     pub line : KeepsLine (e.draft before.state) (e.draft after.state)
     pub draft : IoLeft error (e.environment before.state) (e.draft before.state)
         (entered_here e r before.state before.keys before.reader) (e.draft after.state)
+    pub nothing_read : r.rest before.reader ≡ []
+        → (e.draft after.state ≡ e.draft before.state) × DrewNothing e before.state after.state
     pub input_left : after.keys.input ≡ before.keys.input
     pub kills_left : after.kills ≡ before.kills
 

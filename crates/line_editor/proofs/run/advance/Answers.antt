@@ -1,7 +1,7 @@
-use Rattle.std.proofs.Common.{refl}
+use Rattle.std.proofs.Common.{refl, rules}
 use Rattle.line_editor.specs.Editor.{ended, interrupted, proceeds, submitted}
 use Rattle.line_editor.specs.declared.run.Turned.TheVariants as turned
-use Rattle.line_editor.proofs.TurnLemmas.{advanced, goes_wrong, needs_more}
+use Rattle.line_editor.proofs.TurnLemmas.{advanced, goes_wrong, needs_more, stops_reading}
 use Rattle.line_editor.proofs.run.advance.Goals as goal
 
 pub returns-in-Err-Eof-clause-advances : goal.returns-in-Err-Eof-clause-advances
@@ -36,3 +36,6 @@ pub returns-in-Err-Memory-clause-advances : goal.returns-in-Err-Memory-clause-ad
 returns-in-Err-Memory-clause-advances g c =
     let done = rw c.in-Err-Memory.field-0-is at c.in-Err-Memory.ensures.executes in
     goes_wrong _ _ _ _ _ _ _ _ _ _ _ _ _ _ c.in-Ok.ensures c.reset_kills.ensures.reset _ refl done
+
+pub returns-in-Err-clause-advances : goal.returns-in-Err-clause-advances
+returns-in-Err-clause-advances g c = stops_reading _ _ _ _ _ _ _ _ _ _ c.in-Err.error c.in-Err.ensures (search rules)
