@@ -20,6 +20,11 @@ pub record Handler : Type 0 where
 abbrev pub answers : Option Command → Handler
 answers command = record { answer = λ asked. command; sure = true }
 
+-- a handler that answers the same whatever hint there is
+abbrev pub LooksAtNoHint : Handler → Type 0
+LooksAtNoHint handler = (asked : Asked) (has : Bool) (text : Option (List ℕ))
+    → handler.answer (record asked { moment = record asked.moment { has_hint = has; hint_text = text } }) ≡ handler.answer asked
+
 -- bindings: events with their handlers, of which the first one of an event counts
 abbrev pub Bound : Type 0
 Bound = List (Chord × Handler)

@@ -1,5 +1,5 @@
 -- Which command a key has before the tables are asked.
-use Rattle.std.specs.Prelude.{ℕ, true, List, [], ◌∷◌, Option, Some, None, option_and_then, option_map}
+use Rattle.std.specs.Prelude.{◌≡◌, ℕ, true, List, [], ◌∷◌, Option, Some, None, option_and_then, option_map}
 use Rattle.std.specs.Option.{option_or}
 use Rattle.line_buffer.specs.Changes.{last_insert_of}
 use Rattle.line_config.specs.declared.config.EditMode.{EditMode}
@@ -13,7 +13,7 @@ use Rattle.line_keys.specs.declared.count.Count.{Count}
 use Rattle.line_keys.specs.declared.refresher.InputMode.{InputMode}
 use Rattle.line_keys.specs.declared.refresher.InputMode.TheVariants.{Insert, Replace}
 use Rattle.line_keys.specs.declared.keys.KeyEvent.{KeyEvent}
-use Rattle.line_editor.specs.Binding.{Bound, Handler, answers, handler_of}
+use Rattle.line_editor.specs.Binding.{Bound, Handler, LooksAtNoHint, answers, handler_of}
 use Rattle.line_editor.specs.Event.{Chord, each_key, keys}
 use Rattle.line_editor.specs.Input.{Input}
 use Rattle.line_editor.specs.Moment.{moment_in}
@@ -48,6 +48,10 @@ on_line _ command = command
 -- the binding of a key: its own, or else the one that is for every key
 abbrev pub key_handler : Bound → KeyEvent → Option Handler
 key_handler bound key = option_or (handler_of bound (keys (key ∷ []))) (handler_of bound each_key)
+
+-- no binding of a key looks at the hint
+abbrev pub NoKeyLooksAtTheHint : Bound → Type 0
+NoKeyLooksAtTheHint bound = (typed : KeyEvent) (handler : Handler) → key_handler bound typed ≡ Some handler → LooksAtNoHint handler
 
 -- the count that a key's binding is handed: 0 in Vi's insert and replace modes
 abbrev pub handed : EditMode → InputMode → Option Count → Count

@@ -16,7 +16,8 @@ use Rattle.line_parts.specs.Environment.{Environment}
 use Rattle.line_editor.specs.Event.{Chord, same_chord}
 use Rattle.line_editor.specs.HistoryMoves.{is_own_line}
 use Rattle.line_editor.specs.Input.{Input, is_vi_command}
-use Rattle.line_editor.specs.Keymap.{Keymap, key_handler, keymap_of}
+use Rattle.line_editor.specs.ItemShown.{any_drawn}
+use Rattle.line_editor.specs.Keymap.{Keymap, NoKeyLooksAtTheHint, key_handler, keymap_of}
 use Rattle.line_editor.specs.Phrase.{Phrase, count_in_front, entered}
 use Rattle.line_editor.specs.Read.{Begins, Read}
 use Rattle.line_editor.specs.Reading.{LeftByCut}
@@ -87,13 +88,19 @@ TurnsAndRun = (keymap : Keymap) (ruler : Ruler) (environment : Environment) (edi
     → Run keymap ruler environment middle i more last j end
     → Run keymap ruler environment editor input items last j end
 
+-- a hint that a cut may have asked again makes no difference to a phrase: the cut left it as it was; or the phrase begins with a
+-- count, after which it is asked again; or it has another count, and no binding of a key looks at the hint
+abbrev pub HintMakesNoDifference : Keymap → Draft → Draft → List KeyEvent → Read → Type 0
+HintMakesNoDifference keymap before cut in_front read = (cut.hint ≡ before.hint) ⊎ (in_front ≢ [])
+    ⊎ ((any_drawn read.shown ≡ true) × NoKeyLooksAtTheHint keymap.bound)
+
 -- from the draft that a phrase left which was cut short, reading it again with more items behind it gives the turn that the whole
--- gives from the first draft: where the cut left the hint as it was, or the phrase began with a count
+-- gives from the first draft, where the hint makes no difference
 abbrev pub ReadingAgain : Type 0
 ReadingAgain = (keymap : Keymap) (ruler : Ruler) (environment : Environment) (editor left : Editor) (cut : Draft) (input i : Input) (items more : List Item) (answer : Answer)
     → LeftByCut environment (entered keymap editor.draft input items) cut
     → (turn : Turn keymap ruler environment editor input items left i more answer)
-    → (cut.hint ≡ editor.draft.hint) ⊎ (count_in_front turn.reads ≢ [])
+    → HintMakesNoDifference keymap editor.draft cut (count_in_front turn.reads) turn.read
     → Turn keymap ruler environment (record { draft = cut; kills = editor.kills }) input items left i more answer
 
 -- and a turn read from that draft is the whole phrase's turn from the first one
@@ -101,7 +108,7 @@ abbrev pub ReadFromTheCut : Type 0
 ReadFromTheCut = (keymap : Keymap) (ruler : Ruler) (environment : Environment) (editor left : Editor) (cut : Draft) (input i : Input) (items more : List Item) (answer : Answer)
     → LeftByCut environment (entered keymap editor.draft input items) cut
     → (turn : Turn keymap ruler environment (record { draft = cut; kills = editor.kills }) input items left i more answer)
-    → (cut.hint ≡ editor.draft.hint) ⊎ (count_in_front turn.reads ≢ [])
+    → HintMakesNoDifference keymap editor.draft cut (count_in_front turn.reads) turn.read
     → Turn keymap ruler environment editor input items left i more answer
 
 -- an undo of at least as many steps as there are changes leaves the text that taking back all of them gives
