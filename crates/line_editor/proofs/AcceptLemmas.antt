@@ -23,11 +23,12 @@ use Rattle.line_editor.specs.Editor.{Answer, proceeds, submitted}
 use Rattle.line_editor.specs.DraftEdits.{typed_in}
 use Rattle.line_editor.specs.Input.{Input}
 use Rattle.line_editor.specs.Outcomes.{DrawnAfter, Executed, Executes, editor_of, step_from}
+use Rattle.line_editor.specs.Step.{halfway_of}
 use Rattle.line_editor.specs.declared.command.Reply.{Reply}
 use Rattle.line_editor.specs.declared.command.Reply.TheVariants.{GoesOn, Stays, Submits}
 use Rattle.line_editor.specs.DrawnVerdict.{draws_verdict, draws_verdict_on, kind_of_verdict}
 use Rattle.line_editor.proofs.AskedLemmas.{fails_more, sure_all}
-use Rattle.line_editor.proofs.CommandLemmas.{editor_with, executed_wrong, fails_then, few_by, line_kept, line_then, perhaps_lit, perhaps_redraws, twice_at_most}
+use Rattle.line_editor.proofs.CommandLemmas.{draft_wrong, editor_with, fails_then, few_by, line_kept, line_then, perhaps_lit, perhaps_redraws, twice_at_most}
 use Rattle.line_editor.proofs.CountLemmas.{rises_twice, rises_within}
 use Rattle.line_editor.proofs.DoneLemmas.{line_after}
 use Rattle.line_editor.proofs.DrawnLemmas.{frame_then, hint_trails, keeps_then, no_hint_line}
@@ -155,12 +156,12 @@ drawing_fails {U = U} {V = V} e x f old mid new verdict drawing helped asked sho
 
 -- a hint that could not be taken away
 pub drop_fails : {X T : Type 0} (e : Ghosts X) (f : ReadlineError) (old new : X) (input : Input) (indent : ℕ) (kills : Ring) (command : Command) (drawing : Drawing)
-    → kills ≡ (step_from e old input indent kills command).editor.kills
+    → (halfway_of (e.environment old) (editor_of e old kills) command).kills ≡ kills → (step_from e old input indent kills command).editor.kills ≡ kills
     → DoesAsking {T = T} e nobody (Err f) old new (unhinted (e.draft old)) drawing 1
     → Executes e (Err f) old input indent kills command new kills
-drop_fails {T = T} e f old new input indent kills command drawing same does =
-    executed_wrong e old new input indent kills kills command {T = T} f
-    (fault_unhinted f (e.environment old) (e.draft old) _ _ (e.draft new) does.fault) (inl same)
+drop_fails {T = T} e f old new input indent kills command drawing half left does =
+    draft_wrong e old new input indent kills kills command {T = T} f
+    (fault_unhinted f (e.environment old) (e.draft old) _ _ (e.draft new) does.fault) half left refl
     (fails_more e {T = T} (Err f) nobody _ old new (λ sure. refl) does.fails) does.frame
 
 -- whoever is asked for a reply is asked for a verdict
@@ -188,18 +189,18 @@ module _ {X T U : Type 0} (e : Ghosts X) (x : T) (f : ReadlineError) (old mid ne
   -- a verdict that could not be had for a line that is to be submitted
   pub accepting_fails : (input : Input) (indent : ℕ) (kills : Ring) → Executes e (Err f) old input indent kills accept_line new kills
   accepting_fails input indent kills =
-      executed_wrong e old new input indent kills kills accept_line {T = U} f
+      draft_wrong e old new input indent kills kills accept_line {T = U} f
       (fault_from f (e.environment mid) (e.environment old) (e.draft old) (e.draft mid) (e.draft mid) (e.draft old) _ _ (e.draft new) drop.frame.environment left_bare
       (inr (inl bare_hint)) (inr (inl bare_hint)) (inl bare_text) (inl bare_text) asked.fault)
-      (inl refl) asked_fails (frame_then e old mid new drop.frame asked.frame)
+      refl refl refl asked_fails (frame_then e old mid new drop.frame asked.frame)
 
   -- or for one that may be given a newline
   pub inserting_fails : (in_the_middle : Bool) (input : Input) (indent : ℕ) (kills : Ring) → Executes e (Err f) old input indent kills (accept_or_insert_line in_the_middle) new kills
   inserting_fails in_the_middle input indent kills =
-      executed_wrong e old new input indent kills kills (accept_or_insert_line in_the_middle) {T = U} f
+      draft_wrong e old new input indent kills kills (accept_or_insert_line in_the_middle) {T = U} f
       (fault_halfway f (e.environment mid) (e.environment old) (e.draft old) (e.draft mid) _ (validated (e.environment old) (unhinted (e.draft old))) _ (e.draft new)
       drop.frame.environment left_bare (inr (inl bare_hint)) bare_text asked.fault)
-      (inl refl)
+      refl refl refl
       (fails_more e {T = U} (Err f) for_verdict (asked_of (e.display old) (e.environment old) (editor_of e old kills) (accept_or_insert_line in_the_middle)) old new
       (λ sure. sure_verdict (e.sure old) _ sure) asked_fails) (frame_then e old mid new drop.frame asked.frame)
 
@@ -375,12 +376,12 @@ module _ {X T U : Type 0} (e : Ghosts X) (x : T) (y : U) (old mid new : X)
     newline_fails f last is typed input indent kills =
         let asks : Asks = asked_of (e.display old) (e.environment old) (editor_of e old kills) (accept_or_insert_line in_the_middle) in
         let all : Frame e old new = frame_then e old mid new drop.frame asked.frame in
-        executed_wrong e old last input indent kills kills (accept_or_insert_line in_the_middle) f
+        draft_wrong e old last input indent kills kills (accept_or_insert_line in_the_middle) f
         (fault_from f (e.environment new) (e.environment old) (e.draft old) (e.draft new) (e.draft new) left _ _ (e.draft last) all.environment
         (ap (λ w. typed_in w 1 10 (e.draft new)) all.environment ∙ ap (λ d. typed_in (e.environment old) 1 10 d) left_is ∙ ap (λ (p : Draft × Answer). p.0) (left_by GoesOn is))
         (inr (inr (ap (λ (d : Draft). d.hint) left_is))) (inr (inr (ap (λ (d : Draft). d.hint) left_is)))
         (inr (same_draft left (e.draft new) left_is)) (inr (same_draft left (e.draft new) left_is)) typed.fault)
-        (inl refl)
+        refl refl refl
         (fails_more e (Err f) for_hint asks old last
         (λ sure. sure_all (e.sure old) for_hint (sym (ap (λ r. is_sure (e.sure old) (asked_for_reply r)) (reply_is ∙ is)) ∙ sure))
         (fails_then e for_hint (Err f) old new last all typed.frame (asked.fails.quiet ∙ drop.fails.quiet) typed.fails))

@@ -33,7 +33,7 @@ use Rattle.line_editor.specs.Drawings.{any_plain_kill, asked_of, bracket_drawn, 
 use Rattle.line_editor.specs.Editor.{Answer, Editor, Ruler, Step, proceeds, edited_of, measuring, proceeding, ruler_of, with_draft}
 use Rattle.line_editor.specs.DraftEdits.{after_edit, bracket_replaced, kill_popped, kill_yanked, killed_by, movement_replaced, popped_in, text_inserted, yanked_in}
 use Rattle.line_editor.specs.Input.{Input}
-use Rattle.line_editor.specs.Outcomes.{DoesInTwoWithKills, DoesWithKills, DrewFor, Executed, Executes, KillsLeft, StepsTo, editor_of, step_from}
+use Rattle.line_editor.specs.Outcomes.{DoesInTwoWithKills, DoesWithKills, DrewFor, EditsThenDraws, Executed, Executes, KillsLeft, LeavesOneMoment, OneMomentLeft, StepsTo, editor_of, step_from}
 use Rattle.line_editor.specs.Status.{answer_of}
 use Rattle.line_editor.specs.Step.{edited_by, edited_halfway, halfway_of, step}
 use Rattle.line_editor.specs.declared.command.Reply.{Reply}
@@ -42,7 +42,7 @@ use Rattle.line_editor.specs.declared.command.Status.{Status}
 use Rattle.line_editor.specs.declared.command.Status.TheVariants.{Proceed}
 use Rattle.line_editor.proofs.AskedLemmas.{fails_more}
 use Rattle.line_editor.proofs.CountLemmas.{rises_more, rises_stays, rises_twice, rises_up_to, rises_within, stays_rises}
-use Rattle.line_editor.proofs.FaultLemmas.{but_hint, fault_from, fault_redrawn, fault_unhinted, leaves_kills, same_draft}
+use Rattle.line_editor.proofs.FaultLemmas.{but_hint, fault_from, fault_redrawn, fault_unhinted, io_behind, leaves_kills, ring_behind, ring_stays, same_draft}
 use Rattle.line_editor.proofs.DrawnLemmas.{frame_then, hint_trails, keeps_then}
 
 abbrev pub editor_with : Draft → Ring → Editor
@@ -189,7 +189,7 @@ edit_draws display environment editor _ only = refl
 
 -- and what it leaves halfway
 pub edit_halfway : (environment : Environment) (editor : Editor) (command : Command) → only_edits command ≡ true
-    → halfway_of environment editor command ≡ edited_halfway environment editor.draft command
+    → halfway_of environment editor command ≡ with_draft editor (edited_halfway environment editor.draft command)
 edit_halfway environment editor (accept_or_insert_line in_the_middle) only = absurd (cc)
 edit_halfway environment editor (replace movement text) only = absurd (cc)
 edit_halfway environment editor (replace_to_bracket text) only = absurd (cc)
@@ -501,13 +501,25 @@ module _ {X T : Type 0} (e : Ghosts X) (x : T) (old mid new : X) (kills kills' :
   abbrev killed_hint : IsEarlierHint (e.draft old) before.draft (e.draft mid).hint
   killed_hint = inr (inr (ap (λ (d : Draft). d.hint) killed.does.draft))
 
+  put_is : text_inserted (e.environment mid) text (e.draft mid) ≡ put_in
+  put_is = ap (λ (w : Environment). text_inserted w text (e.draft mid)) killed.does.frame.environment ∙ ap (λ (d : Draft). text_inserted (e.environment old) text d) killed.does.draft
+
   fault_put : (f : ReadlineError)
       → FaultLeft f (e.environment mid) (e.draft mid) (e.draft mid) (text_inserted (e.environment mid) text (e.draft mid)) (e.draft new)
       → FaultLeft f (e.environment old) (e.draft old) before.draft put_in (e.draft new)
   fault_put f fault =
-      fault_from f (e.environment mid) (e.environment old) (e.draft old) (e.draft mid) (e.draft mid) before.draft _ _ (e.draft new) killed.does.frame.environment
-      (ap (λ (w : Environment). text_inserted w text (e.draft mid)) killed.does.frame.environment ∙ ap (λ (d : Draft). text_inserted (e.environment old) text d) killed.does.draft)
+      fault_from f (e.environment mid) (e.environment old) (e.draft old) (e.draft mid) (e.draft mid) before.draft _ _ (e.draft new) killed.does.frame.environment put_is
       killed_hint killed_hint (inr killed_text) (inr killed_text) fault
+
+  -- after an error of input or output the kill is done, and the text may be
+  moment_put : {U : Type 0} (r : Result U ReadlineError) → Does e r mid new (text_inserted (e.environment mid) text (e.draft mid)) (drawn_if (not empty)) 1
+      → LeavesOneMoment r (e.environment old) (editor_of e old kills) before (with_draft before put_in) (editor_of e new kills')
+  moment_put (Ok y) put = tt
+  moment_put (Err f) put = λ io.
+      elim (io_behind f (e.environment mid) (e.environment old) (e.draft old) (e.draft mid) before.draft _ put_in (e.draft new) killed.does.frame.environment put_is killed.does.draft put.fault io) [
+        | inl half ↦ inr (inl (half, killed.kills_left))
+        | inr done ↦ inr (inr (done, killed.kills_left))
+      ]
 
   puts : {U : Type 0} (r : Result U ReadlineError) → Does e r mid new (text_inserted (e.environment mid) text (e.draft mid)) (drawn_if (not empty)) 1 → Leaves r killed_drawn
   puts (Err f) put =
@@ -517,7 +529,7 @@ module _ {X T : Type 0} (e : Ghosts X) (x : T) (old mid new : X) (kills kills' :
       let first : Drew e 1 (killed_as as_kill.found as_kill.plainly as_kill.position) old mid = subst (λ (d : Drawing). Drew e 1 d old mid) (sym as_kill.same) killed.does.drew in
       let drew = twice_drawn e old mid new killed.does.frame as_kill.found as_kill.plainly empty as_kill.position stays first put.drew in
       subst (λ (d : Drawing). Leaves (Ok y) d) as_kill.same (record {
-        draft = put.draft ∙ ap (λ (w : Environment). text_inserted w text (e.draft mid)) killed.does.frame.environment ∙ ap (λ (d : Draft). text_inserted (e.environment old) text d) killed.does.draft;
+        draft = put.draft ∙ put_is;
         fault = tt;
         start = put.start ∙ killed.does.start;
         drew = drew;
@@ -529,14 +541,14 @@ module _ {X T : Type 0} (e : Ghosts X) (x : T) (old mid new : X) (kills kills' :
 
   pub replaced : {U : Type 0} (r : Result U ReadlineError)
       → Does e r mid new (text_inserted (e.environment mid) text (e.draft mid)) (drawn_if (not (length text == 0))) 1
-      → DoesInTwoWithKills e r old kills new kills' before.draft (with_draft before put_in) (replacement_drawn killed_drawn (Some text)) (replacement_times killed_drawn (Some text))
-  replaced r put = record { does = puts r put; kills_left = leaves_kills r kills before.kills kills' killed.kills_left }
+      → DoesInTwoWithKills e r old kills new kills' before (with_draft before put_in) (replacement_drawn killed_drawn (Some text)) (replacement_times killed_drawn (Some text))
+  replaced r put = record { does = puts r put; kills_left = leaves_kills r kills before.kills kills' killed.kills_left; moment = moment_put r put }
 
 -- the same of a movement that is killed
 pub replaced_movement : {X T U : Type 0} (e : Ghosts X) (x : T) (old mid new : X) (kills kills' : Ring) (movement : Movement) (range : Option (ℕ × ℕ)) (text : List ℕ)
     → DoesWithKills e (Ok x) old kills mid kills' (killed_by (e.environment old) movement (editor_of e old kills) range) (kill_drawn (e.display old) (e.environment old) (e.draft old) range) 1
     → (r : Result U ReadlineError) → Does e r mid new (text_inserted (e.environment mid) text (e.draft mid)) (drawn_if (not (length text == 0))) 1
-    → DoesInTwoWithKills e r old kills new kills' (killed_by (e.environment old) movement (editor_of e old kills) range).draft
+    → DoesInTwoWithKills e r old kills new kills' (killed_by (e.environment old) movement (editor_of e old kills) range)
     (with_draft (killed_by (e.environment old) movement (editor_of e old kills) range)
     (text_inserted (e.environment old) text (killed_by (e.environment old) movement (editor_of e old kills) range).draft))
     (replacement_drawn (kill_drawn (e.display old) (e.environment old) (e.draft old) range) (Some text))
@@ -547,7 +559,7 @@ replaced_movement e x old mid new kills kills' movement range text killed r put 
 
 -- a kill with nothing in its place
 pub only_killed : {X T U : Type 0} (e : Ghosts X) (x : T) (y : U) (old new : X) (kills kills' : Ring) (left : Editor) (drawing : Drawing)
-    → (halfway : Draft) → DoesWithKills e (Ok x) old kills new kills' left drawing 1 → DoesInTwoWithKills e (Ok y) old kills new kills' halfway left drawing 1
+    → (halfway : Editor) → DoesWithKills e (Ok x) old kills new kills' left drawing 1 → DoesInTwoWithKills e (Ok y) old kills new kills' halfway left drawing 1
 only_killed e x y old new kills kills' left drawing halfway killed = record {
   does = record {
     draft = killed.does.draft;
@@ -560,18 +572,19 @@ only_killed e x y old new kills kills' left drawing halfway killed = record {
     fails = record { io = tt; faults = tt; quiet = killed.does.fails.quiet };
   };
   kills_left = killed.kills_left;
+  moment = tt;
 }
 
 -- the same of an equal text
 pub replaced_as : {X T : Type 0} (e : Ghosts X) (r : Result T ReadlineError) (old new : X) (kills kills' : Ring) (movement : Movement) (drawing : Drawing) (put put' : Option (List ℕ)) → put ≡ put'
-    → (halfway : Draft)
+    → (halfway : Editor)
     → DoesInTwoWithKills e r old kills new kills' halfway (movement_replaced (e.environment old) movement put (editor_of e old kills)) (replacement_drawn drawing put) (replacement_times drawing put)
     → DoesInTwoWithKills e r old kills new kills' halfway (movement_replaced (e.environment old) movement put' (editor_of e old kills)) (replacement_drawn drawing put') (replacement_times drawing put')
 replaced_as e r old new kills kills' movement drawing put put' same halfway done =
     subst (λ (p : Option (List ℕ)). DoesInTwoWithKills e r old kills new kills' halfway (movement_replaced (e.environment old) movement p (editor_of e old kills)) (replacement_drawn drawing p) (replacement_times drawing p)) same done
 
 pub bracket_replaced_as : {X T : Type 0} (e : Ghosts X) (r : Result T ReadlineError) (old new : X) (kills kills' : Ring) (drawing : Drawing) (put put' : Option (List ℕ)) → put ≡ put'
-    → (halfway : Draft)
+    → (halfway : Editor)
     → DoesInTwoWithKills e r old kills new kills' halfway (bracket_replaced (e.environment old) put (editor_of e old kills)) (replacement_drawn drawing put) (replacement_times drawing put)
     → DoesInTwoWithKills e r old kills new kills' halfway (bracket_replaced (e.environment old) put' (editor_of e old kills)) (replacement_drawn drawing put') (replacement_times drawing put')
 bracket_replaced_as e r old new kills kills' drawing put put' same halfway done =
@@ -580,20 +593,28 @@ bracket_replaced_as e r old new kills kills' drawing put put' same halfway done 
 -- the current text of the kill ring that is yanked
 pub yanked_by : {X T : Type 0} (e : Ghosts X) (r : Result T ReadlineError) (old new : X) (kills kills' : Ring) (input : Input) (anchor : Anchor) (n : ℕ) (yanked : Option (List ℕ)) (text : List ℕ)
     → Some text ≡ yanked → kills' ≡ after_yank kills
-    → Does e r old new (yanked_in (e.environment old) input anchor n text (e.draft old)) (edit_drawn (not (length text == 0))) 1
+    → EditsThenDraws e r old new (yanked_in (e.environment old) input anchor n text (e.draft old)) (edit_drawn (not (length text == 0))) 1
     → DoesWithKills e r old kills new kills' (kill_yanked (e.environment old) input anchor n yanked (editor_of e old kills)) (yank_drawn yanked) 1
-yanked_by e r old new kills kills' input anchor n yanked text is ring does =
+yanked_by e r old new kills kills' input anchor n yanked text is ring edit =
     subst (λ (y : Option (List ℕ)). DoesWithKills e r old kills new kills' (kill_yanked (e.environment old) input anchor n y (editor_of e old kills)) (yank_drawn y) 1) is
-    (record { does = does; kills_left = leaves_kills r kills _ kills' ring })
+    (record {
+      does = edit.does;
+      kills_left = leaves_kills r kills _ kills' ring;
+      moment = ring_behind r (e.environment old) (editor_of e old kills) (kill_yanked (e.environment old) input anchor n (Some text) (editor_of e old kills)) (editor_of e new kills') edit.edited ring;
+    })
 
 -- a text that takes the place of a yanked one
 pub popped_by : {X T : Type 0} (e : Ghosts X) (r : Result T ReadlineError) (old new : X) (kills kills' : Ring) (popped : Option (ℕ × List ℕ)) (size : ℕ) (text : List ℕ)
     → Some (size, text) ≡ popped → kills' ≡ after_yank_pop kills
-    → Does e r old new (popped_in (e.environment old) size text (e.draft old)) (edit_drawn (pops_text (e.draft old).line size text)) 1
+    → EditsThenDraws e r old new (popped_in (e.environment old) size text (e.draft old)) (edit_drawn (pops_text (e.draft old).line size text)) 1
     → DoesWithKills e r old kills new kills' (kill_popped (e.environment old) popped (editor_of e old kills)) (pop_drawn (e.draft old).line popped) 1
-popped_by e r old new kills kills' popped size text is ring does =
+popped_by e r old new kills kills' popped size text is ring edit =
     subst (λ p. DoesWithKills e r old kills new kills' (kill_popped (e.environment old) p (editor_of e old kills)) (pop_drawn (e.draft old).line p) 1) is
-    (record { does = does; kills_left = leaves_kills r kills _ kills' ring })
+    (record {
+      does = edit.does;
+      kills_left = leaves_kills r kills _ kills' ring;
+      moment = ring_behind r (e.environment old) (editor_of e old kills) (kill_popped (e.environment old) (Some (size, text)) (editor_of e old kills)) (editor_of e new kills') edit.edited ring;
+    })
 
 module _ {X : Type 0} (e : Ghosts X) where
   -- the cursor is drawn with one full redraw at most
@@ -687,12 +708,25 @@ module _ {X : Type 0} (e : Ghosts X) (old new : X) (input : Input) (indent : ℕ
 
   -- one that went wrong
   pub executed_wrong : {T : Type 0} (f : ReadlineError)
-      → FaultLeft f (e.environment old) (e.draft old) (halfway_of (e.environment old) (editor_of e old kills) command)
+      → FaultLeft f (e.environment old) (e.draft old) (halfway_of (e.environment old) (editor_of e old kills) command).draft
       (step_from e old input indent kills command).editor.draft (e.draft new)
       → KillsLeft f kills (step_from e old input indent kills command).editor.kills kills'
+      → OneMomentLeft f (e.environment old) (editor_of e old kills) (halfway_of (e.environment old) (editor_of e old kills) command)
+      (step_from e old input indent kills command).editor (editor_of e new kills')
       → FailsByParty {T = T} e (asked_of (e.display old) (e.environment old) (editor_of e old kills) command) (Err f) old new → Frame e old new → Executes e (Err f) old input indent kills command new kills'
-  executed_wrong f fault kept fails frame =
-      record { comes = λ no. absurd (let is = fails.faults in cc); wrong = record { draft = fault; kills_left = kept }; frame = frame; io = fails.io; quiet = fails.quiet }
+  executed_wrong f fault kept moment fails frame =
+      record { comes = λ no. absurd (let is = fails.faults in cc); wrong = record { draft = fault; kills_left = kept; moment = moment }; frame = frame; io = fails.io; quiet = fails.quiet }
+
+  -- one that went wrong and leaves the kill ring
+  pub draft_wrong : {T : Type 0} (f : ReadlineError)
+      → FaultLeft f (e.environment old) (e.draft old) (halfway_of (e.environment old) (editor_of e old kills) command).draft
+      (step_from e old input indent kills command).editor.draft (e.draft new)
+      → (halfway_of (e.environment old) (editor_of e old kills) command).kills ≡ kills → (step_from e old input indent kills command).editor.kills ≡ kills → kills' ≡ kills
+      → FailsByParty {T = T} e (asked_of (e.display old) (e.environment old) (editor_of e old kills) command) (Err f) old new → Frame e old new → Executes e (Err f) old input indent kills command new kills'
+  draft_wrong {T = T} f fault half left same fails frame =
+      executed_wrong {T = T} f fault (inl (same ∙ sym left))
+      (ring_stays f (e.environment old) (editor_of e old kills) (halfway_of (e.environment old) (editor_of e old kills) command) (step_from e old input indent kills command).editor (editor_of e new kills')
+      fault half left same) fails frame
 
   -- one that proceeds
   does_ok : {T : Type 0} (x : T) (asks : Asks) (left : Editor) (drawing : Drawing)
@@ -721,12 +755,12 @@ module _ {X : Type 0} (e : Ghosts X) (old new : X) (input : Input) (indent : ℕ
   pub proceeds_ok : {T : Type 0} (x : T) (left : Editor) (drawing : Drawing)
       → step (ruler_of (e.display old) indent) (e.environment old) input (editor_of e old kills) command ≡ proceeding left
       → drawing_of (e.display old) (e.environment old) (editor_of e old kills) command ≡ drawing
-      → (halfway : Draft) → DoesInTwoWithKills e (Ok x) old kills new kills' halfway left drawing (times_of (e.display old) (e.environment old) (editor_of e old kills) command)
+      → (halfway : Editor) → DoesInTwoWithKills e (Ok x) old kills new kills' halfway left drawing (times_of (e.display old) (e.environment old) (editor_of e old kills) command)
       → Executes e (Ok Proceed) old input indent kills command new kills'
-  proceeds_ok x left drawing steps draws halfway done = does_ok x (asked_by drawing) left drawing steps draws halfway done.does done.kills_left
+  proceeds_ok x left drawing steps draws halfway done = does_ok x (asked_by drawing) left drawing steps draws halfway.draft done.does done.kills_left
 
   -- one with the kill ring that went wrong
-  proceeds_wrong : {T : Type 0} (f : ReadlineError) (halfway : Draft) (left : Editor) (drawing : Drawing) (most : ℕ)
+  proceeds_wrong : {T : Type 0} (f : ReadlineError) (halfway left : Editor) (drawing : Drawing) (most : ℕ)
       → step_from e old input indent kills command ≡ proceeding left
       → halfway_of (e.environment old) (editor_of e old kills) command ≡ halfway
       → asked_of (e.display old) (e.environment old) (editor_of e old kills) command ≡ asked_by drawing
@@ -734,9 +768,11 @@ module _ {X : Type 0} (e : Ghosts X) (old new : X) (input : Input) (indent : ℕ
       → Executes e (Err f) old input indent kills command new kills'
   proceeds_wrong {T = T} f halfway left drawing most steps half asks done =
       executed_wrong {T = T} f
-      (subst (λ (d : Draft). FaultLeft f (e.environment old) (e.draft old) d (step_from e old input indent kills command).editor.draft (e.draft new)) (sym half)
-      (subst (λ (s : Step). FaultLeft f (e.environment old) (e.draft old) halfway s.editor.draft (e.draft new)) (sym steps) done.does.fault))
+      (subst (λ (h : Editor). FaultLeft f (e.environment old) (e.draft old) h.draft (step_from e old input indent kills command).editor.draft (e.draft new)) (sym half)
+      (subst (λ (s : Step). FaultLeft f (e.environment old) (e.draft old) halfway.draft s.editor.draft (e.draft new)) (sym steps) done.does.fault))
       (subst (λ (s : Step). KillsLeft f kills s.editor.kills kills') (sym steps) done.kills_left)
+      (subst (λ (h : Editor). OneMomentLeft f (e.environment old) (editor_of e old kills) h (step_from e old input indent kills command).editor (editor_of e new kills')) (sym half)
+      (subst (λ (s : Step). OneMomentLeft f (e.environment old) (editor_of e old kills) halfway s.editor (editor_of e new kills')) (sym steps) done.moment))
       (rw asks done.does.fails) done.does.frame
 
   -- an edit that proceeds
@@ -758,18 +794,18 @@ module _ {X : Type 0} (e : Ghosts X) (old new : X) (input : Input) (indent : ℕ
       → Executes e (Err f) old input indent kills command new kills'
   edits_wrong {T = T} f drawing most only same does =
       let steps = edit_steps (ruler_of (e.display old) indent) (e.environment old) input (editor_of e old kills) command only in
-      executed_wrong {T = T} f
-      (subst (λ (d : Draft). FaultLeft f (e.environment old) (e.draft old) d (step_from e old input indent kills command).editor.draft (e.draft new))
-      (sym (edit_halfway (e.environment old) (editor_of e old kills) command only))
+      let half = edit_halfway (e.environment old) (editor_of e old kills) command only in
+      draft_wrong {T = T} f
+      (subst (λ (h : Editor). FaultLeft f (e.environment old) (e.draft old) h.draft (step_from e old input indent kills command).editor.draft (e.draft new)) (sym half)
       (subst (λ (s : Step). FaultLeft f (e.environment old) (e.draft old) (edited_halfway (e.environment old) (e.draft old) command) s.editor.draft (e.draft new)) (sym steps) does.fault))
-      (inl (same ∙ ap (λ (s : Step). s.editor.kills) (sym steps)))
+      (ap (λ (h : Editor). h.kills) half) (ap (λ (s : Step). s.editor.kills) steps) same
       (fails_more e (Err f) (edited_asked (e.display old) (e.environment old) (e.draft old) command) (asked_of (e.display old) (e.environment old) (editor_of e old kills) command) old new
       (λ sure. ap (λ a. is_sure (e.sure old) a) (sym (edit_asks (e.display old) (e.environment old) (editor_of e old kills) command only)) ∙ sure) does.fails)
       does.frame
 
 -- such a command by its name in the code
 pub goes_wrong_by : {X T : Type 0} (e : Ghosts X) (old new : X) (input : Input) (indent : ℕ) (kills kills' : Ring) (cmd named : Cmd) (result : Result Status ReadlineError) (g f : ReadlineError)
-    (halfway : Draft) (left : Editor) (drawing : Drawing) (most : ℕ) → cmd ≡ named → result ≡ Err g → g ≡ f
+    (halfway left : Editor) (drawing : Drawing) (most : ℕ) → cmd ≡ named → result ≡ Err g → g ≡ f
     → DoesInTwoWithKills e {T = T} (Err f) old kills new kills' halfway left drawing most
     → asked_of (e.display old) (e.environment old) (editor_of e old kills) (command_of named) ≡ asked_by drawing
     → step_from e old input indent kills (command_of named) ≡ proceeding left

@@ -21,10 +21,15 @@ use Rattle.line_keys.specs.declared.count.TypedCount.{TypedCount}
 use Rattle.line_keys.specs.declared.editor_state.EditorState as editors
 use Rattle.line_keys.specs.declared.keys.KeyEvent.{KeyEvent}
 use Rattle.line_keys.specs.declared.raw_reader.RawReader as readers
-use Rattle.line_editor.specs.Reading.{LeftByCut, ReadsCount, ReadsUnderCount}
+use Rattle.line_editor.specs.Reading.{GoesOnWithCount, InsideCount, LeftByCut, ReadsCount, ReadsUnderCount}
 use Rattle.line_editor.proofs.CommandLemmas.{behind_then, colorless, line_then}
 use Rattle.line_editor.proofs.CountLemmas.{rises_twice}
 use Rattle.line_editor.proofs.DrawnLemmas.{frame_then}
+
+-- inside of a count, all items that were left go on with it
+pub all_counted : {Y : Type 0} (r : readers.Ghosts Y) (style : EditMode) (reader reader' : Y) (inside : InsideCount r style reader reader') → r.rest reader ≡ map key inside.goes_on.more
+all_counted r style reader reader' inside =
+    inside.goes_on.cut ∙ ap (λ t. map key inside.goes_on.more ++ t) inside.empty ∙ append-nil (map key inside.goes_on.more)
 
 -- a hint that is asked again after it was, is asked once
 asked_again : (environment environment' : Environment) (draft left : Draft) → environment' ≡ environment → LeftByCut environment draft left
@@ -105,21 +110,17 @@ module _ {X Y : Type 0} (e : editors.Ghosts X) (r : readers.Ghosts Y) (start : X
   pub count_fails : (typed : TypedCount) (now : X) (reader' : Y) → Counting typed now reader' → (f : ReadlineError) (next : X) (reader'' : Y)
       → ReadsUnderCount e r typed (Err f) now reader' next reader'' → ReadsCount e r style first (Err f) start reader next reader''
   count_fails typed now reader' c f next reader'' read =
+      let on : GoesOnWithCount r style reader reader'' = record { more = c.more; cut = c.cut ∙ ap (λ t. map key c.more ++ t) (sym read.kept); continue = c.continue } in
       record {
         read = λ no.
             let dry = read.took no in (
               dry.0,
               record {
-                inside = record {
-                  more = c.more;
-                  cut = c.cut ∙ ap (λ t. map key c.more ++ t) dry.1.before ∙ append-nil (map key c.more);
-                  continue = c.continue;
-                  empty = dry.1.behind;
-                };
+                inside = record { goes_on = on; empty = dry.1.behind };
                 drew = drawn_behind typed now reader' c next (count_prompt (first ∷ c.more)) (read.drew (first ∷ c.more) c.counted no);
               },
             );
-        within = inl (record { more = c.more; cut = c.cut ∙ ap (λ t. map key c.more ++ t) (sym read.kept); continue = c.continue });
+        within = inl on;
         draft = λ no. read.draft no ∙ asked_again (e.environment start) (e.environment now) (e.draft start) (e.draft now) c.frame.environment c.left;
         left = left_twice (e.environment start) (e.environment now) (e.draft start) (e.draft now) (e.draft next) c.frame.environment c.left read.left;
         text = keeps_twice (e.environment start) (e.draft start) (e.draft now) (e.draft next) c.left read.text;
@@ -198,8 +199,8 @@ module _ {X Y : Type 0} (e : editors.Ghosts X) (r : readers.Ghosts Y) (start : X
               cut = c.cut ∙ ap (λ t. map key c.more ++ t) read.took;
               continue = c.continue;
               ends = ends;
-              counted = counted (first ∷ c.more) c.counted;
             };
+            counted = counted (first ∷ c.more) c.counted;
             drew = record {
               shows = whole.shows;
               right = whole.right;
@@ -226,14 +227,12 @@ module _ {X Y : Type 0} (e : editors.Ghosts X) (r : readers.Ghosts Y) (start : X
     redraw_fails f last ends refreshed = record {
       read = λ no. absurd (let is = refreshed.fails.faults in cc);
       within = inr (
-        count_of (first ∷ c.more),
         k,
         record {
           more = c.more;
           cut = c.cut ∙ ap (λ t. map key c.more ++ t) read.took;
           continue = c.continue;
           ends = ends;
-          counted = refl;
         },
       );
       draft = λ no. absurd (let is = refreshed.fails.faults in cc);

@@ -6,7 +6,7 @@ use Rattle.line_buffer.specs.Line.{Line, inserted_at_cursor, without}
 use Rattle.line_buffer.specs.Undo.{first_text}
 use Rattle.line_keys.specs.Display.{Display, HasCursorAt, lit_after}
 use Rattle.line_keys.specs.Draft.{Draft, KeepsText, hinted, hint_shown, start_text}
-use Rattle.line_keys.specs.Drawing.{ChangedPlainly, Does, DoesInTwo, Drew, DrewCursor, DrewLine, DrewNothing, Refreshes, ShowsChange, ShowsEdit, Undrawn, cursor, drawn_if, drawn_in_full, drawn_plainly, edit_drawn, text_same, with_hint}
+use Rattle.line_keys.specs.Drawing.{ChangedPlainly, Does, DoesInTwo, Drew, DrewCursor, DrewLine, DrewNothing, KeepsDraftOnErr, Refreshes, ShowsChange, ShowsEdit, Undrawn, cursor, drawn_if, drawn_in_full, drawn_plainly, edit_drawn, text_same, with_hint}
 use Rattle.line_keys.specs.Fault.{IsEarlierHint}
 use Rattle.line_keys.specs.Frame.{FailsByParty}
 use Rattle.line_keys.specs.Plainly.{KilledPlainly, TypedPlainly, kills_plainly, types_plainly}
@@ -20,8 +20,9 @@ use Rattle.line_parts.specs.Hint.{Suggestion}
 use Rattle.line_state.specs.Edited.{Edited}
 use Rattle.line_editor.specs.Editor.{with_edited}
 use Rattle.line_editor.specs.DraftEdits.{after_edit}
+use Rattle.line_editor.specs.Outcomes.{EditedOnIo, EditsThenDraws}
 use Rattle.line_editor.proofs.CountLemmas.{stays_then}
-use Rattle.line_editor.proofs.FaultLemmas.{but_hinted, fault_from, fault_shown, whole_text}
+use Rattle.line_editor.proofs.FaultLemmas.{but_hinted, fault_from, fault_shown, made_stays, whole_text}
 use Rattle.line_editor.proofs.DrawnLemmas.{drawn_stays, frame_then, hint_trails, keeps_move, keeps_then, right_after, way_after}
 
 -- what leaves all but the draft draws nothing
@@ -202,6 +203,33 @@ pub line_reported : {X T : Type 0} (e : Ghosts X) (r : Result T ReadlineError) (
 line_reported e r old mid new edited left undrawn draft same first shows =
     edit_reported e r old mid new (with_edited (e.draft old) edited) (with_edited (e.draft old) left) undrawn draft
     (ap (λ x. with_edited (e.draft old) x) same) first refl shows
+
+-- an edit that could not be drawn is done
+edit_stays : {X T : Type 0} (e : Ghosts X) (r : Result T ReadlineError) (old mid new : X) (made left : Draft) (rep : Bool)
+    → Undrawn e old mid → e.draft mid ≡ made → made ≡ left → made.hint ≡ (e.draft old).hint
+    → KeepsDraftOnErr e r mid new (hinted (e.environment mid) (e.draft mid))
+    → EditedOnIo r (e.environment old) (e.draft old) (if rep then hinted (e.environment old) left else left) (e.draft new)
+edit_stays e (Ok x) old mid new made left rep undrawn draft same hint err = tt
+edit_stays e (Err er) old mid new made left rep undrawn draft same hint err =
+    λ io. made_stays e er old mid new made (e.draft old) (if rep then hinted (e.environment old) left else left) undrawn.frame.environment draft hint (text_with rep) err
+  where
+    text_with : (b : Bool) → KeepsText (if b then hinted (e.environment old) left else left) made
+    text_with true = subst (λ (d : Draft). KeepsText (hinted (e.environment old) d) made) same (but_hinted (e.environment old) made)
+    text_with false = subst (λ (d : Draft). KeepsText d made) same (whole_text made)
+
+-- an edit of the line with its changes, of which the drawing alone may fail
+pub line_drawn : {X T : Type 0} (e : Ghosts X) (r : Result T ReadlineError) (old mid new : X) (edited left : Edited) (reported rep : Bool)
+    → Undrawn e old mid → e.draft mid ≡ with_edited (e.draft old) edited → edited ≡ left
+    → first_text edited.changes edited.line ≡ start_text (e.draft old)
+    → reported ≡ rep
+    → (reported ≡ false → edited.line.text ≡ (e.draft old).line.text)
+    → ShowsEdit e reported r mid new
+    → EditsThenDraws e r old new (after_edit (e.environment old) rep left (e.draft old)) (edit_drawn rep) 1
+line_drawn e r old mid new edited left reported rep undrawn draft same first answer text shows = record {
+  does = line_done e r old mid new edited left reported rep undrawn draft same first answer text shows;
+  edited = edit_stays e r old mid new (with_edited (e.draft old) edited) (with_edited (e.draft old) left) rep undrawn draft
+      (ap (λ x. with_edited (e.draft old) x) same) refl shows.err;
+}
 
 -- a draft with another line and hint
 abbrev lined : Draft → Line → Option Suggestion → Draft

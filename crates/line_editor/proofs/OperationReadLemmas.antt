@@ -77,7 +77,7 @@ module _ {X Y : Type 0} (e : editors.Ghosts X) (r : readers.Ghosts Y) (editor : 
       let Behind : List Item → Read → Type 0 = λ items read. Reaches (e.draft editor1) i operator motion items read in
       let more = read.read.ends.more in
       let there : motion ≡ motion_behind operator n (k ∷ more) last =
-      is ∙ ap (λ x. motion_of operator last x) product ∙ ap (λ (c : Count). motion_of operator last (multiplied n c.n)) read.read.ends.counted in
+      is ∙ ap (λ x. motion_of operator last x) product ∙ ap (λ (c : Count). motion_of operator last (multiplied n c.n)) read.read.counted in
       counted e r MotionHere Behind (λ c d. d) (λ b. command_of b.command) (λ b. behind_input b i) editor keys reader k Vi count last editor1 reader1 read editor1 reader' result
       (λ items read' reaches.
       let P : Draft → Type 0 = λ d. Reaches d i operator (motion_behind operator n (k ∷ more) last) items read' in
@@ -102,7 +102,7 @@ module _ {X Y : Type 0} (e : editors.Ghosts X) (r : readers.Ghosts Y) (editor : 
   motion_count k f editor' reader' begins count =
       count_goes_wrong e r MotionHere MotionHere (λ c d. d) (λ b. command_of b.command) (λ b. behind_input b i) editor keys reader k Vi f editor' reader' count
       (λ more all. enter-ends-motion (e.environment editor) (e.draft editor) i operator n (k ∷ more) (is-count Vi modes.Command k more enter begins all (enter-ends Vi)))
-      (λ number last ends. operation-begins (e.environment editor) (e.draft editor) i operator n (k ∷ ends.more) last
+      (λ last ends. operation-begins (e.environment editor) (e.draft editor) i operator n (k ∷ ends.more) last
       (is-count Vi modes.Command k ends.more last begins ends.continue ends.ends))
 
   -- the first key and the rest

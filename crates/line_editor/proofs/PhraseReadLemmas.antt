@@ -92,7 +92,7 @@ module _ {X Y : Type 0} (e : editors.Ghosts X) (r : readers.Ghosts Y) {T : Type 
         cut = refl;
         counted = is-count i.style i.mode k more last begins read.read.ends.continue read.read.ends.ends;
         behind = read';
-        keyed = subst P read.keeps.own (subst Q read.read.ends.counted (subst R read.draft (subst S read.keeps.frame.environment keyed)));
+        keyed = subst P read.keeps.own (subst Q read.read.counted (subst R read.draft (subst S read.keeps.frame.environment keyed)));
         told = refl;
       }) behind
 
@@ -102,7 +102,7 @@ module _ {X Y : Type 0} (e : editors.Ghosts X) (r : readers.Ghosts Y) {T : Type 
   count_part f editor' reader' begins count =
       count_goes_wrong e r SpelledHere SpelledHere (λ c d. d) command input editor keys reader k i.style f editor' reader' count
       (inside-begins (keymap_of keys (r.own_binding reader)) (e.environment editor) (e.draft editor) i k begins)
-      (λ number last ends. counted-begins (keymap_of keys (r.own_binding reader)) (e.environment editor) (e.draft editor) i k ends.more last
+      (λ last ends. counted-begins (keymap_of keys (r.own_binding reader)) (e.environment editor) (e.draft editor) i k ends.more last
       (is-count i.style i.mode k ends.more last begins ends.continue ends.ends))
 
   -- a phrase of the mode is a phrase, where its first key leaves the draft

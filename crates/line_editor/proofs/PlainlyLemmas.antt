@@ -17,7 +17,7 @@ use Rattle.line_buffer.specs.declared.layout.Position.{Position}
 use Rattle.line_buffer.specs.declared.movement.Movement.{Movement}
 use Rattle.line_keys.specs.Display.{Display, IsRight, ShowsText, columns_back, columns_on, ending_at, lit_after}
 use Rattle.line_keys.specs.Draft.{Draft, hint_shown, hinted, start_text}
-use Rattle.line_keys.specs.Drawing.{ChangedPlainly, Does, Drew, DrewLine, DrewPart, ShowsEnd, Undrawn, asked_by, change_drawn, drawn_in_full, drawn_plainly}
+use Rattle.line_keys.specs.Drawing.{ChangedPlainly, Does, Drew, DrewLine, DrewPart, KeepsDraftOnErr, ShowsEnd, Undrawn, asked_by, change_drawn, drawn_in_full, drawn_plainly}
 use Rattle.line_keys.specs.Frame.{FailsByParty, Frame}
 use Rattle.line_keys.specs.Plainly.{KilledPlainly, TypedPlainly, gives_end, is_bare, leaves_bare, takes_char}
 use Rattle.line_keys.specs.ShownLine.{HasRightLayout, KeepsDrawn}
@@ -30,8 +30,8 @@ use Rattle.line_state.proofs.PlainTextLemmas.{all_before}
 use Rattle.line_editor.specs.DraftEdits.{killed_by, range_killed, typed_in}
 use Rattle.line_editor.specs.Drawings.{kill_drawn, typing_drawn}
 use Rattle.line_editor.specs.Editor.{edited_of, with_edited}
-use Rattle.line_editor.specs.Outcomes.{DoesWithKills, editor_of}
-use Rattle.line_editor.proofs.FaultLemmas.{but_hinted, fault_shown, leaves_kills}
+use Rattle.line_editor.specs.Outcomes.{DoesWithKills, EditedOnIo, editor_of}
+use Rattle.line_editor.proofs.FaultLemmas.{but_hinted, fault_shown, leaves_kills, made_stays, ring_behind}
 use Rattle.line_editor.proofs.DoneLemmas.{Redrawn, fails_after, line_after, line_reported}
 use Rattle.line_editor.proofs.DrawnLemmas.{frame_then, hint_trails, right_shown, shown_right}
 
@@ -291,6 +291,22 @@ module _ {X T : Type 0} (e : Ghosts X) (r : Result T ReadlineError) (old mid new
     rung : kills' ≡ ring_with_killed (e.draft old).line movement (Some (from, to)) kills
     rung = ring ∙ ap (λ (x : Option (ℕ × ℕ)). ring_with_killed (e.draft old).line movement x kills) (sym is)
 
+    -- what could not be drawn is killed
+    stays_killed : (q : Result T ReadlineError) → KeepsDraftOnErr e q mid new (hinted (e.environment mid) (e.draft mid))
+        → EditedOnIo q (e.environment old) (e.draft old) left_so (e.draft new)
+    stays_killed (Ok x) err = tt
+    stays_killed (Err er) err =
+        λ io. made_stays e er old mid new killed (e.draft old) left_so undrawn.frame.environment made_so refl (but_hinted (e.environment old) killed) err
+
+    as_killed : Does e r old new left_so (kill_drawn (e.display old) (e.environment old) (e.draft old) (Some (from, to))) 1
+        → KeepsDraftOnErr e r mid new (hinted (e.environment mid) (e.draft mid)) → Leaves r (Some (from, to))
+    as_killed does err = record {
+      does = does;
+      kills_left = leaves_kills r kills _ kills' rung;
+      moment = ring_behind r (e.environment old) (editor_of e old kills) (killed_by (e.environment old) movement (editor_of e old kills) (Some (from, to)))
+          (editor_of e new kills') (stays_killed r err) rung;
+    }
+
     pub killed_plainly : from ≤ to → ((to == length (e.draft old).line.text) && gives_end (e.display old) (e.draft old) from) ≡ true
         → (count : ℕ) → count ≡ length (e.draft old).line.text - from
         → ShowsEnd e r mid new (columns_back count (e.display mid).layout.end)
@@ -298,7 +314,7 @@ module _ {X T : Type 0} (e : Ghosts X) (r : Result T ReadlineError) (old mid new
         → ShowsText (e.display mid) (front ++ gone) → (e.draft mid).line ≡ record { text = front; cursor = length front } → OnOk r (HasRightLayout e new))
         → Leaves r range
     killed_plainly ordered plainly count counted shows right =
-        subst (λ (x : Option (ℕ × ℕ)). Leaves r x) is (record { does = plain_kill ordered plainly count counted shows right; kills_left = leaves_kills r kills _ kills' rung })
+        subst (λ (x : Option (ℕ × ℕ)). Leaves r x) is (as_killed (plain_kill ordered plainly count counted shows right) shows.err)
 
     pub killed_full : ((to == length (e.draft old).line.text) && gives_end (e.display old) (e.draft old) from) ≡ false → Redrawn e r mid new → Leaves r range
-    killed_full plainly shows = subst (λ (x : Option (ℕ × ℕ)). Leaves r x) is (record { does = full_kill plainly shows; kills_left = leaves_kills r kills _ kills' rung })
+    killed_full plainly shows = subst (λ (x : Option (ℕ × ℕ)). Leaves r x) is (as_killed (full_kill plainly shows) shows.err)

@@ -31,6 +31,7 @@ use Rattle.line_editor.specs.Keymap.{KeyState}
 use Rattle.line_editor.specs.Read.{Begins, Lacks, Read, quiet_read, read_behind}
 use Rattle.line_editor.specs.Reading.{EitherRose, Ends, EndsCount, EndsQuietly, Gives, GivesQuietly, OnRead, ReadsCount, ReadsPart, StopsWithin, TakesItems}
 use Rattle.line_editor.specs.ItemShown.{ItemShown, any_drawn, asked_behind, counting_on, kept, last_drawn, none_shown, shown_with, shows_line}
+use Rattle.line_editor.proofs.CountedLemmas.{all_counted}
 use Rattle.line_editor.proofs.DrawnLemmas.{frame_then}
 use Rattle.line_editor.proofs.KeyFitLemmas.{enter}
 use Rattle.line_editor.proofs.FaultLemmas.{io_counted, io_cut, io_stays}
@@ -268,7 +269,7 @@ module _ {X Y : Type 0} (e : editors.Ghosts X) (r : readers.Ghosts Y) where
 
     -- a count was read, the key that ends it, and what belongs to that
     module _ (count : Count) (last : KeyEvent) (editor1 : X) (mid1 : Y) (read : ReadsCount e r style k (Ok (count, last)) editor mid editor1 mid1) where
-      abbrev ends_count : EndsCount r style k mid mid1 count last
+      abbrev ends_count : EndsCount r style mid mid1 last
       ends_count = read.read.ends
 
       size_is : length (key k ∷ r.rest mid) ≡ length (k ∷ ends_count.more) + length (key last ∷ r.rest mid1)
@@ -388,14 +389,15 @@ module _ {X Y : Type 0} (e : editors.Ghosts X) (r : readers.Ghosts Y) where
     pub count_goes_wrong : (f : ReadlineError) (editor' : X) (reader' : Y) → ReadsCount e r style k (Err f) editor mid editor' reader'
         → ((more : List KeyEvent) → list_all (continues_count style) more ≡ true
         → (read : Read) × (later : List ItemShown) × Comes (map key (k ∷ more) ++ (key enter ∷ [])) read × (read.shown ≡ counting_on [] (k ∷ more) ++ later))
-        → ((number : Count) (last : KeyEvent) (ends : EndsCount r style k mid reader' number last) → Begins Comes (map key (k ∷ ends.more) ++ (key last ∷ [])))
+        → ((last : KeyEvent) (ends : EndsCount r style mid reader' last) → Begins Comes (map key (k ∷ ends.more) ++ (key last ∷ [])))
         → ReadsPart e r Comes (key k ∷ []) (e.draft editor) begun command input (Err f) editor keys mid editor' reader'
     count_goes_wrong f editor' reader' count ended over = record {
       read = λ no.
           let cut = (count.read no).1 in
-          let inside = cut.inside in
+          let inside = cut.inside.goes_on in
           let w = ended inside.more inside.continue in
-          let size = ap length inside.cut in
+          let all = all_counted r style mid reader' cut.inside in
+          let size = ap length all in
           let same = length-map inside.more key in
           let each = counting-each [] (k ∷ inside.more) in (
             (count.read no).0,
@@ -404,13 +406,13 @@ module _ {X Y : Type 0} (e : editors.Ghosts X) (r : readers.Ghosts Y) where
                 rest = key enter ∷ [];
                 read = w.0;
                 proper = λ none. cc;
-                comes = subst (λ t. Comes (key k ∷ (t ++ (key enter ∷ []))) w.0) (sym inside.cut) w.2;
+                comes = subst (λ t. Comes (key k ∷ (t ++ (key enter ∷ []))) w.0) (sym all) w.2;
                 shown = counting_on [] (k ∷ inside.more);
                 later = w.1;
                 drawn = w.3;
                 each = omega (arith, size, same, each);
               };
-              empty = inside.empty;
+              empty = cut.inside.empty;
               draft = count.draft no;
               drew = so_far_counting e k inside.more editor editor' cut.drew;
             },
@@ -422,9 +424,9 @@ module _ {X Y : Type 0} (e : editors.Ghosts X) (r : readers.Ghosts Y) where
           begins = let w = ended inside.more inside.continue in record { rest = key enter ∷ []; read = w.0; comes = w.2 };
         }
         | inr stop ↦ record {
-          items = map key stop.2.more ++ (key stop.1 ∷ []);
-          cut = stop.2.cut ∙ sym (append_assoc (map key stop.2.more) (key stop.1 ∷ []) (r.rest reader'));
-          begins = over stop.0 stop.1 stop.2;
+          items = map key stop.1.more ++ (key stop.0 ∷ []);
+          cut = stop.1.cut ∙ sym (append_assoc (map key stop.1.more) (key stop.0 ∷ []) (r.rest reader'));
+          begins = over stop.0 stop.1;
         }
       ];
       fault = io_cut f (e.environment editor) (e.draft editor) (e.draft editor) (e.draft editor') count.left;
@@ -432,8 +434,8 @@ module _ {X Y : Type 0} (e : editors.Ghosts X) (r : readers.Ghosts Y) where
       start = λ no. same_start (e.draft editor) (e.draft editor') count.text;
       redraws = λ no.
           let inside = (count.read no).1.inside in
-          let size = ap length inside.cut in
-          let same = length-map inside.more key in
+          let size = ap length (all_counted r style mid reader' inside) in
+          let same = length-map inside.goes_on.more key in
           let left : length (r.rest reader') ≡ 0 = ap length inside.empty in
           λ below.
           let s = (count.read no).1.drew.redraws (omega (arith, below, left, size, same)) in

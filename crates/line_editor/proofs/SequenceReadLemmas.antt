@@ -1,7 +1,7 @@
 -- Facts on reading bound sequences.
 use Rattle.std.proofs.Common.{arith, ◌≡◌, ◌≤◌, ◌++◌, append_assoc, true, false, List, [], ◌∷◌, length, map, Some, None, sym, ◌∙◌, ap}
 use Rattle.std.specs.Prelude.{slice_get}
-use Rattle.std.proofs.lemmas.List.{append-nil, map-append}
+use Rattle.std.proofs.lemmas.List.{map-append}
 use Rattle.line_keys.specs.Command.{Command}
 use Rattle.line_keys.specs.Item.{key}
 use Rattle.line_keys.specs.declared.keys.KeyEvent.{KeyEvent}
@@ -93,10 +93,8 @@ module _ {Y : Type 0} (r : readers.Ghosts Y) (s : Sequences) (first : KeyEvent) 
   -- no item is left behind them
   pub ends_inside : (typed : List KeyEvent) (now next : Y) → InSequence typed now → r.rest now ≡ [] → r.rest next ≡ [] → EndsInSequence r reader next s first
   ends_inside typed now next i empty left = record {
+    stopped = record { more = i.more; cut = i.cut ∙ ap (λ t. map key i.more ++ t) (empty ∙ sym left); read_on = i.read_on };
     empty = left;
-    more = i.more;
-    cut = i.cut ∙ ap (λ t. map key i.more ++ t) empty ∙ append-nil (map key i.more);
-    read_on = i.read_on;
     leads = i.leads;
     unanswered = i.unanswered;
   }

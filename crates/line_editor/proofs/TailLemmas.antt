@@ -1,5 +1,6 @@
 -- Facts on what is read behind a key.
 use Rattle.std.proofs.Common.{◌≡◌, ℕ, true, ◌++◌, List, [], ◌∷◌, map, Option, Some, None, refl, sym, ◌∙◌, ap, subst}
+use Rattle.std.proofs.lemmas.List.{append-nil}
 use Rattle.std.specs.Prelude.{option_map, slice_get}
 use Rattle.std.specs.Option.{option_or}
 use Rattle.line_buffer.specs.declared.movement.CharSearch.{CharSearch}
@@ -180,22 +181,25 @@ module _ {Y : Type 0} (r : readers.Ghosts Y) (bound : Bound) (environment : Envi
   abbrev those : Sequences
   those = sequences_of bound draft input count
 
+  all_read : r.rest reader ≡ map key cut.stopped.more
+  all_read = cut.stopped.cut ∙ ap (λ t. map key cut.stopped.more ++ t) cut.empty ∙ append-nil (map key cut.stopped.more)
+
   -- what a meaning lacks of the keys of a sequence, it lacks of the reader's items
-  keys_left : (meaning : Meaning) → LacksQuietly (Tailed those environment draft input last meaning) (map key cut.more)
+  keys_left : (meaning : Meaning) → LacksQuietly (Tailed those environment draft input last meaning) (map key cut.stopped.more)
       → EndsQuietly r (Tailed those environment draft input last meaning) reader next
   keys_left meaning lacks =
       let there : LacksQuietly (Tailed those environment draft input last meaning) (r.rest reader) =
-      subst (λ t. LacksQuietly (Tailed those environment draft input last meaning) t) (sym cut.cut) lacks in
+      subst (λ t. LacksQuietly (Tailed those environment draft input last meaning) t) (sym all_read) lacks in
       record { lacks = there.lacks; empty = cut.empty; undrawn = there.quiet }
 
   -- the items end inside a sequence
   pub sequence_ends : EndsQuietly r (Tailed those environment draft input last unlisted) reader next
   sequence_ends =
-      keys_left unlisted (sequence-lacks those environment draft input last cut.more (goes_on bound draft input count last cut.more cut.read_on cut.leads cut.unanswered))
+      keys_left unlisted (sequence-lacks those environment draft input last cut.stopped.more (goes_on bound draft input count last cut.stopped.more cut.stopped.read_on cut.leads cut.unanswered))
 
   pub seconds_end : (by : KeyEvent → Command) → EndsQuietly r (Tailed those environment draft input last (has_second by)) reader next
   seconds_end by =
-      keys_left (has_second by) (seconds-lack those environment draft input last by cut.more (goes_on bound draft input count last cut.more cut.read_on cut.leads cut.unanswered))
+      keys_left (has_second by) (seconds-lack those environment draft input last by cut.stopped.more (goes_on bound draft input count last cut.stopped.more cut.stopped.read_on cut.leads cut.unanswered))
 
 module _ {Y : Type 0} (r : readers.Ghosts Y) (bound : Bound) (environment : Environment) (draft : Draft) (input : Input) (count : Count) (last : KeyEvent) (reader next : Y) where
   -- reading stopped where nothing was taken behind the key

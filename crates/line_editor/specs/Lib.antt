@@ -10,6 +10,7 @@ pub mod Info
 pub mod KeyTree
 pub mod Binding
 pub mod Reading
+pub mod Reads
 pub mod Input
 pub mod InputState
 pub mod Keymap

@@ -1,21 +1,22 @@
 -- Commands, turns and runs of a program's state, input state, reader and kill ring.
 use Rattle.std.specs.Prelude.{◌≡◌, ◌⊎◌, true, ℕ, ◌+◌, ◌-◌, ◌*◌, ◌<◌, List, [], length, Result, IfErr, IfOk, Ok, Err, ◌++◌}
 use Rattle.line_buffer.specs.KillRing.{Ring, killed, with_last}
-use Rattle.line_config.specs.Error.{FaultsOnly, IoOnlyIf, UnlessFault, is_fault, is_memory}
+use Rattle.line_config.specs.Error.{FaultsOnly, IoOnlyIf, UnlessFault, is_fault, is_io, is_memory}
 use Rattle.line_config.specs.Failures.{UnlessIo}
 use Rattle.line_config.specs.declared.error.ReadlineError.{ReadlineError}
 use Rattle.line_config.specs.declared.error.ReadlineError.TheVariants.{Eof, Interrupted}
 use Rattle.line_parts.specs.Asks.{for_all}
+use Rattle.line_parts.specs.Environment.{Environment}
 use Rattle.line_keys.specs.Command.{Command}
 use Rattle.line_keys.specs.Draft.{Draft, KeepsLine, hinted, start_text}
-use Rattle.line_keys.specs.Fault.{FaultLeft, IoLeft}
-use Rattle.line_keys.specs.Drawing.{DoesInTwo, Drawing, Drew, DrewNothing, Refreshes, ShowsChange, asked_by, with_hint}
+use Rattle.line_keys.specs.Fault.{FaultLeft, IoLeft, IsOf}
+use Rattle.line_keys.specs.Drawing.{Does, DoesInTwo, Drawing, Drew, DrewNothing, Refreshes, ShowsChange, asked_by, with_hint}
 use Rattle.line_keys.specs.Frame.{Frame, PartyFailed}
 use Rattle.line_keys.specs.ShownLine.{GoesToEnd, HasRightLayout, HasShownEnd, IsAtEnd, IsInPlace, KeepsDrawn, LosesHint, Redraws, ShowsLine, ShowsNoHint}
 use Rattle.line_keys.specs.Item.{Item}
 use Rattle.line_keys.specs.declared.editor_state.EditorState as editors
 use Rattle.line_keys.specs.declared.raw_reader.RawReader as readers
-use Rattle.line_editor.specs.Drawings.{asked_of, drawing_of, draws_in_part, times_of}
+use Rattle.line_editor.specs.Drawings.{asked_of, drawing_of, draws_in_part, edited_asked, edited_drawn, edited_times, times_of}
 use Rattle.line_editor.specs.Editor.{Answer, Editor, Leaves, Ruler, Step, ended, grouped, interrupted, own_ruler, proceeds, ruler_of, submitted}
 use Rattle.line_editor.specs.Input.{Input}
 use Rattle.line_editor.specs.Keymap.{KeyState, keymap_of}
@@ -24,7 +25,7 @@ use Rattle.line_editor.specs.Reading.{FailsByReading, KeepsReading, LeftByCut, O
 use Rattle.line_editor.specs.Run.{End, Run, Turn, Turns, dry, kills_before, stopped}
 use Rattle.line_editor.specs.ItemShown.{DrewCounts, ruler_behind}
 use Rattle.line_editor.specs.Status.{ComesTo}
-use Rattle.line_editor.specs.Step.{halfway_of, step}
+use Rattle.line_editor.specs.Step.{draft_behind, edited_by, edited_halfway, editor_behind, halfway_of, step}
 use Rattle.line_editor.specs.declared.command.Status.{Status}
 use Rattle.line_editor.specs.declared.run.Turned.{Turned}
 use Rattle.line_editor.specs.declared.run.Turned.TheVariants as turned
@@ -47,6 +48,28 @@ abbrev pub LeavesKills : {T : Type 0} → Result T ReadlineError → Ring → Ri
 LeavesKills (Ok _) before left kills = kills ≡ left
 LeavesKills (Err error) before left kills = KillsLeft error before left kills
 
+-- an editor has the draft of a moment of a call, but for its hint, and the kill ring of that moment
+abbrev pub IsEditorOf : Environment → Editor → Editor → Editor → Editor → Type 0
+IsEditorOf environment before halfway moment editor =
+    IsOf environment before.draft halfway.draft moment.draft editor.draft × (editor.kills ≡ moment.kills)
+
+-- an error of input or output leaves the draft and the kill ring of one moment of a call: before it, halfway, or behind it
+abbrev pub OneMomentLeft : ReadlineError → Environment → Editor → Editor → Editor → Editor → Type 0
+OneMomentLeft error environment before halfway left editor = is_io error ≡ true
+    → IsEditorOf environment before halfway before editor
+    ⊎ IsEditorOf environment before halfway halfway editor
+    ⊎ IsEditorOf environment before halfway left editor
+
+-- the same of a call's result
+abbrev pub LeavesOneMoment : {T : Type 0} → Result T ReadlineError → Environment → Editor → Editor → Editor → Editor → Type 0
+LeavesOneMoment (Ok _) environment before halfway left editor = Unit {0}
+LeavesOneMoment (Err error) environment before halfway left editor = OneMomentLeft error environment before halfway left editor
+
+-- an error of input or output comes behind an edit: the draft is the one that the edit leaves, but for its hint
+abbrev pub EditedOnIo : {T : Type 0} → Result T ReadlineError → Environment → Draft → Draft → Draft → Type 0
+EditedOnIo (Ok _) environment before left draft = Unit {0}
+EditedOnIo (Err error) environment before left draft = is_io error ≡ true → IsOf environment before before left draft
+
 -- a session of these four
 abbrev pub session : {X Y : Type 0} → X → KeyState → Y → Ring → Session X Y
 session state keys reader kills = record { state = state; keys = keys; reader = reader; kills = kills }
@@ -56,15 +79,45 @@ module _ {X : Type 0} (e : editors.Ghosts X) where
   abbrev pub editor_of : X → Ring → Editor
   editor_of state kills = record { draft = e.draft state; kills = kills }
 
-  -- what a call leaves that edits the line and kills or yanks: what an edit leaves, and the kill ring
-  pub record DoesInTwoWithKills {T : Type 0} (result : Result T ReadlineError) (state : X) (kills : Ring) (state' : X) (kills' : Ring) (halfway : Draft) (left : Editor) (drawing : Drawing) (times : ℕ) : Type 0 where
-    pub does : DoesInTwo e (asked_by drawing) result state state' halfway left.draft drawing times
-    pub kills_left : LeavesKills result kills left.kills kills'
+  -- what an edit leaves of which the drawing alone asks the renderer or a party
+  pub record EditsThenDraws {T : Type 0} (result : Result T ReadlineError) (state state' : X) (left : Draft) (drawing : Drawing) (times : ℕ) : Type 0 where
+    pub does : Does e result state state' left drawing times
+    pub edited : EditedOnIo result (e.environment state) (e.draft state) left (e.draft state')
 
-  -- the same of a call that changes the line once
+  -- what a call leaves that edits the line and kills or yanks: what an edit leaves, and the kill ring; after an error of input or
+  -- output both are of one moment
+  pub record DoesInTwoWithKills {T : Type 0} (result : Result T ReadlineError) (state : X) (kills : Ring) (state' : X) (kills' : Ring) (halfway left : Editor) (drawing : Drawing) (times : ℕ) : Type 0 where
+    pub does : DoesInTwo e (asked_by drawing) result state state' halfway.draft left.draft drawing times
+    pub kills_left : LeavesKills result kills left.kills kills'
+    pub moment : LeavesOneMoment result (e.environment state) (editor_of state kills) halfway left (editor_of state' kills')
+
+  -- the same of a call that does a command which kills or copies, or puts the text killed before a yanked one in its place
+  abbrev pub DoesKilling : {T : Type 0} → Result T ReadlineError → X → Ring → X → Ring → Command → Type 0
+  DoesKilling result state kills state' kills' command =
+      let display = e.display state in let environment = e.environment state in let editor = editor_of state kills in
+      DoesInTwoWithKills result state kills state' kills' (halfway_of environment editor command) (editor_behind environment editor command)
+      (drawing_of display environment editor command) (times_of display environment editor command)
+
+  -- what a call leaves that does a command which edits, draws or moves, by an input value
+  abbrev pub DoesCommandBy : {T : Type 0} → Result T ReadlineError → X → X → ℕ → Input → Command → Type 0
+  DoesCommandBy result state state' indent input command =
+      let display = e.display state in let environment = e.environment state in let draft = e.draft state in
+      DoesInTwo e (edited_asked display environment draft command) result state state'
+      (edited_halfway environment draft command) (edited_by (ruler_of display indent) environment input draft command)
+      (edited_drawn display environment draft command) (edited_times display draft command)
+
+  -- the same of a command that does not indent, whatever the input value is
+  abbrev pub DoesCommand : {T : Type 0} → Result T ReadlineError → X → X → Command → Type 0
+  DoesCommand result state state' command =
+      let display = e.display state in let environment = e.environment state in let draft = e.draft state in
+      DoesInTwo e (edited_asked display environment draft command) result state state'
+      (edited_halfway environment draft command) (draft_behind (ruler_of display 0) environment draft command)
+      (edited_drawn display environment draft command) (edited_times display draft command)
+
+  -- what a call leaves that kills or yanks, and changes the line once
   abbrev pub DoesWithKills : {T : Type 0} → Result T ReadlineError → X → Ring → X → Ring → Editor → Drawing → ℕ → Type 0
   DoesWithKills result state kills state' kills' left drawing times =
-      DoesInTwoWithKills result state kills state' kills' (e.draft state) left drawing times
+      DoesInTwoWithKills result state kills state' kills' (editor_of state kills) left drawing times
 
   -- the step of a command from a state, an input and a kill ring
   abbrev pub step_from : X → Input → ℕ → Ring → Command → Step
@@ -103,11 +156,14 @@ module _ {X : Type 0} (e : editors.Ghosts X) where
     pub start : start_text (e.draft state') ≡ start_text (e.draft state)
 
   -- what a command leaves that goes wrong: after a fault the draft of a moment of its step, or, where memory ran out, one that has lost
-  -- its changes; and the kill ring of its step, or, where memory ran out, the one from before, or that one with a kill as its last action
+  -- its changes; and the kill ring of its step, or, where memory ran out, the one from before, or that one with a kill as its last action;
+  -- after an error of input or output both are of one moment
   pub record FailsIn (error : ReadlineError) (state : X) (input : Input) (indent : ℕ) (kills : Ring) (command : Command) (state' : X) (kills' : Ring) : Type 0 where
-    pub draft : FaultLeft error (e.environment state) (e.draft state) (halfway_of (e.environment state) (editor_of state kills) command)
+    pub draft : FaultLeft error (e.environment state) (e.draft state) (halfway_of (e.environment state) (editor_of state kills) command).draft
         (step_from state input indent kills command).editor.draft (e.draft state')
     pub kills_left : KillsLeft error kills (step_from state input indent kills command).editor.kills kills'
+    pub moment : OneMomentLeft error (e.environment state) (editor_of state kills) (halfway_of (e.environment state) (editor_of state kills) command)
+        (step_from state input indent kills command).editor (editor_of state' kills')
 
   -- what executing a command leaves; an error of input or output comes only where the renderer failed, or where one whom the command
   -- asks is not sure

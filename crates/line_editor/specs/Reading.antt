@@ -63,14 +63,18 @@ module _ {Y : Type 0} (r : readers.Ghosts Y) where
   FindsSequence reader reader' sequences first (Sequence.Command command) = IsAnswered reader reader' sequences first (command_of command)
   FindsSequence reader reader' sequences first (Sequence.InVain second) = IsInVain reader reader' sequences first second
 
+  -- reading a sequence that began with a key stopped: keys were read of which each shorter beginning leads on and has no command
+  pub record StopsInSequence (reader reader' : Y) (sequences : Sequences) (first : KeyEvent) : Type 0 where
+    pub more : List KeyEvent
+    pub cut : r.rest reader ≡ map key more ++ r.rest reader'
+    pub read_on : IsReadOn sequences first more
+
   -- all items that were left are keys behind which a sequence can go on
   pub record EndsInSequence (reader reader' : Y) (sequences : Sequences) (first : KeyEvent) : Type 0 where
+    pub stopped : StopsInSequence reader reader' sequences first
     pub empty : r.rest reader' ≡ []
-    pub more : List KeyEvent
-    pub cut : r.rest reader ≡ map key more
-    pub read_on : IsReadOn sequences first more
-    pub leads : sequences.leads (first ∷ more) ≡ true
-    pub unanswered : sequence_command sequences first more ≡ None
+    pub leads : sequences.leads (first ∷ stopped.more) ≡ true
+    pub unanswered : sequence_command sequences first stopped.more ≡ None
 
   -- items were read, with nothing drawn, that come to a command and an input
   pub record GivesQuietly (Comes : List Item → Read → Type 0) (draft : Draft) (input : Input) (command : Command) (reader reader' : Y) : Type 0 where
@@ -84,37 +88,27 @@ module _ {Y : Type 0} (r : readers.Ghosts Y) where
     pub empty : r.rest reader' ≡ []
     pub undrawn : lacks.shown ≡ none_shown (r.rest reader)
 
-  -- the keys that were read go on with a count, up to one that ends it
-  pub record EndsCount (style : EditMode) (first : KeyEvent) (reader reader' : Y) (count : Count) (last : KeyEvent) : Type 0 where
-    pub more : List KeyEvent
-    pub cut : r.rest reader ≡ map key more ++ (key last ∷ r.rest reader')
-    pub continue : list_all (continues_count style) more ≡ true
-    pub ends : continues_count style last ≡ false
-    pub counted : count ≡ count_of (first ∷ more)
-
-  -- all items that were left are keys that go on with a count
-  pub record InsideCount (style : EditMode) (reader reader' : Y) : Type 0 where
-    pub more : List KeyEvent
-    pub cut : r.rest reader ≡ map key more
-    pub continue : list_all (continues_count style) more ≡ true
-    pub empty : r.rest reader' ≡ []
-
   -- keys were read that go on with a count, or none
   pub record GoesOnWithCount (style : EditMode) (reader reader' : Y) : Type 0 where
     pub more : List KeyEvent
     pub cut : r.rest reader ≡ map key more ++ r.rest reader'
     pub continue : list_all (continues_count style) more ≡ true
 
-  -- reading a count that began with a key stopped: keys were read that go on with it, or also the one that ends it
-  abbrev pub StopsInCount : EditMode → KeyEvent → Y → Y → Type 0
-  StopsInCount style first reader reader' =
-      GoesOnWithCount style reader reader' ⊎ ((count : Count) × (last : KeyEvent) × EndsCount style first reader reader' count last)
+  -- all items that were left are keys that go on with a count
+  pub record InsideCount (style : EditMode) (reader reader' : Y) : Type 0 where
+    pub goes_on : GoesOnWithCount style reader reader'
+    pub empty : r.rest reader' ≡ []
 
-  -- reading a sequence that began with a key stopped: keys were read of which each shorter beginning leads on and has no command
-  pub record StopsInSequence (reader reader' : Y) (sequences : Sequences) (first : KeyEvent) : Type 0 where
+  -- keys were read that go on with a count, up to one that ends it
+  pub record EndsCount (style : EditMode) (reader reader' : Y) (last : KeyEvent) : Type 0 where
     pub more : List KeyEvent
-    pub cut : r.rest reader ≡ map key more ++ r.rest reader'
-    pub read_on : IsReadOn sequences first more
+    pub cut : r.rest reader ≡ map key more ++ (key last ∷ r.rest reader')
+    pub continue : list_all (continues_count style) more ≡ true
+    pub ends : continues_count style last ≡ false
+
+  -- reading a count stopped: keys were read that go on with it, or also the one that ends it
+  abbrev pub StopsInCount : EditMode → Y → Y → Type 0
+  StopsInCount style reader reader' = GoesOnWithCount style reader reader' ⊎ ((last : KeyEvent) × EndsCount style reader reader' last)
 
   -- reading stopped: the items that were taken, behind those in front, are a prefix of something, or all of it
   pub record StopsWithin (Comes : List Item → Read → Type 0) (front : List Item) (reader reader' : Y) : Type 0 where
@@ -215,18 +209,19 @@ module _ {X Y : Type 0} (e : editors.Ghosts X) (r : readers.Ghosts Y) where
   -- the items ended in a count that began with a key, and it is shown
   pub record CutInCount (style : EditMode) (first : KeyEvent) (editor : X) (reader : Y) (editor' : X) (reader' : Y) : Type 0 where
     pub inside : InsideCount r style reader reader'
-    pub drew : DrewCounting e (first ∷ inside.more) editor editor'
+    pub drew : DrewCounting e (first ∷ inside.goes_on.more) editor editor'
 
   -- a count that began with a key was read, and the key that ends it, and the line was drawn
   pub record CountRead (style : EditMode) (first : KeyEvent) (editor : X) (reader : Y) (editor' : X) (reader' : Y) (count : Count) (last : KeyEvent) : Type 0 where
-    pub ends : EndsCount r style first reader reader' count last
+    pub ends : EndsCount r style reader reader' last
+    pub counted : count ≡ count_of (first ∷ ends.more)
     pub drew : DrewCount e (first ∷ ends.more) editor editor'
 
   -- the rest of a count that began with a key was read, and the key that ends it; the line is drawn once for each key of the count,
   -- and at last again with its hint; after an error at most these keys were taken
   pub record ReadsCount (style : EditMode) (first : KeyEvent) (result : Result (Count × KeyEvent) ReadlineError) (editor : X) (reader : Y) (editor' : X) (reader' : Y) : Type 0 where
     pub read : OnRead result (λ ended. CountRead style first editor reader editor' reader' ended.0 ended.1) (CutInCount style first editor reader editor' reader')
-    pub within : OnErr result (StopsInCount r style first reader reader')
+    pub within : OnErr result (StopsInCount r style reader reader')
     pub draft : UnlessFault result (e.draft editor' ≡ hinted (e.environment editor) (e.draft editor))
     pub left : LeftByCut (e.environment editor) (e.draft editor) (e.draft editor')
     pub text : KeepsText (e.draft editor) (e.draft editor')

@@ -30,35 +30,40 @@ down_or_next ruler environment n draft =
     if is_some (down_by (measuring ruler) draft.line n) then cursor_moved ruler (LineDown n) draft
     else next_shown environment draft
 
--- what a command does to the draft that only edits, draws or moves; commands that are left to the program above do nothing
+-- the draft behind a command that edits, draws or moves, whatever the input value is; commands that are left to the program above
+-- leave it
+abbrev pub draft_behind : Ruler → Environment → Draft → Command → Draft
+draft_behind ruler environment draft (self_insert n c) = typed_in environment n c draft
+draft_behind ruler environment draft newline = typed_in environment 1 10 (unhinted draft)
+draft_behind ruler environment draft (replace_char n c) = char_replaced environment n c draft
+draft_behind ruler environment draft (overwrite c) = overwritten environment c draft
+draft_behind ruler environment draft (move movement) = cursor_moved ruler movement draft
+draft_behind ruler environment draft move_to_bracket = record draft { line = moved_to draft.line (bracket_place draft.line) }
+draft_behind ruler environment draft (line_up_or_previous_history n) = up_or_previous ruler environment n draft
+draft_behind ruler environment draft (line_down_or_next_history n) = down_or_next ruler environment n draft
+draft_behind ruler environment draft (undo n) = steps_undone environment n draft
+draft_behind ruler environment draft (indent movement) = lines_shifted environment false ruler.indent_size movement draft
+draft_behind ruler environment draft (dedent movement) = lines_shifted environment true ruler.indent_size movement draft
+draft_behind ruler environment draft transpose_chars = chars_transposed environment draft
+draft_behind ruler environment draft (transpose_words n) = words_transposed environment n draft
+draft_behind ruler environment draft capitalize_word = word_changed environment Capitalize draft
+draft_behind ruler environment draft downcase_word = word_changed environment Lowercase draft
+draft_behind ruler environment draft upcase_word = word_changed environment Uppercase draft
+draft_behind ruler environment draft previous_history = previous_shown environment draft
+draft_behind ruler environment draft next_history = next_shown environment draft
+draft_behind ruler environment draft beginning_of_history = first_shown environment draft
+draft_behind ruler environment draft end_of_history = end_shown environment draft
+draft_behind ruler environment draft history_search_backward = search_shown environment Reverse draft
+draft_behind ruler environment draft history_search_forward = search_shown environment Forward draft
+draft_behind ruler environment draft complete_hint = completed environment draft.hint draft
+draft_behind ruler environment draft clear_screen = hinted environment draft
+draft_behind ruler environment draft repaint = hinted environment draft
+draft_behind ruler environment draft _ = draft
+
+-- what a command does to the draft that only edits, draws or moves
 abbrev pub edited_by : Ruler → Environment → Input → Draft → Command → Draft
-edited_by ruler environment input draft (self_insert n c) = typed_in environment n c draft
-edited_by ruler environment input draft newline = typed_in environment 1 10 (unhinted draft)
 edited_by ruler environment input draft (insert n text) = yanked_in environment input Before n text draft
-edited_by ruler environment input draft (replace_char n c) = char_replaced environment n c draft
-edited_by ruler environment input draft (overwrite c) = overwritten environment c draft
-edited_by ruler environment input draft (move movement) = cursor_moved ruler movement draft
-edited_by ruler environment input draft move_to_bracket = record draft { line = moved_to draft.line (bracket_place draft.line) }
-edited_by ruler environment input draft (line_up_or_previous_history n) = up_or_previous ruler environment n draft
-edited_by ruler environment input draft (line_down_or_next_history n) = down_or_next ruler environment n draft
-edited_by ruler environment input draft (undo n) = steps_undone environment n draft
-edited_by ruler environment input draft (indent movement) = lines_shifted environment false ruler.indent_size movement draft
-edited_by ruler environment input draft (dedent movement) = lines_shifted environment true ruler.indent_size movement draft
-edited_by ruler environment input draft transpose_chars = chars_transposed environment draft
-edited_by ruler environment input draft (transpose_words n) = words_transposed environment n draft
-edited_by ruler environment input draft capitalize_word = word_changed environment Capitalize draft
-edited_by ruler environment input draft downcase_word = word_changed environment Lowercase draft
-edited_by ruler environment input draft upcase_word = word_changed environment Uppercase draft
-edited_by ruler environment input draft previous_history = previous_shown environment draft
-edited_by ruler environment input draft next_history = next_shown environment draft
-edited_by ruler environment input draft beginning_of_history = first_shown environment draft
-edited_by ruler environment input draft end_of_history = end_shown environment draft
-edited_by ruler environment input draft history_search_backward = search_shown environment Reverse draft
-edited_by ruler environment input draft history_search_forward = search_shown environment Forward draft
-edited_by ruler environment input draft complete_hint = completed environment draft.hint draft
-edited_by ruler environment input draft clear_screen = hinted environment draft
-edited_by ruler environment input draft repaint = hinted environment draft
-edited_by ruler environment input draft _ = draft
+edited_by ruler environment input draft command = draft_behind ruler environment draft command
 
 -- what such a command may leave that goes wrong halfway: of a move in two steps the first; of a move back in the history, and of a move
 -- up that may become one, the own line saved
@@ -70,27 +75,39 @@ edited_halfway environment draft beginning_of_history = saved_at_end environment
 edited_halfway environment draft _ = draft
 
 -- what a command may leave that goes wrong halfway: of a replacement the kill; of an Enter that may type a newline, the line validated
-abbrev pub halfway_of : Environment → Editor → Command → Draft
+abbrev pub halfway_of : Environment → Editor → Command → Editor
 halfway_of environment editor (replace movement text) =
-    (killed_by environment movement editor (killed_range editor.draft.line movement)).draft
-halfway_of environment editor (replace_to_bracket text) = (bracket_killed environment editor).draft
-halfway_of environment editor (accept_or_insert_line in_the_middle) = validated environment (unhinted editor.draft)
-halfway_of environment editor command = edited_halfway environment editor.draft command
+    killed_by environment movement editor (killed_range editor.draft.line movement)
+halfway_of environment editor (replace_to_bracket text) = bracket_killed environment editor
+halfway_of environment editor (accept_or_insert_line in_the_middle) =
+    with_draft editor (validated environment (unhinted editor.draft))
+halfway_of environment editor command = with_draft editor (edited_halfway environment editor.draft command)
+
+-- the editor behind a command that kills or copies, or that puts the text killed before a yanked one in its place
+abbrev pub editor_behind : Environment → Editor → Command → Editor
+editor_behind environment editor (kill movement) =
+    killed_by environment movement editor (killed_range editor.draft.line movement)
+editor_behind environment editor (replace movement text) = movement_replaced environment movement text editor
+editor_behind environment editor (vi_yank_to movement) =
+    record editor { kills = copied_to editor.kills (text_of editor.draft.line movement) }
+editor_behind environment editor kill_to_bracket = bracket_killed environment editor
+editor_behind environment editor (replace_to_bracket text) = bracket_replaced environment text editor
+editor_behind environment editor yank_to_bracket =
+    record editor { kills = copied_to editor.kills (bracket_text editor.draft.line) }
+editor_behind environment editor yank_pop = kill_popped environment (yank_popped editor.kills) editor
+editor_behind environment editor _ = editor
 
 -- what a command does: it kills or yanks, ends the run or may end it, or only edits
 abbrev pub step : Ruler → Environment → Input → Editor → Command → Step
-step ruler environment input editor (kill movement) =
-    proceeding (killed_by environment movement editor (killed_range editor.draft.line movement))
-step ruler environment input editor (replace movement text) = proceeding (movement_replaced environment movement text editor)
-step ruler environment input editor (vi_yank_to movement) =
-    proceeding (record editor { kills = copied_to editor.kills (text_of editor.draft.line movement) })
-step ruler environment input editor kill_to_bracket = proceeding (bracket_killed environment editor)
-step ruler environment input editor (replace_to_bracket text) = proceeding (bracket_replaced environment text editor)
-step ruler environment input editor yank_to_bracket =
-    proceeding (record editor { kills = copied_to editor.kills (bracket_text editor.draft.line) })
+step ruler environment input editor (kill movement) = proceeding (editor_behind environment editor (kill movement))
+step ruler environment input editor (replace movement text) = proceeding (editor_behind environment editor (replace movement text))
+step ruler environment input editor (vi_yank_to movement) = proceeding (editor_behind environment editor (vi_yank_to movement))
+step ruler environment input editor kill_to_bracket = proceeding (editor_behind environment editor kill_to_bracket)
+step ruler environment input editor (replace_to_bracket text) = proceeding (editor_behind environment editor (replace_to_bracket text))
+step ruler environment input editor yank_to_bracket = proceeding (editor_behind environment editor yank_to_bracket)
 step ruler environment input editor (yank n anchor) =
     proceeding (kill_yanked environment input anchor n (yanked_text editor.kills) editor)
-step ruler environment input editor yank_pop = proceeding (kill_popped environment (yank_popped editor.kills) editor)
+step ruler environment input editor yank_pop = proceeding (editor_behind environment editor yank_pop)
 step ruler environment input editor end_of_file = record {
   editor = with_draft editor (unhinted editor.draft);
   answer = answer_at_end input.style editor.draft.line.text;

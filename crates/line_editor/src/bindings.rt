@@ -1,5 +1,5 @@
 //! The map of a program's bindings.
-ghost use Rattle.std.specs.Prelude.{◌≡◌, ◌∷◌, [], IfOk, OnErr, OnOk, Option, Some, option_map};
+ghost use Rattle.std.specs.Prelude.{◌≡◌, [], IfOk, OnErr, OnOk, Option, Some, option_map};
 ghost use Rattle.line_config.specs.Error.{MemoryOnly};
 ghost use Rattle.line_editor.specs.Binding.{Rebinds, begins, bound_of, handled, handler_of, leads_on, node_count};
 ghost use Rattle.line_editor.specs.Event.{chord_of, keys};

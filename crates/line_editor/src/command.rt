@@ -2,17 +2,12 @@
 ghost use Rattle.std.specs.Prelude.{◌≡◌, ◌||◌, ℕ};
 ghost use Rattle.line_buffer.specs.KillRing.{Ring};
 ghost use Rattle.line_editor.specs.Accept.{reply_to};
-ghost use Rattle.line_editor.specs.Drawings.{edited_asked, edited_drawn, edited_times};
-ghost use Rattle.line_editor.specs.Editor.{ruler_of};
-ghost use Rattle.line_editor.specs.DraftEdits.{typed_in};
 ghost use Rattle.line_editor.specs.Input.{Input};
 ghost use Rattle.line_editor.specs.InputState.{input_of};
-ghost use Rattle.line_editor.specs.Outcomes.{Executes};
-ghost use Rattle.line_editor.specs.Step.{edited_by, edited_halfway};
+ghost use Rattle.line_editor.specs.Outcomes.{DoesCommand, DoesCommandBy, Executes};
 ghost use Rattle.line_keys.specs.Command as commands;
 ghost use Rattle.line_keys.specs.Command.{command_of};
-ghost use Rattle.line_keys.specs.Draft.{unhinted};
-ghost use Rattle.line_keys.specs.Drawing.{Does, DoesInTwo, with_hint};
+ghost use Rattle.line_keys.specs.Drawing.{Does};
 ghost use Rattle.line_parts.specs.Verdict.{verdict_of};
 
 use crate::edit::State;
@@ -41,11 +36,12 @@ pub enum Status {
 ///
 /// # Errors
 /// `Eof` for the end of the input on an empty line alone, and `Interrupted` for an interrupt alone, with the kept cursor at
-/// the kept end. Another error is one of input or output, where the renderer has failed or a party was asked that may fail,
-/// or that memory ran out. Then the line, its cursor, changes and history index are those of one moment of the command:
-/// before it, halfway or after it; or, where memory ran out, there are no changes, the saved line and the history index are
-/// those of one moment, and the text, the cursor and the hint may be any. The kill ring is the one that the command leaves;
-/// or, where memory ran out, the one from before, or that one with a kill as its last action.
+/// the kept end. Another error is one of input or output, where the renderer has failed or a party that the command asks is
+/// one that may fail, or that memory ran out. After one of input or output the line, its cursor, changes and history index
+/// and the kill ring are those of one moment of the command: before it, halfway or after it. Where memory ran out the line is
+/// of such a moment, too, or there are no changes, the saved line and the history index are those of one moment, and the
+/// text, the cursor and the hint may be any; the kill ring is the one that the command leaves, the one from before, or that
+/// one with a kill as its last action.
 pub fn execute<'out, 'prompt, W: Renderer, H: Helper, P: Prompt, S: History>(
     cmd: Cmd,
     state: &mut State<'out, 'prompt, W, H, P, S>,
@@ -114,13 +110,8 @@ impl<'out, 'prompt, W: Renderer, H: Helper, P: Prompt, S: History> State<
 > {
     // Does what a command says that neither ends the run nor looks at the kill ring.
     fn edit_by(&mut self, cmd: Cmd, input_state: &InputState<'_>, indent_size: u8) -> Result<()>
-        ensures { let e = ⟦<Self as EditorState>⟧ in
-            let w = e.environment self.old in let d = e.draft self.old in
-            let c = command_of cmd in
-            DoesInTwo e (edited_asked (e.display self.old) w d c) result self.old self.new
-            (edited_halfway w d c)
-            (edited_by (ruler_of (e.display self.old) indent_size) w (input_of input_state.now) d c)
-            (edited_drawn (e.display self.old) w d c) (edited_times (e.display self.old) d c) }
+        ensures { DoesCommandBy ⟦<Self as EditorState>⟧ result self.old self.new indent_size
+            (input_of input_state.now) (command_of cmd) }
     {
         match cmd {
             Cmd::SelfInsert(n, c) => self.edit_insert(c, n),
@@ -177,10 +168,7 @@ impl<'out, 'prompt, W: Renderer, H: Helper, P: Prompt, S: History> State<
 
     // Takes the hint away, and puts a newline at the cursor.
     fn type_newline(&mut self) -> Result<()>
-        ensures { let e = ⟦<Self as EditorState>⟧ in let d = e.draft self.old in
-            Does e result self.old self.new
-            (typed_in (e.environment self.old) 1 10 (unhinted d)) with_hint
-            (edited_times (e.display self.old) d commands.newline) }
+        ensures { DoesCommand ⟦<Self as EditorState>⟧ result self.old self.new commands.newline }
     {
         self.drop_hint()?;
         self.edit_insert('\n', 1)

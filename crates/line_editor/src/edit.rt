@@ -1,5 +1,5 @@
 //! The line while it is edited, and how it is drawn.
-ghost use Rattle.std.specs.Prelude.{IsCharBoundary, if◌then◌else◌, ◌≡◌, ◌≤◌, ◌+◌, ◌++◌, ◌∷◌, [], ℕ, nat_lt, List, true, false, Option, Some, None, option_map, is_some, length, IfOk, OnOk, OnErr, IsOk};
+ghost use Rattle.std.specs.Prelude.{IsCharBoundary, ◌≡◌, ◌≤◌, ◌+◌, ◌++◌, ◌∷◌, [], ℕ, nat_lt, List, true, false, Option, Some, None, option_map, length, IfOk, OnOk, OnErr, IsOk};
 ghost use Rattle.std.specs.Borrow.{GName};
 ghost use Rattle.line_config.specs.Error.{MemoryOnly};
 ghost use Rattle.line_editor.specs.Editor.{Begins};

@@ -1,10 +1,11 @@
 //! Reads keys, and gives the commands that they stand for.
+ghost use Rattle.line_editor.specs.Reads.{ReadsWhole};
 ghost use Rattle.std.specs.Prelude.{◌≡◌, ◌↔◌, [], Option, false, IfOk, IsTrue};
 ghost use Rattle.line_config.specs.Error.{MemoryOnly};
 ghost use Rattle.line_editor.specs.Binding.{bound_of};
 ghost use Rattle.line_editor.specs.Input.{Input, first_input, is_vi_command};
 ghost use Rattle.line_editor.specs.InputState.{input_of, keys_of, read_input, told_input};
-ghost use Rattle.line_editor.specs.Reading.{PhraseHere, ReadsCommand, ReadsPart, entered_here};
+ghost use Rattle.line_editor.specs.Reading.{ReadsCommand};
 ghost use Rattle.line_keys.specs.Command.{command_of};
 ghost use Rattle.line_keys.specs.Drawing.{DrewNothing};
 
@@ -76,10 +77,10 @@ impl<'b> InputState<'b> {
     ///
     /// # Errors
     /// `Eof` where the items ended inside a phrase or before one; then a phrase that was cut short can be read again with
-    /// more items behind it. Another error is one of input or output, where the reader or the renderer has failed or a
-    /// party was asked that may fail, or that memory ran out. After an error the line, its cursor and what is remembered of
-    /// the keys stand as they were, and no item past the phrase that was begun is read; after one of input or output the
-    /// changes stand, too, but that open groups of them may have ended.
+    /// more items behind it. Another error is one of input or output, where the reader or the renderer has failed or the
+    /// hint or a handler is one that may fail, or that memory ran out. After an error the line, its cursor and what is
+    /// remembered of the keys stand as they were, and no item past the phrase that was begun is read; after one of input or
+    /// output the changes stand, too, but that open groups of them may have ended.
     pub fn next_cmd<R: RawReader, W: Refresher>(
         &mut self,
         rdr: &mut R,
@@ -102,12 +103,8 @@ impl<'b> InputState<'b> {
         wrt: &mut W,
         single_esc_abort: bool,
     ) -> Result<Told>
-        ensures part { let k = keys_of ⟦<dyn ConditionalEventHandler as ConditionalEventHandler>⟧ in
-            let k = k self.now in let e = W.EditorState in
-            ReadsPart e R.RawReader (PhraseHere e R.RawReader wrt.old k rdr.old) []
-            (entered_here e R.RawReader wrt.old k rdr.old) (λ command draft. draft)
-            (λ t. command_of t.command) (λ t. told_input t k.input) result
-            wrt.old k rdr.old wrt.new rdr.new }
+        ensures part { ReadsWhole W.EditorState R.RawReader result wrt.old rdr.old wrt.new rdr.new
+            (keys_of ⟦<dyn ConditionalEventHandler as ConditionalEventHandler>⟧ self.now) }
         ensures dry { let e = W.EditorState in R.rest rdr.old ≡ []
             → (e.draft wrt.new ≡ e.draft wrt.old) × DrewNothing e wrt.old wrt.new }
     {

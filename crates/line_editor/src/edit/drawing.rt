@@ -1,7 +1,9 @@
 //! Drawing again, and what is asked of the screen.
+ghost use Rattle.line_editor.specs.Outcomes.{DoesCommand};
+ghost use Rattle.line_keys.specs.Command as commands;
 ghost use Rattle.std.specs.Prelude.{◌≡◌, ◌&&◌, true, false, is_some, OnOk, OnErr};
-ghost use Rattle.line_keys.specs.Draft.{hint_shown, hinted};
-ghost use Rattle.line_keys.specs.Drawing.{Does, Paints, with_hint};
+ghost use Rattle.line_keys.specs.Draft.{hint_shown};
+ghost use Rattle.line_keys.specs.Drawing.{Paints};
 ghost use Rattle.line_keys.specs.ShownLine.{Shows, ShowsByLayout, info_kept};
 ghost use Rattle.line_state.specs.Drawn.{cleared};
 
@@ -104,8 +106,8 @@ impl<'out, 'prompt, W: Renderer, H: Helper, P: Prompt, S: History> State<
 
     // Clears the screen and draws the line again, with the hint asked for.
     pub(crate) fn clear_and_redraw(&mut self) -> Result<()>
-        ensures { let e = ⟦<Self as EditorState>⟧ in Does e result self.old self.new
-            (hinted (e.environment self.old) (e.draft self.old)) with_hint 1 }
+        ensures { DoesCommand ⟦<Self as EditorState>⟧ result self.old self.new
+            commands.clear_screen }
     {
         self.clear_screen()?;
         self.refresh_line()

@@ -1,9 +1,11 @@
 //! The hint, put into the line.
-ghost use Rattle.std.specs.Prelude.{◌≡◌, is_some, option_and_then, option_map, OnOk};
+ghost use Rattle.line_editor.specs.Outcomes.{DoesCommand};
+ghost use Rattle.line_keys.specs.Command as commands;
+ghost use Rattle.std.specs.Prelude.{◌≡◌, option_and_then, option_map, OnOk};
 ghost use Rattle.line_editor.specs.Editor.{with_edited};
-ghost use Rattle.line_editor.specs.DraftEdits.{completed, with_completion_at_end};
+ghost use Rattle.line_editor.specs.DraftEdits.{with_completion_at_end};
 ghost use Rattle.line_keys.specs.Draft.{start_text};
-ghost use Rattle.line_keys.specs.Drawing.{Does, DrewNothing, drawn_if};
+ghost use Rattle.line_keys.specs.Drawing.{DrewNothing};
 ghost use Rattle.line_keys.specs.Fault.{FaultLeaves};
 ghost use Rattle.line_keys.specs.Frame.{FailsByRenderer, Frame};
 ghost use Rattle.line_parts.specs.Hint.{suggestion_of};
@@ -37,9 +39,8 @@ impl<'out, 'prompt, W: Renderer, H: Helper, P: Prompt, S: History> State<
     // Puts what the hint completes the line with at the end of the cursor's line, asks for the next hint and draws the line.
     // There is a beep where the hint completes nothing. Without a hint nothing happens.
     pub(crate) fn complete_hint(&mut self) -> Result<()>
-        ensures { let e = ⟦<Self as EditorState>⟧ in
-            let d = e.draft self.old in Does e result self.old self.new
-            (completed (e.environment self.old) d.hint d) (drawn_if (is_some d.hint)) 1 }
+        ensures { DoesCommand ⟦<Self as EditorState>⟧ result self.old self.new
+            commands.complete_hint }
     {
         if self.hint.is_none() {
             return Ok(());

@@ -1,4 +1,6 @@
 //! Moves in the history.
+ghost use Rattle.line_editor.specs.Outcomes.{DoesCommand};
+ghost use Rattle.line_keys.specs.Command as commands;
 ghost use Rattle.std.specs.Prelude.{◌≡◌, ◌+◌, ◌≤◌, IsCharBoundary, false, if◌then◌else◌, not, is_some, length, OnOk, OnErr};
 ghost use Rattle.line_buffer.specs.Line.{before};
 ghost use Rattle.line_config.specs.Error.{MemoryOnly};
@@ -136,11 +138,8 @@ impl<'out, 'prompt, W: Renderer, H: Helper, P: Prompt, S: History> State<
     // Shows the line of the history before this one, if there is one.
     #[tactic(auto, using(crate::proofs::HistoryMoveLemmas::way_stays, crate::proofs::HistoryMoveLemmas::way_goes, crate::proofs::HistoryMoveLemmas::way_goes_once))]
     fn show_previous(&mut self) -> Result<()>
-        ensures { let e = ⟦<Self as EditorState>⟧ in
-            let w = e.environment self.old in let d = e.draft self.old in
-            DoesInTwo e (asked_back d) result self.old self.new
-            (saved_at_end w d) (previous_shown w d)
-            (drawn_if (not (way_ends w Reverse d))) 1 }
+        ensures { DoesCommand ⟦<Self as EditorState>⟧ result self.old self.new
+            commands.previous_history }
     {
         let index = self.place();
         if index == 0 {
@@ -152,10 +151,8 @@ impl<'out, 'prompt, W: Renderer, H: Helper, P: Prompt, S: History> State<
     // Shows the line behind this one, if there is one: behind the history's last stands the one that is being written.
     #[tactic(auto, using(crate::proofs::HistoryMoveLemmas::way_stays, crate::proofs::HistoryMoveLemmas::way_goes, crate::proofs::HistoryMoveLemmas::way_goes_once))]
     fn show_next(&mut self) -> Result<()>
-        ensures { let e = ⟦<Self as EditorState>⟧ in
-            let w = e.environment self.old in let d = e.draft self.old in
-            DoesAsking e (asked_on w d) result self.old self.new (next_shown w d)
-            (drawn_if (not (way_ends w Forward d))) 1 }
+        ensures { DoesCommand ⟦<Self as EditorState>⟧ result self.old self.new
+            commands.next_history }
     {
         let index = self.place();
         let end = self.parties.history().len();
@@ -171,10 +168,8 @@ impl<'out, 'prompt, W: Renderer, H: Helper, P: Prompt, S: History> State<
     // Shows the first line of the history, if it is not shown already.
     #[tactic(auto, using(crate::proofs::HistoryMoveLemmas::way_stays, crate::proofs::HistoryMoveLemmas::way_goes, crate::proofs::HistoryMoveLemmas::way_goes_once))]
     fn show_first(&mut self) -> Result<()>
-        ensures { let e = ⟦<Self as EditorState>⟧ in
-            let w = e.environment self.old in let d = e.draft self.old in
-            DoesInTwo e (asked_back d) result self.old self.new (saved_at_end w d) (first_shown w d)
-            (drawn_if (not (way_ends w Reverse d))) 1 }
+        ensures { DoesCommand ⟦<Self as EditorState>⟧ result self.old self.new
+            commands.beginning_of_history }
     {
         if self.place() == 0 {
             return Ok(());
@@ -185,10 +180,8 @@ impl<'out, 'prompt, W: Renderer, H: Helper, P: Prompt, S: History> State<
     // Comes back to the line that is being written, if it is not shown already.
     #[tactic(auto, using(crate::proofs::HistoryMoveLemmas::way_stays, crate::proofs::HistoryMoveLemmas::way_goes, crate::proofs::HistoryMoveLemmas::way_goes_once))]
     fn show_end(&mut self) -> Result<()>
-        ensures { let e = ⟦<Self as EditorState>⟧ in
-            let w = e.environment self.old in let d = e.draft self.old in
-            DoesAsking e (asked_to_end w d) result self.old self.new (end_shown w d)
-            (drawn_if (not (way_ends w Forward d))) 1 }
+        ensures { DoesCommand ⟦<Self as EditorState>⟧ result self.old self.new
+            commands.end_of_history }
     {
         if self.place() == self.parties.history().len() {
             return Ok(());

@@ -1,9 +1,9 @@
 //! What puts text into the line.
-ghost use Rattle.std.specs.Prelude.{◌≡◌, ◌==◌, ◌&&◌, not, is_some, length};
-ghost use Rattle.line_buffer.specs.Cluster.{place_on};
-ghost use Rattle.line_editor.specs.DraftEdits.{char_replaced, overwritten, popped_in, text_inserted, typed_in, yanked_in};
-ghost use Rattle.line_editor.specs.Drawings.{typing_drawn};
+ghost use Rattle.line_keys.specs.Command as commands;
+ghost use Rattle.std.specs.Prelude.{◌≡◌, ◌==◌, ◌&&◌, not, length};
+ghost use Rattle.line_editor.specs.DraftEdits.{popped_in, text_inserted, yanked_in};
 ghost use Rattle.line_editor.specs.InputState.{input_of};
+ghost use Rattle.line_editor.specs.Outcomes.{DoesCommand, EditsThenDraws};
 ghost use Rattle.line_keys.specs.Drawing.{Does, drawn_if, edit_drawn};
 ghost use Rattle.line_keys.specs.Plainly.{is_bare, takes_char};
 ghost use Rattle.line_state.specs.Edited.{pops_text};
@@ -33,10 +33,8 @@ impl<'out, 'prompt, W: Renderer, H: Helper, P: Prompt, S: History> State<
     /// # Errors
     /// Those of the parties and of the renderer, and that memory ran out.
     pub fn edit_insert(&mut self, c: char, n: RepeatCount) -> Result<()>
-        ensures { let e = ⟦<Self as EditorState>⟧ in
-            let w = e.environment self.old in let d = e.draft self.old in
-            Does e result self.old self.new (typed_in w n c d)
-            (typing_drawn (e.display self.old) w d n c) 1 }
+        ensures { DoesCommand ⟦<Self as EditorState>⟧ result self.old self.new
+            (commands.self_insert n c) }
     {
         let plainly = self.takes_chars(c, n);
         self.edited.insert(c, n)?;
@@ -89,10 +87,8 @@ impl<'out, 'prompt, W: Renderer, H: Helper, P: Prompt, S: History> State<
     /// # Errors
     /// Those of the parties and of the renderer, and that memory ran out.
     pub fn edit_replace_char(&mut self, c: char, n: RepeatCount) -> Result<()>
-        ensures { let e = ⟦<Self as EditorState>⟧ in
-            Does e result self.old self.new
-            (char_replaced (e.environment self.old) n c (e.draft self.old))
-            (edit_drawn (is_some (place_on (e.draft self.old).line n))) 1 }
+        ensures { DoesCommand ⟦<Self as EditorState>⟧ result self.old self.new
+            (commands.replace_char n c) }
     {
         let replaced = self.edited.replace_char(c, n)?;
         self.show_edit(replaced)
@@ -103,10 +99,8 @@ impl<'out, 'prompt, W: Renderer, H: Helper, P: Prompt, S: History> State<
     /// # Errors
     /// Those of the parties and of the renderer, and that memory ran out.
     pub fn edit_overwrite_char(&mut self, c: char) -> Result<()>
-        ensures { let e = ⟦<Self as EditorState>⟧ in
-            Does e result self.old self.new
-            (overwritten (e.environment self.old) c (e.draft self.old))
-            (edit_drawn (is_some (place_on (e.draft self.old).line 1))) 1 }
+        ensures { DoesCommand ⟦<Self as EditorState>⟧ result self.old self.new
+            (commands.overwrite c) }
     {
         let replaced = self.edited.overwrite(c)?;
         self.show_edit(replaced)
@@ -126,7 +120,7 @@ impl<'out, 'prompt, W: Renderer, H: Helper, P: Prompt, S: History> State<
         n: RepeatCount,
     ) -> Result<()>
         ensures { let e = ⟦<Self as EditorState>⟧ in
-            Does e result self.old self.new
+            EditsThenDraws e result self.old self.new
             (yanked_in (e.environment self.old) (input_of input_state.now) anchor n text.now
             (e.draft self.old)) (edit_drawn (not (length text.now == 0))) 1 }
     {
@@ -142,7 +136,7 @@ impl<'out, 'prompt, W: Renderer, H: Helper, P: Prompt, S: History> State<
     /// Those of the parties and of the renderer, and that memory ran out.
     pub fn edit_yank_pop(&mut self, yank_size: usize, text: &str) -> Result<()>
         ensures { let e = ⟦<Self as EditorState>⟧ in
-            Does e result self.old self.new
+            EditsThenDraws e result self.old self.new
             (popped_in (e.environment self.old) yank_size text.now (e.draft self.old))
             (edit_drawn (pops_text (e.draft self.old).line yank_size text.now)) 1 }
     {

@@ -1,12 +1,13 @@
 //! What takes text out of the line, and what the kill ring gives back.
-ghost use Rattle.std.specs.Prelude.{◌≡◌, ◌≤◌, ◌-◌, ◌==◌, ◌&&◌, true, length, option_map, is_some, IsCharBoundary};
-ghost use Rattle.line_buffer.specs.Kill.{killed_range};
-ghost use Rattle.line_buffer.specs.KillRing.{yank_popped, yanked_text};
-ghost use Rattle.line_editor.specs.Drawings.{bracket_drawn, kill_drawn, pop_drawn, replacement_drawn, replacement_times, yank_drawn};
-ghost use Rattle.line_editor.specs.DraftEdits.{bracket_killed, bracket_replaced, bracket_text, copied_to, kill_popped, kill_yanked, killed_by, movement_replaced, range_emptied, text_of};
+ghost use Rattle.line_keys.specs.Command as commands;
+ghost use Rattle.std.specs.Prelude.{◌≡◌, ◌≤◌, ◌-◌, ◌==◌, ◌&&◌, true, length, option_map, IsCharBoundary};
+ghost use Rattle.line_buffer.specs.KillRing.{yanked_text};
+ghost use Rattle.line_config.specs.Error.{MemoryOnly};
+ghost use Rattle.line_editor.specs.Drawings.{bracket_drawn, yank_drawn};
+ghost use Rattle.line_editor.specs.DraftEdits.{kill_yanked, range_emptied};
 ghost use Rattle.line_editor.specs.InputState.{input_of};
-ghost use Rattle.line_editor.specs.Outcomes.{DoesInTwoWithKills, DoesWithKills, editor_of};
-ghost use Rattle.line_keys.specs.Drawing.{Does, nothing};
+ghost use Rattle.line_editor.specs.Outcomes.{DoesKilling, DoesWithKills, EditsThenDraws, editor_of};
+ghost use Rattle.line_keys.specs.Drawing.{nothing};
 ghost use Rattle.line_keys.specs.Plainly.{gives_end};
 ghost use Rattle.line_state.specs.Edited.{bracket_range};
 
@@ -34,16 +35,12 @@ impl<'out, 'prompt, W: Renderer, H: Helper, P: Prompt, S: History> State<
     /// than its first column. Else the line is drawn again. Where there is nothing to kill, nothing happens.
     ///
     /// # Errors
-    /// Those of the parties and of the renderer, and that memory ran out. The line, its cursor and its changes are those from
-    /// before the kill or from behind it, and `kill_ring` is as the kill leaves it; or, where memory ran out, the line has no
-    /// changes.
+    /// Those of the parties and of the renderer, and that memory ran out. After one of input or output the line, its cursor, its
+    /// changes and `kill_ring` are together those from before the kill or those from behind it. Where memory ran out the line
+    /// may have no changes, and `kill_ring` may say that the last action was a kill.
     pub fn edit_kill(&mut self, movement: &Movement, kill_ring: &mut KillRing) -> Result<()>
-        ensures does { let e = ⟦<Self as EditorState>⟧ in
-            let range = killed_range (e.draft self.old).line movement.now in
-            DoesWithKills e result self.old kill_ring.old self.new kill_ring.new
-            (killed_by (e.environment self.old) movement.now
-            (editor_of e self.old kill_ring.old) range)
-            (kill_drawn (e.display self.old) (e.environment self.old) (e.draft self.old) range) 1 }
+        ensures does { DoesKilling ⟦<Self as EditorState>⟧ result self.old kill_ring.old
+            self.new kill_ring.new (commands.kill movement.now) }
         ensures ring { kill_ring.new.size ≡ kill_ring.old.size }
     {
         let Some((from, to)) = self.edited.killed_range(movement) else {
@@ -79,11 +76,9 @@ impl<'out, 'prompt, W: Renderer, H: Helper, P: Prompt, S: History> State<
 
     // Copies the text of a movement to the kill ring, if there is one.
     pub(crate) fn copy_to(&mut self, movement: &Movement, kill_ring: &mut KillRing) -> Result<()>
-        ensures does { let e = ⟦<Self as EditorState>⟧ in
-            DoesWithKills e result self.old kill_ring.old self.new kill_ring.new
-            (record (editor_of e self.old kill_ring.old) {
-              kills = copied_to kill_ring.old (text_of (e.draft self.old).line movement.now);
-            }) nothing 1 }
+        ensures does { DoesKilling ⟦<Self as EditorState>⟧ result self.old kill_ring.old
+            self.new kill_ring.new (commands.vi_yank_to movement.now) }
+        ensures memory { MemoryOnly result }
         ensures ring { kill_ring.new.size ≡ kill_ring.old.size }
     {
         if let Some(text) = self.edited.copy(movement)? {
@@ -115,11 +110,8 @@ impl<'out, 'prompt, W: Renderer, H: Helper, P: Prompt, S: History> State<
 
     // Puts the text that was killed before the yanked one in its place, right after a yank.
     pub(crate) fn pop_killed(&mut self, kill_ring: &mut KillRing) -> Result<()>
-        ensures does { let e = ⟦<Self as EditorState>⟧ in
-            DoesWithKills e result self.old kill_ring.old self.new kill_ring.new
-            (kill_popped (e.environment self.old) (yank_popped kill_ring.old)
-            (editor_of e self.old kill_ring.old))
-            (pop_drawn (e.draft self.old).line (yank_popped kill_ring.old)) 1 }
+        ensures does { DoesKilling ⟦<Self as EditorState>⟧ result self.old kill_ring.old
+            self.new kill_ring.new commands.yank_pop }
         ensures ring { kill_ring.new.size ≡ kill_ring.old.size }
     {
         if let Some((size, text)) = kill_ring.yank_pop() {
@@ -135,17 +127,9 @@ impl<'out, 'prompt, W: Renderer, H: Helper, P: Prompt, S: History> State<
         text: Option<&str>,
         kill_ring: &mut KillRing,
     ) -> Result<()>
-        ensures does { let e = ⟦<Self as EditorState>⟧ in
-            let put = option_map (λ s. s.now) text.entry in
-            let d = e.draft self.old in
-            let killed = kill_drawn (e.display self.old) (e.environment self.old) d
-            (killed_range d.line movement.now) in
-            let before = killed_by (e.environment self.old) movement.now
-            (editor_of e self.old kill_ring.old) (killed_range d.line movement.now) in
-            DoesInTwoWithKills e result self.old kill_ring.old self.new kill_ring.new before.draft
-            (movement_replaced (e.environment self.old) movement.now put
-            (editor_of e self.old kill_ring.old))
-            (replacement_drawn killed put) (replacement_times killed put) }
+        ensures does { DoesKilling ⟦<Self as EditorState>⟧ result self.old kill_ring.old
+            self.new kill_ring.new
+            (commands.replace movement.now (option_map (λ s. s.now) text.entry)) }
         ensures ring { kill_ring.new.size ≡ kill_ring.old.size }
     {
         self.edit_kill(movement, kill_ring)?;
@@ -157,11 +141,9 @@ impl<'out, 'prompt, W: Renderer, H: Helper, P: Prompt, S: History> State<
 
     // Copies the text from the bracket at the cursor to its match to the kill ring, if it has one.
     pub(crate) fn copy_to_bracket(&mut self, kill_ring: &mut KillRing) -> Result<()>
-        ensures does { let e = ⟦<Self as EditorState>⟧ in
-            DoesWithKills e result self.old kill_ring.old self.new kill_ring.new
-            (record (editor_of e self.old kill_ring.old) {
-              kills = copied_to kill_ring.old (bracket_text (e.draft self.old).line);
-            }) nothing 1 }
+        ensures does { DoesKilling ⟦<Self as EditorState>⟧ result self.old kill_ring.old
+            self.new kill_ring.new commands.yank_to_bracket }
+        ensures memory { MemoryOnly result }
         ensures ring { kill_ring.new.size ≡ kill_ring.old.size }
     {
         if let Some((from, to)) = self.edited.bracket_range() {
@@ -173,7 +155,7 @@ impl<'out, 'prompt, W: Renderer, H: Helper, P: Prompt, S: History> State<
     // Takes the text from the bracket at the cursor to its match away, if it has one, and draws the line again.
     fn remove_to_bracket(&mut self) -> Result<()>
         ensures { let e = ⟦<Self as EditorState>⟧ in let d = e.draft self.old in
-            Does e result self.old self.new
+            EditsThenDraws e result self.old self.new
             (range_emptied (e.environment self.old) (bracket_range d.line) d)
             (bracket_drawn d.line) 1 }
     {
@@ -185,10 +167,8 @@ impl<'out, 'prompt, W: Renderer, H: Helper, P: Prompt, S: History> State<
 
     // Kills the text from the bracket at the cursor to its match, if it has one.
     pub(crate) fn kill_to_bracket(&mut self, kill_ring: &mut KillRing) -> Result<()>
-        ensures does { let e = ⟦<Self as EditorState>⟧ in
-            DoesWithKills e result self.old kill_ring.old self.new kill_ring.new
-            (bracket_killed (e.environment self.old) (editor_of e self.old kill_ring.old))
-            (bracket_drawn (e.draft self.old).line) 1 }
+        ensures does { DoesKilling ⟦<Self as EditorState>⟧ result self.old kill_ring.old
+            self.new kill_ring.new commands.kill_to_bracket }
         ensures ring { kill_ring.new.size ≡ kill_ring.old.size }
     {
         self.copy_to_bracket(kill_ring)?;
@@ -201,15 +181,9 @@ impl<'out, 'prompt, W: Renderer, H: Helper, P: Prompt, S: History> State<
         text: Option<&str>,
         kill_ring: &mut KillRing,
     ) -> Result<()>
-        ensures does { let e = ⟦<Self as EditorState>⟧ in
-            let put = option_map (λ s. s.now) text.entry in
-            let killed = bracket_drawn (e.draft self.old).line in
-            let before = bracket_killed (e.environment self.old)
-            (editor_of e self.old kill_ring.old) in
-            DoesInTwoWithKills e result self.old kill_ring.old self.new kill_ring.new before.draft
-            (bracket_replaced (e.environment self.old) put
-            (editor_of e self.old kill_ring.old))
-            (replacement_drawn killed put) (replacement_times killed put) }
+        ensures does { DoesKilling ⟦<Self as EditorState>⟧ result self.old kill_ring.old
+            self.new kill_ring.new
+            (commands.replace_to_bracket (option_map (λ s. s.now) text.entry)) }
         ensures ring { kill_ring.new.size ≡ kill_ring.old.size }
     {
         self.kill_to_bracket(kill_ring)?;

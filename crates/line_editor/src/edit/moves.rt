@@ -1,20 +1,18 @@
 //! Moves of the cursor.
-ghost use Rattle.std.specs.Prelude.{◌≡◌, false, if◌then◌else◌, not, is_some, length, IfOk, OnOk, IsOk};
+ghost use Rattle.std.specs.Prelude.{◌≡◌, false, is_some, length, IfOk, OnOk, IsOk};
 ghost use Rattle.line_buffer.specs.Cluster.{place_on, place_back};
 ghost use Rattle.line_buffer.specs.Line.{moved_to, with_cursor, start_of_line, end_of_line};
 ghost use Rattle.line_buffer.specs.Lines.{down_by, up_by};
 ghost use Rattle.line_buffer.specs.Search.{search_place};
 ghost use Rattle.line_buffer.specs.Word.{word_back, word_on};
-ghost use Rattle.line_buffer.specs.declared.movement.Movement.TheVariants.{LineDown, LineUp};
 ghost use Rattle.line_editor.specs.Drawings.{move_drawn};
-ghost use Rattle.line_editor.specs.HistoryMoves.{asked_back, asked_on, next_shown, previous_shown, saved_at_end, way_ends};
+ghost use Rattle.line_editor.specs.Outcomes.{DoesCommand};
+ghost use Rattle.line_keys.specs.Command as commands;
 ghost use Rattle.line_keys.specs.Display.{GoesToShownEnd};
-ghost use Rattle.line_keys.specs.Drawing.{DoesAsking, DoesInTwo, DrawsCursor, MovesTo, Paints, PutsCursorAt, Undrawn, asked_by, cursor, drawn_if};
+ghost use Rattle.line_keys.specs.Drawing.{DoesInTwo, DrawsCursor, MovesTo, Paints, PutsCursorAt, Undrawn, asked_by, cursor};
 ghost use Rattle.line_keys.specs.ShownLine.{IsAtEnd};
 ghost use Rattle.line_keys.specs.ShownLine.{HasShownEnd, ShowsLine};
-ghost use Rattle.line_parts.specs.Asks.{nobody};
 ghost use Rattle.line_parts.specs.declared.highlight.CmdKind.TheVariants.{MoveCursor};
-ghost use Rattle.line_parts.specs.declared.history.SearchDirection.TheVariants.{Forward, Reverse};
 ghost use Rattle.line_state.specs.Moves.{bracket_place, moved, on_way};
 
 use crate::edit::{Info, State};
@@ -241,14 +239,8 @@ impl<'out, 'prompt, W: Renderer, H: Helper, P: Prompt, S: History> State<
 
     // Moves the cursor `n` lines up, or from the first line to the line of the history before this one.
     pub(crate) fn up_or_previous(&mut self, n: RepeatCount) -> Result<()>
-        ensures { let e = ⟦<Self as EditorState>⟧ in let layout = (e.display self.old).layout in
-            let d = e.draft self.old in let found = is_some (up_by layout d.line n) in
-            let w = e.environment self.old in
-            DoesInTwo e (if found then nobody else asked_back d)
-            result self.old self.new (saved_at_end w d)
-            (if found then record d { line = moved layout (LineUp n) d.line }
-            else previous_shown w d)
-            (if found then cursor MoveCursor else drawn_if (not (way_ends w Reverse d))) 1 }
+        ensures { DoesCommand ⟦<Self as EditorState>⟧ result self.old self.new
+            (commands.line_up_or_previous_history n) }
     {
         if self.edit_move_line_up(n)? {
             return Ok(());
@@ -258,14 +250,8 @@ impl<'out, 'prompt, W: Renderer, H: Helper, P: Prompt, S: History> State<
 
     // Moves the cursor `n` lines down, or from the last line to the line of the history behind this one.
     pub(crate) fn down_or_next(&mut self, n: RepeatCount) -> Result<()>
-        ensures { let e = ⟦<Self as EditorState>⟧ in let layout = (e.display self.old).layout in
-            let d = e.draft self.old in let found = is_some (down_by layout d.line n) in
-            let w = e.environment self.old in
-            DoesAsking e (if found then nobody else asked_on w d)
-            result self.old self.new
-            (if found then record d { line = moved layout (LineDown n) d.line }
-            else next_shown w d)
-            (if found then cursor MoveCursor else drawn_if (not (way_ends w Forward d))) 1 }
+        ensures { DoesCommand ⟦<Self as EditorState>⟧ result self.old self.new
+            (commands.line_down_or_next_history n) }
     {
         if self.edit_move_line_down(n)? {
             return Ok(());

@@ -1,9 +1,9 @@
 //! Edits of words, of neighbours and of whole lines, and undo.
-ghost use Rattle.std.specs.Prelude.{◌≡◌, Bool, is_some};
-ghost use Rattle.std.specs.List.{list_any};
-ghost use Rattle.line_buffer.specs.Transpose.{are_apart, has_two_chars, next_alphanumeric, words_beside};
-ghost use Rattle.line_buffer.specs.Undo.{is_change, newest_steps};
-ghost use Rattle.line_editor.specs.DraftEdits.{chars_transposed, lines_shifted, steps_undone, word_changed, words_transposed};
+ghost use Rattle.line_editor.specs.Outcomes.{DoesCommand};
+ghost use Rattle.line_keys.specs.Command as commands;
+ghost use Rattle.std.specs.Prelude.{is_some};
+ghost use Rattle.line_buffer.specs.Transpose.{next_alphanumeric};
+ghost use Rattle.line_editor.specs.DraftEdits.{lines_shifted, word_changed};
 ghost use Rattle.line_keys.specs.Drawing.{Does, edit_drawn, with_hint};
 
 use crate::edit::State;
@@ -28,10 +28,8 @@ impl<'out, 'prompt, W: Renderer, H: Helper, P: Prompt, S: History> State<
     /// # Errors
     /// Those of the parties and of the renderer, and that memory ran out.
     pub fn edit_transpose_chars(&mut self) -> Result<()>
-        ensures { let e = ⟦<Self as EditorState>⟧ in
-            Does e result self.old self.new
-            (chars_transposed (e.environment self.old) (e.draft self.old))
-            (edit_drawn (has_two_chars (e.draft self.old).line)) 1 }
+        ensures { DoesCommand ⟦<Self as EditorState>⟧ result self.old self.new
+            commands.transpose_chars }
     {
         let exchanged = self.edited.transpose_chars()?;
         self.show_edit(exchanged)
@@ -43,10 +41,8 @@ impl<'out, 'prompt, W: Renderer, H: Helper, P: Prompt, S: History> State<
     /// # Errors
     /// Those of the parties and of the renderer, and that memory ran out.
     pub fn edit_transpose_words(&mut self, n: RepeatCount) -> Result<()>
-        ensures { let e = ⟦<Self as EditorState>⟧ in
-            Does e result self.old self.new
-            (words_transposed (e.environment self.old) n (e.draft self.old))
-            (edit_drawn (are_apart (words_beside (e.draft self.old).line n))) 1 }
+        ensures { DoesCommand ⟦<Self as EditorState>⟧ result self.old self.new
+            (commands.transpose_words n) }
     {
         let exchanged = self.edited.transpose_words(n)?;
         self.show_edit(exchanged)
@@ -83,10 +79,7 @@ impl<'out, 'prompt, W: Renderer, H: Helper, P: Prompt, S: History> State<
 
     // Takes `n` steps back, one for `n` = 0.
     pub(crate) fn undo(&mut self, n: RepeatCount) -> Result<()>
-        ensures { let e = ⟦<Self as EditorState>⟧ in
-            Does e result self.old self.new
-            (steps_undone (e.environment self.old) n (e.draft self.old)) (edit_drawn
-            (list_any is_change (newest_steps n (e.draft self.old).changes.entries))) 1 }
+        ensures { DoesCommand ⟦<Self as EditorState>⟧ result self.old self.new (commands.undo n) }
     {
         let undone = self.edited.undo(n)?;
         self.show_edit(undone)

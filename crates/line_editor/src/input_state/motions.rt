@@ -1,9 +1,10 @@
 //! The motions of Vi's operators.
-ghost use Rattle.std.specs.Prelude.{◌≡◌, ◌∷◌, [], OnErr, Option, false, option_map};
+ghost use Rattle.line_editor.specs.Reads.{ReadsMotion};
+ghost use Rattle.std.specs.Prelude.{◌≡◌, ◌∷◌, [], OnErr, Option, false};
 ghost use Rattle.line_editor.specs.Input.{Input};
-ghost use Rattle.line_editor.specs.InputState.{behind_input, input_of, keys_of};
-ghost use Rattle.line_editor.specs.Operation.{Operated, Reaches, motion_behind, operated_if};
-ghost use Rattle.line_editor.specs.Reading.{EndsQuietly, GivesQuietly, OnRead, ReadsPart, TakesItems};
+ghost use Rattle.line_editor.specs.InputState.{behind_input, keys_of};
+ghost use Rattle.line_editor.specs.Operation.{Reaches, motion_behind, operated_if};
+ghost use Rattle.line_editor.specs.Reading.{EndsQuietly, GivesQuietly, OnRead, TakesItems};
 ghost use Rattle.line_keys.specs.Command.{command_of};
 ghost use Rattle.line_keys.specs.Draft.{Draft};
 ghost use Rattle.line_keys.specs.Item.{key};
@@ -31,12 +32,9 @@ impl InputState<'_> {
         operator: Operator,
         n: RepeatCount,
     ) -> Result<Behind>
-        ensures { let k = keys_of ⟦<dyn ConditionalEventHandler as ConditionalEventHandler>⟧ in
-            let k = k self.now in let e = W.EditorState in let draft = e.draft wrt.old in
-            (i : Input) → i.last_search ≡ k.input.last_search → ReadsPart e R.RawReader
-            (Operated (e.environment wrt.old) draft i operator n) [] draft (λ command draft. draft)
-            (λ b. command_of b.command) (λ b. behind_input b i) result
-            wrt.old k rdr.old wrt.new rdr.new }
+        ensures { ReadsMotion W.EditorState R.RawReader operator n [] result
+            wrt.old rdr.old wrt.new rdr.new
+            (keys_of ⟦<dyn ConditionalEventHandler as ConditionalEventHandler>⟧ self.now) }
     {
         let first = rdr.next_key(false)?;
         self.read_motion_from(rdr, wrt, operator, n, first)
@@ -51,13 +49,9 @@ impl InputState<'_> {
         n: RepeatCount,
         first: KeyEvent,
     ) -> Result<Behind>
-        ensures { let k = keys_of ⟦<dyn ConditionalEventHandler as ConditionalEventHandler>⟧ in
-            let k = k self.now in let e = W.EditorState in let draft = e.draft wrt.old in
-            (i : Input) → i.last_search ≡ k.input.last_search → ReadsPart e R.RawReader
-            (Operated (e.environment wrt.old) draft i operator n) (key first ∷ []) draft
-            (λ command draft. draft)
-            (λ b. command_of b.command) (λ b. behind_input b i) result
-            wrt.old k rdr.old wrt.new rdr.new }
+        ensures { ReadsMotion W.EditorState R.RawReader operator n (key first ∷ []) result
+            wrt.old rdr.old wrt.new rdr.new
+            (keys_of ⟦<dyn ConditionalEventHandler as ConditionalEventHandler>⟧ self.now) }
     {
         if !begins_count(EditMode::Vi, InputMode::Command, first) {
             return self.reach(rdr, operator, motion_at_once(operator, first, n));
@@ -77,9 +71,9 @@ impl InputState<'_> {
             (command_of b.command) rdr.old rdr.new)
             (EndsQuietly R.RawReader Comes rdr.old rdr.new) }
         ensures kept { OnErr result (R.rest rdr.new ≡ R.rest rdr.old) }
-        ensures items { let k =
-            keys_of ⟦<dyn ConditionalEventHandler as ConditionalEventHandler>⟧ in
-            TakesItems R.RawReader (k self.now).bound result rdr.old rdr.new }
+        ensures items { TakesItems R.RawReader
+            (keys_of ⟦<dyn ConditionalEventHandler as ConditionalEventHandler>⟧ self.now).bound
+            result rdr.old rdr.new }
     {
         let last = self.last_char_search;
         match motion {

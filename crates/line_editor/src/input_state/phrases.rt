@@ -1,11 +1,10 @@
 //! Phrases: an optional count, a key and what belongs to it, and in Vi such a one of command mode behind Alt.
-ghost use Rattle.std.specs.Prelude.{◌≡◌, ◌∷◌, [], true, None, Option, Some, OnOk};
+ghost use Rattle.line_editor.specs.Reads.{ReadsKeyed, ReadsPhrase, ReadsSpelled};
+ghost use Rattle.std.specs.Prelude.{◌≡◌, true, None, Option, Some, OnOk};
 ghost use Rattle.line_config.specs.Error.{MemoryOnly};
 ghost use Rattle.line_editor.specs.Input.{in_mode};
 ghost use Rattle.line_editor.specs.InputState.{input_of, keys_of, read_input};
-ghost use Rattle.line_editor.specs.Keymap.{keymap_of};
-ghost use Rattle.line_editor.specs.Phrase.{Keyed, Phrase, Spelled, changed_by, entered, remembered_behind, with_group};
-ghost use Rattle.line_editor.specs.Reading.{ReadsPart};
+ghost use Rattle.line_editor.specs.Phrase.{changed_by, remembered_behind, with_group};
 ghost use Rattle.line_keys.specs.Command.{command_of};
 ghost use Rattle.line_keys.specs.Count.{begins_count};
 ghost use Rattle.line_keys.specs.Draft.{KeepsLine, start_text};
@@ -48,13 +47,9 @@ impl InputState<'_> {
         wrt: &mut W,
         first: KeyEvent,
     ) -> Result<Read>
-        ensures { let k = keys_of ⟦<dyn ConditionalEventHandler as ConditionalEventHandler>⟧ in
-            let k = k self.now in let keymap = keymap_of k (R.own_binding rdr.old) in
-            let e = W.EditorState in let draft = e.draft wrt.old in
-            ReadsPart e R.RawReader (Phrase keymap (e.environment wrt.old) draft k.input)
-            (key first ∷ []) (entered keymap draft k.input (key first ∷ []))
-            (λ command draft. draft) (λ c. command_of c.command) (λ c. read_input c k.input) result
-            wrt.old k rdr.old wrt.new rdr.new }
+        ensures { ReadsPhrase W.EditorState R.RawReader first result
+            wrt.old rdr.old wrt.new rdr.new
+            (keys_of ⟦<dyn ConditionalEventHandler as ConditionalEventHandler>⟧ self.now) }
     {
         match stands_for(self.mode, self.input_mode, first) {
             Some(plain) => self.read_alt(rdr, wrt, first, plain),
@@ -73,13 +68,9 @@ impl InputState<'_> {
         plain: KeyEvent,
     ) -> Result<Read>
         requires { let i = input_of self.now in stands_for i.style i.mode first ≡ Some plain }
-        ensures { let k = keys_of ⟦<dyn ConditionalEventHandler as ConditionalEventHandler>⟧ in
-            let k = k self.now in let keymap = keymap_of k (R.own_binding rdr.old) in
-            let e = W.EditorState in let draft = e.draft wrt.old in
-            ReadsPart e R.RawReader (Phrase keymap (e.environment wrt.old) draft k.input)
-            (key first ∷ []) (entered keymap draft k.input (key first ∷ []))
-            (λ command draft. draft) (λ c. command_of c.command) (λ c. read_input c k.input) result
-            wrt.old k rdr.old wrt.new rdr.new }
+        ensures { ReadsPhrase W.EditorState R.RawReader first result
+            wrt.old rdr.old wrt.new rdr.new
+            (keys_of ⟦<dyn ConditionalEventHandler as ConditionalEventHandler>⟧ self.now) }
     {
         if let Some(command) = self.custom_binding(wrt, self.input_mode, first, None)? {
             return Ok(self.at_once(self.input_mode, command));
@@ -103,14 +94,9 @@ impl InputState<'_> {
         first: KeyEvent,
     ) -> Result<Read>
         requires { stands_for (input_of self.now).style mode first ≡ None }
-        ensures { let k = keys_of ⟦<dyn ConditionalEventHandler as ConditionalEventHandler>⟧ in
-            let k = k self.now in let keymap = keymap_of k (R.own_binding rdr.old) in
-            let e = W.EditorState in let draft = e.draft wrt.old in
-            ReadsPart e R.RawReader
-            (Spelled keymap (e.environment wrt.old) draft (in_mode mode k.input))
-            (key first ∷ []) draft (λ command draft. draft)
-            (λ c. command_of c.command) (λ c. read_input c k.input) result
-            wrt.old k rdr.old wrt.new rdr.new }
+        ensures { ReadsSpelled W.EditorState R.RawReader mode first result
+            wrt.old rdr.old wrt.new rdr.new
+            (keys_of ⟦<dyn ConditionalEventHandler as ConditionalEventHandler>⟧ self.now) }
     {
         if begins_count(self.mode, mode, first) {
             return self.read_counted(rdr, wrt, mode, first);
@@ -128,14 +114,9 @@ impl InputState<'_> {
         first: KeyEvent,
     ) -> Result<Read>
         requires { begins_count (input_of self.now).style mode first ≡ true }
-        ensures { let k = keys_of ⟦<dyn ConditionalEventHandler as ConditionalEventHandler>⟧ in
-            let k = k self.now in let keymap = keymap_of k (R.own_binding rdr.old) in
-            let e = W.EditorState in let draft = e.draft wrt.old in
-            ReadsPart e R.RawReader
-            (Spelled keymap (e.environment wrt.old) draft (in_mode mode k.input))
-            (key first ∷ []) draft (λ command draft. draft)
-            (λ c. command_of c.command) (λ c. read_input c k.input) result
-            wrt.old k rdr.old wrt.new rdr.new }
+        ensures { ReadsSpelled W.EditorState R.RawReader mode first result
+            wrt.old rdr.old wrt.new rdr.new
+            (keys_of ⟦<dyn ConditionalEventHandler as ConditionalEventHandler>⟧ self.now) }
     {
         let (count, key) = self.read_count(rdr, wrt, self.mode, first)?;
         self.read_behind(rdr, wrt, mode, key, Some(count))
@@ -156,14 +137,9 @@ impl InputState<'_> {
         typed: Option<Count>,
     ) -> Result<Read>
         requires { stands_for (input_of self.now).style mode key ≡ None }
-        ensures { let k = keys_of ⟦<dyn ConditionalEventHandler as ConditionalEventHandler>⟧ in
-            let k = k self.now in let keymap = keymap_of k (R.own_binding rdr.old) in
-            let e = W.EditorState in let draft = e.draft wrt.old in
-            ReadsPart e R.RawReader
-            (Keyed keymap (e.environment wrt.old) draft (in_mode mode k.input) typed key)
-            [] draft (λ command draft. draft)
-            (λ c. command_of c.command) (λ c. read_input c k.input) result
-            wrt.old k rdr.old wrt.new rdr.new }
+        ensures { ReadsKeyed W.EditorState R.RawReader mode typed key result
+            wrt.old rdr.old wrt.new rdr.new
+            (keys_of ⟦<dyn ConditionalEventHandler as ConditionalEventHandler>⟧ self.now) }
     {
         if let Some(command) = self.custom_binding(wrt, mode, key, typed)? {
             return Ok(self.at_once(mode, command));

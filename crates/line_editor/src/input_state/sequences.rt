@@ -1,10 +1,11 @@
 //! Bound sequences of keys.
+ghost use Rattle.line_editor.specs.Reads.{ReadsSequence, sequences_here};
 ghost use Rattle.std.specs.Prelude.{◌≡◌, Option, false, option_map, IfOk, OnErr};
 ghost use Rattle.line_config.specs.Error.{FaultsOnly, IoOnlyIf};
 ghost use Rattle.line_editor.specs.Binding.{all_sure};
 ghost use Rattle.line_editor.specs.Input.{in_mode};
 ghost use Rattle.line_editor.specs.InputState.{input_of, keys_of};
-ghost use Rattle.line_editor.specs.Reading.{EndsInSequence, FindsSequence, OnRead, StopsInSequence, TakesItems};
+ghost use Rattle.line_editor.specs.Reading.{StopsInSequence, TakesItems};
 ghost use Rattle.line_editor.specs.Sequence.{sequences_of};
 ghost use Rattle.line_keys.specs.Command.{Command, command_of};
 ghost use Rattle.line_keys.specs.declared.keys.KeyEvent.{KeyEvent};
@@ -37,19 +38,15 @@ impl InputState<'_> {
         first: KeyEvent,
         count: Count,
     ) -> Result<Sequence>
-        ensures reads { let k =
-            keys_of ⟦<dyn ConditionalEventHandler as ConditionalEventHandler>⟧ self.now in
-            let by = sequences_of k.bound (W.draft wrt.now) (in_mode mode k.input) count in
-            OnRead result
-            (λ found. FindsSequence R.RawReader rdr.old rdr.new by first found)
-            (EndsInSequence R.RawReader rdr.old rdr.new by first) }
-        ensures within { let k =
-            keys_of ⟦<dyn ConditionalEventHandler as ConditionalEventHandler>⟧ self.now in
-            let by = sequences_of k.bound (W.draft wrt.now) (in_mode mode k.input) count in
-            OnErr result (StopsInSequence R.RawReader rdr.old rdr.new by first) }
-        ensures items { let k =
-            keys_of ⟦<dyn ConditionalEventHandler as ConditionalEventHandler>⟧ in
-            TakesItems R.RawReader (k self.now).bound result rdr.old rdr.new }
+        ensures reads { ReadsSequence W.EditorState R.RawReader mode first count result
+            wrt.now rdr.old rdr.new
+            (keys_of ⟦<dyn ConditionalEventHandler as ConditionalEventHandler>⟧ self.now) }
+        ensures within { OnErr result (StopsInSequence R.RawReader rdr.old rdr.new
+            (sequences_here W.EditorState wrt.now mode count
+            (keys_of ⟦<dyn ConditionalEventHandler as ConditionalEventHandler>⟧ self.now)) first) }
+        ensures items { TakesItems R.RawReader
+            (keys_of ⟦<dyn ConditionalEventHandler as ConditionalEventHandler>⟧ self.now).bound
+            result rdr.old rdr.new }
     {
         if !self.bindings.leads_on(&[first]) {
             return Ok(Sequence::InVain(None));

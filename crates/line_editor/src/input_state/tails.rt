@@ -1,15 +1,14 @@
 //! What belongs to a key, by what the key means.
-ghost use Rattle.std.specs.Prelude.{◌≡◌, ◌∷◌, [], IfOk, OnErr, Option, false, option_map};
+ghost use Rattle.line_editor.specs.Reads.{FindsTail, ReadsTail, StopsInTail};
+ghost use Rattle.std.specs.Prelude.{◌≡◌, IfOk, Option, false, option_map};
 ghost use Rattle.line_buffer.specs.Changes.{last_insert_of};
 ghost use Rattle.line_buffer.specs.Search.{opposite};
 ghost use Rattle.line_buffer.specs.declared.movement.CharSearch.{CharSearch};
 ghost use Rattle.line_buffer.specs.declared.movement.Movement.TheVariants.{ViCharSearch};
 ghost use Rattle.line_config.specs.Error.{MemoryOnly};
-ghost use Rattle.line_editor.specs.Input.{in_mode};
 ghost use Rattle.line_editor.specs.InputState.{behind_input, input_of, keys_of};
-ghost use Rattle.line_editor.specs.Reading.{EndsQuietly, GivesQuietly, OnRead, ReadsPart, StopsWithin, TakesItems};
-ghost use Rattle.line_editor.specs.Sequence.{sequences_of};
-ghost use Rattle.line_editor.specs.Tail.{Tailed, changed_again, is_operation, move_or};
+ghost use Rattle.line_editor.specs.Reading.{TakesItems};
+ghost use Rattle.line_editor.specs.Tail.{changed_again, is_operation, move_or};
 ghost use Rattle.line_keys.specs.Command.{command_of};
 ghost use Rattle.line_keys.specs.Row.{meaning_of};
 ghost use Rattle.line_keys.specs.Table.{has_second, second_at, unlisted};
@@ -47,14 +46,9 @@ impl InputState<'_> {
         count: Count,
         meaning: Meaning,
     ) -> Result<Behind>
-        ensures { let k = keys_of ⟦<dyn ConditionalEventHandler as ConditionalEventHandler>⟧ in
-            let k = k self.now in let e = W.EditorState in let draft = e.draft wrt.old in
-            let i = in_mode mode k.input in let by = sequences_of k.bound draft i count in
-            ReadsPart e R.RawReader
-            (Tailed by (e.environment wrt.old) draft i key (meaning_of meaning))
-            [] draft (λ command draft. draft)
-            (λ b. command_of b.command) (λ b. behind_input b i) result
-            wrt.old k rdr.old wrt.new rdr.new }
+        ensures { ReadsTail W.EditorState R.RawReader mode key count (meaning_of meaning) result
+            wrt.old rdr.old wrt.new rdr.new
+            (keys_of ⟦<dyn ConditionalEventHandler as ConditionalEventHandler>⟧ self.now) }
     {
         match meaning {
             Meaning::Operator(operator, n) => self.read_motion(rdr, wrt, operator, n),
@@ -74,23 +68,16 @@ impl InputState<'_> {
         meaning: Meaning,
     ) -> Result<Behind>
         requires { is_operation (meaning_of meaning) ≡ false }
-        ensures reads { let k =
-            keys_of ⟦<dyn ConditionalEventHandler as ConditionalEventHandler>⟧ self.now in
-            let e = W.EditorState in let draft = e.draft wrt.now in let i = in_mode mode k.input in
-            let by = sequences_of k.bound draft i count in
-            let Comes = Tailed by (e.environment wrt.now) draft i key (meaning_of meaning) in
-            OnRead result (λ b. GivesQuietly R.RawReader Comes draft (behind_input b i)
-            (command_of b.command) rdr.old rdr.new)
-            (EndsQuietly R.RawReader Comes rdr.old rdr.new) }
-        ensures within { let k =
-            keys_of ⟦<dyn ConditionalEventHandler as ConditionalEventHandler>⟧ self.now in
-            let e = W.EditorState in let draft = e.draft wrt.now in let i = in_mode mode k.input in
-            let s = sequences_of k.bound draft i count in
-            let Comes = Tailed s (e.environment wrt.now) draft i key (meaning_of meaning) in
-            OnErr result (StopsWithin R.RawReader Comes [] rdr.old rdr.new) }
-        ensures items { let k =
-            keys_of ⟦<dyn ConditionalEventHandler as ConditionalEventHandler>⟧ in
-            TakesItems R.RawReader (k self.now).bound result rdr.old rdr.new }
+        ensures reads { FindsTail W.EditorState R.RawReader
+            (λ b. command_of b.command) (λ b i. behind_input b i)
+            mode key count (meaning_of meaning) result wrt.now rdr.old rdr.new
+            (keys_of ⟦<dyn ConditionalEventHandler as ConditionalEventHandler>⟧ self.now) }
+        ensures within { StopsInTail W.EditorState R.RawReader mode key count
+            (meaning_of meaning) result wrt.now rdr.old rdr.new
+            (keys_of ⟦<dyn ConditionalEventHandler as ConditionalEventHandler>⟧ self.now) }
+        ensures items { TakesItems R.RawReader
+            (keys_of ⟦<dyn ConditionalEventHandler as ConditionalEventHandler>⟧ self.now).bound
+            result rdr.old rdr.new }
     {
         let last = self.last_char_search;
         match meaning {
@@ -128,23 +115,15 @@ impl InputState<'_> {
         count: Count,
         by: Count,
     ) -> Result<Cmd>
-        ensures reads { let k =
-            keys_of ⟦<dyn ConditionalEventHandler as ConditionalEventHandler>⟧ self.now in
-            let e = W.EditorState in let draft = e.draft wrt.now in let i = in_mode mode k.input in
-            let s = sequences_of k.bound draft i count in
-            let Comes = Tailed s (e.environment wrt.now) draft i key (has_second (second_at by)) in
-            OnRead result
-            (λ c. GivesQuietly R.RawReader Comes draft i (command_of c) rdr.old rdr.new)
-            (EndsQuietly R.RawReader Comes rdr.old rdr.new) }
-        ensures within { let k =
-            keys_of ⟦<dyn ConditionalEventHandler as ConditionalEventHandler>⟧ self.now in
-            let e = W.EditorState in let draft = e.draft wrt.now in let i = in_mode mode k.input in
-            let s = sequences_of k.bound draft i count in
-            let Comes = Tailed s (e.environment wrt.now) draft i key (has_second (second_at by)) in
-            OnErr result (StopsWithin R.RawReader Comes [] rdr.old rdr.new) }
-        ensures items { let k =
-            keys_of ⟦<dyn ConditionalEventHandler as ConditionalEventHandler>⟧ in
-            TakesItems R.RawReader (k self.now).bound result rdr.old rdr.new }
+        ensures reads { FindsTail W.EditorState R.RawReader (λ c. command_of c) (λ c i. i)
+            mode key count (has_second (second_at by)) result wrt.now rdr.old rdr.new
+            (keys_of ⟦<dyn ConditionalEventHandler as ConditionalEventHandler>⟧ self.now) }
+        ensures within { StopsInTail W.EditorState R.RawReader mode key count
+            (has_second (second_at by)) result wrt.now rdr.old rdr.new
+            (keys_of ⟦<dyn ConditionalEventHandler as ConditionalEventHandler>⟧ self.now) }
+        ensures items { TakesItems R.RawReader
+            (keys_of ⟦<dyn ConditionalEventHandler as ConditionalEventHandler>⟧ self.now).bound
+            result rdr.old rdr.new }
     {
         match self.custom_seq_binding(rdr, wrt, mode, key, count)? {
             Sequence::Command(command) => Ok(command),
@@ -162,23 +141,15 @@ impl InputState<'_> {
         key: KeyEvent,
         count: Count,
     ) -> Result<Cmd>
-        ensures reads { let k =
-            keys_of ⟦<dyn ConditionalEventHandler as ConditionalEventHandler>⟧ self.now in
-            let e = W.EditorState in let draft = e.draft wrt.now in let i = in_mode mode k.input in
-            let s = sequences_of k.bound draft i count in
-            let Comes = Tailed s (e.environment wrt.now) draft i key unlisted in
-            OnRead result
-            (λ c. GivesQuietly R.RawReader Comes draft i (command_of c) rdr.old rdr.new)
-            (EndsQuietly R.RawReader Comes rdr.old rdr.new) }
-        ensures within { let k =
-            keys_of ⟦<dyn ConditionalEventHandler as ConditionalEventHandler>⟧ self.now in
-            let e = W.EditorState in let draft = e.draft wrt.now in let i = in_mode mode k.input in
-            let s = sequences_of k.bound draft i count in
-            let Comes = Tailed s (e.environment wrt.now) draft i key unlisted in
-            OnErr result (StopsWithin R.RawReader Comes [] rdr.old rdr.new) }
-        ensures items { let k =
-            keys_of ⟦<dyn ConditionalEventHandler as ConditionalEventHandler>⟧ in
-            TakesItems R.RawReader (k self.now).bound result rdr.old rdr.new }
+        ensures reads { FindsTail W.EditorState R.RawReader (λ c. command_of c) (λ c i. i)
+            mode key count unlisted result wrt.now rdr.old rdr.new
+            (keys_of ⟦<dyn ConditionalEventHandler as ConditionalEventHandler>⟧ self.now) }
+        ensures within { StopsInTail W.EditorState R.RawReader mode key count unlisted result
+            wrt.now rdr.old rdr.new
+            (keys_of ⟦<dyn ConditionalEventHandler as ConditionalEventHandler>⟧ self.now) }
+        ensures items { TakesItems R.RawReader
+            (keys_of ⟦<dyn ConditionalEventHandler as ConditionalEventHandler>⟧ self.now).bound
+            result rdr.old rdr.new }
     {
         match self.custom_seq_binding(rdr, wrt, mode, key, count)? {
             Sequence::Command(command) => Ok(command),

@@ -45,7 +45,7 @@ returns-in_err-edit_insert-in-GoesOn g c = λ input indent kills.
 pub returns-in_err-drop_hint : goal.returns-in_err-drop_hint
 returns-in_err-drop_hint g c = λ input indent kills.
     let p = err_from_is_err_and c.from_residual.result c.from_residual.ensures.1 in
-    rw (p.1, p.2) (drop_fails _ _ c.args.self.now _ input indent kills (accept_or_insert_line c.args.accept_in_the_middle) _ refl c.in_err-drop_hint.ensures.does)
+    rw (p.1, p.2) (drop_fails _ _ c.args.self.now _ input indent kills (accept_or_insert_line c.args.accept_in_the_middle) _ refl refl c.in_err-drop_hint.ensures.does)
 
 pub returns-in_err-verdict : goal.returns-in_err-verdict
 returns-in_err-verdict g c = λ input indent kills.

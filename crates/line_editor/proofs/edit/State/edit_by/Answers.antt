@@ -78,4 +78,4 @@ pub returns-in-ClearScreen : goal.returns-in-ClearScreen
 returns-in-ClearScreen g c = rw c.in-ClearScreen.is c.clear_and_redraw.ensures
 
 pub returns-in-Insert : goal.returns-in-Insert
-returns-in-Insert g c = rw c.in-Insert.is (rw c.deref.ensures at c.edit_yank.ensures)
+returns-in-Insert g c = rw c.in-Insert.is (rw c.deref.ensures at c.edit_yank.ensures.does)
