@@ -6,7 +6,7 @@ use Rattle.line_buffer.specs.KillRing.{Ring}
 use Rattle.line_buffer.specs.Line.{Line, ends_in_white_space}
 use Rattle.line_config.specs.declared.error.ReadlineError.{ReadlineError}
 use Rattle.line_keys.specs.Command.{Command, accept_line, accept_or_insert_line, end_of_file}
-use Rattle.line_keys.specs.Display.{Display, Surface}
+use Rattle.line_keys.specs.Display.{Display, KeepsPrompt, Surface}
 use Rattle.line_keys.specs.Draft.{Draft, KeepsText, hint_shown, in_group, out_of_group, unhinted}
 use Rattle.line_keys.specs.Drawing.{Does, DoesAsking, Drawing, Drew, DrewLine, Undrawn, drawn_in_full, nothing, text_same, with_hint, with_text}
 use Rattle.line_keys.specs.Frame.{FailsByParty, Frame}
@@ -28,10 +28,10 @@ use Rattle.line_editor.specs.declared.command.Reply.{Reply}
 use Rattle.line_editor.specs.declared.command.Reply.TheVariants.{GoesOn, Stays, Submits}
 use Rattle.line_editor.specs.DrawnVerdict.{draws_verdict, draws_verdict_on, kind_of_verdict}
 use Rattle.line_editor.proofs.AskedLemmas.{fails_more, sure_all}
-use Rattle.line_editor.proofs.CommandLemmas.{draft_wrong, editor_with, fails_then, few_by, line_kept, line_then, perhaps_lit, perhaps_redraws, twice_at_most}
+use Rattle.line_editor.proofs.CommandLemmas.{draft_wrong, editor_with, fails_then, few_by, line_kept, line_then, perhaps_lit, perhaps_prompt, perhaps_redraws, twice_at_most}
 use Rattle.line_editor.proofs.CountLemmas.{rises_twice, rises_within}
 use Rattle.line_editor.proofs.DoneLemmas.{line_after}
-use Rattle.line_editor.proofs.DrawnLemmas.{frame_then, hint_trails, keeps_then, no_hint_line}
+use Rattle.line_editor.proofs.DrawnLemmas.{frame_then, hint_trails, keeps_then, no_hint_line, prompt_after, prompt_then}
 use Rattle.line_editor.proofs.EditLemmas.{was_validated}
 use Rattle.line_editor.proofs.FaultLemmas.{but_hint, fault_from, fault_halfway, fault_other, fault_unhinted, fault_within, same_draft, whole_text}
 
@@ -98,6 +98,7 @@ validates e x y z old mid new verdict corrected helped said ends asked shown =
           (perhaps_after e old mid new undrawn _ (message_of verdict) (kind_of_verdict verdict) shown.drew));
       keeps = keeps_then e old mid new asked.keeps shown.keeps;
       change = text_same (ap (λ (d : Draft). d.line.text) left ∙ ap (λ (l : Line). l.text) (validated_line (e.environment old) (e.draft old)));
+      prompt = tt;
       frame = frame_then e old mid new asked.frame shown.frame;
       fails = record { io = tt; faults = tt; quiet = shown.fails.quiet ∙ asked.fails.quiet };
     }
@@ -124,6 +125,7 @@ asking_fails {T = T} {U = U} e f old new helped asked = record {
   drew = tt;
   keeps = tt;
   change = tt;
+  prompt = asked.prompt;
   frame = asked.frame;
   fails = record { io = asked.fails.io; faults = asked.fails.faults; quiet = asked.fails.quiet };
 }
@@ -144,6 +146,7 @@ drawing_fails {U = U} {V = V} e x f old mid new verdict drawing helped asked sho
       drew = tt;
       keeps = tt;
       change = tt;
+      prompt = prompt_after (e.display old) (e.display mid) (e.display new) asked.drew.display shown.prompt;
       frame = frame_then e old mid new asked.frame shown.frame;
       fails = fails_more e {T = V} (Err f) nobody for_verdict old new (λ sure. refl) (fails_then e nobody (Err f) old mid new asked.frame shown.frame asked.fails.quiet
           (record { io = shown.fails.io; faults = shown.fails.faults; quiet = shown.fails.quiet }));
@@ -161,7 +164,7 @@ pub drop_fails : {X T : Type 0} (e : Ghosts X) (f : ReadlineError) (old new : X)
     → Executes e (Err f) old input indent kills command new kills
 drop_fails {T = T} e f old new input indent kills command drawing half left does =
     draft_wrong e old new input indent kills kills command {T = T} f
-    (fault_unhinted f (e.environment old) (e.draft old) _ _ (e.draft new) does.fault) half left refl
+    (fault_unhinted f (e.environment old) (e.draft old) _ _ (e.draft new) does.fault) half left refl does.prompt
     (fails_more e {T = T} (Err f) nobody _ old new (λ sure. refl) does.fails) does.frame
 
 -- whoever is asked for a reply is asked for a verdict
@@ -183,6 +186,10 @@ module _ {X T U : Type 0} (e : Ghosts X) (x : T) (f : ReadlineError) (old mid ne
   left_bare : validated (e.environment mid) (e.draft mid) ≡ validated (e.environment old) (unhinted (e.draft old))
   left_bare = ap (λ w. validated w (e.draft mid)) drop.frame.environment ∙ ap (λ d. validated (e.environment old) d) drop.draft
 
+  prompt_both : KeepsPrompt (e.display old) (e.display new)
+  prompt_both = prompt_then (e.display old) (e.display mid) (e.display new) drop.frame.surface drop.frame.prompt_end
+      (perhaps_prompt e (is_some (e.draft old).hint || (e.display old).lit || not (e.display old).layout.default_prompt) None ForcedRefresh old mid drop.frame drop.drew) asked.prompt
+
   asked_fails : FailsByParty {T = U} e for_verdict (Err f) old new
   asked_fails = fails_then e for_verdict (Err f) old mid new drop.frame asked.frame drop.fails.quiet asked.fails
 
@@ -192,7 +199,7 @@ module _ {X T U : Type 0} (e : Ghosts X) (x : T) (f : ReadlineError) (old mid ne
       draft_wrong e old new input indent kills kills accept_line {T = U} f
       (fault_from f (e.environment mid) (e.environment old) (e.draft old) (e.draft mid) (e.draft mid) (e.draft old) _ _ (e.draft new) drop.frame.environment left_bare
       (inr (inl bare_hint)) (inr (inl bare_hint)) (inl bare_text) (inl bare_text) asked.fault)
-      refl refl refl asked_fails (frame_then e old mid new drop.frame asked.frame)
+      refl refl refl prompt_both asked_fails (frame_then e old mid new drop.frame asked.frame)
 
   -- or for one that may be given a newline
   pub inserting_fails : (in_the_middle : Bool) (input : Input) (indent : ℕ) (kills : Ring) → Executes e (Err f) old input indent kills (accept_or_insert_line in_the_middle) new kills
@@ -200,7 +207,7 @@ module _ {X T U : Type 0} (e : Ghosts X) (x : T) (f : ReadlineError) (old mid ne
       draft_wrong e old new input indent kills kills (accept_or_insert_line in_the_middle) {T = U} f
       (fault_halfway f (e.environment mid) (e.environment old) (e.draft old) (e.draft mid) _ (validated (e.environment old) (unhinted (e.draft old))) _ (e.draft new)
       drop.frame.environment left_bare (inr (inl bare_hint)) bare_text asked.fault)
-      refl refl refl
+      refl refl refl prompt_both
       (fails_more e {T = U} (Err f) for_verdict (asked_of (e.display old) (e.environment old) (editor_of e old kills) (accept_or_insert_line in_the_middle)) old new
       (λ sure. sure_verdict (e.sure old) _ sure) asked_fails) (frame_then e old mid new drop.frame asked.frame)
 
@@ -382,6 +389,11 @@ module _ {X T U : Type 0} (e : Ghosts X) (x : T) (y : U) (old mid new : X)
         (inr (inr (ap (λ (d : Draft). d.hint) left_is))) (inr (inr (ap (λ (d : Draft). d.hint) left_is)))
         (inr (same_draft left (e.draft new) left_is)) (inr (same_draft left (e.draft new) left_is)) typed.fault)
         refl refl refl
+        (prompt_then (e.display old) (e.display new) (e.display last) all.surface all.prompt_end
+        (prompt_then (e.display old) (e.display mid) (e.display new) drop.frame.surface drop.frame.prompt_end
+        (perhaps_prompt e has_stale None ForcedRefresh old mid drop.frame drop.drew)
+        (perhaps_prompt e (draws_verdict (e.environment mid) (e.draft mid)) (message_of (verdict_on (e.environment mid) (e.draft mid).line.text))
+        (kind_of_verdict (verdict_on (e.environment mid) (e.draft mid).line.text)) mid new asked.frame asked.drew)) typed.prompt)
         (fails_more e (Err f) for_hint asks old last
         (λ sure. sure_all (e.sure old) for_hint (sym (ap (λ r. is_sure (e.sure old) (asked_for_reply r)) (reply_is ∙ is)) ∙ sure))
         (fails_then e for_hint (Err f) old new last all typed.frame (asked.fails.quiet ∙ drop.fails.quiet) typed.fails))

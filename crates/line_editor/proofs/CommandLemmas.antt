@@ -13,7 +13,7 @@ use Rattle.line_keys.specs.Command.{Command, accept_line, accept_or_insert_line,
 use Rattle.line_keys.specs.declared.cmd.Anchor.{Anchor}
 use Rattle.line_keys.specs.declared.cmd.Cmd.{Cmd}
 use Rattle.line_buffer.specs.declared.layout.Position.{Position}
-use Rattle.line_keys.specs.Display.{Display, IsRight, ShowsInFull, Surface, columns_back, columns_on, corner, lit_after}
+use Rattle.line_keys.specs.Display.{Display, IsRight, KeepsPrompt, ShowsInFull, Surface, columns_back, columns_on, corner, lit_after}
 use Rattle.line_keys.specs.Draft.{Draft, KeepsText, hint_shown, hinted, start_text, unhinted}
 use Rattle.line_keys.specs.Fault.{FaultLeft, IsEarlierHint}
 use Rattle.line_keys.specs.Drawing.{CursorWay, Does, DoesAsking, DoesInTwo, Drawing, Drew, DrewBehind, DrewLine, DrewNothing, DrewPart, Refreshes, ShowsChange, asked_by, behind_prompt, change_drawn, cursor, cursor_over, cursor_redrew, cursor_stayed, cursor_to_end, cursor_went, drawn_if, drawn_in_full, drawn_plainly, edit_drawn, in_part, nothing, text_same, with_hint, with_text}
@@ -43,7 +43,8 @@ use Rattle.line_editor.specs.declared.command.Status.TheVariants.{Proceed}
 use Rattle.line_editor.proofs.AskedLemmas.{fails_more}
 use Rattle.line_editor.proofs.CountLemmas.{rises_more, rises_stays, rises_twice, rises_up_to, rises_within, stays_rises}
 use Rattle.line_editor.proofs.FaultLemmas.{but_hint, fault_from, fault_redrawn, fault_unhinted, io_behind, leaves_kills, ring_behind, ring_stays, same_draft}
-use Rattle.line_editor.proofs.DrawnLemmas.{frame_then, hint_trails, keeps_then}
+use Rattle.line_editor.proofs.DrawnLemmas.{frame_then, hint_trails, keeps_then, prompt_drawn, prompt_same, prompt_then}
+use Rattle.line_buffer.specs.declared.layout.Layout.{Layout}
 
 abbrev pub editor_with : Draft → Ring → Editor
 editor_with draft kills = record { draft = draft; kills = kills }
@@ -289,6 +290,11 @@ module _ {X : Type 0} (e : Ghosts X) where
   perhaps_lit true times trailing kind old mid drew none = drew.lit ∙ colorless (e.environment old) (e.display old) (e.draft mid).line kind none
   perhaps_lit false times trailing kind old mid drew none = ap (λ (d : Display). d.lit) drew.display
 
+  pub perhaps_prompt : (drawn : Bool) (trailing : _) (kind : CmdKind) (old mid : X) → Frame e old mid
+      → Drew e 1 (if drawn then with_text trailing kind else nothing) old mid → KeepsPrompt (e.display old) (e.display mid)
+  perhaps_prompt true trailing kind old mid frame drew = prompt_drawn e old mid 1 trailing kind frame drew
+  perhaps_prompt false trailing kind old mid frame drew = prompt_same (e.display old) (e.display mid) (ap (λ (d : Display). d.layout) drew.display)
+
   pub perhaps_redraws : (drawn : Bool) (trailing : _) (kind : CmdKind) (old mid : X)
       → Drew e 1 (if drawn then with_text trailing kind else nothing) old mid
       → Redraws e (once_for (if drawn then with_text trailing kind else nothing)) (once_for (if drawn then with_text trailing kind else nothing)) old mid
@@ -328,6 +334,7 @@ module _ {X : Type 0} (e : Ghosts X) where
     drew = tt;
     keeps = tt;
     change = tt;
+    prompt = prompt_then (e.display old) (e.display mid) (e.display new) frame.surface frame.prompt_end (perhaps_prompt drawn None ForcedRefresh old mid frame drew) does.prompt;
     frame = frame_then e old mid new frame does.frame;
     fails = fails_then for_hint (Err er) old mid new frame does.frame none does.fails;
   }
@@ -342,6 +349,7 @@ module _ {X : Type 0} (e : Ghosts X) where
         drew = line;
         keeps = record { right = λ was. line.right; line = λ was. hint_trails e new line.shows };
         change = drawn_in_full line.shows (rises_within 1 (first + 1) (first + 1) (e.redraws old) (e.redraws new) (omega arith) (omega arith) line.redraws);
+        prompt = tt;
         frame = frame_then e old mid new frame does.frame;
         fails = fails_then for_hint (Ok x) old mid new frame does.frame none does.fails;
       }
@@ -356,6 +364,7 @@ module _ {X : Type 0} (e : Ghosts X) where
     drew = tt;
     keeps = tt;
     change = tt;
+    prompt = drop.prompt;
     frame = drop.frame;
     fails = fails_more e {T = U} (Err f) nobody for_hint old new (λ sure. refl) (record { io = drop.fails.io; faults = drop.fails.faults; quiet = drop.fails.quiet });
   }
@@ -371,11 +380,12 @@ module _ {X : Type 0} (e : Ghosts X) where
     drew = refreshed.drew;
     keeps = record { right = λ was. refreshed.drew.right; line = λ was. hint_trails e new refreshed.drew.shows };
     change = drawn_in_full refreshed.drew.shows refreshed.drew.redraws;
+    prompt = tt;
     frame = refreshed.frame;
     fails = refreshed.fails;
   }
   does_refresh (Err er) old new left start is refreshed =
-      record { draft = tt; fault = fault_redrawn e er old new left is refreshed.err; start = tt; drew = tt; keeps = tt; change = tt; frame = refreshed.frame; fails = refreshed.fails }
+      record { draft = tt; fault = fault_redrawn e er old new left is refreshed.err; start = tt; drew = tt; keeps = tt; change = tt; prompt = prompt_same (e.display old) (e.display new) refreshed.kept; frame = refreshed.frame; fails = refreshed.fails }
 
 -- what is drawn of a kill: of a range that was found, a part where it is a plain kill
 abbrev pub killed_as : Bool → Bool → Position → Drawing
@@ -504,6 +514,14 @@ module _ {X T : Type 0} (e : Ghosts X) (x : T) (old mid new : X) (kills kills' :
   put_is : text_inserted (e.environment mid) text (e.draft mid) ≡ put_in
   put_is = ap (λ (w : Environment). text_inserted w text (e.draft mid)) killed.does.frame.environment ∙ ap (λ (d : Draft). text_inserted (e.environment old) text d) killed.does.draft
 
+  first_drawn : Drew e 1 (killed_as as_kill.found as_kill.plainly as_kill.position) old mid
+  first_drawn = subst (λ (d : Drawing). Drew e 1 d old mid) (sym as_kill.same) killed.does.drew
+
+  killed_prompt : (found plainly : Bool) (p : Position) → Drew e 1 (killed_as found plainly p) old mid → KeepsPrompt (e.display old) (e.display mid)
+  killed_prompt true true p drew = inl (ap (λ (l : Layout). l.prompt_size) drew.layout, ap (λ (l : Layout). l.grapheme_cluster_mode) drew.layout)
+  killed_prompt true false p drew = prompt_drawn e old mid 1 (hint_shown (e.draft mid)) Other killed.does.frame drew
+  killed_prompt false plainly p drew = prompt_same (e.display old) (e.display mid) (ap (λ (d : Display). d.layout) drew.display)
+
   fault_put : (f : ReadlineError)
       → FaultLeft f (e.environment mid) (e.draft mid) (e.draft mid) (text_inserted (e.environment mid) text (e.draft mid)) (e.draft new)
       → FaultLeft f (e.environment old) (e.draft old) before.draft put_in (e.draft new)
@@ -523,7 +541,7 @@ module _ {X T : Type 0} (e : Ghosts X) (x : T) (old mid new : X) (kills kills' :
 
   puts : {U : Type 0} (r : Result U ReadlineError) → Does e r mid new (text_inserted (e.environment mid) text (e.draft mid)) (drawn_if (not empty)) 1 → Leaves r killed_drawn
   puts (Err f) put =
-      record { draft = tt; fault = fault_put f put.fault; start = tt; drew = tt; keeps = tt; change = tt; frame = frame_then e old mid new killed.does.frame put.frame; fails = fails_put (Err f) empty killed_drawn put.frame put.fails }
+      record { draft = tt; fault = fault_put f put.fault; start = tt; drew = tt; keeps = tt; change = tt; prompt = prompt_then (e.display old) (e.display mid) (e.display new) killed.does.frame.surface killed.does.frame.prompt_end (killed_prompt as_kill.found as_kill.plainly as_kill.position first_drawn) put.prompt; frame = frame_then e old mid new killed.does.frame put.frame; fails = fails_put (Err f) empty killed_drawn put.frame put.fails }
   puts (Ok y) put =
       let stays : empty ≡ true → e.draft new ≡ e.draft mid = λ none. put.draft ∙ none_put (e.environment mid) text (e.draft mid) empty refl none in
       let first : Drew e 1 (killed_as as_kill.found as_kill.plainly as_kill.position) old mid = subst (λ (d : Drawing). Drew e 1 d old mid) (sym as_kill.same) killed.does.drew in
@@ -535,6 +553,7 @@ module _ {X T : Type 0} (e : Ghosts X) (x : T) (old mid new : X) (kills kills' :
         drew = drew;
         keeps = keeps_then e old mid new killed.does.keeps put.keeps;
         change = twice_changed e old mid new killed.does.frame as_kill.found as_kill.plainly empty as_kill.position stays killed.does.change put.drew drew;
+        prompt = tt;
         frame = frame_then e old mid new killed.does.frame put.frame;
         fails = fails_put (Ok y) empty (killed_as as_kill.found as_kill.plainly as_kill.position) put.frame put.fails;
       })
@@ -568,6 +587,7 @@ only_killed e x y old new kills kills' left drawing halfway killed = record {
     drew = killed.does.drew;
     keeps = killed.does.keeps;
     change = killed.does.change;
+    prompt = tt;
     frame = killed.does.frame;
     fails = record { io = tt; faults = tt; quiet = killed.does.fails.quiet };
   };
@@ -713,20 +733,22 @@ module _ {X : Type 0} (e : Ghosts X) (old new : X) (input : Input) (indent : ℕ
       → KillsLeft f kills (step_from e old input indent kills command).editor.kills kills'
       → OneMomentLeft f (e.environment old) (editor_of e old kills) (halfway_of (e.environment old) (editor_of e old kills) command)
       (step_from e old input indent kills command).editor (editor_of e new kills')
+      → KeepsPrompt (e.display old) (e.display new)
       → FailsByParty {T = T} e (asked_of (e.display old) (e.environment old) (editor_of e old kills) command) (Err f) old new → Frame e old new → Executes e (Err f) old input indent kills command new kills'
-  executed_wrong f fault kept moment fails frame =
-      record { comes = λ no. absurd (let is = fails.faults in cc); wrong = record { draft = fault; kills_left = kept; moment = moment }; frame = frame; io = fails.io; quiet = fails.quiet }
+  executed_wrong f fault kept moment prompt fails frame =
+      record { comes = λ no. absurd (let is = fails.faults in cc); wrong = record { draft = fault; kills_left = kept; moment = moment; prompt = prompt }; frame = frame; io = fails.io; quiet = fails.quiet }
 
   -- one that went wrong and leaves the kill ring
   pub draft_wrong : {T : Type 0} (f : ReadlineError)
       → FaultLeft f (e.environment old) (e.draft old) (halfway_of (e.environment old) (editor_of e old kills) command).draft
       (step_from e old input indent kills command).editor.draft (e.draft new)
       → (halfway_of (e.environment old) (editor_of e old kills) command).kills ≡ kills → (step_from e old input indent kills command).editor.kills ≡ kills → kills' ≡ kills
+      → KeepsPrompt (e.display old) (e.display new)
       → FailsByParty {T = T} e (asked_of (e.display old) (e.environment old) (editor_of e old kills) command) (Err f) old new → Frame e old new → Executes e (Err f) old input indent kills command new kills'
-  draft_wrong {T = T} f fault half left same fails frame =
+  draft_wrong {T = T} f fault half left same prompt fails frame =
       executed_wrong {T = T} f fault (inl (same ∙ sym left))
       (ring_stays f (e.environment old) (editor_of e old kills) (halfway_of (e.environment old) (editor_of e old kills) command) (step_from e old input indent kills command).editor (editor_of e new kills')
-      fault half left same) fails frame
+      fault half left same) prompt fails frame
 
   -- one that proceeds
   does_ok : {T : Type 0} (x : T) (asks : Asks) (left : Editor) (drawing : Drawing)
@@ -773,6 +795,7 @@ module _ {X : Type 0} (e : Ghosts X) (old new : X) (input : Input) (indent : ℕ
       (subst (λ (s : Step). KillsLeft f kills s.editor.kills kills') (sym steps) done.kills_left)
       (subst (λ (h : Editor). OneMomentLeft f (e.environment old) (editor_of e old kills) h (step_from e old input indent kills command).editor (editor_of e new kills')) (sym half)
       (subst (λ (s : Step). OneMomentLeft f (e.environment old) (editor_of e old kills) halfway s.editor (editor_of e new kills')) (sym steps) done.moment))
+      done.does.prompt
       (rw asks done.does.fails) done.does.frame
 
   -- an edit that proceeds
@@ -798,7 +821,7 @@ module _ {X : Type 0} (e : Ghosts X) (old new : X) (input : Input) (indent : ℕ
       draft_wrong {T = T} f
       (subst (λ (h : Editor). FaultLeft f (e.environment old) (e.draft old) h.draft (step_from e old input indent kills command).editor.draft (e.draft new)) (sym half)
       (subst (λ (s : Step). FaultLeft f (e.environment old) (e.draft old) (edited_halfway (e.environment old) (e.draft old) command) s.editor.draft (e.draft new)) (sym steps) does.fault))
-      (ap (λ (h : Editor). h.kills) half) (ap (λ (s : Step). s.editor.kills) steps) same
+      (ap (λ (h : Editor). h.kills) half) (ap (λ (s : Step). s.editor.kills) steps) same does.prompt
       (fails_more e (Err f) (edited_asked (e.display old) (e.environment old) (e.draft old) command) (asked_of (e.display old) (e.environment old) (editor_of e old kills) command) old new
       (λ sure. ap (λ a. is_sure (e.sure old) a) (sym (edit_asks (e.display old) (e.environment old) (editor_of e old kills) command only)) ∙ sure) does.fails)
       does.frame

@@ -23,7 +23,7 @@ use Rattle.line_editor.specs.DraftEdits.{after_edit}
 use Rattle.line_editor.specs.Outcomes.{EditedOnIo, EditsThenDraws}
 use Rattle.line_editor.proofs.CountLemmas.{stays_then}
 use Rattle.line_editor.proofs.FaultLemmas.{but_hinted, fault_from, fault_shown, made_stays, whole_text}
-use Rattle.line_editor.proofs.DrawnLemmas.{drawn_stays, frame_then, hint_trails, keeps_move, keeps_then, right_after, way_after}
+use Rattle.line_editor.proofs.DrawnLemmas.{drawn_stays, frame_then, hint_trails, keeps_move, keeps_then, prompt_after, prompt_same, right_after, way_after}
 
 -- what leaves all but the draft draws nothing
 pub nothing_drawn : {X : Type 0} (e : Ghosts X) (old new : X)
@@ -104,6 +104,7 @@ module _ {X : Type 0} (e : Ghosts X) (old mid new : X) (undrawn : Undrawn e old 
           drew = tt;
           keeps = tt;
           change = tt;
+          prompt = prompt_after (e.display old) (e.display mid) (e.display new) undrawn.drew.display (prompt_same (e.display mid) (e.display new) shows.kept);
           frame = frame_then e old mid new undrawn.frame shows.frame;
           fails = fails_after for_hint (Err er) shows.fails;
         }
@@ -118,6 +119,7 @@ module _ {X : Type 0} (e : Ghosts X) (old mid new : X) (undrawn : Undrawn e old 
           drew = drew;
           keeps = record { right = λ was. drew.right; line = λ was. hint_trails e new drew.shows };
           change = drawn_in_full drew.shows drew.redraws;
+          prompt = tt;
           frame = frame_then e old mid new undrawn.frame shows.frame;
           fails = fails_after for_hint (Ok x) shows.fails;
         }
@@ -133,6 +135,7 @@ module _ {X : Type 0} (e : Ghosts X) (old mid new : X) (undrawn : Undrawn e old 
           drew = tt;
           keeps = tt;
           change = tt;
+          prompt = prompt_after (e.display old) (e.display mid) (e.display new) undrawn.drew.display (prompt_same (e.display mid) (e.display new) shows.kept);
           frame = frame_then e old mid new undrawn.frame shows.frame;
           fails = fails_after nobody (Err er) shows.fails;
         }
@@ -149,6 +152,7 @@ module _ {X : Type 0} (e : Ghosts X) (old mid new : X) (undrawn : Undrawn e old 
               (ap (λ (d : Draft). d.hint) (shows.draft ∙ draft) ∙ hint) right
               (way_after e old mid new undrawn.drew.display undrawn.frame.environment undrawn.drew.redraws MoveCursor shows.drew.way) (λ was. shows.placed);
           change = text_same (ap (λ (d : Draft). d.line.text) (shows.draft ∙ draft) ∙ text);
+          prompt = tt;
           frame = frame_then e old mid new undrawn.frame shows.frame;
           fails = fails_after nobody (Ok x) shows.fails;
         }
@@ -249,6 +253,7 @@ does_after e asks (Err er) old mid new halfway' halfway left left' reported undr
   drew = tt;
   keeps = tt;
   change = tt;
+  prompt = prompt_after (e.display old) (e.display mid) (e.display new) undrawn.drew.display does.prompt;
   frame = frame_then e old mid new undrawn.frame does.frame;
   fails = fails_after e old mid new undrawn asks (Err er) does.fails;
 }
@@ -260,6 +265,7 @@ does_after e asks (Ok x) old mid new halfway' halfway left left' reported undraw
       drew = drawn_after reported does.drew;
       keeps = keeps_then e old mid new (drawn_stays e old mid undrawn.frame.environment undrawn.drew line hint) does.keeps;
       change = change_after does.change;
+      prompt = tt;
       frame = frame_then e old mid new undrawn.frame does.frame;
       fails = fails_after e old mid new undrawn asks (Ok x) does.fails;
     }

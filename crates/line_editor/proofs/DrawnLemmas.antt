@@ -3,7 +3,7 @@ use Rattle.std.proofs.Common.{◌≡◌, inl, inr, ℕ, true, false, List, Optio
 use Rattle.line_buffer.specs.Line.{Line}
 use Rattle.line_buffer.specs.declared.layout.Layout.{Layout}
 use Rattle.line_buffer.specs.declared.layout.Position.{Position}
-use Rattle.line_keys.specs.Display.{Display, HasCursorAt, ShowsInFull, IsRight, ShowsText, Surface, end_position, lit_after, shown_end}
+use Rattle.line_keys.specs.Display.{Display, HasCursorAt, IsRight, KeepsPrompt, ShowsInFull, ShowsText, Surface, end_position, lit_after, shown_end}
 use Rattle.line_keys.specs.Draft.{Draft, hint_shown}
 use Rattle.line_keys.specs.Drawing.{CursorWay, DrewCursorAlone, DrewLine, DrewNothing, cursor_redrew, cursor_stayed, cursor_went}
 use Rattle.line_keys.specs.Frame.{Frame}
@@ -268,3 +268,23 @@ pub stays_in_place : {X : Type 0} (e : Ghosts X) (old new : X) → DrewNothing e
 stays_in_place e old new drew at =
     let P : Display → Type 0 = λ d. d.screen.position ≡ d.layout.cursor in
     subst P (sym drew.display) at
+
+-- a kept layout that stays keeps its prompt
+pub prompt_same : (old new : Display) → new.layout ≡ old.layout → KeepsPrompt old new
+prompt_same old new same = inl (ap (λ (l : Layout). l.prompt_size) same, ap (λ (l : Layout). l.grapheme_cluster_mode) same)
+
+-- a kept prompt behind a step that leaves the display
+pub prompt_after : (old mid new : Display) → mid ≡ old → KeepsPrompt mid new → KeepsPrompt old new
+prompt_after old mid new same kept = subst (λ (d : Display). KeepsPrompt d new) same kept
+
+-- a kept prompt behind one that was kept
+pub prompt_then : (old mid new : Display) → mid.surface ≡ old.surface → mid.prompt_end ≡ old.prompt_end → KeepsPrompt old mid → KeepsPrompt mid new → KeepsPrompt old new
+prompt_then old mid new surface own (inl first) (inl second) = inl (second.0 ∙ first.0, second.1 ∙ first.1)
+prompt_then old mid new surface own (inr first) (inl second) = inr (second.0 ∙ first.0, second.1 ∙ first.1)
+prompt_then old mid new surface own first (inr second) = inr (second.0 ∙ own, second.1 ∙ ap (λ (s : Surface). s.mode) surface)
+
+-- a full redraw has the own prompt
+pub prompt_drawn : {X : Type 0} (e : Ghosts X) (old new : X) (times : ℕ) (trailing : Option (List ℕ)) (kind : CmdKind) → Frame e old new → DrewLine e times trailing kind old new
+    → KeepsPrompt (e.display old) (e.display new)
+prompt_drawn e old new times trailing kind frame drew =
+    inr (drew.shows.in_full.layout.prompt ∙ frame.prompt_end, drew.shows.in_full.layout.mode ∙ ap (λ (s : Surface). s.mode) frame.surface)

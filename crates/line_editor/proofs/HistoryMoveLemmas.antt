@@ -34,7 +34,8 @@ use Rattle.line_state.proofs.EditedLemmas.{first_moved}
 use Rattle.line_editor.proofs.AskedLemmas.{does_more, sure_hint}
 use Rattle.line_editor.proofs.DoneLemmas.{Redrawn, does_after, edit_reported, undrawn_twice}
 use Rattle.line_editor.proofs.FaultLemmas.{fault_exact, fault_other, fault_stays, fault_wider, same_draft}
-use Rattle.line_editor.proofs.DrawnLemmas.{drawn_stays, frame_then}
+use Rattle.line_editor.proofs.DrawnLemmas.{drawn_stays, frame_then, prompt_same}
+use Rattle.line_keys.specs.Display.{Display}
 
 -- all stays
 frame_stays : {X : Type 0} (e : Ghosts X) (old : X) → Frame e old old
@@ -46,7 +47,7 @@ pub still_done : {X T : Type 0} (e : Ghosts X) (asks : Asks) (r : Result T Readl
     → DrewNothing e old new → Frame e old new → FailsByParty e asks r old new
     → DoesAsking e asks r old new left nothing 1
 still_done e asks (Err er) old new left draft line hint first undrew frame fails =
-    record { draft = tt; fault = fault_exact e er old new _ left draft hint; start = tt; drew = tt; keeps = tt; change = tt; frame = frame; fails = fails }
+    record { draft = tt; fault = fault_exact e er old new _ left draft hint; start = tt; drew = tt; keeps = tt; change = tt; prompt = prompt_same (e.display old) (e.display new) (ap (λ (d : Display). d.layout) undrew.display); frame = frame; fails = fails }
 still_done e asks (Ok x) old new left draft line hint first undrew frame fails = record {
   draft = draft;
   fault = tt;
@@ -54,6 +55,7 @@ still_done e asks (Ok x) old new left draft line hint first undrew frame fails =
   drew = undrew;
   keeps = drawn_stays e old new frame.environment undrew (ap (λ (d : Draft). d.line) draft ∙ line) (ap (λ (d : Draft). d.hint) draft ∙ hint);
   change = text_same (ap (λ (d : Draft). d.line.text) draft ∙ ap (λ l. l.text) line);
+  prompt = tt;
   frame = frame;
   fails = fails;
 }
@@ -68,6 +70,7 @@ in_two e asks r old new halfway left drawing times does = record {
   drew = does.drew;
   keeps = does.keeps;
   change = does.change;
+  prompt = does.prompt;
   frame = does.frame;
   fails = does.fails;
 }
@@ -188,6 +191,7 @@ saving_fails e f old new halfway left same undrawn memory =
       drew = tt;
       keeps = tt;
       change = tt;
+      prompt = prompt_same (e.display old) (e.display new) (ap (λ (d : Display). d.layout) undrawn.drew.display);
       frame = undrawn.frame;
       fails = record { io = λ io. absurd (let no = kind.0 in cc); faults = kind.1; quiet = λ no. undrawn.failures };
     }
@@ -202,15 +206,16 @@ completion_text environment (Some h) draft some = record { line = refl; saved = 
 pub completing_fails : {X T U : Type 0} (e : Ghosts X) (f : ReadlineError) (old new : X) → is_some (e.draft old).hint ≡ true
     → FaultLeft f (e.environment old) (e.draft old) (e.draft old)
     (with_edited (e.draft old) (with_completion_at_end (option_and_then (λ h. h.completion) (e.draft old).hint) (e.draft old))) (e.draft new)
-    → Frame e old new → FailsByRenderer {T = T} e (Err f) old new
+    → DrewNothing e old new → Frame e old new → FailsByRenderer {T = T} e (Err f) old new
     → Does {T = U} e (Err f) old new (completed (e.environment old) (e.draft old).hint (e.draft old)) (drawn_if (is_some (e.draft old).hint)) 1
-completing_fails {U = U} e f old new some fault frame fails = record {
+completing_fails {U = U} e f old new some fault undrew frame fails = record {
   draft = tt;
   fault = fault_other f (e.environment old) (e.draft old) (e.draft old) _ _ (e.draft new) (completion_text (e.environment old) (e.draft old).hint (e.draft old) some) fault;
   start = tt;
   drew = tt;
   keeps = tt;
   change = tt;
+  prompt = prompt_same (e.display old) (e.display new) (ap (λ (d : Display). d.layout) undrew.display);
   frame = frame;
   fails = fails_by {T = U} e _ (Err f) old old new refl (record { io = fails.io; faults = fails.faults; quiet = fails.quiet });
 }

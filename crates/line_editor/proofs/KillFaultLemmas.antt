@@ -51,6 +51,7 @@ copy_fails {U = U} e f old new kills kills' left left' drawing times memory stay
     drew = tt;
     keeps = tt;
     change = tt;
+    prompt = copied.does.prompt;
     frame = copied.does.frame;
     fails = fails_more e {T = U} (Err f) nobody (asked_by drawing) old new (λ sure. refl)
         (record { io = copied.does.fails.io; faults = copied.does.fails.faults; quiet = copied.does.fails.quiet });
@@ -107,6 +108,7 @@ kill_fails {U = U} e f old new kills kills' left left' drawing as_kill text time
     drew = tt;
     keeps = tt;
     change = tt;
+    prompt = killed.does.prompt;
     frame = killed.does.frame;
     fails = fails_more e {T = U} (Err f) (asked_by drawing) (asked_by (replacement_drawn drawing text)) old new
         (λ sure. sure_killed (e.sure old) drawing (has_text text) as_kill sure)

@@ -26,7 +26,7 @@ use Rattle.line_state.specs.Moves.{to_first_print}
 use Rattle.line_editor.specs.Editor.{edited_of, with_edited}
 use Rattle.line_editor.proofs.DoneLemmas.{cursor_after, does_after}
 use Rattle.line_editor.proofs.FaultLemmas.{of_made, same_draft, whole_text}
-use Rattle.line_editor.proofs.DrawnLemmas.{frame_then, keeps_move, keeps_then, right_after, way_after}
+use Rattle.line_editor.proofs.DrawnLemmas.{frame_then, keeps_move, keeps_then, prompt_same, right_after, way_after}
 use Rattle.line_editor.proofs.EditLemmas.{moved_text}
 
 -- what all changes taken back give is a matter of the text, and not of the cursor
@@ -65,6 +65,7 @@ move_drawn e x y old middle new edited place undrawn draft is draws =
       keeps = keeps_move e MoveCursor old new frame (ap (λ (d : Draft). d.line.text) draws.draft ∙ text) (ap (λ (d : Draft). d.hint) all)
           (right_after e old middle new undrawn.drew.display text (ap (λ (d : Draft). d.line) draws.draft) draws.right)
           (way_after e old middle new undrawn.drew.display undrawn.frame.environment undrawn.drew.redraws MoveCursor draws.drew.way) (λ was. draws.placed);
+      kept = tt;
       frame = frame;
       fails = record { io = tt; faults = tt; quiet = draws.fails.quiet ∙ undrawn.failures };
     }
@@ -106,6 +107,7 @@ module _ {X : Type 0} (e : Ghosts X) (old middle new : X) (kind : CmdKind) (line
     start = ap start_text puts.draft ∙ start;
     drew = tt;
     keeps = tt;
+    kept = puts.kept ∙ ap (λ (d : Display). d.layout) undrawn.drew.display;
     frame = frame_then e old middle new undrawn.frame puts.frame;
     fails = fails_later e old middle new undrawn (Err f) puts.fails;
   }
@@ -130,6 +132,7 @@ module _ {X : Type 0} (e : Ghosts X) (old middle new : X) (kind : CmdKind) (line
             (λ was. puts.right (placed_there was.cursor) (subst (λ (s : List ℕ). ShowsText (e.display middle) s) (sym same_text)
             (subst (λ (d : Display). ShowsText d (e.draft old).line.text) (sym undrawn.drew.display) was.drawn)))
             way (λ was. puts.placed (placed_there was));
+        kept = tt;
         frame = frame;
         fails = record { io = tt; faults = tt; quiet = puts.fails.quiet ∙ undrawn.failures };
       }
@@ -181,6 +184,7 @@ way_fails e f old new way left moves = record {
   drew = tt;
   keeps = tt;
   change = tt;
+  prompt = prompt_same (e.display old) (e.display new) moves.kept;
   frame = moves.frame;
   fails = record { io = λ i sure. moves.fails.io i; faults = moves.fails.faults; quiet = moves.fails.quiet };
 }
@@ -196,6 +200,7 @@ module _ {X T : Type 0} (e : Ghosts X) (x : T) (old mid : X) (way : Line) (first
     drew = record { way = mid; on_way = ap (λ (d : Draft). d.line) first.draft; frame = first.frame; first = first.drew; second = second.drew };
     keeps = keeps_then e old mid new first.keeps second.keeps;
     change = text_same (second.text ∙ first.text);
+    prompt = tt;
     frame = frame_then e old mid new first.frame second.frame;
     fails = record { io = tt; faults = tt; quiet = second.fails.quiet ∙ first.fails.quiet };
   }
@@ -208,6 +213,7 @@ module _ {X T : Type 0} (e : Ghosts X) (x : T) (old mid : X) (way : Line) (first
     drew = record { way = mid; on_way = ap (λ (d : Draft). d.line) first.draft; frame = first.frame; first = first.drew; second = cursor_stays e mid };
     keeps = first.keeps;
     change = text_same first.text;
+    prompt = tt;
     frame = first.frame;
     fails = record { io = tt; faults = tt; quiet = first.fails.quiet };
   }

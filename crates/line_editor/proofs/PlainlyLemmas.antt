@@ -33,7 +33,7 @@ use Rattle.line_editor.specs.Editor.{edited_of, with_edited}
 use Rattle.line_editor.specs.Outcomes.{DoesWithKills, EditedOnIo, editor_of}
 use Rattle.line_editor.proofs.FaultLemmas.{but_hinted, fault_shown, leaves_kills, made_stays, ring_behind}
 use Rattle.line_editor.proofs.DoneLemmas.{Redrawn, fails_after, line_after, line_reported}
-use Rattle.line_editor.proofs.DrawnLemmas.{frame_then, hint_trails, right_shown, shown_right}
+use Rattle.line_editor.proofs.DrawnLemmas.{frame_then, hint_trails, prompt_after, right_shown, shown_right}
 
 -- a change of the line's end, of which a part may have been drawn: what it leaves
 module _ {X : Type 0} (e : Ghosts X) (old mid new : X) (undrawn : Undrawn e old mid) (made : Draft) (draft : e.draft mid ≡ made)
@@ -92,6 +92,7 @@ module _ {X : Type 0} (e : Ghosts X) (old mid new : X) (undrawn : Undrawn e old 
         drew = part;
         keeps = keeps_part part right;
         change = drawn_plainly (changed same is part);
+        prompt = tt;
         frame = frame_then e old mid new undrawn.frame frame;
         fails = fails_of (Ok x) true fails;
       }
@@ -104,6 +105,7 @@ module _ {X : Type 0} (e : Ghosts X) (old mid new : X) (undrawn : Undrawn e old 
         drew = line;
         keeps = record { right = λ was. line.right; line = λ was. hint_trails e new line.shows };
         change = drawn_in_full line.shows line.redraws;
+        prompt = tt;
         frame = frame_then e old mid new undrawn.frame frame;
         fails = fails_of (Ok x) false fails;
       }
@@ -117,6 +119,7 @@ module _ {X : Type 0} (e : Ghosts X) (old mid new : X) (undrawn : Undrawn e old 
     drew = tt;
     keeps = tt;
     change = tt;
+    prompt = prompt_after (e.display old) (e.display mid) (e.display new) undrawn.drew.display (inl shows.kept);
     frame = frame_then e old mid new undrawn.frame shows.frame;
     fails = fails_of (Err er) bare shows.fails;
   }

@@ -8,6 +8,7 @@ use Rattle.line_config.specs.declared.error.ReadlineError.TheVariants.{Eof, Inte
 use Rattle.line_parts.specs.Asks.{for_all}
 use Rattle.line_parts.specs.Environment.{Environment}
 use Rattle.line_keys.specs.Command.{Command}
+use Rattle.line_keys.specs.Display.{KeepsPrompt}
 use Rattle.line_keys.specs.Draft.{Draft, KeepsLine, hinted, start_text}
 use Rattle.line_keys.specs.Fault.{FaultLeft, IoLeft, IsOf}
 use Rattle.line_keys.specs.Drawing.{Does, DoesInTwo, Drawing, Drew, DrewNothing, Refreshes, ShowsChange, asked_by, with_hint}
@@ -157,13 +158,14 @@ module _ {X : Type 0} (e : editors.Ghosts X) where
 
   -- what a command leaves that goes wrong: after a fault the draft of a moment of its step, or, where memory ran out, one that has lost
   -- its changes; and the kill ring of its step, or, where memory ran out, the one from before, or that one with a kill as its last action;
-  -- after an error of input or output both are of one moment
+  -- after an error of input or output both are of one moment. The kept prompt is the one from before, or the own one
   pub record FailsIn (error : ReadlineError) (state : X) (input : Input) (indent : ℕ) (kills : Ring) (command : Command) (state' : X) (kills' : Ring) : Type 0 where
     pub draft : FaultLeft error (e.environment state) (e.draft state) (halfway_of (e.environment state) (editor_of state kills) command).draft
         (step_from state input indent kills command).editor.draft (e.draft state')
     pub kills_left : KillsLeft error kills (step_from state input indent kills command).editor.kills kills'
     pub moment : OneMomentLeft error (e.environment state) (editor_of state kills) (halfway_of (e.environment state) (editor_of state kills) command)
         (step_from state input indent kills command).editor (editor_of state' kills')
+    pub prompt : KeepsPrompt (e.display state) (e.display state')
 
   -- what executing a command leaves; an error of input or output comes only where the renderer failed, or where one whom the command
   -- asks is not sure

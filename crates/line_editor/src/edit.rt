@@ -301,6 +301,8 @@ impl<'out, 'prompt, W: Renderer, H: Helper, P: Prompt, S: History> State<
             let line = (e.draft self.old).line in
             let lit = lit_after (e.environment self.old) (e.display self.old) line Other in
             OnOk result (e.display self.new ≡ record (e.display self.old) { lit = lit }) }
+        ensures layout { let d = ⟦<Self as EditorState>⟧.display in
+            (d self.new).layout ≡ (d self.old).layout }
         ensures text { let d = ⟦<Self as EditorState>⟧.draft in
             KeepsText (d self.old) (d self.new) }
         ensures redraws { let e = ⟦<Self as EditorState>⟧ in

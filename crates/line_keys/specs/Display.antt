@@ -1,5 +1,5 @@
 -- What is drawn of a line, and what a full redraw of it would give.
-use Rattle.std.specs.Prelude.{◌≡◌, ℕ, ◌+◌, ◌-◌, Bool, false, if◌then◌else◌, nat_lt, min, List, take, Option, Some, None, is_some, OnOk, OnErr, Result}
+use Rattle.std.specs.Prelude.{◌≡◌, ◌⊎◌, ℕ, ◌+◌, ◌-◌, Bool, false, if◌then◌else◌, nat_lt, min, List, take, Option, Some, None, is_some, OnOk, OnErr, Result}
 use Rattle.line_buffer.specs.Line.{Line}
 use Rattle.line_buffer.specs.declared.layout.Position.{Position}
 use Rattle.line_buffer.specs.declared.layout.Layout.{Layout}
@@ -64,6 +64,16 @@ never_drawn surface screen prompt = record {
   screen = screen;
   lit = false;
 }
+
+-- the kept prompt stays, and how clusters are counted
+abbrev pub SamePrompt : Display → Display → Type 0
+SamePrompt old new =
+    (new.layout.prompt_size ≡ old.layout.prompt_size) × (new.layout.grapheme_cluster_mode ≡ old.layout.grapheme_cluster_mode)
+
+-- the kept prompt stays, or it is the own one
+abbrev pub KeepsPrompt : Display → Display → Type 0
+KeepsPrompt old new = SamePrompt old new
+    ⊎ ((new.layout.prompt_size ≡ old.prompt_end) × (new.layout.grapheme_cluster_mode ≡ old.surface.mode))
 
 -- where the cursor of a line is in a full redraw
 abbrev pub cursor_position : Measure → Position → Line → Position

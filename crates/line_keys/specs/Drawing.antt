@@ -3,7 +3,7 @@ use Rattle.std.specs.Prelude.{◌≡◌, ◌⊎◌, ℕ, Bool, true, false, if�
 use Rattle.line_buffer.specs.Line.{Line}
 use Rattle.line_config.specs.declared.error.ReadlineError.{ReadlineError}
 use Rattle.line_buffer.specs.declared.layout.Position.{Position}
-use Rattle.line_keys.specs.Display.{HasCursorAt, IsRight, ShowsInFull, ShowsText, corner, cursor_position, ending_at, lit_after}
+use Rattle.line_keys.specs.Display.{HasCursorAt, IsRight, KeepsPrompt, SamePrompt, ShowsInFull, ShowsText, corner, cursor_position, ending_at, lit_after}
 use Rattle.line_keys.specs.Draft.{Draft, KeepsText, hint_shown, hinted, start_text}
 use Rattle.line_keys.specs.Fault.{FaultLeaves}
 use Rattle.line_keys.specs.Frame.{FailsByParty, FailsByRenderer, Frame}
@@ -170,7 +170,7 @@ pub data ShowsChange {X : Type 0} (e : Ghosts X) (most : ℕ) (old new : X) : Ty
 -- draws, a line with so many full redraws: what is drawn stays good, and a changed text is drawn; of the parties, an error of input or
 -- output comes of these alone.
 -- After a fault the draft is that of a moment of the call, but for its hint: before it, halfway or behind it; or, where memory ran out,
--- one that has lost its changes
+-- one that has lost its changes. After any error the kept prompt is the one from before, or the own one
 pub record DoesInTwo {X T : Type 0} (e : Ghosts X) (asks : Asks) (result : Result T ReadlineError) (old new : X) (halfway left : Draft) (drawing : Drawing) (times : ℕ) : Type 0 where
   pub draft : OnOk result (e.draft new ≡ left)
   pub fault : FaultLeaves result (e.environment old) (e.draft old) halfway left (e.draft new)
@@ -178,6 +178,7 @@ pub record DoesInTwo {X T : Type 0} (e : Ghosts X) (asks : Asks) (result : Resul
   pub drew : OnOk result (Drew e times drawing old new)
   pub keeps : OnOk result (KeepsDrawn e old new)
   pub change : OnOk result (ShowsChange e times old new)
+  pub prompt : OnErr result (KeepsPrompt (e.display old) (e.display new))
   pub frame : Frame e old new
   pub fails : FailsByParty e asks result old new
 
@@ -196,6 +197,7 @@ pub record ShowsEnd {X T : Type 0} (e : Ghosts X) (result : Result T ReadlineErr
   pub err : KeepsDraftOnErr e result old new (hinted (e.environment old) (e.draft old))
   pub text : KeepsText (e.draft old) (e.draft new)
   pub drew : OnOk result (Drew e 1 (change_drawn (leaves_bare (e.environment old) (e.display old) (hinted (e.environment old) (e.draft old))) position) old new)
+  pub kept : OnErr result (SamePrompt (e.display old) (e.display new))
   pub frame : Frame e old new
   pub fails : FailsByParty e for_hint result old new
 
@@ -236,12 +238,14 @@ pub record ShowsEdit {X T : Type 0} (e : Ghosts X) (edited : Bool) (result : Res
   pub frame : Frame e old new
   pub fails : FailsByParty e (asked_by (edit_drawn edited)) result old new
 
--- what a move of the cursor leaves: after an error too, the draft with this line, which has the old text; and the cursor drawn
+-- what a move of the cursor leaves: after an error too, the draft with this line, which has the old text; and the cursor drawn, or after
+-- an error the kept layout as it was
 pub record MovesTo {X T : Type 0} (e : Ghosts X) (result : Result T ReadlineError) (old new : X) (kind : CmdKind) (line : Line) : Type 0 where
   pub draft : e.draft new ≡ record (e.draft old) { line = line }
   pub text : (e.draft new).line.text ≡ (e.draft old).line.text
   pub start : start_text (e.draft new) ≡ start_text (e.draft old)
   pub drew : OnOk result (DrewCursor e kind old new)
   pub keeps : OnOk result (KeepsDrawn e old new)
+  pub kept : KeepsLayoutOnErr e result old new
   pub frame : Frame e old new
   pub fails : FailsByRenderer e result old new

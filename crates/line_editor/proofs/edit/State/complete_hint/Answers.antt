@@ -7,4 +7,4 @@ pub returns-in_err-yank_hint : goal.returns-in_err-yank_hint
 returns-in_err-yank_hint g c =
     let p = err_from_is_err_and c.from_residual.result c.from_residual.ensures.1 in
     let y = c.in_err-yank_hint.ensures in
-    rw (p.1, p.2) (completing_fails _ _ c.args.self.now _ (search rules) y.fault y.frame y.fails)
+    rw (p.1, p.2) (completing_fails _ _ c.args.self.now _ (search rules) y.fault y.drew y.frame y.fails)
