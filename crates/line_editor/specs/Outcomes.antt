@@ -107,7 +107,7 @@ module _ {X : Type 0} (e : editors.Ghosts X) where
       (edited_halfway environment draft command) (edited_by (ruler_of display indent) environment input draft command)
       (edited_drawn display environment draft command) (edited_times display draft command)
 
-  -- the same of a command that does not indent, whatever the input value is
+  -- the same of a command that neither indents nor inserts a text, whatever the input value is
   abbrev pub DoesCommand : {T : Type 0} → Result T ReadlineError → X → X → Command → Type 0
   DoesCommand result state state' command =
       let display = e.display state in let environment = e.environment state in let draft = e.draft state in

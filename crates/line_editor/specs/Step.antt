@@ -30,8 +30,8 @@ down_or_next ruler environment n draft =
     if is_some (down_by (measuring ruler) draft.line n) then cursor_moved ruler (LineDown n) draft
     else next_shown environment draft
 
--- the draft behind a command that edits, draws or moves, whatever the input value is; commands that are left to the program above
--- leave it
+-- the draft behind a command that edits, draws or moves, whatever the input value is; a command that inserts a text, kills, yanks or
+-- ends the run has its own row of `edited_by` or `step`; those that are left to the program above leave the draft
 abbrev pub draft_behind : Ruler → Environment → Draft → Command → Draft
 draft_behind ruler environment draft (self_insert n c) = typed_in environment n c draft
 draft_behind ruler environment draft newline = typed_in environment 1 10 (unhinted draft)

@@ -38,10 +38,11 @@ pub enum Status {
 /// `Eof` for the end of the input on an empty line alone, and `Interrupted` for an interrupt alone, with the kept cursor at
 /// the kept end. Another error is one of input or output, where the renderer has failed or a party that the command asks is
 /// one that may fail, or that memory ran out. After one of input or output the line, its cursor, changes and history index
-/// and the kill ring are those of one moment of the command: before it, halfway or after it. Where memory ran out the line is
-/// of such a moment, too, or there are no changes, the saved line and the history index are those of one moment, and the
-/// text, the cursor and the hint may be any; the kill ring is the one that the command leaves, the one from before, or that
-/// one with a kill as its last action.
+/// are those of one moment of the command: before it, halfway or after it. The kill ring is the one that the command leaves;
+/// where that is another one than before, the line is not the one from before. Where memory ran out the line is of one
+/// moment, too, or there are no changes, the saved line and the history index are those of one moment, and the text, the
+/// cursor and the hint may be any; the kill ring is the one that the command leaves, the one from before, or that one with a
+/// kill as its last action.
 pub fn execute<'out, 'prompt, W: Renderer, H: Helper, P: Prompt, S: History>(
     cmd: Cmd,
     state: &mut State<'out, 'prompt, W, H, P, S>,

@@ -77,10 +77,10 @@ impl<'b> InputState<'b> {
     ///
     /// # Errors
     /// `Eof` where the items ended inside a phrase or before one; then a phrase that was cut short can be read again with
-    /// more items behind it. Another error is one of input or output, where the reader or the renderer has failed or the
-    /// hint or a handler is one that may fail, or that memory ran out. After an error the line, its cursor and what is
-    /// remembered of the keys stand as they were, and no item past the phrase that was begun is read; after one of input or
-    /// output the changes stand, too, but that open groups of them may have ended.
+    /// more items behind it. Another error is one of input or output, where the reader or the renderer has failed, or the
+    /// helper, asked for a hint, or a handler is one that may fail; or that memory ran out. After an error the line, its
+    /// cursor and what is remembered of the keys stand as they were, and no item past the phrase that was begun is read;
+    /// after one of input or output the changes stand, too, but that open groups of them may have ended.
     pub fn next_cmd<R: RawReader, W: Refresher>(
         &mut self,
         rdr: &mut R,

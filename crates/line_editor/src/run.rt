@@ -51,10 +51,10 @@ fn reset_kills(command: &Cmd, kill_ring: &mut KillRing)
 /// behind them.
 ///
 /// # Errors
-/// An error of input or output, where the reader or the renderer has failed or not every party and handler is one that never
-/// fails; or that memory ran out. Either reading failed: the line and its cursor, what is remembered of the keys and the kill
-/// ring are as they were, and no item past the phrase that was begun is read. Or the command failed: its phrase is read and
-/// no item more, and the line and the kill ring are left as `execute` leaves them. The error does not tell which.
+/// An error of input or output, where the reader or the renderer has failed, or some party or handler is one that may fail;
+/// or that memory ran out. Either reading failed: the line and its cursor, what is remembered of the keys and the kill ring
+/// are as they were, and no item past the phrase that was begun is read. Or the command failed: its phrase is read and no
+/// item more, and the line and the kill ring are left as `execute` leaves them. The error does not tell which.
 pub fn advance<'out, 'prompt, W: Renderer, H: Helper, P: Prompt, S: History>(
     state: &mut State<'out, 'prompt, W, H, P, S>,
     input_state: &mut InputState<'_>,
@@ -90,10 +90,9 @@ pub fn advance<'out, 'prompt, W: Renderer, H: Helper, P: Prompt, S: History>(
 ///
 /// # Errors
 /// `Eof` where the items end, or for the end of the input on an empty line; `Interrupted` for an interrupt, with the drawn
-/// cursor at the end of what is shown. Another error is one of input or output, where the reader or the renderer has failed
-/// or not every party and handler is one that never fails; or that memory ran out. Then either the first drawing failed, and
-/// nothing was read and the line is as it was; or turns were taken up to one that failed, and all is left as `advance` leaves
-/// it.
+/// cursor at the end of what is shown. Another error is one of input or output, where the reader or the renderer has failed,
+/// or some party or handler is one that may fail; or that memory ran out. Then either the first drawing failed, and nothing
+/// was read and the line is as it was; or turns were taken up to one that failed, and all is left as `advance` leaves it.
 pub fn run<'out, 'prompt, W: Renderer, H: Helper, P: Prompt, S: History>(
     state: &mut State<'out, 'prompt, W, H, P, S>,
     input_state: &mut InputState<'_>,

@@ -35,9 +35,9 @@ impl<'out, 'prompt, W: Renderer, H: Helper, P: Prompt, S: History> State<
     /// than its first column. Else the line is drawn again. Where there is nothing to kill, nothing happens.
     ///
     /// # Errors
-    /// Those of the parties and of the renderer, and that memory ran out. After one of input or output the line, its cursor, its
-    /// changes and `kill_ring` are together those from before the kill or those from behind it. Where memory ran out the line
-    /// may have no changes, and `kill_ring` may say that the last action was a kill.
+    /// Those of the parties and of the renderer, and that memory ran out. After one of input or output `kill_ring` is as the
+    /// kill leaves it, and where that changes it, so are the line, its cursor and its changes. Where memory ran out the line
+    /// may be any, without changes, and `kill_ring` may be the one from before, with a kill as its last action or not.
     pub fn edit_kill(&mut self, movement: &Movement, kill_ring: &mut KillRing) -> Result<()>
         ensures does { DoesKilling ⟦<Self as EditorState>⟧ result self.old kill_ring.old
             self.new kill_ring.new (commands.kill movement.now) }
