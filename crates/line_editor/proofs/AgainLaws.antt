@@ -14,8 +14,8 @@ use Rattle.line_keys.specs.declared.keys.KeyEvent.{KeyEvent}
 use Rattle.line_keys.specs.declared.refresher.InputMode.TheVariants as modes
 use Rattle.line_editor.specs.Event.{keys}
 use Rattle.line_editor.specs.Input.{Input, in_mode}
-use Rattle.line_editor.specs.Keymap.{Keymap, NoKeyLooksAtTheHint, Source, bound_command, by_binding, by_phrase, by_reader, by_table, first_source, handed, key_handler, new_count, on_line, source_of}
-use Rattle.line_editor.specs.Laws.{HintMakesNoDifference, ReadFromTheCut, ReadingAgain}
+use Rattle.line_editor.specs.Keymap.{KeyLooksAtNoHint, Keymap, Source, bound_command, by_binding, by_phrase, by_reader, by_table, first_source, handed, key_handler, new_count, on_line, source_of}
+use Rattle.line_editor.specs.Laws.{FirstLooksAtNoHint, HintMakesNoDifference, ReadFromTheCut, ReadingAgain}
 use Rattle.line_editor.specs.Moment.{moment_in}
 use Rattle.line_editor.specs.Phrase.{Answers, Keyed, Nested, Phrase, Spelled, behind_key, count_in_front, entered, entered_by, of_mode, typed_count}
 use Rattle.line_editor.specs.Read.{Read, after_count, read_behind, searched_read}
@@ -200,31 +200,31 @@ answers-alike None typed count draft hint input blind = refl
 answers-alike (Some handler) typed count draft hint input blind =
     blind handler refl (record { event = keys (typed ∷ []); count = count; moment = moment_in draft input }) (is_some hint) (option_and_then (λ (h : Suggestion). h.completion) hint)
 
--- with another hint, where no binding of a key looks at it
-module _ (keymap : Keymap) (environment : Environment) (draft : Draft) (hint : Option Suggestion) (input : Input) (blind : NoKeyLooksAtTheHint keymap.bound) where
+-- with another hint, where the bindings that are asked look at none
+module _ (keymap : Keymap) (environment : Environment) (draft : Draft) (hint : Option Suggestion) (input : Input) where
   abbrev other : Draft
   other = record draft { hint = hint }
 
-  bound-alike : (k : KeyEvent) → bound_command keymap other input None k ≡ bound_command keymap draft input None k
-  bound-alike k =
+  bound-alike : (k : KeyEvent) → KeyLooksAtNoHint keymap.bound k → bound_command keymap other input None k ≡ bound_command keymap draft input None k
+  bound-alike k blind =
       ap (λ o. option_map (bound_anew (new_count input.style None) (last_insert_of draft.changes.entries)) o)
-      (answers-alike (key_handler keymap.bound k) k (handed input.style input.mode None) draft hint input (blind k))
+      (answers-alike (key_handler keymap.bound k) k (handed input.style input.mode None) draft hint input blind)
 
   -- a key stands for one of command mode
-  stands-alike : (k plain : KeyEvent) → source_of keymap draft input None k ≡ by_phrase plain → source_of keymap other input None k ≡ by_phrase plain
-  stands-alike k plain is =
-      subst (λ b. first_source b (on_line draft.line.text (keymap.own k)) (stands_for input.style input.mode k) ((row_of input.style input.mode k other).entry None) ≡ by_phrase plain) (sym (bound-alike k))
+  stands-alike : (k plain : KeyEvent) → KeyLooksAtNoHint keymap.bound k → source_of keymap draft input None k ≡ by_phrase plain → source_of keymap other input None k ≡ by_phrase plain
+  stands-alike k plain blind is =
+      subst (λ b. first_source b (on_line draft.line.text (keymap.own k)) (stands_for input.style input.mode k) ((row_of input.style input.mode k other).entry None) ≡ by_phrase plain) (sym (bound-alike k blind))
       (phrase-source (bound_command keymap draft input None k) (on_line draft.line.text (keymap.own k)) (stands_for input.style input.mode k)
       ((row_of input.style input.mode k draft).entry None) ((row_of input.style input.mode k other).entry None) plain is)
 
   -- a key is an operator of the tables
-  table-alike : (k : KeyEvent) (entry : KeyEntry) (operator : Operator) (n : ℕ) → source_of keymap draft input None k ≡ by_table entry → entry.meaning ≡ operates operator n
+  table-alike : (k : KeyEvent) (entry : KeyEntry) (operator : Operator) (n : ℕ) → KeyLooksAtNoHint keymap.bound k → source_of keymap draft input None k ≡ by_table entry → entry.meaning ≡ operates operator n
       → source_of keymap other input None k ≡ by_table entry
-  table-alike k entry operator n is means =
+  table-alike k entry operator n blind is means =
       let there = table-source (bound_command keymap draft input None k) (on_line draft.line.text (keymap.own k)) (stands_for input.style input.mode k)
       ((row_of input.style input.mode k draft).entry None) ((row_of input.style input.mode k other).entry None) entry is in
       let same = operator-entry input.style input.mode k.0 k.1 draft hint operator n (ap (λ (e : KeyEntry). e.meaning) there.0 ∙ means) ∙ there.0 in
-      subst (λ b. first_source b (on_line draft.line.text (keymap.own k)) (stands_for input.style input.mode k) ((row_of input.style input.mode k other).entry None) ≡ by_table entry) (sym (bound-alike k))
+      subst (λ b. first_source b (on_line draft.line.text (keymap.own k)) (stands_for input.style input.mode k) ((row_of input.style input.mode k other).entry None) ≡ by_table entry) (sym (bound-alike k blind))
       (there.1 ∙ ap (λ e. by_table e) same)
 
   -- a motion with a count is read
@@ -241,9 +241,9 @@ module _ (keymap : Keymap) (environment : Environment) (draft : Draft) (hint : O
           record { typed = k ∷ ks; last = last; tail = tail; cut = cut; counted = counted; behind = behind; reaches = reaches; told = told }
 
   -- what belongs to a key without a count, where it has one itself
-  keyed-alike : (last : KeyEvent) (tail : List Item) (behind : Read) → any_drawn behind.shown ≡ true
+  keyed-alike : (last : KeyEvent) (tail : List Item) (behind : Read) → KeyLooksAtNoHint keymap.bound last → any_drawn behind.shown ≡ true
       → Keyed keymap environment draft input None last tail behind → Keyed keymap environment other input None last tail behind
-  keyed-alike last tail behind drawn keyed = by_source (source_of keymap draft input None last) refl keyed
+  keyed-alike last tail behind blind drawn keyed = by_source (source_of keymap draft input None last) refl keyed
     where
       by_source : (source : Source) → source_of keymap draft input None last ≡ source
           → Answers (sequences_of keymap.bound draft input (count_or_one None)) environment draft input last source tail behind
@@ -256,12 +256,12 @@ module _ (keymap : Keymap) (environment : Environment) (draft : Draft) (hint : O
           let motion = drawn-motion (sequences_of keymap.bound draft input (count_or_one None)) environment draft input last entry.meaning tail read.0 read.1 drawn_there in
           let P : Source → Type 0 = λ o. Answers (sequences_of keymap.bound other input (count_or_one None)) environment other input last o tail behind in
           let Q : Meaning → Type 0 = λ m. Tailed (sequences_of keymap.bound other input (count_or_one None)) environment other input last m tail read.0 in
-          subst P (sym (table-alike last entry motion.0 motion.1 is motion.2))
+          subst P (sym (table-alike last entry motion.0 motion.1 blind is motion.2))
           (read.0, subst Q (sym motion.2) (by_motion motion.0 motion.1 tail read.0 (operated-alike motion.0 motion.1 tail read.0 drawn_there motion.3)), read.2)
 
   -- a phrase of a mode that has a count is read
-  spelled-alike : (items : List Item) (read : Read) → any_drawn read.shown ≡ true → Spelled keymap environment draft input items read → Spelled keymap environment other input items read
-  spelled-alike items read drawn p = by_typed p.typed p.last p.tail p.cut p.counted p.behind p.keyed p.told
+  spelled-alike : (items : List Item) (read : Read) → ((first : KeyEvent) (rest : List Item) → items ≡ key first ∷ rest → KeyLooksAtNoHint keymap.bound first) → any_drawn read.shown ≡ true → Spelled keymap environment draft input items read → Spelled keymap environment other input items read
+  spelled-alike items read blind drawn p = by_typed p.typed p.last p.tail p.cut p.counted p.behind p.keyed p.told
     where
       by_typed : (typed : List KeyEvent) (last : KeyEvent) (tail : List Item) → items ≡ map key typed ++ (key last ∷ tail) → is_count_before input.style input.mode typed last ≡ true
           → (behind : Read) → Keyed keymap environment (after_count environment typed draft) input (typed_count typed) last tail behind → read ≡ read_behind typed behind
@@ -273,7 +273,7 @@ module _ (keymap : Keymap) (environment : Environment) (draft : Draft) (hint : O
         cut = cut;
         counted = counted;
         behind = behind;
-        keyed = keyed-alike last tail behind (sym (ap (λ (r : Read). any_drawn r.shown) told) ∙ drawn) keyed;
+        keyed = keyed-alike last tail behind (blind last tail cut) (sym (ap (λ (r : Read). any_drawn r.shown) told) ∙ drawn) keyed;
         told = told;
       }
       by_typed (k ∷ ks) last tail cut counted behind keyed told =
@@ -295,6 +295,20 @@ front-key keymap environment draft input items read p = by_typed p.typed p.last 
 
 module _ (keymap : Keymap) (environment : Environment) (draft cut : Draft) (input : Input) (items phrase more : List Item) (read : Read) (is_cut : items ≡ phrase ++ more)
     (left : LeftByCut environment (entered keymap draft input items) cut) where
+  -- of the bindings that are asked before a count, none looks at the hint
+  abbrev Blind : Type 0
+  Blind = FirstLooksAtNoHint keymap.bound input items
+
+  blind-first : Blind → (first : KeyEvent) (rest : List Item) → phrase ≡ key first ∷ rest → KeyLooksAtNoHint keymap.bound first
+  blind-first blind first rest is = (blind first (rest ++ more) (is_cut ∙ ap (λ t. t ++ more) is)).0
+
+  blind-plain : Blind → (first plain : KeyEvent) (rest : List Item) → phrase ≡ key first ∷ rest → source_of keymap draft input None first ≡ by_phrase plain
+      → (k : KeyEvent) (tail : List Item) → key plain ∷ rest ≡ key k ∷ tail → KeyLooksAtNoHint keymap.bound k
+  blind-plain blind first plain rest is stands k tail same =
+      let whole : plain ≡ k = cc in
+      subst (λ (x : KeyEvent). KeyLooksAtNoHint keymap.bound x) whole
+      ((blind first (rest ++ more) (is_cut ∙ ap (λ t. t ++ more) is)).1 plain (source-stands keymap draft input first plain stands))
+
   -- what the first key makes of the draft
   entered-first : (first : KeyEvent) (rest : List Item) → phrase ≡ key first ∷ rest
       → entered keymap draft input items ≡ entered_by (source_of keymap draft input None first) draft
@@ -322,14 +336,14 @@ module _ (keymap : Keymap) (environment : Environment) (draft cut : Draft) (inpu
       by_source front (by_table entry) from = left-by (by_table entry) front.first front.rest front.is from
       by_source front (by_phrase plain) from = absurd (not-both keymap environment draft input phrase front.rest front.first plain read from front.is s)
 
-  spelled-again : (s : Spelled keymap environment draft input phrase read) → LeftByCut environment draft cut → HintMakesNoDifference keymap draft cut s.typed read
+  spelled-again : (s : Spelled keymap environment draft input phrase read) → LeftByCut environment draft cut → HintMakesNoDifference keymap input items draft cut s.typed read
       → Spelled keymap environment cut input phrase read
   spelled-again s from (inl hint) = reads-alike keymap environment draft cut input phrase read s (reads-as-first environment s.typed draft cut from (inl hint))
   spelled-again s from (inr (inl some)) = reads-alike keymap environment draft cut input phrase read s (reads-as-first environment s.typed draft cut from (inr some))
   spelled-again s (inl same) (inr (inr known)) = subst (λ (d : Draft). Spelled keymap environment d input phrase read) (sym same) s
   spelled-again s (inr asked) (inr (inr known)) =
       subst (λ (d : Draft). Spelled keymap environment d input phrase read) (sym asked)
-      (spelled-alike keymap environment draft (hinted environment draft).hint input known.1 phrase read known.0 s)
+      (spelled-alike keymap environment draft (hinted environment draft).hint input phrase read (blind-first known.1) known.0 s)
 
   -- one behind Alt, from where its groups have ended
   nested-again : (n : Nested keymap environment draft input phrase read) → cut ≡ out_of_group draft → Phrase keymap environment cut input phrase read
@@ -348,7 +362,7 @@ module _ (keymap : Keymap) (environment : Environment) (draft cut : Draft) (inpu
       }))
 
   -- and where its count asked the hint again
-  nested-asked : (n : Nested keymap environment draft input phrase read) → cut ≡ hinted environment (out_of_group draft) → any_drawn read.shown ≡ true → NoKeyLooksAtTheHint keymap.bound
+  nested-asked : (n : Nested keymap environment draft input phrase read) → cut ≡ hinted environment (out_of_group draft) → any_drawn read.shown ≡ true → Blind
       → Phrase keymap environment cut input phrase read
   nested-asked n asked drawn blind =
       let P : Draft → Type 0 = λ d. Phrase keymap environment d input phrase read in
@@ -359,16 +373,16 @@ module _ (keymap : Keymap) (environment : Environment) (draft cut : Draft) (inpu
         plain = n.plain;
         rest = n.rest;
         cut = n.cut;
-        stands = stands-alike keymap environment ended (hinted environment ended).hint input blind n.first n.plain (alt-ended keymap draft input n.first n.plain n.stands);
+        stands = stands-alike keymap environment ended (hinted environment ended).hint input n.first n.plain (blind-first blind n.first n.rest n.cut) (alt-ended keymap draft input n.first n.plain n.stands);
         within = n.within;
         spelled = subst Q (sym (ended_twice draft))
-            (spelled-alike keymap environment ended (hinted environment ended).hint (in_mode modes.Command input) blind (key n.plain ∷ n.rest) n.within
+            (spelled-alike keymap environment ended (hinted environment ended).hint (in_mode modes.Command input) (key n.plain ∷ n.rest) n.within (blind-plain blind n.first n.plain n.rest n.cut n.stands)
             (sym (ap (λ (r : Read). any_drawn r.shown) n.told) ∙ drawn) n.spelled);
         told = n.told;
       }))
 
   -- the whole phrase is read from the draft that was left
-  phrase-again : (p : Phrase keymap environment draft input phrase read) → HintMakesNoDifference keymap draft cut (count_in_front p) read
+  phrase-again : (p : Phrase keymap environment draft input phrase read) → HintMakesNoDifference keymap input items draft cut (count_in_front p) read
       → Phrase keymap environment cut input phrase read
   phrase-again (of_mode s) as_before = of_mode (spelled-again s (plainly s) as_before)
   phrase-again (behind_key n) (inl hint) = nested-again n (ended-there n.first n.plain n.rest n.cut n.stands hint)
@@ -379,13 +393,13 @@ module _ (keymap : Keymap) (environment : Environment) (draft cut : Draft) (inpu
   ]
 
   -- a phrase of the mode that was read from there is one from the draft before
-  spelled-first : (s : Spelled keymap environment cut input phrase read) → LeftByCut environment draft cut → HintMakesNoDifference keymap draft cut s.typed read
+  spelled-first : (s : Spelled keymap environment cut input phrase read) → LeftByCut environment draft cut → HintMakesNoDifference keymap input items draft cut s.typed read
       → Spelled keymap environment draft input phrase read
   spelled-first s from (inl hint) = reads-alike keymap environment cut draft input phrase read s (sym (reads-as-first environment s.typed draft cut from (inl hint)))
   spelled-first s from (inr (inl some)) = reads-alike keymap environment cut draft input phrase read s (sym (reads-as-first environment s.typed draft cut from (inr some)))
   spelled-first s (inl same) (inr (inr known)) = subst (λ (d : Draft). Spelled keymap environment d input phrase read) same s
   spelled-first s (inr asked) (inr (inr known)) =
-      spelled-alike keymap environment (hinted environment draft) draft.hint input known.1 phrase read known.0
+      spelled-alike keymap environment (hinted environment draft) draft.hint input phrase read (blind-first known.1) known.0
       (subst (λ (d : Draft). Spelled keymap environment d input phrase read) asked s)
 
   counted-none : (typed : List KeyEvent) (last : KeyEvent) (tail rest : List Item) (first plain : KeyEvent) → typed ≢ [] → key first ∷ rest ≡ map key typed ++ (key last ∷ tail)
@@ -398,7 +412,7 @@ module _ (keymap : Keymap) (environment : Environment) (draft cut : Draft) (inpu
 
   -- from where its first key stands for one of command mode, no phrase of the mode is read
   no-phrase : (s : Spelled keymap environment cut input phrase read) (first plain : KeyEvent) (rest : List Item) → phrase ≡ key first ∷ rest
-      → source_of keymap draft input None first ≡ by_phrase plain → HintMakesNoDifference keymap draft cut s.typed read → ⊥
+      → source_of keymap draft input None first ≡ by_phrase plain → HintMakesNoDifference keymap input items draft cut s.typed read → ⊥
   no-phrase s first plain rest is from (inl hint) =
       let ended = ended-there first plain rest is from hint in
       let there = subst (λ (d : Draft). source_of keymap d input None first ≡ by_phrase plain) (sym ended) (alt-ended keymap draft input first plain from) in
@@ -410,11 +424,11 @@ module _ (keymap : Keymap) (environment : Environment) (draft cut : Draft) (inpu
       let ended = alt-ended keymap draft input first plain from in
       let there : P cut = elim (left-by (by_phrase plain) first rest is from) [
         | inl same ↦ subst P (sym same) ended
-        | inr asked ↦ subst P (sym asked) (stands-alike keymap environment (out_of_group draft) (hinted environment (out_of_group draft)).hint input known.1 first plain ended)
+        | inr asked ↦ subst P (sym asked) (stands-alike keymap environment (out_of_group draft) (hinted environment (out_of_group draft)).hint input first plain (blind-first known.1 first rest is) ended)
       ] in
       not-both keymap environment cut input phrase rest first plain read there is s
 
-  plainly-first : (s : Spelled keymap environment cut input phrase read) → HintMakesNoDifference keymap draft cut s.typed read → LeftByCut environment draft cut
+  plainly-first : (s : Spelled keymap environment cut input phrase read) → HintMakesNoDifference keymap input items draft cut s.typed read → LeftByCut environment draft cut
   plainly-first s as_before =
       let front = front-key keymap environment cut input phrase read s in
       by_source front (source_of keymap draft input None front.first) refl
@@ -446,38 +460,39 @@ module _ (keymap : Keymap) (environment : Environment) (draft cut : Draft) (inpu
       nested-first n ended (ended-alt keymap draft input n.first n.plain (subst (λ (d : Draft). source_of keymap d input None n.first ≡ by_phrase n.plain) ended n.stands))
 
   -- and where the hint was asked again
-  asked-first : (n : Nested keymap environment cut input phrase read) → cut ≡ hinted environment (out_of_group draft) → any_drawn read.shown ≡ true → NoKeyLooksAtTheHint keymap.bound
+  asked-first : (n : Nested keymap environment cut input phrase read) → cut ≡ hinted environment (out_of_group draft) → any_drawn read.shown ≡ true → Blind
       → Phrase keymap environment draft input phrase read
   asked-first n asked drawn blind =
       let ended : Draft = out_of_group draft in
       let Q : Draft → Type 0 = λ d. Spelled keymap environment (out_of_group d) (in_mode modes.Command input) (key n.plain ∷ n.rest) n.within in
       let R : Draft → Type 0 = λ d. Spelled keymap environment (hinted environment d) (in_mode modes.Command input) (key n.plain ∷ n.rest) n.within in
+      let stands : source_of keymap draft input None n.first ≡ by_phrase n.plain = ended-alt keymap draft input n.first n.plain
+      (stands-alike keymap environment (hinted environment ended) draft.hint input n.first n.plain (blind-first blind n.first n.rest n.cut)
+      (subst (λ (d : Draft). source_of keymap d input None n.first ≡ by_phrase n.plain) asked n.stands)) in
       behind_key (record {
         first = n.first;
         plain = n.plain;
         rest = n.rest;
         cut = n.cut;
-        stands = ended-alt keymap draft input n.first n.plain
-            (stands-alike keymap environment (hinted environment ended) draft.hint input blind n.first n.plain
-            (subst (λ (d : Draft). source_of keymap d input None n.first ≡ by_phrase n.plain) asked n.stands));
+        stands = stands;
         within = n.within;
-        spelled = spelled-alike keymap environment (hinted environment ended) draft.hint (in_mode modes.Command input) blind (key n.plain ∷ n.rest) n.within
+        spelled = spelled-alike keymap environment (hinted environment ended) draft.hint (in_mode modes.Command input) (key n.plain ∷ n.rest) n.within (blind-plain blind n.first n.plain n.rest n.cut stands)
             (sym (ap (λ (r : Read). any_drawn r.shown) n.told) ∙ drawn) (subst R (ended_twice draft) (subst Q asked n.spelled));
         told = n.told;
       })
 
   -- a key that was no key with Alt before is none behind the cut
   no-nested : (n : Nested keymap environment cut input phrase read) → (source : Source) → source_of keymap draft input None n.first ≡ source → ((plain : KeyEvent) → source ≡ by_phrase plain → ⊥)
-      → LeftByCut environment draft cut → HintMakesNoDifference keymap draft cut [] read → Phrase keymap environment draft input phrase read
+      → LeftByCut environment draft cut → HintMakesNoDifference keymap input items draft cut [] read → Phrase keymap environment draft input phrase read
   no-nested n source from elsewhere left_so (inl hint) = subst (λ (d : Draft). Phrase keymap environment d input phrase read) (left-as-it-was environment draft cut left_so hint) (behind_key n)
   no-nested n source from elsewhere left_so (inr (inl some)) = absurd (some refl)
   no-nested n source from elsewhere (inl same) (inr (inr known)) = subst (λ (d : Draft). Phrase keymap environment d input phrase read) same (behind_key n)
   no-nested n source from elsewhere (inr asked) (inr (inr known)) =
-      absurd (elsewhere n.plain (sym from ∙ stands-alike keymap environment (hinted environment draft) draft.hint input known.1 n.first n.plain
+      absurd (elsewhere n.plain (sym from ∙ stands-alike keymap environment (hinted environment draft) draft.hint input n.first n.plain (blind-first known.1 n.first n.rest n.cut)
       (subst (λ (d : Draft). source_of keymap d input None n.first ≡ by_phrase n.plain) asked n.stands)))
 
   -- and one that is read from there is the whole phrase
-  phrase-first : (p : Phrase keymap environment cut input phrase read) → HintMakesNoDifference keymap draft cut (count_in_front p) read
+  phrase-first : (p : Phrase keymap environment cut input phrase read) → HintMakesNoDifference keymap input items draft cut (count_in_front p) read
       → Phrase keymap environment draft input phrase read
   phrase-first (of_mode s) as_before = of_mode (spelled-first s (plainly-first s as_before) as_before)
   phrase-first (behind_key n) as_before = by_source (source_of keymap draft input None n.first) refl

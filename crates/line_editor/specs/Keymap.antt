@@ -49,9 +49,9 @@ on_line _ command = command
 abbrev pub key_handler : Bound → KeyEvent → Option Handler
 key_handler bound key = option_or (handler_of bound (keys (key ∷ []))) (handler_of bound each_key)
 
--- no binding of a key looks at the hint
-abbrev pub NoKeyLooksAtTheHint : Bound → Type 0
-NoKeyLooksAtTheHint bound = (typed : KeyEvent) (handler : Handler) → key_handler bound typed ≡ Some handler → LooksAtNoHint handler
+-- the binding of a key, if it has one, looks at no hint
+abbrev pub KeyLooksAtNoHint : Bound → KeyEvent → Type 0
+KeyLooksAtNoHint bound typed = (handler : Handler) → key_handler bound typed ≡ Some handler → LooksAtNoHint handler
 
 -- the count that a key's binding is handed: 0 in Vi's insert and replace modes
 abbrev pub handed : EditMode → InputMode → Option Count → Count

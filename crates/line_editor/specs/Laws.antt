@@ -1,5 +1,5 @@
 -- Laws of the definitions.
-use Rattle.std.specs.Prelude.{◌≡◌, ◌≢◌, ◌⊎◌, ℕ, ◌≤◌, ◌+◌, ◌==◌, Bool, true, false, List, [], ◌∷◌, ◌++◌, length, map, take, None, IsUtf8, IsCharBoundary}
+use Rattle.std.specs.Prelude.{◌≡◌, ◌≢◌, ◌⊎◌, ℕ, ◌≤◌, ◌+◌, ◌==◌, Bool, true, false, List, [], ◌∷◌, ◌++◌, length, map, take, Option, Some, None, IsUtf8, IsCharBoundary}
 use Rattle.std.specs.Bool.{Decides}
 use Rattle.std.specs.List.{All, list_any}
 use Rattle.line_keys.specs.Command.{Command, history_search_backward, history_search_forward, undo}
@@ -7,6 +7,7 @@ use Rattle.line_keys.specs.Count.{is_count_before}
 use Rattle.line_keys.specs.Draft.{Draft, KeepsText, start_text}
 use Rattle.line_keys.specs.Item.{Item, key}
 use Rattle.line_keys.specs.Key.{event}
+use Rattle.line_keys.specs.Table.{stands_for}
 use Rattle.line_keys.specs.declared.keys.KeyCode.TheVariants.{Char, Esc}
 use Rattle.line_keys.specs.declared.keys.KeyEvent.{KeyEvent}
 use Rattle.line_keys.specs.declared.keys.TheConstants.Modifiers.{NONE}
@@ -17,7 +18,8 @@ use Rattle.line_editor.specs.Event.{Chord, same_chord}
 use Rattle.line_editor.specs.HistoryMoves.{is_own_line}
 use Rattle.line_editor.specs.Input.{Input, is_vi_command}
 use Rattle.line_editor.specs.ItemShown.{any_drawn}
-use Rattle.line_editor.specs.Keymap.{Keymap, NoKeyLooksAtTheHint, key_handler, keymap_of}
+use Rattle.line_editor.specs.Binding.{Bound}
+use Rattle.line_editor.specs.Keymap.{KeyLooksAtNoHint, Keymap, key_handler, keymap_of}
 use Rattle.line_editor.specs.Phrase.{Phrase, count_in_front, entered}
 use Rattle.line_editor.specs.Read.{Begins, Read}
 use Rattle.line_editor.specs.Reading.{LeftByCut}
@@ -88,11 +90,17 @@ TurnsAndRun = (keymap : Keymap) (ruler : Ruler) (environment : Environment) (edi
     → Run keymap ruler environment middle i more last j end
     → Run keymap ruler environment editor input items last j end
 
+-- the binding of the key that items begin with looks at no hint, nor does that of the plain key that this one stands for
+abbrev pub FirstLooksAtNoHint : Bound → Input → List Item → Type 0
+FirstLooksAtNoHint bound input items = (first : KeyEvent) (rest : List Item) → items ≡ key first ∷ rest
+    → KeyLooksAtNoHint bound first
+    × ((plain : KeyEvent) → stands_for input.style input.mode first ≡ Some plain → KeyLooksAtNoHint bound plain)
+
 -- a hint that a cut may have asked again makes no difference to a phrase: the cut left it as it was; or the phrase begins with a
--- count, after which it is asked again; or it has another count, and no binding of a key looks at the hint
-abbrev pub HintMakesNoDifference : Keymap → Draft → Draft → List KeyEvent → Read → Type 0
-HintMakesNoDifference keymap before cut in_front read = (cut.hint ≡ before.hint) ⊎ (in_front ≢ [])
-    ⊎ ((any_drawn read.shown ≡ true) × NoKeyLooksAtTheHint keymap.bound)
+-- count, after which it is asked again; or it has another count, and the bindings that are asked before it look at no hint
+abbrev pub HintMakesNoDifference : Keymap → Input → List Item → Draft → Draft → List KeyEvent → Read → Type 0
+HintMakesNoDifference keymap input items before cut in_front read = (cut.hint ≡ before.hint) ⊎ (in_front ≢ [])
+    ⊎ ((any_drawn read.shown ≡ true) × FirstLooksAtNoHint keymap.bound input items)
 
 -- from the draft that a phrase left which was cut short, reading it again with more items behind it gives the turn that the whole
 -- gives from the first draft, where the hint makes no difference
@@ -100,7 +108,7 @@ abbrev pub ReadingAgain : Type 0
 ReadingAgain = (keymap : Keymap) (ruler : Ruler) (environment : Environment) (editor left : Editor) (cut : Draft) (input i : Input) (items more : List Item) (answer : Answer)
     → LeftByCut environment (entered keymap editor.draft input items) cut
     → (turn : Turn keymap ruler environment editor input items left i more answer)
-    → HintMakesNoDifference keymap editor.draft cut (count_in_front turn.reads) turn.read
+    → HintMakesNoDifference keymap input items editor.draft cut (count_in_front turn.reads) turn.read
     → Turn keymap ruler environment (record { draft = cut; kills = editor.kills }) input items left i more answer
 
 -- and a turn read from that draft is the whole phrase's turn from the first one
@@ -108,7 +116,7 @@ abbrev pub ReadFromTheCut : Type 0
 ReadFromTheCut = (keymap : Keymap) (ruler : Ruler) (environment : Environment) (editor left : Editor) (cut : Draft) (input i : Input) (items more : List Item) (answer : Answer)
     → LeftByCut environment (entered keymap editor.draft input items) cut
     → (turn : Turn keymap ruler environment (record { draft = cut; kills = editor.kills }) input items left i more answer)
-    → HintMakesNoDifference keymap editor.draft cut (count_in_front turn.reads) turn.read
+    → HintMakesNoDifference keymap input items editor.draft cut (count_in_front turn.reads) turn.read
     → Turn keymap ruler environment editor input items left i more answer
 
 -- an undo of at least as many steps as there are changes leaves the text that taking back all of them gives

@@ -65,13 +65,15 @@ pub fn turns_and_a_run_are_a_run()
 {}
 
 /// Where a phrase was cut short, reading it again with more items behind it gives the whole phrase's turn: where the cut
-/// left the hint as it was, the phrase begins with a count, or it has another count and no binding of a key looks at the hint.
+/// left the hint as it was, the phrase begins with a count, or it has another count and the bindings asked before that look
+/// at no hint.
 pub fn reading_again_gives_the_turn()
     ensures { ReadingAgain }
 {}
 
 /// A turn read from the draft that a cut left is the whole phrase's turn from the draft before it: where the cut left the
-/// hint as it was, the phrase begins with a count, or it has another count and no binding of a key looks at the hint.
+/// hint as it was, the phrase begins with a count, or it has another count and the bindings asked before that look at no
+/// hint.
 pub fn a_turn_read_again_is_the_whole_phrases()
     ensures { ReadFromTheCut }
 {}
