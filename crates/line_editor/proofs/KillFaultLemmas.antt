@@ -18,7 +18,7 @@ use Rattle.line_editor.specs.DraftEdits.{bracket_killed, bracket_text, copied_to
 use Rattle.line_editor.specs.Editor.{Editor}
 use Rattle.line_editor.specs.Outcomes.{DoesInTwoWithKills, DoesWithKills, EditedOnIo, EditsThenDraws, IsEditorOf, KillsLeft, editor_of}
 use Rattle.line_editor.proofs.AskedLemmas.{fails_more}
-use Rattle.line_editor.proofs.CommandLemmas.{KilledAs, kill_as, killed_as}
+use Rattle.line_editor.proofs.KillLemmas.{KilledAs, kill_as, killed_as}
 use Rattle.line_editor.proofs.DoneLemmas.{does_after}
 use Rattle.line_editor.proofs.FaultLemmas.{fault_halfway, leaves_kills, not_io, of_wider, ring_behind, same_draft, whole_text}
 

@@ -27,6 +27,7 @@ pub mod HistoryMoveLemmas
 pub mod HistoryWayLaws
 pub mod KeysLaws
 pub mod KillFaultLemmas
+pub mod KillLemmas
 pub mod MatchWayLaws
 pub mod MoveLemmas
 pub mod GroupLemmas

@@ -2,7 +2,7 @@ use Rattle.std.proofs.Common.{◌≡◌, ◌∙◌, ap, arith, rules}
 use Rattle.std.proofs.lemmas.Grind.{common_steps}
 use Rattle.std.proofs.lemmas.Result.{err_from_is_err_and}
 use Rattle.line_buffer.specs.KillRing.{Ring, after_yank_pop, yank_popped}
-use Rattle.line_editor.proofs.CommandLemmas.{popped_by}
+use Rattle.line_editor.proofs.KillLemmas.{popped_by}
 use Rattle.line_editor.proofs.KillFaultLemmas.{popped_size}
 use Rattle.line_editor.proofs.edit.State.pop_killed.Goals as goal
 

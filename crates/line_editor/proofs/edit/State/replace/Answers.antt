@@ -1,6 +1,6 @@
 use Rattle.std.proofs.lemmas.Result.{err_from_is_err_and}
 use Rattle.std.proofs.Common.{option_map, refl}
-use Rattle.line_editor.proofs.CommandLemmas.{only_killed, replaced_movement}
+use Rattle.line_editor.proofs.KillLemmas.{only_killed, replaced_movement}
 use Rattle.line_editor.proofs.KillFaultLemmas.{movement_fails}
 use Rattle.line_buffer.specs.Kill.{killed_range}
 use Rattle.line_editor.proofs.edit.State.replace.Goals as goal

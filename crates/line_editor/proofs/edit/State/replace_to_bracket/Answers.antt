@@ -1,6 +1,6 @@
 use Rattle.std.proofs.lemmas.Result.{err_from_is_err_and}
 use Rattle.std.proofs.Common.{option_map, refl}
-use Rattle.line_editor.proofs.CommandLemmas.{bracket_as, only_killed, replaced}
+use Rattle.line_editor.proofs.KillLemmas.{bracket_as, only_killed, replaced}
 use Rattle.line_editor.proofs.KillFaultLemmas.{kill_fails}
 use Rattle.line_editor.proofs.edit.State.replace_to_bracket.Goals as goal
 

@@ -2,7 +2,7 @@ use Rattle.std.proofs.Common.{rules}
 use Rattle.std.proofs.lemmas.Result.{err_from_is_err_and}
 use Rattle.line_buffer.specs.KillRing.{yanked_text}
 use Rattle.line_editor.specs.InputState.{input_of}
-use Rattle.line_editor.proofs.CommandLemmas.{yanked_by}
+use Rattle.line_editor.proofs.KillLemmas.{yanked_by}
 use Rattle.line_editor.proofs.edit.State.yank_killed.Goals as goal
 
 pub returns-in_ok-edit_yank-clause-does : goal.returns-in_ok-edit_yank-clause-does
