@@ -1,6 +1,6 @@
 -- Whether a text is plain after a change.
-use Rattle.std.proofs.Common.{◌≡◌, ◌≤◌, ℕ, not, ◌&&◌, ◌||◌, List, ◌++◌, take, drop, ap, sym, ◌∙◌, arith}
-use Rattle.std.proofs.lemmas.List.{take-append-drop}
+use Rattle.std.proofs.Common.{◌≡◌, ◌≤◌, ℕ, not, ◌&&◌, ◌||◌, List, ◌++◌, length, take, drop, ap, ap₂, sym, ◌∙◌, arith}
+use Rattle.std.proofs.lemmas.List.{append-nil, drop_all, take-append-drop, take_all}
 use Rattle.std.proofs.lemmas.List.Folds.{drop_split, list_all-append}
 use Rattle.std.specs.List.{insert_slice, list_all, replace_range, slice_range}
 use Rattle.line_buffer.specs.Printable.{is_plain}
@@ -19,6 +19,11 @@ replaced_parts old new text from to is =
 -- a text with another put in is plain where both were
 pub plain_inserted : (old new text : List ℕ) (place : ℕ) → new ≡ insert_slice old place text → list_all is_plain new ≡ (list_all is_plain old && list_all is_plain text)
 plain_inserted old new text place is = grind (arith, replaced_parts old new text place place is, parts_plain old place)
+
+-- what comes in at the end stands behind the text
+pub inserted_at_end : (text more : List ℕ) (place : ℕ) → place ≡ length text → text ++ more ≡ insert_slice text place more
+inserted_at_end text more place end =
+    sym (ap₂ (λ front back. (front ++ more) ++ back) (take_all place text (omega arith)) (drop_all place text (omega arith)) ∙ append-nil (text ++ more))
 
 -- what is behind a place is plain where a range from there and what is behind it are
 range_plain : (text : List ℕ) (from to : ℕ) → from ≤ to → list_all is_plain (drop from text) ≡ (list_all is_plain (slice_range text from to) && list_all is_plain (drop to text))

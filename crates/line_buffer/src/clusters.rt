@@ -186,6 +186,9 @@ pub(crate) fn first_alphanumeric(text: &str) -> Option<usize>
 pub(crate) fn is_one_cluster(text: &str) -> bool
     ensures { result ≡ (length (clusters text.now) == 1) }
 {
+    if are_plain(text.as_bytes()) {
+        return text.len() == 1;
+    }
     let mut left = text.graphemes(true);
     left.next().is_some() && left.next().is_none()
 }

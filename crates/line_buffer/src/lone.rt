@@ -20,20 +20,21 @@ static WIDE: [(u32, u32); 11] = [
     (0xFF01, 0xFF60), (0x1F400, 0x1F43E), (0x1F442, 0x1F4FC), (0x1F5FB, 0x1F64F), (0x20000, 0x2FFFD),
 ];
 
+/// The first of the characters in `WIDE`; those in `NARROW` stand before it.
+const FIRST_WIDE: char = '\u{3001}';
+
 /// Returns the columns of a character that joins no other, by itself. `None` for the others, and for those of which this is
 /// not known.
 pub fn lone_width(c: char) -> Option<usize>
     ensures { IfSome result (λ width. IsLone c width) }
 {
     if is_printable(c) {
-        Some(1)
-    } else if is_wide(c as u32) {
-        Some(2)
-    } else if is_narrow(c as u32) {
-        Some(1)
-    } else {
-        None
+        return Some(1);
     }
+    if c < FIRST_WIDE {
+        return if is_narrow(c as u32) { Some(1) } else { None };
+    }
+    if is_wide(c as u32) { Some(2) } else { None }
 }
 
 fn is_narrow(c: u32) -> bool

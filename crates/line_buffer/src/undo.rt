@@ -1,5 +1,5 @@
 //! The changes of a line, by which it can be brought back.
-ghost use Rattle.std.specs.Prelude.{◌≡◌, ◌==◌, length, encode_utf8, string_bytes, option_map, IfOk, OnOk, OnErr};
+ghost use Rattle.std.specs.Prelude.{◌≡◌, ◌==◌, length, string_bytes, option_map, IfOk, OnOk, OnErr};
 ghost use Rattle.std.specs.List.{list_any};
 ghost use Rattle.line_buffer.specs.Changes.{adds_end, begun, ended, last_insert_of, no_changes, with_delete, with_insert, with_replace, with_typed};
 ghost use Rattle.line_buffer.specs.Edit.{Adds, Edits};
@@ -134,17 +134,11 @@ impl Changeset {
         self.list.settled(outcome)
     }
 
-    /// Tells that the character, whose text is `text`, came in at `place`.
-    pub(crate) fn insert_char(
-        &mut self,
-        place: usize,
-        c: char,
-        text: &str,
-    ) -> Result<(), OutOfMemory>
-        requires { text.now ≡ encode_utf8 c }
+    /// Tells that the character came in at `place`.
+    pub(crate) fn insert_char(&mut self, place: usize, c: char) -> Result<(), OutOfMemory>
         ensures { Adds result self.old self.new (with_typed place c 1) }
     {
-        let outcome = self.list.insert_char(place, c, text);
+        let outcome = self.list.insert_char(place, c);
         self.list.settled(outcome)
     }
 

@@ -49,12 +49,39 @@ impl LineBuffer {
             (inserted_at_cursor self.old (encode_utf8 c))
             (on_entries (with_typed self.old.cursor c 1)) }
     {
-        let mut bytes = [0; 4];
-        let text = c.encode_utf8(&mut bytes);
         let place = self.pos;
-        changes.insert_char(place, c, text)?;
-        let at_end = self.insert_text(text)?;
+        changes.insert_char(place, c)?;
+        let at_end = self.insert_char(c)?;
         Ok(at_end)
+    }
+
+    /// Inserts the character at the cursor, which goes behind it, and returns whether it was at the
+    /// text's end.
+    fn insert_char(&mut self, c: char) -> Result<bool, OutOfMemory>
+        ensures answer { IfOk result (λ at_end. at_end ≡ is_at_end self.old) }
+        ensures line { OnOk result (self.new ≡ inserted_at_cursor self.old (encode_utf8 c)) }
+        ensures front { OnOk result (KeepsFront self.old.text self.new.text self.old.cursor) }
+        ensures cursor { IsCharBoundary self.new.text self.new.cursor }
+    {
+        if self.pos == self.buf.len() {
+            self.push_char(c)?;
+            return Ok(true);
+        }
+        let mut bytes = [0; 4];
+        self.insert_text(c.encode_utf8(&mut bytes))
+    }
+
+    /// Puts the character at the text's end, where the cursor is, which goes behind it.
+    fn push_char(&mut self, c: char) -> Result<(), OutOfMemory>
+        requires { self.old.cursor ≡ length self.old.text }
+        ensures line { OnOk result (self.new ≡ inserted_at_cursor self.old (encode_utf8 c)) }
+        ensures front { OnOk result (KeepsFront self.old.text self.new.text self.old.cursor) }
+        ensures cursor { IsCharBoundary self.new.text self.new.cursor }
+    {
+        self.buf.push(c)?;
+        self.plain &= is_plain_text(c.encode_utf8(&mut [0; 4]));
+        self.pos = self.buf.len();
+        Ok(())
     }
 
     fn insert_copies(

@@ -12,6 +12,9 @@ use crate::movement::RepeatCount;
 use std::alloc::Global;
 use std::marker::Model;
 
+/// The bytes that a text which came in has room for at least, so that a word typed behind it needs no other.
+const TYPED_ROOM: usize = 24;
+
 #[derive(Debug, Drop)]
 pub(crate) enum Change {
     Begin,
@@ -34,18 +37,18 @@ pub(crate) enum Change {
 impl Change {
     ghost use Rattle.line_buffer.specs.KeptChanges.{entry_of};
 
-    /// Takes in the text that came in at `place`, where this is an insert that ends there, and
+    /// Takes in the character that came in at `place`, where this is an insert that ends there, and
     /// returns whether it did.
-    fn join_insert(&mut self, place: usize, text: &str) -> Result<bool, OutOfMemory>
+    fn join_insert(&mut self, place: usize, c: char) -> Result<bool, OutOfMemory>
         ensures { Joins result (entry_of self.old) (entry_of self.new)
-            (with_joined_insert place text.now) (inserted place text.now) }
+            (with_joined_insert place (encode_utf8 c)) (inserted place (encode_utf8 c)) }
     {
         match self {
             Change::Insert {
                 place: at,
                 text: old,
             } if ends_at(*at, old.as_str(), place) => {
-                old.push_str(text)?;
+                old.push(c)?;
                 Ok(true)
             }
             _ => Ok(false),
@@ -401,43 +404,38 @@ impl ChangeList {
         self.add_insert(place, text)
     }
 
-    /// Tells that the character, whose text is `text`, came in at `place`.
-    pub(crate) fn insert_char(
-        &mut self,
-        place: usize,
-        c: char,
-        text: &str,
-    ) -> Result<(), OutOfMemory>
-        requires { text.now ≡ encode_utf8 c }
+    /// Tells that the character came in at `place`.
+    pub(crate) fn insert_char(&mut self, place: usize, c: char) -> Result<(), OutOfMemory>
         ensures { Adds result self.old self.new (with_typed place c 1) }
     {
         if is_alphanumeric(c) {
-            return self.insert_joined(place, text);
+            return self.insert_joined(place, c);
         }
-        self.insert_str(place, text)
+        let mut bytes = [0; 4];
+        self.insert_str(place, c.encode_utf8(&mut bytes))
     }
 
     fn add_insert(&mut self, place: usize, text: &str) -> Result<(), OutOfMemory>
         ensures { Adds result self.old self.new (λ entries. inserted place text.now ∷ entries) }
     {
         let alloc = *self.changes.allocator();
-        self.add(Change::Insert {
-            place,
-            text: String::from_str(alloc, text)?,
-        })
+        let mut came = String::with_capacity(alloc, text.len().max(TYPED_ROOM))?;
+        came.push_str(text)?;
+        self.add(Change::Insert { place, text: came })
     }
 
-    /// Tells that the alphanumeric character `text` came in at `place`: it joins a newest insert
-    /// that ends there.
-    fn insert_joined(&mut self, place: usize, text: &str) -> Result<(), OutOfMemory>
-        ensures { Adds result self.old self.new (with_joined_insert place text.now) }
+    /// Tells that the alphanumeric character came in at `place`: it joins a newest insert that ends
+    /// there.
+    fn insert_joined(&mut self, place: usize, c: char) -> Result<(), OutOfMemory>
+        ensures { Adds result self.old self.new (with_joined_insert place (encode_utf8 c)) }
     {
         if let Some(newest) = self.changes.last_mut() {
-            if newest.join_insert(place, text)? {
+            if newest.join_insert(place, c)? {
                 return Ok(());
             }
         }
-        self.add_insert(place, text)
+        let mut bytes = [0; 4];
+        self.add_insert(place, c.encode_utf8(&mut bytes))
     }
 
     /// Tells that `text` went from `place`.

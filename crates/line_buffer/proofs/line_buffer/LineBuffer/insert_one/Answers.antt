@@ -1,5 +1,4 @@
-use Rattle.std.proofs.Common.{rules, ◌+◌, length, ap, ◌∙◌}
-use Rattle.std.specs.List.{insert_slice}
+use Rattle.std.proofs.Common.{rules, ap}
 use Rattle.std.specs.Str.{IsCharBoundary}
 use Rattle.line_buffer.specs.Changes.{Changes}
 use Rattle.line_buffer.specs.Line.{Line}
@@ -11,14 +10,13 @@ returns-clause-edit c =
     let entries = ap (λ (s : Changes). s.entries) c.in_ok-insert_char.ensures in
     let place = ap (λ (l : Line). l.cursor) c.self.view_is in
     let here : IsCharBoundary c.args.self.now.text c.args.self.now.cursor = rw (← c.self.view_is) c.self.invariant in
-    let typed = c.encode_utf8-text.ensures.value in
-    let stop = ap (λ (l : Line). l.cursor) c.in_ok-at_end.ensures.line ∙ ap (λ t. c.args.self.now.cursor + length t) typed in
+    let stop = ap (λ (l : Line). l.cursor) c.in_ok-at_end.ensures.line in
     record {
       line = search rules;
       changes = search rules;
       tells =
-          rw (entries, place) (still-typed c.args.changes.now.entries c.args.self.now.text c.insert_text.new.self.text c.args.self.now.cursor c.args.c here.0
-          (ap (λ (l : Line). l.text) c.in_ok-at_end.ensures.line ∙ ap (insert_slice c.args.self.now.text c.args.self.now.cursor) typed) c.in_ok-at_end.ensures.front here
+          rw (entries, place) (still-typed c.args.changes.now.entries c.args.self.now.text c.insert_char-2.new.self.text c.args.self.now.cursor c.args.c here.0
+          (ap (λ (l : Line). l.text) c.in_ok-at_end.ensures.line) c.in_ok-at_end.ensures.front here
           (rw (← stop) c.in_ok-at_end.ensures.cursor));
       cursor = search rules;
     }

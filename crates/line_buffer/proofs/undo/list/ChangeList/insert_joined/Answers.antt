@@ -1,3 +1,4 @@
+use Rattle.std.specs.Prelude.{encode_utf8}
 use Rattle.std.proofs.Common.{vec_len, ◌-◌, refl, arith}
 use Rattle.std.proofs.lemmas.Result.{IfOk-equal}
 use Rattle.line_buffer.specs.Changes.{inserted, with_joined_insert}
@@ -8,15 +9,15 @@ use Rattle.line_buffer.proofs.undo.list.ChangeList.insert_joined.Goals.{in-Some+
 pub returns-then-branch : goal.returns-then-branch
 returns-then-branch c =
     newest_joined _ c.self.inside.changes.items (vec_len c.self.inside.changes - 1) _ c.in-Some.newest.now c.join_insert.new.self
-    (with_joined_insert c.args.place c.args.text.now) (inserted c.args.place c.args.text.now) _
+    (with_joined_insert c.args.place (encode_utf8 c.args.c)) (inserted c.args.place (encode_utf8 c.args.c)) _
     (omega (arith, c.in-Some.ensures.variant.0 refl)) c.in-Some.ensures.value c.self.view_is c.in_ok-join_insert.ensures c.if-branch.true
 
 pub returns : goal.returns
 returns c =
     let changes = c.self.inside.changes in
-    let add = (with_joined_insert c.args.place c.args.text.now) in
-    let other = (inserted c.args.place c.args.text.now) in
-    IfOk-equal c.add_insert.result _ _ _ c.add_insert.ensures (elim c.match-last_mut.branch [
+    let add = (with_joined_insert c.args.place (encode_utf8 c.args.c)) in
+    let other = (inserted c.args.place (encode_utf8 c.args.c)) in
+    IfOk-equal c.add_insert.result _ _ _ (rw c.encode_utf8.ensures.value at c.add_insert.ensures) (elim c.match-last_mut.branch [
       | in-Some+in_ok-join_insert+else-branch w ↦
           rw w.self-inside-is
           (newest_stays _ changes.items (vec_len changes - 1) _ w.in-Some.newest.now w.join_insert.new.self add other _
