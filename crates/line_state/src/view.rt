@@ -93,6 +93,9 @@ fn printable_at_end(text: &str) -> usize
     ensures fits { result ≤ length text.now }
     ensures printable { list_all is_printable (drop (length text.now - result) text.now) ≡ true }
 {
+    if is_printable_text(text) {
+        return text.len();
+    }
     let last_line = match text.rfind('\n') {
         Some(newline) => &text[newline + 1..],
         None => text,
@@ -209,7 +212,11 @@ impl<'out, 'prompt, W: Renderer, P: Prompt> View<'out, 'prompt, W, P> {
         self.in_place = true;
         self.at_cursor = default_prompt;
         self.shows_plain = line.is_plain();
-        self.printable_at_end = printable_at_end(line.as_str());
+        self.printable_at_end = if self.shows_plain {
+            printable_at_end(line.as_str())
+        } else {
+            0
+        };
         Ok(())
     }
 
