@@ -1,5 +1,5 @@
 -- What a queue of keys and pasted texts holds.
-use Rattle.std.specs.Prelude.{◌≡◌, ℕ, ◌+◌, ◌==◌, ◌&&◌, ◌++◌, min, Bool, true, List, [], ◌∷◌, Option, Some, None, Result, Ok, Err, IfOk, IfErr, OnOk, OnErr, if◌then◌else◌, string_bytes}
+use Rattle.std.specs.Prelude.{◌≡◌, ℕ, ◌+◌, ◌==◌, ◌&&◌, ◌++◌, min, Bool, true, List, [], ◌∷◌, Option, Some, None, Result, Ok, Err, IfOk, IfErr, OnOk, OnErr, if◌then◌else◌, string_bytes, map, chars}
 use Rattle.line_config.specs.Error.{IoOnlyIf, MemoryOnly, is_io, max_count}
 use Rattle.line_config.specs.Failures.{CountsFailures}
 use Rattle.line_config.specs.declared.error.ReadlineError.{ReadlineError}
@@ -57,6 +57,12 @@ code_binding _ modifiers = None
 -- what a queue binds a key to, if it binds keys
 abbrev pub queue_binding : Bool → KeyEvent → Option Command
 queue_binding binds k = if binds then code_binding k.0 (bits_of k.1) else None
+
+-- a key without modifiers was appended for each character of a text
+pub record AppendsTyped (before after : List Item) (text : List ℕ) : Type 0 where
+  pub added : List Item
+  pub behind : after ≡ before ++ added
+  pub keys : map item_of added ≡ map plain_key (chars text)
 
 -- what a call leaves that appends items: all of them, or none where memory ran out, which is its only error
 pub record Appends (result : Result (Unit {0}) ReadlineError) (items : List input.Item) (old new : Queued) : Type 0 where

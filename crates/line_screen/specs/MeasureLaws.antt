@@ -150,6 +150,27 @@ after-last columns p (c ∷ cs) all none =
     ap (λ q. fold (after_char columns) q cs) (after_char-printable columns p c print)
     ∙ after-last columns (advanced columns (min 1 columns) p) cs parts.1 (λ k below. none (suc k) (omega arith))
 
+-- a printable text takes a place as many columns on as it has characters
+pub fold-printable : (columns : ℕ) (place : Position) (text : List ℕ) → list_all is_printable text ≡ true
+    → fold (after_char columns) place text ≡ columns_after columns (length text) place
+fold-printable columns place [] print = refl
+fold-printable columns place (c ∷ cs) print =
+    let parts = and_parts (is_printable c) (list_all is_printable cs) print in
+    ap (λ q. fold (after_char columns) q cs) (after_char-printable columns place c parts.0)
+    ∙ fold-printable columns (advanced columns (min 1 columns) place) cs parts.1
+
+pub measured-printable : (columns : ℕ) (place : Position) (text : List ℕ) → list_all is_printable text ≡ true
+    → wrapped columns (columns_after columns (length text) place) ≡ measured columns text place
+unfolding measured
+measured-printable columns place text print =
+    sym (ap (wrapped columns) (after-plain columns place text (plain_text text print) ∙ fold-printable columns place text print))
+
+-- a text is measured by the place after all its clusters
+pub measured-whole : (columns : ℕ) (origin last end : Position) (text : List ℕ) → last ≡ fold (after_cluster columns) origin (graphemes true text)
+    → end ≡ wrapped columns last → end ≡ measured columns text origin
+unfolding measured
+measured-whole columns origin last end text goes ends = ends ∙ ap (wrapped columns) goes
+
 -- where they fit on the row, the place goes as many columns on
 pub columns_after-fitting : (columns fitting more : ℕ) (p : Position) → p.col + fitting ≤ columns
     → columns_after columns (fitting + more) p ≡ columns_after columns more (record p { col = p.col + fitting })

@@ -1,9 +1,9 @@
 //! A reader of the keys and pasted texts that a program hands over.
-ghost use Rattle.std.specs.Prelude.{◌≡◌, ℕ, ◌+◌, ◌≤◌, min, ◌==◌, ◌∷◌, [], List, true, false, length, map, chars, Err, IfOk, IfErr, string_bytes};
+ghost use Rattle.std.specs.Prelude.{◌≡◌, ℕ, ◌+◌, ◌≤◌, min, ◌==◌, ◌∷◌, [], List, true, false, length, map, chars, Err, IfOk, IfErr, OnOk, OnErr, string_bytes};
 ghost use Rattle.line_config.specs.Error.{MemoryOnly, is_io, max_count};
 ghost use Rattle.line_config.specs.declared.error.ReadlineError.TheVariants.{Eof};
 ghost use Rattle.line_keys.specs.Item as input;
-ghost use Rattle.line_screen.specs.KeyQueue.{Appends, Reads, Takes, item_of, paste_start, plain_key, standing};
+ghost use Rattle.line_screen.specs.KeyQueue.{Appends, AppendsTyped, Reads, Takes, item_of, paste_start, plain_key, standing};
 
 use line_config::{ReadlineError, Result};
 use line_keys::cmd::Cmd;
@@ -96,10 +96,11 @@ impl KeyQueue {
     ///
     /// # Errors
     /// `Memory`, and then nothing was appended.
+    #[tactic(auto, using(crate::proofs::QueueLemmas::typed, crate::proofs::QueueLemmas::typed_behind))]
     pub fn type_text(&mut self, text: &str) -> Result<()>
         ensures { Appends result (map plain_key (chars text.now)) self.old self.new }
     {
-        self.append(typed_items(self.alloc, text)?)
+        push_typed(&mut self.items, text)
     }
 
     /// Appends the key that stands before a pasted text, and the text.
@@ -172,16 +173,21 @@ impl KeyQueue {
     }
 }
 
-/// Returns a key without modifiers for each character of the text.
-fn typed_items(alloc: Global, text: &str) -> Result<VecDeque<Item>>
-    ensures items { IfOk result (λ q. map item_of q.items ≡ map plain_key (chars text.now)) }
+/// Appends a key without modifiers for each character of the text: all, or none.
+fn push_typed(items: &mut VecDeque<Item>, text: &str) -> Result<()>
+    ensures ok { OnOk result (AppendsTyped items.old.items items.new.items text.now) }
+    ensures err { OnErr result (items.new.items ≡ items.old.items) }
     ensures memory { MemoryOnly result }
 {
-    let mut items = VecDeque::new(alloc);
+    let before = items.len();
     for c in text.chars() {
-        items.push_back(Item::Key(KeyEvent(KeyCode::Char(c), Modifiers::NONE)))?;
+        let key = KeyEvent(KeyCode::Char(c), Modifiers::NONE);
+        if items.push_back(Item::Key(key)).is_err() {
+            items.truncate(before);
+            return Err(ReadlineError::Memory);
+        }
     }
-    Ok(items)
+    Ok(())
 }
 
 impl RawReader for KeyQueue {

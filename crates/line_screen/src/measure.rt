@@ -9,7 +9,8 @@ ghost use Rattle.line_screen.specs.Measure.{advanced, after_cluster, columns_aft
 ghost use Rattle.line_screen.specs.MeasureLaws.{after_char};
 
 use line_buffer::{
-    LineBuffer, Position, Unit, first_parting, is_plain_text, last_parting, lone_width,
+    LineBuffer, Position, Unit, first_parting, is_plain_text, is_printable_text, last_parting,
+    lone_width,
 };
 use memchr::memchr;
 use unicode_segmentation::UnicodeSegmentation;
@@ -20,11 +21,14 @@ use unicode_width::UnicodeWidthStr;
 pub fn measured(columns: Unit, text: &str, origin: Position) -> Position
     ensures { result ≡ measured columns text.now origin }
 {
+    if is_printable_text(text) {
+        return wrapped(columns, after_printable(columns, origin, text.len()));
+    }
     wrapped(columns, after_text(columns, origin, text))
 }
 
-/// Returns where the line's cursor is, and where its text ends, behind a prompt that ends at `origin`. What stands before the
-/// cursor is measured once.
+/// Returns where the line's cursor is, and where its text ends, behind a prompt that ends at `origin`. With the cursor at the
+/// end the line is measured once; else what stands before a parting, at or before the cursor, is.
 pub(crate) fn measured_line(
     columns: Unit,
     line: &LineBuffer,
@@ -34,12 +38,26 @@ pub(crate) fn measured_line(
     ensures end { result.1 ≡ measured columns line.now.text origin }
 {
     let text = line.as_str();
+    if line.is_cursor_at_end() {
+        let end = wrapped(columns, after_line(columns, origin, line));
+        return (end, end);
+    }
     let before = &text[..line.pos()];
     let parting = parting_before(line);
     let place = after_text(columns, origin, &text[..parting]);
     let cursor = after_text(columns, place, &before[parting..]);
     let end = after_text(columns, place, &text[parting..]);
     (wrapped(columns, cursor), wrapped(columns, end))
+}
+
+/// Returns the place after the text of a line.
+fn after_line(columns: Unit, place: Position, line: &LineBuffer) -> Position
+    ensures { result ≡ fold (after_cluster columns) place (graphemes true line.now.text) }
+{
+    if line.is_plain() {
+        return after_plain(columns, place, line.as_str());
+    }
+    after_text(columns, place, line.as_str())
 }
 
 /// Returns a place up to the cursor where the clusters of the line part, and so do those before the cursor.
@@ -56,15 +74,31 @@ fn parting_before(line: &LineBuffer) -> usize
     }
 }
 
+/// The greatest length, in bytes, of a text that is tried character by character before it is cut into parts.
+const SHORT: usize = 128;
+
 /// Returns the place after more text.
 fn after_text(columns: Unit, place: Position, text: &str) -> Position
     ensures { result ≡ fold (after_cluster columns) place (graphemes true text.now) }
 {
     if is_plain_text(text) {
-        after_plain(columns, place, text.as_bytes())
-    } else {
-        after_parts(columns, place, text)
+        return after_plain(columns, place, text);
     }
+    match after_short(columns, place, text) {
+        Some(place) => place,
+        None => after_parts(columns, place, text),
+    }
+}
+
+/// The place after a short text in which no character joins another. `None` where one may, and for a longer text.
+fn after_short(columns: Unit, place: Position, text: &str) -> Option<Position>
+    ensures { IfSome result (λ end. end
+        ≡ fold (after_cluster columns) place (graphemes true text.now)) }
+{
+    if text.len() > SHORT {
+        return None;
+    }
+    after_lone(columns, place, text)
 }
 
 /// The same, part by part.
@@ -86,7 +120,7 @@ fn after_part(columns: Unit, place: Position, part: &str) -> Position
     ensures { result ≡ fold (after_cluster columns) place (graphemes true part.now) }
 {
     if is_plain_text(part) {
-        return after_plain(columns, place, part.as_bytes());
+        return after_plain(columns, place, part);
     }
     match after_lone(columns, place, part) {
         Some(place) => place,
@@ -120,12 +154,15 @@ fn after_clusters(columns: Unit, place: Position, text: &str) -> Position
 }
 
 /// The place after more printable ASCII and newlines.
-fn after_plain(columns: Unit, place: Position, text: &[u8]) -> Position
+fn after_plain(columns: Unit, place: Position, text: &str) -> Position
     requires { list_all is_plain text.now ≡ true }
     ensures { result ≡ fold (after_char columns) place text.now }
 {
+    if is_printable_text(text) {
+        return after_printable(columns, place, text.len());
+    }
     let mut place = place;
-    let mut rest = text;
+    let mut rest = text.as_bytes();
     while let Some(newline) = memchr(b'\n', rest) {
         let (row, behind) = rest.split_at(newline);
         place = start_below(after_printable(columns, place, row.len()));

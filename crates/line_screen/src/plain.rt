@@ -1,5 +1,5 @@
 //! A screen that keeps what it shows, from which a program draws.
-ghost use Rattle.std.specs.Prelude.{◌≡◌, ℕ, ◌+◌, ◌<◌, min, [], ◌∷◌, ◌++◌, List, length, take, true, false, Ok, Some, None, IfOk, IfSome, OnOk, OnErr, is_some, option_map, string_bytes};
+ghost use Rattle.std.specs.Prelude.{◌≡◌, ℕ, ◌+◌, ◌<◌, ◌≤◌, min, [], ◌∷◌, ◌++◌, List, length, take, true, false, Ok, Some, None, IfOk, IfSome, OnOk, OnErr, is_some, option_map, string_bytes, string_capacity};
 ghost use Rattle.std.specs.List.{list_all};
 ghost use Rattle.std.specs.Option.{ForSome};
 ghost use Rattle.line_config.specs.Error.{MemoryOnly, max_count};
@@ -27,7 +27,7 @@ const ORIGIN: Position = Position { row: 0, col: 0 };
 const ROWS: Unit = 24;
 
 /// A screen without colors, for any reader of keys. It writes nothing: it keeps what is shown, and counts its full
-/// redraws, for a program that draws by itself.
+/// redraws, for a program that draws by itself. The memory of its longest line and prompt is kept for the next ones.
 #[derive(Drop)]
 pub struct Plain<R: RawReader> {
     alloc: Global,
@@ -148,14 +148,19 @@ impl<R: RawReader> Plain<R> {
         }
     }
 
-    /// Returns where the text ends with `more` behind it, if this is known. It looks at `more` alone.
-    fn end_with(&self, more: &str) -> Option<Position>
+    /// Returns where the text ends with `more` behind it, if this is known. `from_cursor` is where `more` ends when written at
+    /// the cursor. It looks at `more` alone.
+    fn end_with(&self, more: &str, from_cursor: Position) -> Option<Position>
+        requires { from_cursor ≡ measured self.now.columns more.now self.now.place }
         ensures { IfSome result (λ e.
             EndsPlain self.now.columns (string_bytes self.now.text ++ more.now) self.now.origin e) }
     {
         let end = self.end?;
         if !is_printable_text(more) {
             return None;
+        }
+        if end == self.place {
+            return Some(from_cursor);
         }
         Some(measured(self.columns, more, end))
     }
@@ -189,6 +194,26 @@ impl<R: RawReader> Plain<R> {
             col: end.col - columns,
         })
     }
+}
+
+/// Gives the kept text room for another one, and leaves it as it is.
+fn make_room(kept: &mut String, text: &str) -> Result<()>
+    ensures room { OnOk result (length text.now ≤ string_capacity kept.new) }
+    ensures stays { string_bytes kept.new ≡ string_bytes kept.old }
+    ensures memory { MemoryOnly result }
+{
+    kept.reserve(text.len().saturating_sub(kept.len()))?;
+    Ok(())
+}
+
+/// Replaces the kept text, which has room for the new one.
+fn put(kept: &mut String, text: &str)
+    requires { length text.now ≤ string_capacity kept.old }
+    ensures { string_bytes kept.new ≡ text.now }
+{
+    kept.clear();
+    // there is room, so this does not fail
+    let _ = kept.push_str(text);
 }
 
 /// Returns the hint as text of its own.
@@ -272,19 +297,22 @@ impl<R: RawReader> Renderer for Plain<R> {
             ≡ P.raw_text prompt.now) }
         ensures hint { OnOk result (⟦<Self as Surroundings>⟧.hint self.new
             ≡ option_map (λ s. s.now) hint.entry) }
-        ensures refused { OnErr result (self.new ≡ self.old) }
+        ensures refused { OnErr result ((⟦<Self as ScreenState>⟧.screen self.new
+            ≡ ⟦<Self as ScreenState>⟧.screen self.old) × KeepsSurroundings
+            ⟦<Self as ScreenState>⟧ ⟦<Self as Surroundings>⟧ self.old self.new) }
+        ensures memory { MemoryOnly result }
     {
         let _ = old_layout;
         let _ = highlighter;
-        let text = String::from_str(self.alloc, line.as_str())?;
-        let prompt = String::from_str(self.alloc, prompt.raw())?;
         let hint = owned(self.alloc, hint)?;
-        self.text = text;
-        self.prompt = prompt;
+        make_room(&mut self.text, line.as_str())?;
+        make_room(&mut self.prompt, prompt.raw())?;
+        self.end = None;
+        put(&mut self.text, line.as_str());
+        put(&mut self.prompt, prompt.raw());
         self.hint = hint;
         self.place = new_layout.cursor;
         self.origin = new_layout.prompt_size;
-        self.end = None;
         self.redraws = self.redraws.saturating_add(1);
         Ok(())
     }
@@ -333,10 +361,11 @@ impl<R: RawReader> Renderer for Plain<R> {
         ensures refused { OnErr result (⟦<Self as ScreenState>⟧.screen self.new
             ≡ ⟦<Self as ScreenState>⟧.screen self.old) }
     {
-        let end = self.end_with(buf);
+        let place = measured(self.columns, buf, self.place);
+        let end = self.end_with(buf, place);
         self.text.push_str(buf)?;
         self.end = end;
-        self.place = measured(self.columns, buf, self.place);
+        self.place = place;
         Ok(())
     }
 

@@ -4,7 +4,7 @@ use Rattle.std.proofs.lemmas.List.{take-append-drop, take_rest}
 use Rattle.line_buffer.specs.Printable.{is_plain}
 use Rattle.line_state.proofs.PlainTextLemmas.{all_parts}
 use Rattle.line_screen.specs.Measure.{columns_after, start_below}
-use Rattle.line_screen.specs.MeasureLaws.{after_char, after-last, after-row}
+use Rattle.line_screen.specs.MeasureLaws.{after_char, after-last, after-row, fold-printable}
 use Rattle.line_screen.proofs.measure.after_plain.Goals as goal
 
 pub loop-newline-preserved : goal.loop-newline-preserved
@@ -16,7 +16,7 @@ loop-newline-preserved c =
     let all = c.loop-newline.invariant.0 in
     let cut = c.split_at.result.1.now in
     let behind : take (length cut - 1) (drop 1 cut) ≡ drop 1 (drop newline rest) = take_rest cut 1 ∙ ap (drop 1) c.split_at.ensures.back in
-    let place = c.start_below-place.ensures ∙ ap start_below (c.after_printable.ensures ∙ ap (λ n. columns_after columns n c.loop-newline.place) c.split_at.ensures.front_len) in
+    let place = c.start_below-place.ensures ∙ ap start_below (c.after_printable-in-Some.ensures ∙ ap (λ n. columns_after columns n c.loop-newline.place) c.split_at.ensures.front_len) in
     let plain = all_parts is_plain (take newline rest) (drop newline rest) (ap (list_all is_plain) (take-append-drop newline rest) ∙ all) in
     let last = all_parts is_plain (take 1 (drop newline rest)) (drop 1 (drop newline rest)) (ap (list_all is_plain) (take-append-drop 1 (drop newline rest)) ∙ plain.1) in (
       ap (list_all is_plain) behind ∙ last.1,
@@ -32,3 +32,8 @@ returns c =
     c.after_printable-2.ensures
     ∙ sym (after-last c.args.columns c.loop-newline.place c.loop-newline.rest.now c.loop-newline.invariant.0 (λ k below feed. none k (omega arith) below feed))
     ∙ c.loop-newline.invariant.1
+
+pub returns-then-is_printable_text : goal.returns-then-is_printable_text
+returns-then-is_printable_text c =
+    c.after_printable.ensures
+    ∙ sym (fold-printable c.args.columns c.args.place c.args.text.now (sym c.is_printable_text.ensures ∙ c.if-is_printable_text.true))
