@@ -1,5 +1,6 @@
 -- What the lines of a script add.
-use Rattle.std.specs.Prelude.{◌≡◌, ◌∷◌, ◌++◌, Bool, true, false, List, [], map, chars, ℕ, Result, Ok, Err}
+use Rattle.std.specs.Prelude.{◌≡◌, ◌==◌, ◌||◌, not, ◌∷◌, ◌++◌, Bool, true, false, List, [], map, chars, ℕ, Result, Ok, Err}
+use Rattle.std.specs.List.{list_all}
 use Rattle.line_config.specs.declared.error.ReadlineError.{ReadlineError}
 use Rattle.line_keys.specs.Item.{key, paste}
 use Rattle.line_keys.specs.declared.keys.KeyEvent.{KeyEvent}
@@ -7,6 +8,10 @@ use Rattle.line_parts.specs.EscapedLine.{Unescapes}
 use Rattle.line_parts.specs.History.{FiledHistory, filed}
 use Rattle.line_parts.specs.declared.escaped_line.Escapes.TheVariants.{V2}
 use Rattle.line_screen.specs.KeyQueue.{Queued, paste_start, plain_key}
+
+-- no byte of a text is a backslash or a newline
+abbrev pub lacks_escapes : List ℕ → Bool
+lacks_escapes text = list_all (λ b. not (b == 92 || b == 10)) text
 
 -- a name that is known adds one key at the end; else, and after an error, the queue stays
 abbrev pub AddsKey : Result Bool ReadlineError → Queued → Queued → Type 0

@@ -2,7 +2,7 @@
 ghost use Rattle.std.specs.Prelude.{◌≡◌, ◌<◌, IfOk, IfSome, string_bytes};
 ghost use Rattle.line_parts.specs.EscapedLine.{Unescapes};
 ghost use Rattle.line_parts.specs.declared.escaped_line.Escapes.TheVariants.{V2};
-ghost use Rattle.line_script.specs.Script.{AddsKey, AddsLine, AddsPasted, AddsTyped};
+ghost use Rattle.line_script.specs.Script.{AddsKey, AddsLine, AddsPasted, AddsTyped, lacks_escapes};
 
 use crate::helper::ScriptHelper;
 use crate::names::key_named;
@@ -10,6 +10,7 @@ use line_buffer::Unit;
 use line_config::{EditMode, ReadlineError};
 use line_parts::{Escapes, FileHistory, History, unescape_line};
 use line_screen::KeyQueue;
+use memchr::memchr;
 use std::alloc::Global;
 use std::io;
 use std::io::Read;
@@ -61,38 +62,65 @@ impl Parsed {
         })
     }
 
+    /// Adds what a line gives; an empty one gives nothing. The number is for the error.
+    ///
+    /// # Errors
+    ///
+    /// `BadLine` where it is not UTF-8, of no known form, or a setting behind a line of items, and `Fault` where an
+    /// allocation failed.
+    fn push_bytes(
+        &mut self,
+        alloc: Global,
+        bytes: &[u8],
+        number: usize,
+    ) -> Result<(), ScriptError> {
+        let is_known = match str::from_utf8(bytes) {
+            Ok("") => true,
+            Ok(line) => self.push_line(alloc, line)?,
+            Err(_) => false,
+        };
+        if is_known {
+            Ok(())
+        } else {
+            Err(ScriptError::BadLine(number))
+        }
+    }
+
     /// Adds what one line gives. Returns false, and adds nothing, where the line is of no known form, or is a setting
-    /// behind items.
+    /// behind a line of items, even a bad one.
     ///
     /// # Errors
     ///
     /// `Memory` where an allocation failed.
     pub fn push_line(&mut self, alloc: Global, line: &str) -> Result<bool, ReadlineError> {
-        if let Some((kind, text)) = line.split_once(' ')
-            && matches!(kind, "type" | "key" | "paste")
-        {
-            self.has_item_lines = true;
-            return match kind {
-                "type" => push_typed(alloc, text, &mut self.items),
-                "key" => push_key(text, &mut self.items),
-                _ => push_pasted(alloc, text, &mut self.items),
-            };
-        }
-        if self.has_item_lines {
-            return Ok(false);
-        }
-        self.push_setting(alloc, line)
+        let Some((kind, text)) = line.split_once(' ') else {
+            return Ok(!self.has_item_lines && switch_on(line, &mut self.helper));
+        };
+        let items = &mut self.items;
+        let is_known = match kind {
+            "type" => push_typed(alloc, text, items)?,
+            "key" => push_key(text, items)?,
+            "paste" => push_pasted(alloc, text, items)?,
+            _ if self.has_item_lines => false,
+            _ => return self.push_setting(alloc, kind, text),
+        };
+        self.has_item_lines = true;
+        Ok(is_known)
     }
 
-    /// Adds what a setting gives. False where there is no such setting.
-    fn push_setting(&mut self, alloc: Global, line: &str) -> Result<bool, ReadlineError> {
-        match line.split_once(' ') {
-            None => Ok(switch_on(line, &mut self.helper)),
-            Some(("history", text)) => push_history(alloc, text, &mut self.history),
-            Some(("load", text)) => load_history(alloc, text, &mut self.history),
-            Some(("prompt", text)) => set_prompt(alloc, text, &mut self.prompt),
-            Some(("columns", digits)) => Ok(set_columns(digits, self)),
-            Some(("mode", name)) => Ok(set_edit_mode(name, &mut self.edit_mode)),
+    /// Adds what the setting of this name gives, with the text behind the name. False where there is no such setting.
+    fn push_setting(
+        &mut self,
+        alloc: Global,
+        name: &str,
+        text: &str,
+    ) -> Result<bool, ReadlineError> {
+        match name {
+            "history" => push_history(alloc, text, &mut self.history),
+            "load" => load_history(alloc, text, &mut self.history),
+            "prompt" => set_prompt(alloc, text, &mut self.prompt),
+            "columns" => Ok(set_columns(text, self)),
+            "mode" => Ok(set_edit_mode(text, &mut self.edit_mode)),
             _ => Ok(false),
         }
     }
@@ -138,16 +166,15 @@ pub fn read_script<R: Read + Drop>(alloc: Global, mut input: R) -> Result<Parsed
 /// What a script gives, whose lines end in line feeds, the last one possibly in none. Empty lines give nothing.
 fn parse_script(alloc: Global, script: &[u8]) -> Result<Parsed, ScriptError> {
     let mut parsed = Parsed::new(alloc)?;
-    for (index, bytes) in script.split(|byte| *byte == b'\n').enumerate() {
-        let is_known = match str::from_utf8(bytes) {
-            Ok("") => true,
-            Ok(line) => parsed.push_line(alloc, line)?,
-            Err(_) => false,
-        };
-        if !is_known {
-            return Err(ScriptError::BadLine(index + 1));
-        }
+    let mut number = 1;
+    let mut rest = script;
+    while let Some(end) = memchr(b'\n', rest) {
+        let (line, behind) = rest.split_at(end);
+        parsed.push_bytes(alloc, line, number)?;
+        rest = &behind[1..];
+        number = number.saturating_add(1);
     }
+    parsed.push_bytes(alloc, rest, number)?;
     Ok(parsed)
 }
 
@@ -268,10 +295,25 @@ pub fn unescape(alloc: Global, text: &str) -> Result<Option<String>, ReadlineErr
     ensures { IfOk result (λ plain.
         IfSome plain (λ plain. Unescapes V2 text.now (string_bytes plain))) }
 {
+    let bytes = text.as_bytes();
+    if lacks_escapes(bytes) {
+        return Ok(Some(String::from_str(alloc, text)?));
+    }
     let mut plain = Vec::new(alloc);
-    if unescape_line(text.as_bytes(), Escapes::V2, &mut plain)? {
+    if unescape_line(bytes, Escapes::V2, &mut plain)? {
         Ok(String::from_utf8(plain).ok())
     } else {
         Ok(None)
     }
+}
+
+/// Returns whether no byte of a text is a backslash or a newline. All are looked at, many at once.
+fn lacks_escapes(text: &[u8]) -> bool
+    ensures { result ≡ lacks_escapes text.now }
+{
+    let mut lacks = true;
+    for byte in text {
+        lacks &= *byte != b'\\' && *byte != b'\n';
+    }
+    lacks
 }
