@@ -5,7 +5,6 @@ use Rattle.line_buffer.specs.KillRing.{Ring, after_yank, after_yank_pop}
 use Rattle.line_buffer.specs.Line.{Line}
 use Rattle.line_buffer.specs.declared.movement.Movement.{Movement}
 use Rattle.line_config.specs.declared.error.ReadlineError.{ReadlineError}
-use Rattle.line_keys.specs.Command.{kill}
 use Rattle.line_keys.specs.declared.cmd.Anchor.{Anchor}
 use Rattle.line_buffer.specs.declared.layout.Position.{Position}
 use Rattle.line_keys.specs.Display.{Display, KeepsPrompt, ShowsInFull, columns_back, corner, lit_after}

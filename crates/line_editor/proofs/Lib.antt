@@ -45,6 +45,7 @@ pub mod ReadingLemmas
 pub mod RunLaws
 pub mod RunLemmas
 pub mod TurnLemmas
+pub mod TypedLemmas
 pub mod UnderwayLemmas
 pub mod TurnLaws
 pub mod UndoLaws

@@ -21,14 +21,14 @@ use Rattle.line_editor.specs.Keymap.{KeyState}
 use Rattle.line_editor.specs.Operation.{Operated, Reaches, motion_behind}
 use Rattle.line_editor.specs.Read.{Read}
 use Rattle.line_editor.specs.Reading.{EndsQuietly, GivesQuietly, OnRead, ReadsCount, ReadsPart, StopsWithin, TakesItems}
-use Rattle.line_editor.specs.declared.input_state.tails.Behind.{Behind}
+use Rattle.line_editor.specs.declared.input_state.phrases.Read as phrases
 use Rattle.line_editor.proofs.BeginLemmas.{operation-begins, reach-begins}
 use Rattle.line_editor.proofs.KeyFitLemmas.{enter, enter-ends, is-count, is-no-count}
 use Rattle.line_editor.proofs.OperationLemmas.{enter-ends-motion}
 use Rattle.line_editor.proofs.ReadingLemmas.{count_goes_wrong, counted, key_fails, key_taken, on_err_then, plainly, quiet_part}
 
 -- what belongs to the key of a motion could not be read
-reach_stops : {X Y : Type 0} (e : editors.Ghosts X) (r : readers.Ghosts Y) (editor : X) (i : Input) (operator : Operator) (reader reader' : Y) (motion : Motion) (result : Result Behind ReadlineError)
+reach_stops : {X Y : Type 0} (e : editors.Ghosts X) (r : readers.Ghosts Y) (editor : X) (i : Input) (operator : Operator) (reader reader' : Y) (motion : Motion) (result : Result phrases.Read ReadlineError)
     → OnErr result (r.rest reader' ≡ r.rest reader) → OnErr result (StopsWithin r (λ items read. Reaches (e.draft editor) i operator motion items read) [] reader reader')
 reach_stops e r editor i operator reader reader' motion result kept =
     on_err_then result (λ same. record { items = []; cut = sym same; begins = reach-begins (e.draft editor) i operator motion }) kept
@@ -39,13 +39,13 @@ module _ {X Y : Type 0} (e : editors.Ghosts X) (r : readers.Ghosts Y) (editor : 
   MotionHere items read = Operated (e.environment editor) (e.draft editor) i operator n items read
 
   -- how what is read of it is told
-  abbrev pub MotionPart : List Item → (result : Result Behind ReadlineError) → Y → X → Y → Type 0
+  abbrev pub MotionPart : List Item → (result : Result phrases.Read ReadlineError) → Y → X → Y → Type 0
   MotionPart front result reader editor' reader' =
-      ReadsPart e r MotionHere front (e.draft editor) (λ c d. d) (λ (b : Behind). command_of b.command) (λ b. behind_input b i) result editor keys reader editor' reader'
+      ReadsPart e r MotionHere front (e.draft editor) (λ c d. d) (λ (b : phrases.Read). command_of b.command) (λ b. behind_input b i) result editor keys reader editor' reader'
 
   -- a key without a count
-  pub motion_plain : (k : KeyEvent) (motion : Motion) (result : Result Behind ReadlineError) (reader' : Y) → begins_count Vi modes.Command k ≡ false → motion ≡ motion_behind operator n [] k
-      → OnRead result (λ (b : Behind). GivesQuietly r (Reaches (e.draft editor) i operator motion) (e.draft editor) (behind_input b i) (command_of b.command) reader reader')
+  pub motion_plain : (k : KeyEvent) (motion : Motion) (result : Result phrases.Read ReadlineError) (reader' : Y) → begins_count Vi modes.Command k ≡ false → motion ≡ motion_behind operator n [] k
+      → OnRead result (λ (b : phrases.Read). GivesQuietly r (Reaches (e.draft editor) i operator motion) (e.draft editor) (behind_input b i) (command_of b.command) reader reader')
       (EndsQuietly r (Reaches (e.draft editor) i operator motion) reader reader')
       → TakesItems r keys.bound result reader reader' → OnErr result (r.rest reader' ≡ r.rest reader)
       → MotionPart (key k ∷ []) result reader editor reader'
@@ -68,8 +68,8 @@ module _ {X Y : Type 0} (e : editors.Ghosts X) (r : readers.Ghosts Y) (editor : 
   -- a count and the key that ends it
   pub motion_counted : (k : KeyEvent) (count : Count) (last : KeyEvent) (editor1 : X) (reader1 : Y) → ReadsCount e r Vi k (Ok (count, last)) editor reader editor1 reader1
       → begins_count Vi modes.Command k ≡ true
-      → (motion : Motion) (m : ℕ) (result : Result Behind ReadlineError) (reader' : Y) → m ≡ multiplied n count.n → motion ≡ motion_of operator last m
-      → OnRead result (λ (b : Behind). GivesQuietly r (Reaches (e.draft editor1) i operator motion) (e.draft editor1) (behind_input b i) (command_of b.command) reader1 reader')
+      → (motion : Motion) (m : ℕ) (result : Result phrases.Read ReadlineError) (reader' : Y) → m ≡ multiplied n count.n → motion ≡ motion_of operator last m
+      → OnRead result (λ (b : phrases.Read). GivesQuietly r (Reaches (e.draft editor1) i operator motion) (e.draft editor1) (behind_input b i) (command_of b.command) reader1 reader')
       (EndsQuietly r (Reaches (e.draft editor1) i operator motion) reader1 reader')
       → TakesItems r keys.bound result reader1 reader' → OnErr result (r.rest reader' ≡ r.rest reader1)
       → MotionPart (key k ∷ []) result reader editor1 reader'
@@ -106,7 +106,7 @@ module _ {X Y : Type 0} (e : editors.Ghosts X) (r : readers.Ghosts Y) (editor : 
       (is-count Vi modes.Command k ends.more last begins ends.continue ends.ends))
 
   -- the first key and the rest
-  pub motion_part : (mid : Y) (k : KeyEvent) (editor' : X) (reader' : Y) (result : Result Behind ReadlineError)
+  pub motion_part : (mid : Y) (k : KeyEvent) (editor' : X) (reader' : Y) (result : Result phrases.Read ReadlineError)
       → r.rest reader ≡ key k ∷ r.rest mid → r.own_binding mid ≡ r.own_binding reader → r.failures mid ≡ r.failures reader
       → MotionPart (key k ∷ []) result mid editor' reader' → MotionPart [] result reader editor' reader'
   motion_part mid k editor' reader' result took own quiet part =

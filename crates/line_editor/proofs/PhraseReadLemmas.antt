@@ -1,7 +1,7 @@
 -- Facts on phrases that are read.
 use Rattle.std.proofs.Common.{◌≡◌, ◌<◌, true, false, ◌++◌, List, [], ◌∷◌, length, map, Option, Some, None, Result, Ok, Err, refl, sym, ◌∙◌, ap, subst, arith}
 use Rattle.std.proofs.lemmas.List.{length-append}
-use Rattle.std.specs.Prelude.{IfOk}
+use Rattle.std.specs.Prelude.{IfOk, OnErr, OnOk}
 use Rattle.line_config.specs.Error.{MemoryOnly, is_memory}
 use Rattle.line_config.specs.Failures.{CountsFailures}
 use Rattle.line_config.specs.declared.error.ReadlineError.{ReadlineError}
@@ -29,20 +29,20 @@ use Rattle.line_editor.specs.Reading.{PhraseHere, ReadsCommand, ReadsCount, Read
 use Rattle.line_editor.specs.Sequence.{sequences_of}
 use Rattle.line_editor.specs.ItemShown.{asked_behind}
 use Rattle.line_editor.specs.Tail.{Tailed}
-use Rattle.line_editor.specs.declared.input_state.tails.Behind.{Behind}
+use Rattle.line_editor.specs.declared.input_state.phrases.Read as phrases
 use Rattle.line_editor.proofs.BeginLemmas.{counted-begins}
 use Rattle.line_editor.proofs.CountLemmas.{rises_stays, stays_then}
 use Rattle.line_editor.proofs.DrawnLemmas.{frame_then}
 use Rattle.line_editor.proofs.GroupLemmas.{start_ended}
 use Rattle.line_editor.proofs.KeyFitLemmas.{is-count, is-no-count}
-use Rattle.line_editor.proofs.PartLemmas.{at_once_part, failure_retold, part_mapped, part_retold, part_then_memory}
+use Rattle.line_editor.proofs.PartLemmas.{at_once_part, failure_retold, part_grouped, part_mapped, part_retold, part_then_memory}
 use Rattle.line_editor.proofs.PhraseLemmas.{inside-begins, none-counts, nothing-begins, row-read}
 use Rattle.line_editor.proofs.FaultLemmas.{io_ended}
 use Rattle.line_editor.proofs.ReadingLemmas.{count_goes_wrong, counted, frame_stays, key_fails, key_taken, plainly}
 use Rattle.line_editor.proofs.ShownLemmas.{counts_after, counts_kept, so_far_after}
 
 -- a key without a count, and what belongs to it, is a phrase of its mode
-plain-phrase : (keymap : Keymap) (environment : Environment) (draft : Draft) (input : Input) (k : KeyEvent) → begins_count input.style input.mode k ≡ false
+pub plain-phrase : (keymap : Keymap) (environment : Environment) (draft : Draft) (input : Input) (k : KeyEvent) → begins_count input.style input.mode k ≡ false
     → (items : List Item) (read : Read) → Keyed keymap environment draft input None k items read → Spelled keymap environment draft input (key k ∷ items) (read_behind [] read)
 plain-phrase keymap environment draft input k begins items read keyed = record {
   typed = [];
@@ -149,7 +149,7 @@ module _ {X Y : Type 0} (e : editors.Ghosts X) (r : readers.Ghosts Y) (editor : 
   module _ {S : Type 0} (command : S → Command) (input : S → Input) where
     -- the items ended, or reading went wrong
     pub row_fails : (f : ReadlineError) (editor' : X) (reader' : Y)
-        → ReadsPart e r TailedHere [] (e.draft editor) (λ c d. d) (λ (b : Behind). command_of b.command) (λ b. behind_input b i) (Err f) editor keys reader editor' reader'
+        → ReadsPart e r TailedHere [] (e.draft editor) (λ c d. d) (λ (b : phrases.Read). command_of b.command) (λ b. behind_input b i) (Err f) editor keys reader editor' reader'
         → ReadsPart e r ByRow [] (e.draft editor) (λ c d. d) command input (Err f) editor keys reader editor' reader'
     row_fails f editor' reader' part = record {
       read = λ no.
@@ -187,19 +187,19 @@ module _ {X Y : Type 0} (e : editors.Ghosts X) (r : readers.Ghosts Y) (editor : 
     }
 
     -- memory ran out for the row's group
-    pub row_memory : (f : ReadlineError) (b : Behind) (mid new : X) (reader' : Y) → is_memory f ≡ true → Undrawn e mid new → KeepsLine (e.draft mid) (e.draft new)
-        → ReadsPart e r TailedHere [] (e.draft editor) (λ c d. d) (λ (b : Behind). command_of b.command) (λ b. behind_input b i) (Ok b) editor keys reader mid reader'
+    pub row_memory : (f : ReadlineError) (b : phrases.Read) (mid new : X) (reader' : Y) → is_memory f ≡ true → Undrawn e mid new → KeepsLine (e.draft mid) (e.draft new)
+        → ReadsPart e r TailedHere [] (e.draft editor) (λ c d. d) (λ (b : phrases.Read). command_of b.command) (λ b. behind_input b i) (Ok b) editor keys reader mid reader'
         → ReadsPart e r ByRow [] (e.draft editor) (λ c d. d) command input (Err f) editor keys reader new reader'
     row_memory f b mid new reader' memory undrawn line part =
-        part_then_memory e r TailedHere ByRow (e.draft editor) (e.draft editor) (λ c d. d) (λ c d. d) (λ (b : Behind). command_of b.command) (λ b. behind_input b i) command input b f editor keys reader mid new reader'
+        part_then_memory e r TailedHere ByRow (e.draft editor) (e.draft editor) (λ c d. d) (λ c d. d) (λ (b : phrases.Read). command_of b.command) (λ b. behind_input b i) command input b f editor keys reader mid new reader'
         (λ items read tailed. (listed entry i read, by_row items read tailed)) memory undrawn line part
 
     -- a command was read, and the row's group begins or ends
-    pub row_read : (b : Behind) (y : S) (mid new : X) (reader' : Y)
-        → ReadsPart e r TailedHere [] (e.draft editor) (λ c d. d) (λ (b : Behind). command_of b.command) (λ b. behind_input b i) (Ok b) editor keys reader mid reader'
+    pub row_read : (b : phrases.Read) (y : S) (mid new : X) (reader' : Y)
+        → ReadsPart e r TailedHere [] (e.draft editor) (λ c d. d) (λ (b : phrases.Read). command_of b.command) (λ b. behind_input b i) (Ok b) editor keys reader mid reader'
         → e.draft new ≡ with_group entry.group (e.draft mid) → KeepsLine (e.draft mid) (e.draft new) → (e.draft new).hint ≡ (e.draft mid).hint
         → start_text (e.draft new) ≡ start_text (e.draft mid) → Undrawn e mid new
-        → command y ≡ command_of b.command → input y ≡ remembered_behind i.style entry.enters i (command_of b.command) b.search
+        → command y ≡ command_of b.command → input y ≡ remembered_behind i.style entry.enters i (command_of b.command) b.last_char_search
         → ReadsPart e r ByRow [] (e.draft editor) (λ c d. d) command input (Ok y) editor keys reader new reader'
     row_read b y mid new reader' part draft line hint start undrawn same_command same_input =
         let was = part.read in
@@ -401,7 +401,7 @@ module _ {X Y : Type 0} (e : editors.Ghosts X) (r : readers.Ghosts Y) where
       (λ dry. ap (λ t. entered (keymap_of keys (r.own_binding reader)) (e.draft editor) keys.input t) dry) (nothing-begins _ _ _ _)
 
   -- a command that was read, and what is remembered of it
-  pub command_remembered : {T : Type 0} (begun : Command → Draft → Draft) (command : T → Command) (input : T → Input) (t : T) (c : Cmd) (editor : X) (keys keys' : KeyState) (reader : Y) (editor' : X) (reader' : Y)
+  command_remembered : {T : Type 0} (begun : Command → Draft → Draft) (command : T → Command) (input : T → Input) (t : T) (c : Cmd) (editor : X) (keys keys' : KeyState) (reader : Y) (editor' : X) (reader' : Y)
       → command_of c ≡ command t → keys' ≡ record keys { input = input t }
       → ReadsPart e r (PhraseHere e r editor keys reader) [] (entered_here e r editor keys reader) begun command input (Ok t) editor keys reader editor' reader'
       → ReadsCommand e r begun (Ok c) editor keys reader editor' keys' reader'
@@ -429,13 +429,13 @@ module _ {X Y : Type 0} (e : editors.Ghosts X) (r : readers.Ghosts Y) where
   }
 
   -- memory ran out for the group of a command
-  pub group_fails : {T : Type 0} (command : T → Command) (input : T → Input) (t : T) (f : ReadlineError) (editor mid new : X) (keys : KeyState) (reader reader' : Y)
+  pub group_fails : {T : Type 0} (begun : Command → Draft → Draft) (command : T → Command) (input : T → Input) (t : T) (f : ReadlineError) (editor mid new : X) (keys : KeyState) (reader reader' : Y)
       → is_memory f ≡ true → Undrawn e mid new → KeepsLine (e.draft mid) (e.draft new)
       → ReadsPart e r (PhraseHere e r editor keys reader) [] (entered_here e r editor keys reader) (λ c d. d) command input (Ok t) editor keys reader mid reader'
-      → ReadsCommand e r grouped (Err f) editor keys reader new keys reader'
-  group_fails command input t f editor mid new keys reader reader' memory undrawn line part = record {
+      → ReadsCommand e r begun (Err f) editor keys reader new keys reader'
+  group_fails begun command input t f editor mid new keys reader reader' memory undrawn line part = record {
     phrase = part_then_memory e r (PhraseHere e r editor keys reader) (PhraseHere e r editor keys reader) (entered_here e r editor keys reader) (entered_here e r editor keys reader)
-        (λ c d. d) grouped command input command_of (λ _. keys.input) t f editor keys reader mid new reader' (λ items read phrase. (read, phrase)) memory undrawn line part;
+        (λ c d. d) begun command input command_of (λ _. keys.input) t f editor keys reader mid new reader' (λ items read phrase. (read, phrase)) memory undrawn line part;
     dry = λ none. absurd (
         let less = has_item _ _ _ _ reader reader' part.read.items part.read.read part.read.cut part.read.comes in
         let no = ap length none in
@@ -444,14 +444,28 @@ module _ {X Y : Type 0} (e : editors.Ghosts X) (r : readers.Ghosts Y) where
     bound = refl;
   }
 
-  -- what was read is copied for what is remembered
-  pub told_part : {T S : Type 0} (Comes : List Item → Read → Type 0) (from : Draft) (command : T → Command) (input : T → Input) (command' : S → Command) (input' : S → Input) (x : T) (result : Result S ReadlineError)
-      (editor : X) (keys : KeyState) (reader : Y) (editor' : X) (reader' : Y)
-      → MemoryOnly result → IfOk result (λ y. command' y ≡ command x) → IfOk result (λ y. input' y ≡ input x)
-      → ReadsPart e r Comes [] from (λ c d. d) command input (Ok x) editor keys reader editor' reader'
-      → ReadsPart e r Comes [] from (λ c d. d) command' input' result editor keys reader editor' reader'
-  told_part Comes from command input command' input' x (Ok y) editor keys reader editor' reader' memory same_command same_input part =
-      part_retold e r Comes [] from (λ c d. d) command input command' input' x y editor keys reader editor' reader' same_command same_input part
-  told_part Comes from command input command' input' x (Err f) editor keys reader editor' reader' memory same_command same_input part =
-      part_then_memory e r Comes Comes from from (λ c d. d) (λ c d. d) command input command' input' x f editor keys reader editor' editor' reader' (λ items read comes. (read, comes)) memory
-      (record { drew = record { display = refl; redraws = refl }; failures = refl; frame = frame_stays e editor' }) (record { line = refl; saved = refl; index = refl }) part
+  -- what was read is remembered once the group of its command has begun, unless memory runs out for it
+  pub remembered : {T : Type 0} (command : T → Command) (input : T → Input) (t : T) (result : Result Cmd ReadlineError) (editor mid new : X) (keys keys' : KeyState) (reader reader' : Y)
+      → MemoryOnly result → IfOk result (λ c. command_of c ≡ command t) → OnOk result (keys' ≡ record keys { input = input t }) → OnErr result (keys' ≡ keys)
+      → Undrawn e mid new → KeepsLine (e.draft mid) (e.draft new) → (e.draft new).hint ≡ (e.draft mid).hint
+      → e.draft new ≡ grouped (command t) (e.draft mid) → start_text (e.draft new) ≡ start_text (e.draft mid)
+      → ReadsPart e r (PhraseHere e r editor keys reader) [] (entered_here e r editor keys reader) (λ c d. d) command input (Ok t) editor keys reader mid reader'
+      → ReadsCommand e r grouped result editor keys reader new keys' reader'
+  remembered command input t (Ok c) editor mid new keys keys' reader reader' memory same_command same_keys err undrawn line hint draft start part =
+      command_remembered grouped command input t c editor keys keys' reader new reader' same_command same_keys
+      (part_grouped e r (PhraseHere e r editor keys reader) (entered_here e r editor keys reader) command input t editor mid new keys reader reader' part undrawn line hint draft start)
+  remembered command input t (Err f) editor mid new keys keys' reader reader' memory same_command same_keys err undrawn line hint draft start part =
+      subst (λ k. ReadsCommand e r grouped (Err f) editor keys reader new k reader') (sym err)
+      (group_fails grouped command input t f editor mid new keys reader reader' memory undrawn line part)
+
+  -- the same where no group begins
+  pub remembered_plainly : {T : Type 0} (command : T → Command) (input : T → Input) (t : T) (result : Result Cmd ReadlineError) (editor new : X) (keys keys' : KeyState) (reader reader' : Y)
+      → MemoryOnly result → IfOk result (λ c. command_of c ≡ command t) → OnOk result (keys' ≡ record keys { input = input t }) → OnErr result (keys' ≡ keys)
+      → ReadsPart e r (PhraseHere e r editor keys reader) [] (entered_here e r editor keys reader) (λ c d. d) command input (Ok t) editor keys reader new reader'
+      → ReadsCommand e r (λ c d. d) result editor keys reader new keys' reader'
+  remembered_plainly command input t (Ok c) editor new keys keys' reader reader' memory same_command same_keys err part =
+      command_remembered (λ c d. d) command input t c editor keys keys' reader new reader' same_command same_keys part
+  remembered_plainly command input t (Err f) editor new keys keys' reader reader' memory same_command same_keys err part =
+      subst (λ k. ReadsCommand e r (λ c d. d) (Err f) editor keys reader new k reader') (sym err)
+      (group_fails (λ c d. d) command input t f editor new new keys reader reader' memory
+      (record { drew = record { display = refl; redraws = refl }; failures = refl; frame = frame_stays e new }) (record { line = refl; saved = refl; index = refl }) part)

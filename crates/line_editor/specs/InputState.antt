@@ -1,15 +1,12 @@
 -- What an input state remembers.
 use Rattle.std.specs.Prelude.{if◌then◌else◌, Some, option_map}
-use Rattle.std.specs.Option.{option_or}
 use Rattle.line_keys.specs.Command.{command_of}
 use Rattle.line_editor.specs.Binding.{bound_of}
 use Rattle.line_editor.specs.Input.{Input}
 use Rattle.line_editor.specs.Keymap.{KeyState}
 use Rattle.line_editor.specs.declared.binding.ConditionalEventHandler as handlers
 use Rattle.line_editor.specs.declared.input_state.InputState.{InputState}
-use Rattle.line_editor.specs.declared.input_state.Told.{Told}
 use Rattle.line_editor.specs.declared.input_state.phrases.Read.{Read}
-use Rattle.line_editor.specs.declared.input_state.tails.Behind.{Behind}
 
 -- the input behind what was read, by the input before
 abbrev pub read_input : Read → Input → Input
@@ -20,18 +17,9 @@ read_input read input = record {
   last_search = read.last_char_search;
 }
 
--- the same of what is to be remembered
-abbrev pub told_input : Told → Input → Input
-told_input told input = record {
-  style = input.style;
-  mode = told.input_mode;
-  last_change = option_or (option_map command_of told.last_cmd) input.last_change;
-  last_search = told.last_char_search;
-}
-
 -- the input behind what belongs to a key: the last search may change
-abbrev pub behind_input : Behind → Input → Input
-behind_input behind input = record input { last_search = behind.search }
+abbrev pub behind_input : Read → Input → Input
+behind_input read input = record input { last_search = read.last_char_search }
 
 module _ {X : Type 0} {P : X → Type 0} where
   -- the input value that it keeps

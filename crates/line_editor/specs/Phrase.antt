@@ -1,14 +1,14 @@
 -- Phrases: the items that one command is read from.
-use Rattle.std.specs.Prelude.{◌≡◌, true, if◌then◌else◌, List, [], ◌∷◌, ◌++◌, map, Option, Some, None, unwrap_or}
+use Rattle.std.specs.Prelude.{◌≡◌, ℕ, Bool, true, false, if◌then◌else◌, List, [], ◌∷◌, ◌++◌, map, Option, Some, None, unwrap_or}
 use Rattle.line_buffer.specs.declared.movement.CharSearch.{CharSearch}
 use Rattle.line_config.specs.declared.config.EditMode.{EditMode}
 use Rattle.line_config.specs.declared.config.EditMode.TheVariants.{Emacs, Vi}
 use Rattle.line_parts.specs.Environment.{Environment}
-use Rattle.line_keys.specs.Command.{Command}
+use Rattle.line_keys.specs.Command.{Command, self_insert}
 use Rattle.line_keys.specs.Count.{count_of, is_count_before}
 use Rattle.line_keys.specs.Draft.{Draft, in_group, out_of_group}
 use Rattle.line_keys.specs.Item.{Item, key}
-use Rattle.line_keys.specs.Redo.{becomes_change}
+use Rattle.line_keys.specs.Redo.{becomes_change, is_typed_on}
 use Rattle.line_keys.specs.Table.{KeyEntry, count_or_one}
 use Rattle.line_keys.specs.declared.keys.KeyEvent.{KeyEvent}
 use Rattle.line_keys.specs.declared.count.Count.{Count}
@@ -101,6 +101,21 @@ pub record Nested (keymap : Keymap) (environment : Environment) (draft : Draft) 
 pub data Phrase (keymap : Keymap) (environment : Environment) (draft : Draft) (input : Input) (items : List Item) (read : Read) : Type 0 where
   of_mode : Spelled keymap environment draft input items read → Phrase keymap environment draft input items read
   behind_key : Nested keymap environment draft input items read → Phrase keymap environment draft input items read
+
+-- a plain key inserts its character, and nothing is remembered of it
+abbrev pub types_by : EditMode → InputMode → Option Command → Bool
+types_by Emacs mode last = true
+types_by Vi modes.Insert last = is_typed_on last
+types_by Vi mode last = false
+
+-- the same of an input
+abbrev pub types_chars : Input → Bool
+types_chars input = types_by input.style input.mode input.last_change
+
+-- whatever the line, the key alone is the phrase that types the character, and the input stays
+abbrev pub TypesChar : Keymap → Input → KeyEvent → ℕ → Type 0
+TypesChar keymap input typed c = (environment : Environment) (draft : Draft)
+    → Phrase keymap environment draft input (key typed ∷ []) (quiet_read draft input (key typed ∷ []) (self_insert 1 c))
 
 -- the keys of the count in front of a phrase; behind a key with Alt there is none in front
 abbrev pub count_in_front : {keymap : Keymap} {environment : Environment} {draft : Draft} {input : Input} {items : List Item} {read : Read}

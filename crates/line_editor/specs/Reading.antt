@@ -36,6 +36,16 @@ abbrev pub EitherRose : ℕ → ℕ → ℕ → ℕ → Type 0
 EitherRose one other one' other' = one < max_count → other < max_count → one + other < one' + other'
 
 module _ {Y : Type 0} (r : readers.Ghosts Y) where
+  -- a key was taken from a reader
+  pub record TookKey (taken : KeyEvent) (reader reader' : Y) : Type 0 where
+    pub took : r.rest reader ≡ key taken ∷ r.rest reader'
+    pub own : r.own_binding reader' ≡ r.own_binding reader
+    pub stays : r.failures reader' ≡ r.failures reader
+
+  -- this holds of each reader from which taking this key leaves that one
+  abbrev pub BeforeKey : KeyEvent → Y → (Y → Type 0) → Type 0
+  BeforeKey taken reader' Holds = (reader : Y) → TookKey taken reader reader' → Holds reader
+
   -- what a call leaves that takes items from a reader, and asks the handlers of bindings
   pub record TakesItems {T : Type 0} (bindings : Bound) (result : Result T ReadlineError) (reader reader' : Y) : Type 0 where
     pub own : r.own_binding reader' ≡ r.own_binding reader

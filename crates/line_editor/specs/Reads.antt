@@ -12,18 +12,16 @@ use Rattle.line_keys.specs.declared.raw_reader.RawReader as readers
 use Rattle.line_keys.specs.declared.refresher.InputMode.{InputMode}
 use Rattle.line_keys.specs.declared.tables.Operator.{Operator}
 use Rattle.line_editor.specs.Input.{Input, in_mode}
-use Rattle.line_editor.specs.InputState.{behind_input, read_input, told_input}
+use Rattle.line_editor.specs.InputState.{behind_input, read_input}
 use Rattle.line_editor.specs.Keymap.{KeyState, keymap_of}
 use Rattle.line_editor.specs.Operation.{Operated}
 use Rattle.line_editor.specs.Phrase.{Keyed, Spelled, entered}
 use Rattle.line_editor.specs.Read.{Read}
-use Rattle.line_editor.specs.Reading.{EndsInSequence, EndsQuietly, FindsSequence, GivesQuietly, OnRead, PhraseHere, ReadsPart, StopsWithin, entered_here}
+use Rattle.line_editor.specs.Reading.{EndsInSequence, EndsQuietly, FindsSequence, GivesQuietly, OnRead, PhraseHere, ReadsPart, StopsWithin}
 use Rattle.line_editor.specs.Sequence.{Sequences, sequences_of}
 use Rattle.line_editor.specs.Tail.{Tailed}
-use Rattle.line_editor.specs.declared.input_state.Told.{Told}
 use Rattle.line_editor.specs.declared.input_state.phrases.Read as read
 use Rattle.line_editor.specs.declared.input_state.sequences.Sequence.{Sequence}
-use Rattle.line_editor.specs.declared.input_state.tails.Behind.{Behind}
 
 module _ {X : Type 0} (e : editors.Ghosts X) where
   -- what the bindings say of sequences in a mode, under a count
@@ -36,12 +34,6 @@ module _ {X : Type 0} (e : editors.Ghosts X) where
       Tailed (sequences_here editor mode count keys) (e.environment editor) (e.draft editor) (in_mode mode keys.input) last meaning
 
 module _ {X Y : Type 0} (e : editors.Ghosts X) (r : readers.Ghosts Y) where
-  -- a phrase is read
-  abbrev pub ReadsWhole : Result Told ReadlineError → X → Y → X → Y → KeyState → Type 0
-  ReadsWhole result editor reader editor' reader' keys =
-      ReadsPart e r (PhraseHere e r editor keys reader) [] (entered_here e r editor keys reader) (λ command draft. draft)
-      (λ t. command_of t.command) (λ t. told_input t keys.input) result editor keys reader editor' reader'
-
   -- these items are read, behind those in front, from a draft
   abbrev pub ReadsRest : (List Item → Read → Type 0) → List Item → Draft → Result read.Read ReadlineError → X → Y → X → Y → KeyState → Type 0
   ReadsRest Comes front from result editor reader editor' reader' keys =
@@ -68,13 +60,13 @@ module _ {X Y : Type 0} (e : editors.Ghosts X) (r : readers.Ghosts Y) where
       [] (e.draft editor) result editor reader editor' reader' keys
 
   -- what belongs to a key of a mode, under a count
-  abbrev pub ReadsTail : InputMode → KeyEvent → Count → Meaning → Result Behind ReadlineError → X → Y → X → Y → KeyState → Type 0
+  abbrev pub ReadsTail : InputMode → KeyEvent → Count → Meaning → Result read.Read ReadlineError → X → Y → X → Y → KeyState → Type 0
   ReadsTail mode last count meaning result editor reader editor' reader' keys =
       ReadsPart e r (TailHere e editor mode last count meaning keys) [] (e.draft editor) (λ command draft. draft)
       (λ b. command_of b.command) (λ b. behind_input b (in_mode mode keys.input)) result editor keys reader editor' reader'
 
   -- the motion of an operator, behind the items in front; of the input it looks at the last search alone
-  abbrev pub ReadsMotion : Operator → ℕ → List Item → Result Behind ReadlineError → X → Y → X → Y → KeyState → Type 0
+  abbrev pub ReadsMotion : Operator → ℕ → List Item → Result read.Read ReadlineError → X → Y → X → Y → KeyState → Type 0
   ReadsMotion operator n front result editor reader editor' reader' keys = (input : Input) → input.last_search ≡ keys.input.last_search
       → ReadsPart e r (Operated (e.environment editor) (e.draft editor) input operator n) front (e.draft editor) (λ command draft. draft)
       (λ b. command_of b.command) (λ b. behind_input b input) result editor keys reader editor' reader'

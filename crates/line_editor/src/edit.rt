@@ -335,7 +335,8 @@ impl<'out, 'prompt, W: Renderer, H: Helper, P: Prompt, S: History> State<
         if !self.leaves_bare()? {
             return self.draw(Info::Hint);
         }
-        self.view.write_char(c)
+        self.view.write_char(c)?;
+        Ok(())
     }
 
     // Asks for the hint of a line that lost so many printable characters at its end, and clears them, or draws all again.

@@ -1,13 +1,11 @@
 //! Reads keys, and gives the commands that they stand for.
-ghost use Rattle.line_editor.specs.Reads.{ReadsWhole};
-ghost use Rattle.std.specs.Prelude.{◌≡◌, ◌↔◌, [], Option, false, IfOk, IsTrue};
+ghost use Rattle.std.specs.Prelude.{◌≡◌, ◌↔◌, Option, false, IfOk, OnOk, OnErr, IsTrue};
 ghost use Rattle.line_config.specs.Error.{MemoryOnly};
 ghost use Rattle.line_editor.specs.Binding.{bound_of};
-ghost use Rattle.line_editor.specs.Input.{Input, first_input, is_vi_command};
-ghost use Rattle.line_editor.specs.InputState.{input_of, keys_of, read_input, told_input};
+ghost use Rattle.line_editor.specs.Input.{first_input, is_vi_command};
+ghost use Rattle.line_editor.specs.InputState.{input_of, keys_of, read_input};
 ghost use Rattle.line_editor.specs.Reading.{ReadsCommand};
 ghost use Rattle.line_keys.specs.Command.{command_of};
-ghost use Rattle.line_keys.specs.Drawing.{DrewNothing};
 
 mod bound_keys;
 mod counts;
@@ -15,6 +13,7 @@ mod motions;
 mod phrases;
 mod sequences;
 mod tails;
+mod typed;
 
 use crate::binding::ConditionalEventHandler;
 use crate::bindings::Bindings;
@@ -25,7 +24,6 @@ use line_keys::editor_state::EditorState;
 use line_keys::raw_reader::RawReader;
 use line_keys::refresher::{InputMode, Refresher};
 use phrases::Read;
-use std::alloc::Global;
 
 /// Reads keys as commands, by the program's bindings, the reader's own and the tables, and remembers what the next
 /// commands depend on.
@@ -91,79 +89,30 @@ impl<'b> InputState<'b> {
             ReadsCommand W.EditorState R.RawReader (λ command draft. draft) result
             wrt.old (k self.old) rdr.old wrt.new (k self.new) rdr.new }
     {
-        let told = self.read_command(rdr, wrt, single_esc_abort)?;
-        Ok(self.remember(told))
-    }
-
-    /// Reads the keys of one phrase as `next_cmd` does, and remembers nothing yet.
-    #[inline(always)]
-    pub(crate) fn read_command<R: RawReader, W: Refresher>(
-        &self,
-        rdr: &mut R,
-        wrt: &mut W,
-        single_esc_abort: bool,
-    ) -> Result<Told>
-        ensures part { ReadsWhole W.EditorState R.RawReader result wrt.old rdr.old wrt.new rdr.new
-            (keys_of ⟦<dyn ConditionalEventHandler as ConditionalEventHandler>⟧ self.now) }
-        ensures dry { let e = W.EditorState in R.rest rdr.old ≡ []
-            → (e.draft wrt.new ≡ e.draft wrt.old) × DrewNothing e wrt.old wrt.new }
-    {
         let first = rdr.next_key(single_esc_abort && self.is_emacs_mode())?;
         let read = self.read_phrase(rdr, wrt, first)?;
-        Told::new(self.bindings.alloc(), read)
+        self.remember(read)
     }
 
-    /// Remembers what was read of a phrase, and returns its command.
+    /// Remembers what was read of a phrase, and returns its command. A command that becomes the last change is copied.
+    ///
+    /// # Errors
+    /// That memory ran out. Then nothing is remembered.
     #[inline(always)]
-    pub(crate) fn remember(&mut self, told: Told) -> Cmd
-        ensures command { command_of result ≡ command_of told.command }
+    pub(crate) fn remember(&mut self, read: Read) -> Result<Cmd>
+        ensures command { IfOk result (λ c. command_of c ≡ command_of read.command) }
         ensures keys { let k = keys_of ⟦<dyn ConditionalEventHandler as ConditionalEventHandler>⟧ in
-            k self.new ≡ record (k self.old) { input = told_input told (input_of self.old) } }
-    {
-        let Told {
-            command,
-            input_mode,
-            last_cmd,
-            last_char_search,
-        } = told;
-        self.input_mode = input_mode;
-        if let Some(change) = last_cmd {
-            self.last_cmd = Some(change);
-        }
-        self.last_char_search = last_char_search;
-        command
-    }
-}
-
-/// What was read of a phrase, and what is to be remembered of it.
-#[derive(Drop)]
-pub(crate) struct Told {
-    /// The command.
-    pub(crate) command: Cmd,
-    input_mode: InputMode,
-    last_cmd: Option<Cmd>,
-    last_char_search: Option<CharSearch>,
-}
-
-impl Told {
-    // Returns what is to be remembered of what was read: a command that becomes the last change is copied.
-    #[inline(always)]
-    fn new(alloc: Global, read: Read) -> Result<Told>
-        ensures command { IfOk result (λ t. command_of t.command ≡ command_of read.command) }
-        ensures input { (input : Input)
-            → IfOk result (λ t. told_input t input ≡ read_input read input) }
+            OnOk result (k self.new
+            ≡ record (k self.old) { input = read_input read (input_of self.old) }) }
+        ensures err { let k = keys_of ⟦<dyn ConditionalEventHandler as ConditionalEventHandler>⟧ in
+            OnErr result (k self.new ≡ k self.old) }
         ensures memory { MemoryOnly result }
     {
-        let last_cmd = if read.is_change {
-            Some(read.command.clone(alloc)?)
-        } else {
-            None
-        };
-        Ok(Told {
-            command: read.command,
-            input_mode: read.input_mode,
-            last_cmd,
-            last_char_search: read.last_char_search,
-        })
+        if read.is_change {
+            self.last_cmd = Some(read.command.clone(self.bindings.alloc())?);
+        }
+        self.input_mode = read.input_mode;
+        self.last_char_search = read.last_char_search;
+        Ok(read.command)
     }
 }

@@ -1,6 +1,7 @@
 //! Reads commands and executes them, until the line is submitted or the input ends.
 ghost use Rattle.std.specs.Prelude.{◌≡◌};
 ghost use Rattle.line_editor.specs.InputState.{keys_of};
+ghost use Rattle.line_editor.specs.Reading.{BeforeKey};
 ghost use Rattle.line_editor.specs.Run.{kills_before};
 ghost use Rattle.line_editor.specs.Outcomes.{Advances, Runs, session};
 ghost use Rattle.line_keys.specs.Command.{command_of};
@@ -13,6 +14,7 @@ use line_buffer::KillRing;
 use line_config::{Config, Prompt, ReadlineError, Result};
 use line_keys::cmd::Cmd;
 use line_keys::editor_state::EditorState;
+use line_keys::keys::KeyEvent;
 use line_keys::raw_reader::RawReader;
 use line_keys::refresher::Refresher;
 use line_parts::{Helper, History};
@@ -69,7 +71,37 @@ pub fn advance<'out, 'prompt, W: Renderer, H: Helper, P: Prompt, S: History>(
         (session state.new (k input_state.new) rdr.new kill_ring.new) }
     ensures ring { kill_ring.new.size ≡ kill_ring.old.size }
 {
-    let command = match state.next_cmd(input_state, rdr, false) {
+    let first = match rdr.next_key(false) {
+        Ok(first) => first,
+        Err(ReadlineError::Eof) => return Ok(Turned::NeedsMore),
+        Err(error) => return Err(error),
+    };
+    let Some(c) = input_state.typed_by(rdr, first) else {
+        return advance_from(first, state, input_state, rdr, kill_ring, config);
+    };
+    kill_ring.reset();
+    state.edit_insert(c, 1)?;
+    Ok(Turned::Proceeds)
+}
+
+// Takes a turn whose first key was read.
+fn advance_from<'out, 'prompt, W: Renderer, H: Helper, P: Prompt, S: History>(
+    first: KeyEvent,
+    state: &mut State<'out, 'prompt, W, H, P, S>,
+    input_state: &mut InputState<'_>,
+    rdr: &mut W::Reader,
+    kill_ring: &mut KillRing,
+    config: &Config,
+) -> Result<Turned>
+    ensures advances { let k = keys_of ⟦<dyn ConditionalEventHandler as ConditionalEventHandler>⟧ in
+        BeforeKey W.Reader.RawReader first rdr.old (λ reader.
+        Advances ⟦<State<'out, 'prompt, W, H, P, S> as EditorState>⟧ W.Reader.RawReader
+        config.now.indent_size result
+        (session state.old (k input_state.old) reader kill_ring.old)
+        (session state.new (k input_state.new) rdr.new kill_ring.new)) }
+    ensures ring { kill_ring.new.size ≡ kill_ring.old.size }
+{
+    let command = match state.cmd_from(input_state, rdr, first) {
         Ok(command) => command,
         Err(ReadlineError::Eof) => return Ok(Turned::NeedsMore),
         Err(error) => return Err(error),

@@ -3,7 +3,7 @@ ghost use Rattle.std.specs.Prelude.{◌≡◌, OnOk};
 ghost use Rattle.line_config.specs.Error.{MemoryOnly};
 ghost use Rattle.line_editor.specs.Editor.{grouped};
 ghost use Rattle.line_editor.specs.InputState.{keys_of};
-ghost use Rattle.line_editor.specs.Reading.{ReadsCommand};
+ghost use Rattle.line_editor.specs.Reading.{BeforeKey, ReadsCommand};
 ghost use Rattle.line_keys.specs.Command.{command_of};
 ghost use Rattle.line_keys.specs.Draft.{KeepsLine, start_text};
 ghost use Rattle.line_keys.specs.Drawing.{Undrawn};
@@ -15,6 +15,7 @@ use crate::input_state::InputState;
 use line_config::{Prompt, Result};
 use line_keys::cmd::Cmd;
 use line_keys::editor_state::EditorState;
+use line_keys::keys::KeyEvent;
 use line_keys::raw_reader::RawReader;
 use line_keys::refresher::Refresher;
 use line_parts::{Helper, History};
@@ -46,9 +47,25 @@ impl<'out, 'prompt, W: Renderer, H: Helper, P: Prompt, S: History> State<
             ReadsCommand ⟦<Self as EditorState>⟧ W.Reader.RawReader grouped result
             self.old (k input_state.old) rdr.old self.new (k input_state.new) rdr.new }
     {
-        let told = input_state.read_command(rdr, self, single_esc_abort)?;
-        self.begin_group(&told.command)?;
-        Ok(input_state.remember(told))
+        let first = rdr.next_key(single_esc_abort && input_state.is_emacs_mode())?;
+        self.cmd_from(input_state, rdr, first)
+    }
+
+    // Reads the rest of the next command, whose first key was read.
+    pub(crate) fn cmd_from(
+        &mut self,
+        input_state: &mut InputState<'_>,
+        rdr: &mut W::Reader,
+        first: KeyEvent,
+    ) -> Result<Cmd>
+        ensures { let k = keys_of ⟦<dyn ConditionalEventHandler as ConditionalEventHandler>⟧ in
+            BeforeKey W.Reader.RawReader first rdr.old (λ reader.
+            ReadsCommand ⟦<Self as EditorState>⟧ W.Reader.RawReader grouped result
+            self.old (k input_state.old) reader self.new (k input_state.new) rdr.new) }
+    {
+        let read = input_state.read_phrase(rdr, self, first)?;
+        self.begin_group(&read.command)?;
+        input_state.remember(read)
     }
 
     // Begins a group of changes for a replacement.

@@ -1,11 +1,11 @@
 //! The commands that bindings give: those of the program, and those of the reader.
-ghost use Rattle.std.specs.Prelude.{◌≡◌, Option, false, option_map, IfOk};
+ghost use Rattle.std.specs.Prelude.{◌≡◌, Option, Some, false, option_map, IfOk};
 ghost use Rattle.line_config.specs.Error.{FaultsOnly, IoOnlyIf};
 ghost use Rattle.line_editor.specs.Binding.{all_sure, handled};
 ghost use Rattle.line_editor.specs.Event.{chord_of, keys};
 ghost use Rattle.line_editor.specs.Input.{in_mode};
 ghost use Rattle.line_editor.specs.InputState.{input_of, keys_of};
-ghost use Rattle.line_editor.specs.Keymap.{bound_command, keymap_of, on_line};
+ghost use Rattle.line_editor.specs.Keymap.{bound_command, key_handler, keymap_of, on_line};
 ghost use Rattle.line_editor.specs.Moment.{moment_in, moment_of};
 ghost use Rattle.line_keys.specs.Command.{Command, command_of};
 ghost use Rattle.line_keys.specs.declared.keys.KeyEvent.{KeyEvent};
@@ -41,9 +41,33 @@ impl InputState<'_> {
             IoOnlyIf result (all_sure (k self.now).bound ≡ false) }
         ensures faults { FaultsOnly result }
     {
-        let Some(handler) = self.bindings.of_key(key) else {
-            return Ok(None);
-        };
+        match self.bindings.of_key(key) {
+            Some(handler) => self.bound(wrt, mode, handler, key, typed),
+            None => Ok(None),
+        }
+    }
+
+    // Returns the command that the handler of a key gives it, done again where it can be.
+    #[inline(never)]
+    fn bound<W: Refresher>(
+        &self,
+        wrt: &W,
+        mode: InputMode,
+        handler: &EventHandler,
+        key: KeyEvent,
+        typed: Option<Count>,
+    ) -> Result<Option<Cmd>>
+        requires { let g = ⟦<dyn ConditionalEventHandler as ConditionalEventHandler>⟧ in
+            key_handler (keys_of g self.now).bound key ≡ Some (handled g handler.now) }
+        ensures command { let k =
+            keys_of ⟦<dyn ConditionalEventHandler as ConditionalEventHandler>⟧ in
+            (own : KeyEvent → Option Command) → IfOk result (λ c. option_map command_of c
+            ≡ bound_command (keymap_of (k self.now) own) (W.draft wrt.now)
+            (in_mode mode (input_of self.now)) typed key) }
+        ensures io { let g = ⟦<dyn ConditionalEventHandler as ConditionalEventHandler>⟧ in
+            IoOnlyIf result ((handled g handler.now).sure ≡ false) }
+        ensures faults { FaultsOnly result }
+    {
         let count = self.handed(mode, typed);
         match self.answer(wrt, mode, handler, &[key], count)? {
             Some(command) => Ok(Some(command.redo(self.new_count(typed), wrt)?)),

@@ -12,7 +12,8 @@ ghost use Rattle.line_keys.specs.Row.{motion_value};
 
 use crate::binding::ConditionalEventHandler;
 use crate::input_state::InputState;
-use crate::input_state::tails::{Behind, opposite_of, place_of};
+use crate::input_state::phrases::Read;
+use crate::input_state::tails::{opposite_of, place_of};
 use line_buffer::{Movement, RepeatCount};
 use line_config::{EditMode, Result};
 use line_keys::cmd::Cmd;
@@ -31,7 +32,7 @@ impl InputState<'_> {
         wrt: &mut W,
         operator: Operator,
         n: RepeatCount,
-    ) -> Result<Behind>
+    ) -> Result<Read>
         ensures { ReadsMotion W.EditorState R.RawReader operator n [] result
             wrt.old rdr.old wrt.new rdr.new
             (keys_of ⟦<dyn ConditionalEventHandler as ConditionalEventHandler>⟧ self.now) }
@@ -48,7 +49,7 @@ impl InputState<'_> {
         operator: Operator,
         n: RepeatCount,
         first: KeyEvent,
-    ) -> Result<Behind>
+    ) -> Result<Read>
         ensures { ReadsMotion W.EditorState R.RawReader operator n (key first ∷ []) result
             wrt.old rdr.old wrt.new rdr.new
             (keys_of ⟦<dyn ConditionalEventHandler as ConditionalEventHandler>⟧ self.now) }
@@ -62,7 +63,7 @@ impl InputState<'_> {
     }
 
     // Reads what belongs to the key of a motion, and returns the operator's command.
-    fn reach<R: RawReader>(&self, rdr: &mut R, operator: Operator, motion: Motion) -> Result<Behind>
+    fn reach<R: RawReader>(&self, rdr: &mut R, operator: Operator, motion: Motion) -> Result<Read>
         ensures reads { let k =
             keys_of ⟦<dyn ConditionalEventHandler as ConditionalEventHandler>⟧ self.now in
             (draft : Draft) (i : Input) → i.last_search ≡ k.input.last_search →
@@ -80,9 +81,9 @@ impl InputState<'_> {
             Motion::Covers(movement) => Ok(self.behind(operator.over(movement))),
             Motion::Search(n, kind) => {
                 let found = kind.of_key(rdr.next_key(false)?);
-                Ok(Behind {
-                    command: over_if(operator, place_of(found, n)),
-                    search: found.or(last),
+                Ok(Read {
+                    last_char_search: found.or(last),
+                    ..self.behind(over_if(operator, place_of(found, n)))
                 })
             }
             Motion::SearchAgain(n) => Ok(self.behind(over_if(operator, place_of(last, n)))),

@@ -17,7 +17,6 @@ ghost use Rattle.line_keys.specs.declared.keys.KeyEvent.{KeyEvent};
 use crate::binding::ConditionalEventHandler;
 use crate::input_state::InputState;
 use crate::input_state::bound_keys::own_command;
-use crate::input_state::tails::Behind;
 use line_buffer::CharSearch;
 use line_config::{EditMode, Result};
 use line_keys::cmd::Cmd;
@@ -124,7 +123,7 @@ impl InputState<'_> {
 
     // Reads what belongs to a key of a mode, under the count that was typed.
     //
-    // The way of a key: `State::next_cmd` hands the state in as `wrt`. The program's bindings are asked first, then the
+    // The way of a key: `State::cmd_from` hands the state in as `wrt`; a plain character that is typed does not come here. The program's bindings are asked first, then the
     // reader's own, and then the tables of `line_keys`. A table gives a meaning, which says what else is to be read, and
     // `read_tail` reads it. The command goes back through `State::next_cmd` to `execute`, which finds the edit that it names.
     #[inline(always)]
@@ -153,9 +152,10 @@ impl InputState<'_> {
             group,
         } = entry_of_key(self.mode, mode, key, typed, wrt);
         let count = typed.unwrap_or(Count::one());
-        let behind = self.read_tail(rdr, wrt, mode, key, count, meaning)?;
+        let mut read = self.read_tail(rdr, wrt, mode, key, count, meaning)?;
         change_group(wrt, group)?;
-        Ok(self.listed(mode, enters, behind))
+        self.set_remembered(mode, enters, &mut read);
+        Ok(read)
     }
 
     // Returns what a command of the bindings or of the reader is read as: it leaves the mode, the last change and the search.
@@ -172,24 +172,24 @@ impl InputState<'_> {
         }
     }
 
-    // Returns what a command of the tables is read as, whose key may enter a mode. In Emacs nothing is remembered.
+    // Sets what is remembered of a command of the tables: in Vi the mode that its key enters and whether it becomes the last
+    // change, in Emacs nothing.
     #[inline(always)]
-    fn listed(&self, mode: InputMode, enters: Option<InputMode>, behind: Behind) -> Read
-        ensures command { command_of result.command ≡ command_of behind.command }
-        ensures input { let i = input_of self.now in let command = command_of behind.command in
-            read_input result i
-            ≡ remembered_behind i.style enters (in_mode mode i) command behind.search }
+    fn set_remembered(&self, mode: InputMode, enters: Option<InputMode>, read: &mut Read)
+        ensures command { command_of read.new.command ≡ command_of read.old.command }
+        ensures input { let i = input_of self.now in let command = command_of read.old.command in
+            read_input read.new i ≡ remembered_behind i.style enters (in_mode mode i) command
+            read.old.last_char_search }
     {
         match self.mode {
-            EditMode::Emacs => self.at_once(mode, behind.command),
+            EditMode::Emacs => {
+                read.input_mode = mode;
+                read.is_change = false;
+                read.last_char_search = self.last_char_search;
+            }
             EditMode::Vi => {
-                let is_change = behind.command.becomes_change(mode, &self.last_cmd);
-                Read {
-                    command: behind.command,
-                    input_mode: enters.unwrap_or(mode),
-                    is_change,
-                    last_char_search: behind.search,
-                }
+                read.input_mode = enters.unwrap_or(mode);
+                read.is_change = read.command.becomes_change(mode, &self.last_cmd);
             }
         }
     }

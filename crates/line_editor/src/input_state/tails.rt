@@ -16,6 +16,7 @@ ghost use Rattle.line_keys.specs.declared.keys.KeyEvent.{KeyEvent};
 
 use crate::binding::ConditionalEventHandler;
 use crate::input_state::InputState;
+use crate::input_state::phrases::Read;
 use crate::input_state::sequences::Sequence;
 use line_buffer::{CharSearch, Movement, RepeatCount};
 use line_config::Result;
@@ -26,13 +27,6 @@ use line_keys::keys::KeyEvent;
 use line_keys::raw_reader::RawReader;
 use line_keys::refresher::{InputMode, Refresher};
 use line_keys::tables::{Meaning, replaced_by, second_key};
-
-/// A command that was read, and the last search behind it.
-#[derive(Drop)]
-pub(crate) struct Behind {
-    pub(crate) command: Cmd,
-    pub(crate) search: Option<CharSearch>,
-}
 
 impl InputState<'_> {
     /// Reads what belongs to a key of a mode, which has this meaning, under the count that the tables took.
@@ -45,19 +39,20 @@ impl InputState<'_> {
         key: KeyEvent,
         count: Count,
         meaning: Meaning,
-    ) -> Result<Behind>
+    ) -> Result<Read>
         ensures { ReadsTail W.EditorState R.RawReader mode key count (meaning_of meaning) result
             wrt.old rdr.old wrt.new rdr.new
             (keys_of ⟦<dyn ConditionalEventHandler as ConditionalEventHandler>⟧ self.now) }
     {
         match meaning {
+            Meaning::Command(command) => Ok(self.behind(command)),
             Meaning::Operator(operator, n) => self.read_motion(rdr, wrt, operator, n),
             meaning => self.read_quietly(rdr, wrt, mode, key, count, meaning),
         }
     }
 
     // Reads what belongs to a key where nothing is drawn meanwhile: it is no operator's.
-    #[inline(always)]
+    #[inline(never)]
     fn read_quietly<R: RawReader, W: Refresher>(
         &self,
         rdr: &mut R,
@@ -66,7 +61,7 @@ impl InputState<'_> {
         key: KeyEvent,
         count: Count,
         meaning: Meaning,
-    ) -> Result<Behind>
+    ) -> Result<Read>
         requires { is_operation (meaning_of meaning) ≡ false }
         ensures reads { FindsTail W.EditorState R.RawReader
             (λ b. command_of b.command) (λ b i. behind_input b i)
@@ -84,9 +79,9 @@ impl InputState<'_> {
             Meaning::Command(command) => Ok(self.behind(command)),
             Meaning::Search(n, kind) => {
                 let found = kind.of_key(rdr.next_key(false)?);
-                Ok(Behind {
-                    command: move_or(Cmd::Unknown, place_of(found, n)),
-                    search: found.or(last),
+                Ok(Read {
+                    last_char_search: found.or(last),
+                    ..self.behind(move_or(Cmd::Unknown, place_of(found, n)))
                 })
             }
             Meaning::SearchAgain(n) => Ok(self.behind(move_or(Cmd::Noop, place_of(last, n)))),
@@ -157,15 +152,17 @@ impl InputState<'_> {
         }
     }
 
-    /// Returns a command behind which the last search is as it was.
+    /// Returns a command with the last search as it was. The mode and whether it is a change are set by `set_remembered`.
     #[inline(always)]
-    pub(crate) fn behind(&self, command: Cmd) -> Behind
+    pub(crate) fn behind(&self, command: Cmd) -> Read
         ensures command { command_of result.command ≡ command_of command }
-        ensures search { result.search ≡ (input_of self.now).last_search }
+        ensures search { result.last_char_search ≡ (input_of self.now).last_search }
     {
-        Behind {
+        Read {
             command,
-            search: self.last_char_search,
+            input_mode: self.input_mode,
+            is_change: false,
+            last_char_search: self.last_char_search,
         }
     }
 

@@ -20,7 +20,7 @@ returns-in-Covers-clause-reads g c = λ draft i same.
 
 pub returns-in_ok-next_key-in-Search-clause-reads : goal.returns-in_ok-next_key-in-Search-clause-reads
 returns-in_ok-next_key-in-Search-clause-reads g c = λ draft i same.
-    rw c.in-Search.is (motion_read _ _ _ _ _ _ _ _ c.in_ok-next_key-in-Search.field-0 _ _ _ _ c.in_ok-next_key-in-Search.ensures.took c.of_key-found.ensures c.place_of.ensures c.over_if.ensures
+    rw c.in-Search.is (motion_read _ _ _ _ _ _ _ _ c.in_ok-next_key-in-Search.field-0 _ _ _ _ c.in_ok-next_key-in-Search.ensures.took c.of_key-found.ensures c.place_of.ensures (c.behind-in-Search.ensures.command ∙ c.over_if.ensures)
     (c.or.ensures ∙ ap (λ x. option_or c.of_key-found.result x) (sym same)))
 
 pub returns-in-SearchAgain-clause-reads : goal.returns-in-SearchAgain-clause-reads

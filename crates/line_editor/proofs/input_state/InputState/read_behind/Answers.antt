@@ -39,16 +39,16 @@ returns-in-Some-own_command g c =
     (λ (x : Read). command_of x.command) (λ x. read_input x k.input) _ i c.args.wrt.now k c.args.rdr.now
     (rw c.at_once-in-Some-own_command.ensures.command (own-read keymap environment draft i c.args.typed c.args.key _ unbound c.in-Some-own_command.ensures)) c.at_once-in-Some-own_command.ensures.input
 
-pub returns-in_err-behind : goal.returns-in_err-behind
-returns-in_err-behind g c =
+pub returns-in_err-read : goal.returns-in_err-read
+returns-in_err-read g c =
     let k = keys_of (λ v. (g.dyn-1.0.entry v).1) c.args.self.now in
     let i = in_mode c.args.mode (input_of c.args.self.now) in
     let own = g.R.RawReader.own_binding c.args.rdr.now in
     let unbound = ap (λ o. option_map command_of o) (sym c.in_default.is) ∙ c.in_ok-command.ensures.command own in
     let counted = c.unwrap_or-count.ensures ∙ ap (λ n. unwrap_or c.args.typed n) c.one.ensures in
-    let p = err_from_is_err_and c.from_residual-in_err-behind.result c.from_residual-in_err-behind.ensures.1 in
+    let p = err_from_is_err_and c.from_residual-in_err-read.result c.from_residual-in_err-read.ensures.1 in
     rw (p.1, p.2) (row_fails g.W.EditorState g.R.RawReader c.args.wrt.now k c.args.rdr.now i c.args.key c.args.typed _ (entry_value c.entry_of_key-meaning.result) unbound c.in_default-own_command.ensures (sym c.requires) c.entry_of_key-meaning.ensures counted
-    (λ (x : Read). command_of x.command) (λ x. read_input x k.input) _ _ _ c.in_err-behind.ensures)
+    (λ (x : Read). command_of x.command) (λ x. read_input x k.input) _ _ _ c.in_err-read.ensures)
 
 pub returns : goal.returns
 returns g c =
@@ -59,7 +59,7 @@ returns g c =
     let counted = c.unwrap_or-count.ensures ∙ ap (λ n. unwrap_or c.args.typed n) c.one.ensures in
     let group = c.in_ok-change_group.ensures in
     row_read g.W.EditorState g.R.RawReader c.args.wrt.now k c.args.rdr.now i c.args.key c.args.typed _ (entry_value c.entry_of_key-meaning.result) unbound c.in_default-own_command.ensures (sym c.requires) c.entry_of_key-meaning.ensures counted
-    (λ (x : Read). command_of x.command) (λ x. read_input x k.input) _ _ _ _ _ c.in_ok-behind.ensures group.draft group.line.0 group.line.1 group.start group.undrawn c.listed.ensures.command c.listed.ensures.input
+    (λ (x : Read). command_of x.command) (λ x. read_input x k.input) _ _ _ _ _ c.in_ok-read.ensures group.draft group.line.0 group.line.1 group.start group.undrawn c.set_remembered.ensures.command c.set_remembered.ensures.input
 
 pub returns-in_err-command : goal.returns-in_err-command
 returns-in_err-command g c =
@@ -83,4 +83,4 @@ returns-in_err-change_group g c =
     let group = c.in_err-change_group.ensures in
     let p = err_from_is_err_and c.from_residual-in_err-change_group.result c.from_residual-in_err-change_group.ensures.1 in
     rw (p.1, p.2) (row_memory g.W.EditorState g.R.RawReader c.args.wrt.now k c.args.rdr.now i c.args.key c.args.typed _ (entry_value c.entry_of_key-meaning.result) unbound c.in_default-own_command.ensures (sym c.requires) c.entry_of_key-meaning.ensures counted
-    (λ (x : Read). command_of x.command) (λ x. read_input x k.input) _ _ _ _ _ group.memory group.undrawn group.line.0 c.in_ok-behind.ensures)
+    (λ (x : Read). command_of x.command) (λ x. read_input x k.input) _ _ _ _ _ group.memory group.undrawn group.line.0 c.in_ok-read.ensures)

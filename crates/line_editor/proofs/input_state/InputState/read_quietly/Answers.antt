@@ -40,7 +40,7 @@ returns-in-Command-clause-reads g c =
 
 pub returns-in_ok-next_key-in-Search-clause-reads : goal.returns-in_ok-next_key-in-Search-clause-reads
 returns-in_ok-next_key-in-Search-clause-reads g c =
-    rw c.in-Search.is (search_read _ _ _ _ _ _ _ _ _ _ c.in_ok-next_key-in-Search.field-0 _ _ _ _ c.in_ok-next_key-in-Search.ensures.took c.of_key-found.ensures c.place_of.ensures c.move_or.ensures c.or.ensures)
+    rw c.in-Search.is (search_read _ _ _ _ _ _ _ _ _ _ c.in_ok-next_key-in-Search.field-0 _ _ _ _ c.in_ok-next_key-in-Search.ensures.took c.of_key-found.ensures c.place_of.ensures (c.behind-in-Search.ensures.command ∙ c.move_or.ensures) c.or.ensures)
 
 pub returns-in-SearchAgain-clause-reads : goal.returns-in-SearchAgain-clause-reads
 returns-in-SearchAgain-clause-reads g c =
