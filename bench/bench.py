@@ -1,12 +1,15 @@
 #!/usr/bin/env python3
-"""Measures the native replay program: nanoseconds a key, at several lengths of the line.
+"""Measures the native replay program: what a key costs, at several lengths of the line and on short lines.
 
-Each workload runs two scripts, the setup alone and the setup with the keys, in turn. The difference of their CPU times over the
-number of keys is the time of a key, so that starting, reading the script and the setup don't count. The median of several rounds is
-printed, and beside it the growth from the length before.
+Each workload runs two scripts, the setup alone and the setup with the keys, in turn. The difference of what they cost over the
+number of keys is the cost of a key, so that starting, reading the script and the setup don't count. It is counted in nanoseconds
+of processor time, or in the instructions that callgrind counts. The median of several rounds is printed, and beside it the growth
+from the length before.
 """
 import argparse
 import os
+import re
+import shutil
 import statistics
 import subprocess
 import sys
@@ -114,6 +117,50 @@ def wide(length, keys):
     return in_the_middle(text_of(length, WIDE)), *repeated(EDITS, keys // 20)
 
 
+def typed_lines(keys):
+    return ['columns 100'], *repeated(['type ' + text_of(80), 'key C-u'], keys)
+
+
+def killed_words(keys):
+    lines = ['type one two three', 'key M-Backspace', 'key C-y', 'key C-a', 'key M-d', 'key C-e', 'key C-y', 'key M-y', 'key C-a',
+             'key C-k', 'key C-y', 'key C-u']
+    return ['columns 100'], *repeated(lines, keys)
+
+
+def vi_commands(keys):
+    lines = ['type ccone two three four five six seven', 'key Esc', 'type 02dw.2w3x.0fe;D02x', 'type cwnew', 'key Esc', 'type P2.0']
+    return ['mode vi', 'key Esc'], *repeated(lines, keys)
+
+
+def wide_lines(keys):
+    lines = ['type 漢字かな混じり文é👍größe', 'key Left', 'key Left', 'key Delete', 'type 字', 'key C-a', 'key C-f', 'key C-f',
+             'key C-t', 'key C-e', 'key Backspace', 'key M-Backspace', 'key C-u']
+    return [], *repeated(lines, keys)
+
+
+def entries(count):
+    """Lines of the history, no two of them alike."""
+    return [f'history command number {number} --flag {number * 7919 % 1000}' for number in range(count)]
+
+
+def added_entries(keys):
+    count = max(10, keys // 2)
+    return [], entries(count), count
+
+
+def walked_entries(keys):
+    return entries(10000), *repeated(['key Up'] * 90 + ['key Down'] * 90, keys)
+
+
+SHORT = [
+    ('short typing', typed_lines, 'a line of 80 characters, typed and killed'),
+    ('short killing', killed_words, 'words killed and yanked'),
+    ('short vi', vi_commands, 'commands of the Vi style'),
+    ('short wide', wide_lines, 'wide characters and letters past ASCII'),
+    ('adding', added_entries, 'entries of the history, each a line of the script'),
+    ('walking', walked_entries, 'entries of a full history, one by one'),
+]
+
 WORKLOADS = [
     ('typing', typing, 'characters and Backspace at the end of a line'),
     ('typing lines', typing_lines, 'characters and newlines at the end of many lines'),
@@ -139,18 +186,33 @@ def run(program, script):
     return used.ru_utime + used.ru_stime
 
 
-def measure(program, folder, workload, length, keys, rounds):
-    """Nanoseconds a key."""
-    setup, work, count = workload(length, keys)
+def instructions(program, script):
+    """The instructions of one run of a script."""
+    command = ['valgrind', '--tool=callgrind', '--callgrind-out-file=/dev/null', program]
+    done = subprocess.run(command, stdin=open(script, 'rb'), stdout=subprocess.DEVNULL, stderr=subprocess.PIPE)
+    found = re.search(rb'Collected : (\d+)', done.stderr)
+    if not found:
+        sys.exit('valgrind could not count: ' + done.stderr.decode(errors='replace'))
+    return int(found.group(1))
+
+
+def nanoseconds(program, script):
+    """The nanoseconds of processor time of one run of a script."""
+    return run(program, script) * 1e9
+
+
+def measure(program, folder, scripts, cost, rounds):
+    """What a key costs."""
+    setup, work, count = scripts
     paths = [os.path.join(folder, name) for name in ('setup', 'whole')]
     for path, lines in zip(paths, (setup, setup + work)):
         with open(path, 'w', encoding='utf-8') as script:
             script.write(''.join(line + '\n' for line in lines))
-    times = []
+    costs = []
     for _ in range(rounds):
-        before, after = (run(program, path) for path in paths)
-        times.append((after - before) / count * 1e9)
-    return statistics.median(times)
+        before, after = (cost(program, path) for path in paths)
+        costs.append((after - before) / count)
+    return statistics.median(costs)
 
 
 def build():
@@ -167,23 +229,36 @@ def main():
     arguments.add_argument('--lengths', default='1000,10000,100000', help='the lengths in bytes, separated by commas')
     arguments.add_argument('--keys', type=int, default=20000, help='from this the number of keys of each script comes')
     arguments.add_argument('--rounds', type=int, default=5)
+    arguments.add_argument('--clock', choices=['time', 'instructions'], default='time',
+                           help='instructions: those that callgrind counts, in one round, since each is the same (needs valgrind)')
     options = arguments.parse_args()
+    if options.clock == 'instructions' and not shutil.which('valgrind'):
+        sys.exit('valgrind is missing')
     if not options.program:
         build()
     program = options.program or PROGRAM
     lengths = [int(length) for length in options.lengths.split(',')]
-    print(f'{"ns a key":14}' + ''.join(f'{length:>12,}{"":8}' for length in lengths))
+    cost = instructions if options.clock == 'instructions' else nanoseconds
+    rounds = 1 if options.clock == 'instructions' else options.rounds
+    only = options.only.split(',') if options.only else None
+    unit = 'instructions' if options.clock == 'instructions' else 'ns'
+    print(f'{unit + " a key":20}' + ''.join(f'{length:>12,}{"":8}' for length in lengths))
     with tempfile.TemporaryDirectory() as folder:
         for name, workload, what in WORKLOADS:
-            if options.only and name not in options.only.split(','):
+            if only and name not in only:
                 continue
-            line, before = f'{name:14}', None
+            line, before = f'{name:20}', None
             for length in lengths:
-                time = measure(program, folder, workload, length, options.keys, options.rounds)
-                growth = f'x{time / before:.1f}' if before else ''
-                line += f'{time:>12,.0f}{growth:>8}'
-                before = time
+                spent = measure(program, folder, workload(length, options.keys), cost, rounds)
+                growth = f'x{spent / before:.1f}' if before else ''
+                line += f'{spent:>12,.0f}{growth:>8}'
+                before = spent
             print(f'{line}  {what}', flush=True)
+        for name, workload, what in SHORT:
+            if only and name not in only:
+                continue
+            spent = measure(program, folder, workload(options.keys), cost, rounds)
+            print(f'{name:20}{spent:>12,.0f}{"":8}  {what}', flush=True)
 
 
 if __name__ == '__main__':
