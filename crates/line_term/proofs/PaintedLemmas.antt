@@ -1,0 +1,46 @@
+-- The parts of a drawing are appended one after another.
+use Rattle.std.proofs.Common.{◌≡◌, ℕ, Bool, List, [], ◌++◌, Option, option_map, cond, refl, append_assoc}
+use Rattle.line_buffer.specs.declared.layout.Layout.{Layout}
+use Rattle.line_config.specs.declared.prompt.Prompt as prompts
+use Rattle.line_keys.specs.Display.{Measure, corner}
+use Rattle.line_parts.specs.declared.highlight.Highlighter as highlighters
+use Rattle.line_term.specs.Escape.{hold, move_bytes, release}
+use Rattle.line_term.specs.Painted.{AppendsSome, Draws, Handed, Painted, Paints, PaintsBehind, PaintsPrompt, Redraws, clear_drawn, drawing, wrap, wrap_behind}
+
+-- seven pieces one after another
+seven : (b₀ b₁ b₂ b₃ b₄ b₅ b₆ b₇ x₁ x₂ x₃ x₄ x₅ x₆ x₇ : List ℕ) → b₁ ≡ b₀ ++ x₁ → b₂ ≡ b₁ ++ x₂ → b₃ ≡ b₂ ++ x₃ → b₄ ≡ b₃ ++ x₄
+    → b₅ ≡ b₄ ++ x₅ → b₆ ≡ b₅ ++ x₆ → b₇ ≡ b₆ ++ x₇ → b₇ ≡ b₀ ++ (x₁ ++ x₂ ++ x₃ ++ x₄ ++ x₅ ++ x₆ ++ x₇)
+seven b₀ b₁ b₂ b₃ b₄ b₅ b₆ b₇ x₁ x₂ x₃ x₄ x₅ x₆ x₇ e₁ e₂ e₃ e₄ e₅ e₆ e₇ = rw (e₇, e₆, e₅, e₄, e₃, e₂, e₁) (simp append_assoc)
+
+module _ {P H : Type 0} (p : prompts.Ghosts P) (h : highlighters.Ghosts H) where
+  -- the parts, and what stands between them, are a drawing
+  pub draws : (measure : Measure) (handed : Handed P H) (b₀ b₁ b₂ b₃ b₄ b₅ b₆ b₇ : List ℕ)
+      → AppendsSome b₀ b₁ (PaintsPrompt (option_map (λ o s. h.own_prompt o s handed.layout.default_prompt) handed.highlighter) (p.raw_text handed.prompt) (p.own_style handed.prompt))
+      → b₂ ≡ b₁ ++ wrap measure (p.raw_text handed.prompt) corner
+      → AppendsSome b₂ b₃ (Paints (option_map (λ o. h.own_line o handed.line.text handed.line.cursor) handed.highlighter) handed.line.text)
+      → b₄ ≡ b₃ ++ wrap measure handed.line.text handed.layout.prompt_size
+      → AppendsSome b₄ b₅ (PaintsBehind (option_map h.own_hint handed.highlighter) handed.behind)
+      → b₆ ≡ b₅ ++ wrap_behind measure handed.behind (measure handed.line.text handed.layout.prompt_size)
+      → b₇ ≡ b₆ ++ move_bytes handed.layout.end handed.layout.cursor
+      → AppendsSome b₀ b₇ (Draws p h measure handed)
+  draws measure handed b₀ b₁ b₂ b₃ b₄ b₅ b₆ b₇ prompt e₂ line e₄ behind e₆ e₇ =
+      let painted : Painted = record { prompt = prompt.bytes; line = line.bytes; behind = behind.bytes } in
+      record {
+        bytes = drawing measure (p.raw_text handed.prompt) handed.line.text handed.behind handed.layout painted;
+        appended = seven b₀ b₁ b₂ b₃ b₄ b₅ b₆ b₇ prompt.bytes _ line.bytes _ behind.bytes _ _ prompt.appended e₂ line.appended e₄ behind.appended e₆ e₇;
+        holds = record { painted = painted; prompt = prompt.holds; line = line.holds; behind = behind.holds; whole = refl };
+      }
+
+  -- a drawing between what is cleared and what is asked for is a full redraw
+  pub redraws : (measure : Measure) (wanted : Bool) (old : Option Layout) (handed : Handed P H) (b₀ b₁ b₂ b₃ b₄ : List ℕ)
+      → b₁ ≡ b₀ ++ cond wanted hold [] → b₂ ≡ b₁ ++ clear_drawn old → AppendsSome b₂ b₃ (Draws p h measure handed)
+      → b₄ ≡ b₃ ++ cond wanted release [] → AppendsSome b₀ b₄ (Redraws p h measure wanted old handed)
+  redraws measure wanted old handed b₀ b₁ b₂ b₃ b₄ e₁ e₂ drawn e₄ = record {
+    bytes = cond wanted hold [] ++ (clear_drawn old ++ drawn.bytes) ++ cond wanted release [];
+    appended = four b₀ b₁ b₂ b₃ b₄ _ _ drawn.bytes _ e₁ e₂ drawn.appended e₄;
+    holds = record { drawn = drawn.bytes; draws = drawn.holds; whole = refl };
+  }
+    where
+      four : (b₀ b₁ b₂ b₃ b₄ x₁ x₂ x₃ x₄ : List ℕ) → b₁ ≡ b₀ ++ x₁ → b₂ ≡ b₁ ++ x₂ → b₃ ≡ b₂ ++ x₃ → b₄ ≡ b₃ ++ x₄
+          → b₄ ≡ b₀ ++ (x₁ ++ (x₂ ++ x₃) ++ x₄)
+      four b₀ b₁ b₂ b₃ b₄ x₁ x₂ x₃ x₄ e₁ e₂ e₃ e₄ = rw (e₄, e₃, e₂, e₁) (simp append_assoc)

@@ -1,0 +1,15 @@
+use Rattle.std.proofs.Common.{string_bytes}
+use Rattle.line_term.proofs.PaintedLemmas.{draws}
+use Rattle.line_term.proofs.ansi.Ansi.push_drawing.Goals as goal
+
+pub returns-clause-draws : goal.returns-clause-draws
+returns-clause-draws g c =
+    draws g.P.Prompt g.H.Highlighter _ _ _ (string_bytes c.push_prompt.new.bytes) (string_bytes c.push_wrap.new.bytes)
+    (string_bytes c.push_line.new.bytes) (string_bytes c.push_wrap-2.new.bytes) (string_bytes c.push_behind.new.bytes)
+    (string_bytes c.push_wrap_behind.new.bytes) _ (rw c.asked-highlighter.ensures at c.in_ok-push_prompt.ensures.appends)
+    (rw c.raw.ensures at c.in_ok-push_wrap.ensures.appends)
+    (rw c.asked-highlighter.ensures at c.in_ok-push_line.ensures.appends)
+    (rw c.as_str.ensures.value at c.in_ok-push_wrap-2.ensures.appends)
+    (rw c.asked-highlighter.ensures at c.in_ok-push_behind.ensures.appends)
+    (rw c.as_str-2.ensures.value at c.in_ok-push_wrap_behind.ensures.appends)
+    c.in_ok-push_move.ensures.appends

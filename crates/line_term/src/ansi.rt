@@ -1,0 +1,523 @@
+//! A screen that is drawn by writing bytes to a terminal.
+ghost use Rattle.std.specs.Prelude.{◌≡◌, nat_lt, ℕ, ◌<◌, ◌&&◌, ◌++◌, List, length, Bool, [], ◌∷◌, true, false, not, IfErr, IfOk, OnOk, OnErr, is_some, option_map, string_bytes, if◌then◌else◌};
+ghost use Rattle.std.specs.List.{list_all};
+ghost use Rattle.std.specs.Io.KnownBytes.{Appends};
+ghost use Rattle.line_config.specs.Error.{FaultsOnly, IsOneMore, MemoryOnly, is_io};
+ghost use Rattle.line_config.specs.Failures.{CountsFailures};
+ghost use Rattle.line_buffer.specs.Printable.{is_printable};
+ghost use Rattle.line_buffer.specs.declared.layout.GraphemeClusterMode.TheVariants.{Unicode};
+ghost use Rattle.line_keys.specs.Display.{uncounted};
+ghost use Rattle.line_state.specs.ScreenState.{Agrees, BeepsAtMost, DrawsNoLine, DrawsPart, EndsBehind, HasRoom, HoldsAtMost, Tries, WritesAtMost, shown_by, with_shown};
+ghost use Rattle.line_screen.specs.Measure.{measured};
+ghost use Rattle.line_screen.specs.Surroundings.{blank_screen};
+ghost use Rattle.line_term.specs.Drawn.{cleaned};
+ghost use Rattle.line_term.specs.Escape.{bell, clear_all, clear_from, clear_row, hold, move_bytes, next_line, paste_marked, paste_typed, release};
+ghost use Rattle.line_term.specs.Output.{Resizes, Sends, Writes, WritesAside, WritesPart, WritesSome, holds_back};
+ghost use Rattle.line_term.specs.Written.{AppendsFirst};
+ghost use Rattle.line_term.specs.Painted.{AppendsSome, Draws, Redraws, asked, fills_row, wrap, wrap_behind};
+
+use crate::drawn::push_cleaned;
+use crate::escape::push_move;
+use crate::output::Output;
+use crate::painted::{
+    asked, push_behind, push_clear, push_clear_from, push_if, push_line, push_prompt,
+};
+use crate::send::{counted, send};
+use crate::wrap::{push_wrap, push_wrap_behind};
+use line_buffer::{GraphemeClusterMode, Layout, LineBuffer, Position, Unit};
+use line_config::{Prompt, Result};
+use line_keys::raw_reader::RawReader;
+use line_parts::Highlighter;
+use line_screen::Plain;
+use line_state::{Renderer, ScreenState};
+use std::alloc::Global;
+use std::io::Write;
+
+const ORIGIN: Position = Position { row: 0, col: 0 };
+
+/// A terminal that understands the usual control sequences, drawn by writing to `O`. What is to be shown is kept as `Plain`
+/// keeps it, with its measure; each call writes what changes, in one piece, and flushes it. Behind a text that fills a row
+/// exactly a new row is begun, so that the cursor never waits at a row's end between two calls.
+#[derive(Drop)]
+pub struct Ansi<O: Write + Drop, R: RawReader> {
+    alloc: Global,
+    out: O,
+    shown: Plain<R>,
+    // The bytes of the call that is under way. Their memory is kept.
+    bytes: String,
+    colors: bool,
+    synchronized: bool,
+    // Whether the terminal was asked to hold back what is written.
+    held: bool,
+    redraws: u64,
+    failures: u64,
+}
+
+impl<O: Write + Drop, R: RawReader> ScreenState for Ansi<O, R> {
+    ghost use Rattle.line_keys.specs.Display.{uncounted};
+
+    ghost surface = { λ a. record (⟦<Plain<R> as ScreenState>⟧.surface a.shown) {
+      colors = a.colors;
+    } };
+
+    ghost screen = { λ a. ⟦<Plain<R> as ScreenState>⟧.screen a.shown };
+
+    ghost beside = { λ a. record uncounted { held = a.held } };
+
+    ghost redraws = { λ a. a.redraws };
+
+    ghost failures = { λ a. a.failures };
+}
+
+impl<O: Write + Drop, R: RawReader> Output for Ansi<O, R> {
+    ghost written = { λ a. O.contents a.out };
+
+    ghost synchronized = { λ a. a.synchronized };
+}
+
+impl<O: Write + Drop, R: RawReader> Ansi<O, R> {
+    /// Returns a terminal of so many columns, with nothing shown and the cursor at the first column of a row. `colors` says
+    /// whether highlighters are asked, and `synchronized` whether a full redraw is shown all at once.
+    pub fn new(alloc: Global, out: O, columns: Unit, colors: bool, synchronized: bool) -> Self
+        requires { 0 < columns }
+        ensures surface { ⟦<Self as ScreenState>⟧.surface result
+            ≡ record {
+              measure = measured columns;
+              columns = columns;
+              colors = colors;
+              mode = Unicode;
+            } }
+        ensures screen { ⟦<Self as ScreenState>⟧.screen result ≡ blank_screen }
+        ensures beside { ⟦<Self as ScreenState>⟧.beside result ≡ uncounted }
+        ensures redraws { ⟦<Self as ScreenState>⟧.redraws result ≡ 0 }
+        ensures failures { ⟦<Self as ScreenState>⟧.failures result ≡ 0 }
+        ensures written { ⟦<Self as Output>⟧.written result ≡ O.contents out }
+        ensures synchronized { ⟦<Self as Output>⟧.synchronized result ≡ synchronized }
+    {
+        Ansi {
+            alloc,
+            out,
+            shown: Plain::new(alloc, columns),
+            bytes: String::new(alloc),
+            colors,
+            synchronized,
+            held: false,
+            redraws: 0,
+            failures: 0,
+        }
+    }
+
+    /// Returns what is written to.
+    pub fn out(&self) -> &O
+        ensures { O.contents result.now ≡ ⟦<Self as Output>⟧.written self.now }
+    {
+        &self.out
+    }
+
+    /// Returns what is written to, and forgets what is shown.
+    pub fn into_out(self) -> O
+        ensures { O.contents result ≡ ⟦<Self as Output>⟧.written self }
+    {
+        let Ansi {
+            alloc: _,
+            out,
+            shown: _,
+            bytes: _,
+            colors: _,
+            synchronized: _,
+            held: _,
+            redraws: _,
+            failures: _,
+        } = self;
+        out
+    }
+
+    /// Gives the terminal another number of columns, and forgets what is shown. Nothing is written: a full redraw is to
+    /// follow.
+    pub fn resize(&mut self, columns: Unit)
+        requires { 0 < columns }
+        ensures { Resizes ⟦<Self as ScreenState>⟧ ⟦<Self as Output>⟧ self.old self.new columns }
+    {
+        self.shown = Plain::new(self.alloc, columns);
+    }
+
+    /// Asks the terminal to put marks round a text that is pasted.
+    ///
+    /// # Errors
+    /// `Io`, where the output fails. What is shown stays.
+    pub fn enable_bracketed_paste(&mut self) -> Result<()>
+        ensures writes { WritesPart ⟦<Self as ScreenState>⟧ ⟦<Self as Output>⟧ result
+            self.old self.new paste_marked }
+        ensures screen { ⟦<Self as ScreenState>⟧.screen self.new
+            ≡ ⟦<Self as ScreenState>⟧.screen self.old }
+    {
+        self.write("\x1b[?2004h")
+    }
+
+    /// Asks the terminal to hand on a pasted text as if it were typed.
+    ///
+    /// # Errors
+    /// `Io`, where the output fails. What is shown stays.
+    pub fn disable_bracketed_paste(&mut self) -> Result<()>
+        ensures writes { WritesPart ⟦<Self as ScreenState>⟧ ⟦<Self as Output>⟧ result
+            self.old self.new paste_typed }
+        ensures screen { ⟦<Self as ScreenState>⟧.screen self.new
+            ≡ ⟦<Self as ScreenState>⟧.screen self.old }
+    {
+        self.write("\x1b[?2004l")
+    }
+
+    /// Writes a control sequence.
+    fn write(&mut self, sequence: &str) -> Result<()>
+        ensures sends { Sends O.Write result self.old.out self.new.out
+            self.old.failures self.new.failures sequence.now }
+        ensures stays { self.new
+            ≡ record self.old { out = self.new.out; failures = self.new.failures } }
+    {
+        send(&mut self.out, sequence.as_bytes(), &mut self.failures)
+    }
+
+    /// Writes a control sequence where this is wanted.
+    fn write_if(&mut self, wanted: bool, sequence: &str) -> Result<()>
+        ensures sends { Sends O.Write result self.old.out self.new.out
+            self.old.failures self.new.failures (if wanted then sequence.now else []) }
+        ensures stays { self.new
+            ≡ record self.old { out = self.new.out; failures = self.new.failures } }
+    {
+        if wanted {
+            return self.write(sequence);
+        }
+        Ok(())
+    }
+
+    /// Writes the bytes of the call that is under way.
+    fn send(&mut self) -> Result<()>
+        ensures sends { Sends O.Write result self.old.out self.new.out
+            self.old.failures self.new.failures (string_bytes self.old.bytes) }
+        ensures stays { self.new
+            ≡ record self.old { out = self.new.out; failures = self.new.failures } }
+    {
+        send(&mut self.out, self.bytes.as_bytes(), &mut self.failures)
+    }
+
+    /// Appends the bytes of a full redraw.
+    fn push_redraw<P: Prompt, H: Highlighter>(
+        &mut self,
+        prompt: &P,
+        line: &LineBuffer,
+        hint: Option<&str>,
+        old_layout: Option<&Layout>,
+        new_layout: &Layout,
+        highlighter: Option<&H>,
+    ) -> Result<()>
+        ensures draws { OnOk result (AppendsSome (string_bytes self.old.bytes)
+            (string_bytes self.new.bytes) (Redraws P.Prompt H.Highlighter
+            (⟦<Self as ScreenState>⟧.surface self.old).measure
+            (self.old.synchronized && not self.old.held)
+            (option_map (λ l. l.now) old_layout.entry) (record {
+              prompt = prompt.now;
+              line = line.now;
+              behind = option_map (λ s. s.now) hint.entry;
+              layout = new_layout.now;
+              highlighter = asked self.old.colors (option_map (λ h. h.now) highlighter.entry);
+            }))) }
+        ensures stays { self.new ≡ record self.old { bytes = self.new.bytes } }
+        ensures faults { FaultsOnly result }
+    {
+        let at_once = self.holds_back();
+        push_if(&mut self.bytes, at_once, "\x1b[?2026h")?;
+        push_clear(&mut self.bytes, old_layout)?;
+        self.push_drawing(prompt, line, hint, new_layout, highlighter)?;
+        push_if(&mut self.bytes, at_once, "\x1b[?2026l")?;
+        Ok(())
+    }
+
+    /// Returns whether a full redraw is to be shown all at once, and the terminal does not hold back what is written.
+    fn holds_back(&self) -> bool
+        ensures { result ≡ self.now.synchronized && not self.now.held }
+    {
+        self.synchronized && !self.held
+    }
+
+    /// Appends the bytes of a drawing.
+    fn push_drawing<P: Prompt, H: Highlighter>(
+        &mut self,
+        prompt: &P,
+        line: &LineBuffer,
+        hint: Option<&str>,
+        layout: &Layout,
+        highlighter: Option<&H>,
+    ) -> Result<()>
+        ensures draws { OnOk result (AppendsSome (string_bytes self.old.bytes)
+            (string_bytes self.new.bytes) (Draws P.Prompt H.Highlighter
+            (⟦<Self as ScreenState>⟧.surface self.old).measure (record {
+              prompt = prompt.now;
+              line = line.now;
+              behind = option_map (λ s. s.now) hint.entry;
+              layout = layout.now;
+              highlighter = asked self.old.colors (option_map (λ h. h.now) highlighter.entry);
+            }))) }
+        ensures stays { self.new ≡ record self.old { bytes = self.new.bytes } }
+        ensures faults { FaultsOnly result }
+    {
+        let highlighter = asked(self.colors, highlighter);
+        let (bytes, alloc, screen) = (&mut self.bytes, self.alloc, &self.shown);
+        push_prompt(bytes, alloc, prompt, layout.default_prompt, highlighter)?;
+        push_wrap(bytes, alloc, screen, prompt.raw(), ORIGIN)?;
+        push_line(bytes, alloc, line, highlighter)?;
+        push_wrap(bytes, alloc, screen, line.as_str(), layout.prompt_size)?;
+        push_behind(bytes, alloc, hint, highlighter)?;
+        push_wrap_behind(
+            bytes,
+            alloc,
+            screen,
+            hint,
+            line.as_str(),
+            layout.prompt_size,
+        )?;
+        push_move(bytes, layout.end, layout.cursor)?;
+        Ok(())
+    }
+}
+
+impl<O: Write + Drop, R: RawReader> Renderer for Ansi<O, R> {
+    type Reader = R;
+
+    ghost use Rattle.line_screen.specs.MeasureLaws as laws;
+
+    /// Moves the cursor from `old`, where it stands, to `new`.
+    ///
+    /// # Errors
+    /// `Io`, where the output fails, and `Memory`. What is held to be shown stays; after `Io` a part of the bytes may have been
+    /// written, and a full redraw is to follow.
+    fn move_cursor(&mut self, old: Position, new: Position) -> Result<()>
+        ensures moved { OnOk result ((⟦<Self as ScreenState>⟧.screen self.new).position ≡ new) }
+        ensures text { (⟦<Self as ScreenState>⟧.screen self.new).text
+            ≡ (⟦<Self as ScreenState>⟧.screen self.old).text }
+        ensures origin { (⟦<Self as ScreenState>⟧.screen self.new).origin
+            ≡ (⟦<Self as ScreenState>⟧.screen self.old).origin }
+        ensures writes { WritesPart ⟦<Self as ScreenState>⟧ ⟦<Self as Output>⟧ result
+            self.old self.new (move_bytes old new) }
+    {
+        self.bytes.clear();
+        push_move(&mut self.bytes, old, new)?;
+        self.send()?;
+        self.shown.move_cursor(old, new)
+    }
+
+    /// Writes a full redraw. A highlighter is asked where colors are shown.
+    ///
+    /// # Errors
+    /// `Io`, where the output or the highlighter fails: what is shown is not known then. `Memory`: nothing is written then,
+    /// and what is shown stays.
+    fn refresh_line<P: Prompt, H: Highlighter>(
+        &mut self,
+        prompt: &P,
+        line: &LineBuffer,
+        hint: Option<&str>,
+        old_layout: Option<&Layout>,
+        new_layout: &Layout,
+        highlighter: Option<&H>,
+    ) -> Result<()>
+        ensures shown { Agrees (⟦<Self as ScreenState>⟧.surface self.old)
+            (⟦<Self as ScreenState>⟧.screen self.old)
+            (P.raw_text prompt.now) line.now (option_map (λ s. s.now) hint.entry)
+            (option_map (λ l. l.now) old_layout.entry) new_layout.now (is_some highlighter.entry)
+            → OnOk result (⟦<Self as ScreenState>⟧.screen self.new
+            ≡ shown_by new_layout.now line.now) }
+        ensures redraws { OnOk result (IsOneMore (⟦<Self as ScreenState>⟧.redraws self.old)
+            (⟦<Self as ScreenState>⟧.redraws self.new)) }
+        ensures uncounted { OnErr result (⟦<Self as ScreenState>⟧.redraws self.new
+            ≡ ⟦<Self as ScreenState>⟧.redraws self.old) }
+        ensures beside { ⟦<Self as ScreenState>⟧.beside self.new
+            ≡ ⟦<Self as ScreenState>⟧.beside self.old }
+        ensures tries { Tries ⟦<Self as ScreenState>⟧ result self.old self.new }
+        ensures writes { WritesSome ⟦<Self as ScreenState>⟧ ⟦<Self as Output>⟧ result
+            self.old self.new (Redraws P.Prompt H.Highlighter
+            (⟦<Self as ScreenState>⟧.surface self.old).measure
+            (holds_back ⟦<Self as ScreenState>⟧ ⟦<Self as Output>⟧ self.old)
+            (option_map (λ l. l.now) old_layout.entry) (record {
+              prompt = prompt.now;
+              line = line.now;
+              behind = option_map (λ s. s.now) hint.entry;
+              layout = new_layout.now;
+              highlighter = asked (⟦<Self as ScreenState>⟧.surface self.old).colors
+                  (option_map (λ h. h.now) highlighter.entry);
+            })) }
+    {
+        self.bytes.clear();
+        let drawn = self.push_redraw(prompt, line, hint, old_layout, new_layout, highlighter);
+        counted(&mut self.failures, drawn)?;
+        self.shown
+            .refresh_line(prompt, line, hint, old_layout, new_layout, None::<&()>)?;
+        self.send()?;
+        self.redraws = self.redraws.saturating_add(1);
+        Ok(())
+    }
+
+    fn compute_layout(
+        &self,
+        prompt_size: Position,
+        default_prompt: bool,
+        line: &LineBuffer,
+        info: Option<&str>,
+    ) -> Layout {
+        self.shown
+            .compute_layout(prompt_size, default_prompt, line, info)
+    }
+
+    fn calculate_position(&self, s: &str, orig: Position) -> Position {
+        self.shown.calculate_position(s, orig)
+    }
+
+    /// Writes a text without colors at the cursor, which goes to its end.
+    ///
+    /// # Errors
+    /// `Io`, where the output fails: what is shown is not known then. `Memory`: nothing is written then, and what is shown
+    /// stays.
+    fn write_and_flush(&mut self, buf: &str) -> Result<()>
+        ensures shown { (c : ℕ) → buf.now ≡ c ∷ [] → is_printable c ≡ true
+            → HasRoom (⟦<Self as ScreenState>⟧.surface self.old)
+            (⟦<Self as ScreenState>⟧.screen self.old)
+            → OnOk result (⟦<Self as ScreenState>⟧.screen self.new
+            ≡ with_shown (⟦<Self as ScreenState>⟧.screen self.old) c) }
+        ensures written { let screen = ⟦<Self as ScreenState>⟧.screen self.old in
+            OnOk result (⟦<Self as ScreenState>⟧.screen self.new ≡ record screen {
+              position = (⟦<Self as ScreenState>⟧.surface self.old).measure buf.now screen.position;
+              text = screen.text ++ buf.now;
+            }) }
+        ensures beside { WritesAtMost (⟦<Self as ScreenState>⟧.beside self.old)
+            (⟦<Self as ScreenState>⟧.beside self.new) }
+        ensures part { DrawsNoLine ⟦<Self as ScreenState>⟧ result self.old self.new }
+        ensures writes { Writes ⟦<Self as ScreenState>⟧ ⟦<Self as Output>⟧ result
+            self.old self.new (cleaned buf.now
+            ++ wrap (⟦<Self as ScreenState>⟧.surface self.old).measure buf.now
+            (⟦<Self as ScreenState>⟧.screen self.old).position) }
+    {
+        self.bytes.clear();
+        push_cleaned(&mut self.bytes, buf)?;
+        let place = self.shown.cursor();
+        push_wrap(&mut self.bytes, self.alloc, &self.shown, buf, place)?;
+        self.shown.write_and_flush(buf)?;
+        self.send()
+    }
+
+    fn beep(&mut self) -> Result<()>
+        ensures beside { BeepsAtMost (⟦<Self as ScreenState>⟧.beside self.old)
+            (⟦<Self as ScreenState>⟧.beside self.new) }
+        ensures writes { WritesAside ⟦<Self as ScreenState>⟧ ⟦<Self as Output>⟧ result
+            self.old self.new bell }
+    {
+        self.write("\x07")
+    }
+
+    /// Clears the whole screen. The cursor goes to its first place.
+    fn clear_screen(&mut self) -> Result<()>
+        ensures cleared { OnOk result (⟦<Self as ScreenState>⟧.screen self.new ≡ blank_screen) }
+        ensures writes { WritesPart ⟦<Self as ScreenState>⟧ ⟦<Self as Output>⟧ result
+            self.old self.new clear_all }
+    {
+        self.write("\x1b[H\x1b[J")?;
+        self.shown.clear_screen()
+    }
+
+    /// Clears the rows of a drawn layout, from its first one. The cursor goes there.
+    fn clear_rows(&mut self, layout: &Layout) -> Result<()>
+        ensures cleared { OnOk result (⟦<Self as ScreenState>⟧.screen self.new ≡ blank_screen) }
+        ensures writes { WritesPart ⟦<Self as ScreenState>⟧ ⟦<Self as Output>⟧ result
+            self.old self.new (clear_from layout.now.cursor) }
+    {
+        self.bytes.clear();
+        push_clear_from(&mut self.bytes, layout.cursor)?;
+        self.send()?;
+        self.shown.clear_rows(layout)
+    }
+
+    fn clear_to_eol(&mut self) -> Result<()>
+        ensures position { (⟦<Self as ScreenState>⟧.screen self.new).position
+            ≡ (⟦<Self as ScreenState>⟧.screen self.old).position }
+        ensures cleared { (kept gone : List ℕ)
+            → (⟦<Self as ScreenState>⟧.screen self.old).text ≡ kept ++ gone
+            → list_all is_printable gone ≡ true
+            → EndsBehind (⟦<Self as ScreenState>⟧.surface self.old)
+            (⟦<Self as ScreenState>⟧.screen self.old) (length gone)
+            → OnOk result (⟦<Self as ScreenState>⟧.screen self.new
+            ≡ record (⟦<Self as ScreenState>⟧.screen self.old) { text = kept }) }
+        ensures writes { WritesPart ⟦<Self as ScreenState>⟧ ⟦<Self as Output>⟧ result
+            self.old self.new clear_row }
+    {
+        self.write("\x1b[K")?;
+        self.shown.clear_to_eol()
+    }
+
+    fn update_size(&mut self)
+        ensures { self.new ≡ self.old }
+    {}
+
+    fn get_columns(&self) -> Unit {
+        self.shown.get_columns()
+    }
+
+    fn get_rows(&self) -> Unit {
+        self.shown.get_rows()
+    }
+
+    fn colors_enabled(&self) -> bool {
+        self.colors
+    }
+
+    fn grapheme_cluster_mode(&self) -> GraphemeClusterMode {
+        self.shown.grapheme_cluster_mode()
+    }
+
+    /// Takes the cursor to the first column: of a new row, unless it stands there already. Nothing is shown then from there
+    /// on. The reader is not asked.
+    fn move_cursor_at_leftmost(&mut self, rdr: &mut R) -> Result<()>
+        ensures cleared { OnOk result (⟦<Self as ScreenState>⟧.screen self.new ≡ blank_screen) }
+        ensures writes { WritesPart ⟦<Self as ScreenState>⟧ ⟦<Self as Output>⟧ result
+            self.old self.new
+            (if nat_lt 0 (⟦<Self as ScreenState>⟧.screen self.old).position.col then next_line
+            else []) }
+        ensures reader { rdr.new ≡ rdr.old }
+    {
+        let _ = rdr;
+        let is_behind = self.shown.cursor().col > 0;
+        self.write_if(is_behind, "\r\n")?;
+        self.shown.clear_screen()
+    }
+
+    /// Asks the terminal to hold back what is written, where full redraws are to be shown all at once.
+    fn begin_synchronized_update(&mut self) -> Result<()>
+        ensures beside { HoldsAtMost (⟦<Self as ScreenState>⟧.beside self.old)
+            (⟦<Self as ScreenState>⟧.beside self.new) }
+        ensures held { OnOk result ((⟦<Self as ScreenState>⟧.beside self.new).held
+            ≡ ⟦<Self as Output>⟧.synchronized self.old) }
+        ensures failed { OnErr result (⟦<Self as ScreenState>⟧.beside self.new
+            ≡ ⟦<Self as ScreenState>⟧.beside self.old) }
+        ensures writes { WritesAside ⟦<Self as ScreenState>⟧ ⟦<Self as Output>⟧ result
+            self.old self.new (if ⟦<Self as Output>⟧.synchronized self.old then hold else []) }
+    {
+        self.write_if(self.synchronized, "\x1b[?2026h")?;
+        self.held = self.synchronized;
+        Ok(())
+    }
+
+    /// Asks the terminal to show what it held back.
+    fn end_synchronized_update(&mut self) -> Result<()>
+        ensures beside { HoldsAtMost (⟦<Self as ScreenState>⟧.beside self.old)
+            (⟦<Self as ScreenState>⟧.beside self.new) }
+        ensures held { OnOk result ((⟦<Self as ScreenState>⟧.beside self.new).held ≡ false) }
+        ensures failed { OnErr result (⟦<Self as ScreenState>⟧.beside self.new
+            ≡ ⟦<Self as ScreenState>⟧.beside self.old) }
+        ensures writes { WritesAside ⟦<Self as ScreenState>⟧ ⟦<Self as Output>⟧ result
+            self.old self.new (if ⟦<Self as Output>⟧.synchronized self.old then release else []) }
+    {
+        self.write_if(self.synchronized, "\x1b[?2026l")?;
+        self.held = false;
+        Ok(())
+    }
+
+    ghost column_below = { λ a. laws.measured-below a.shown.columns };
+
+    ghost one_column = { λ a. laws.measured-push a.shown.columns };
+}

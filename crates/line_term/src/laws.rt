@@ -1,0 +1,84 @@
+//! Laws of the bytes that come from a terminal, and of those that are written to it. Each function's contract is a law, and its body
+//! does nothing.
+ghost use Rattle.line_term.specs.DecoderLaws.{ComesBack, ComesInPieces, FlushSettles, PasteComesWhole, PastesGiveNoKey, RowsAreKeys, SequencesNeverType, TextIsTyped, TextsAreSilent};
+ghost use Rattle.line_term.specs.Laws.{MovesArrive, OthersStay, RedrawsArrive, RedrawsClear, RedrawsShow, TextsArrive};
+
+use line_config::Prompt;
+use line_parts::Highlighter;
+
+/// However bytes are cut into pieces, the same items come, and the same has begun.
+pub fn comes_in_pieces()
+    ensures { ComesInPieces }
+{}
+
+/// The UTF-8 of a text without Esc gives the key of each of its characters.
+pub fn text_is_typed()
+    ensures { TextIsTyped }
+{}
+
+/// A pasted text without Esc comes whole, cleaned of carriage returns and control characters.
+pub fn paste_comes_whole()
+    ensures { PasteComesWhole }
+{}
+
+/// Each row of the tables of sequences gives its key, with each of its modifiers.
+pub fn rows_are_keys()
+    ensures { RowsAreKeys }
+{}
+
+/// Where something has begun, no character is typed, but by a sequence that names it.
+pub fn sequences_never_type()
+    ensures { SequencesNeverType }
+{}
+
+/// A text of the terminal's and a report of the mouse give nothing, as long as they go on.
+pub fn texts_are_silent()
+    ensures { TextsAreSilent }
+{}
+
+/// A pasted text gives no key, and no control characters but newlines and tabs.
+pub fn pastes_give_no_key()
+    ensures { PastesGiveNoKey }
+{}
+
+/// Whatever was read, the six bytes that end a pasted text lead back to where nothing has begun.
+pub fn comes_back()
+    ensures { ComesBack }
+{}
+
+/// After a flush there is nothing left to wait for.
+pub fn flush_settles()
+    ensures { FlushSettles }
+{}
+
+/// The bytes of a cursor move take a terminal's cursor from the one place to the other.
+pub fn moves_arrive()
+    ensures { MovesArrive }
+{}
+
+/// What is written for a text of printable ASCII and newlines takes a terminal's cursor where the text is measured to end. It
+/// does not wait there at a row's end.
+pub fn texts_arrive()
+    ensures { TextsArrive }
+{}
+
+/// A bell, what clears a part of the screen, and what is asked of a terminal leave its cursor where it stands.
+pub fn others_stay()
+    ensures { OthersStay }
+{}
+
+/// A full redraw of printable ASCII and newlines, of which a highlighter changes colors alone, takes a terminal's cursor from
+/// where it stood in the drawing before to its place in the new layout, on the same rows.
+pub fn redraws_arrive<P: Prompt, H: Highlighter>()
+    ensures { RedrawsArrive P.Prompt H.Highlighter }
+{}
+
+/// Such a redraw shows each printable character of the line in the cell where the text before it is measured to end.
+pub fn redraws_show<P: Prompt, H: Highlighter>()
+    ensures { RedrawsShow P.Prompt H.Highlighter }
+{}
+
+/// Such a redraw, where it clears the rows of a drawing before, leaves all cells clear behind the end of what it shows.
+pub fn redraws_clear<P: Prompt, H: Highlighter>()
+    ensures { RedrawsClear P.Prompt H.Highlighter }
+{}

@@ -1,0 +1,21 @@
+//! What stands between the line editor and a terminal: its bytes as keys and pasted texts, and drawings as bytes.
+#![tactic(auto)]
+
+pub mod ansi;
+pub mod begun;
+pub mod decoder;
+mod drawn;
+mod escape;
+pub mod laws;
+pub mod output;
+mod painted;
+mod send;
+pub mod sequence;
+pub mod tables;
+pub mod utf8;
+mod wrap;
+
+pub use ansi::Ansi;
+pub use decoder::Decoder;
+pub use output::Output;
+pub use sequence::Size;
