@@ -1,0 +1,20 @@
+//! The tests of `line_term`: sequences of terminals, texts and pasted texts by their bytes, and bytes that are made from a number.
+#![tactic(auto)]
+
+#[cfg(test)]
+use std::process::Abort;
+
+#[cfg(test)]
+mod by_bytes;
+#[cfg(test)]
+mod random;
+#[cfg(test)]
+mod sequences;
+#[cfg(test)]
+mod texts;
+
+/// It holds in this case, of which this number tells more.
+#[cfg(test)]
+fn holds(rt: &impl Abort, is_so: bool, case: &str, number: usize) {
+    assert!(rt; is_so, "{case:?} {number}");
+}
