@@ -1,0 +1,14 @@
+//! Runs a script of keys through the line editor on a terminal, and prints after each turn the bytes that were written, and where the
+//! terminal is to show what. `tests/terminal/` hands the bytes to terminals that others wrote.
+#![tactic(auto)]
+
+mod cells;
+mod turns;
+
+use std::io;
+use std::process::ExitCode;
+use turns::play;
+
+fn main(rt: HostRuntime) -> ExitCode {
+    ExitCode::from(play(rt.alloc(), rt.reader(), &mut io::writer(&rt)))
+}
