@@ -28,7 +28,7 @@ gives b g = record { begun = b; given = Some g }
 abbrev pub plain_step : ℕ → Step
 plain_step c = if c == 27 then leads_to (Escape false) else gives Nothing (Key (event_of c NONE))
 
--- whether a character opens a text of the terminal's behind Esc: P, ] or _
+-- whether a character opens a control string behind Esc: P, ] or _
 abbrev pub opens_text : ℕ → Bool
 opens_text c = (c == 80) || (c == 93) || (c == 95)
 
@@ -68,7 +68,7 @@ sequence_step s c =
     else if is_in_range 64 126 c then ended s c
     else gives Nothing unknown
 
--- a text of the terminal's ends by BEL, or is cancelled
+-- a control string ends by BEL, or is cancelled
 abbrev pub text_step : ℕ → Step
 text_step c = if (c == 7) || (c == 24) || (c == 26) then leads_to Nothing else leads_to (Text (c == 27))
 
@@ -101,7 +101,7 @@ mark_step matched c =
     if is_next matched c then (if matched + 1 == length END_MARK then gives Nothing PasteEnd else leads_to (Mark (matched + 1)))
     else paste_step false matched c
 
--- a text of the terminal's goes on like this behind what opens it: ESC ] by a digit, l, L or I, ESC _ by G, and ESC P by a digit or one
+-- a control string goes on like this behind what opens it: ESC ] by a digit, l, L or I, ESC _ by G, and ESC P by a digit or one
 -- of ; > + $ ! and |
 abbrev pub goes_on_as_text : ℕ → ℕ → Bool
 goes_on_as_text sign c =

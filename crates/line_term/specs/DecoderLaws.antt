@@ -136,7 +136,7 @@ is_nothing _ = false
 abbrev pub SequencesNeverType : Type 0
 SequencesNeverType = (b : Begun) (c : ℕ) → is_nothing b ≡ false → types (step b c).given ≡ true → may_name b c ≡ true
 
--- a text of the terminal's and a report of the mouse give nothing, as long as they go on
+-- a control string and a report of the mouse give nothing, as long as they go on
 pub record TextsAreSilent : Type 0 where
   pub text : (c : ℕ) → (step (begun.Text false) c).given ≡ None
   pub opening : (sign c : ℕ) → ends_before (begun.Opening sign) c ≡ false → (step (begun.Opening sign) c).given ≡ None

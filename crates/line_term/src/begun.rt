@@ -3,7 +3,7 @@ ghost use Rattle.std.specs.Prelude.{◌≡◌};
 ghost use Rattle.line_term.specs.Begun.{cut, ended, ends_before, escape_if, escape_step, gives, goes_on_as_text, is_second_escape, leads_to, mark_step, mouse_step, paste_step, plain_step, sequence_step, settled, step, text_step, waits};
 ghost use Rattle.line_term.specs.declared.sequence.Given.TheVariants.{Key};
 
-use crate::sequence::{Given, Introducer, PastedText, Sequence};
+use crate::sequence::{Given, Introducer, PastedText, Sequence, UNKNOWN};
 use line_keys::keys::{KeyCode, KeyEvent, Modifiers};
 
 /// What has begun in the characters so far.
@@ -11,16 +11,16 @@ use line_keys::keys::{KeyCode, KeyEvent, Modifiers};
 pub enum Begun {
     /// Nothing.
     Nothing,
-    /// Esc was read, or Esc twice.
+    /// Esc, once or twice.
     Escape {
         /// Whether twice.
         twice: bool,
     },
     /// A sequence of a key, or a report.
     Sequence(Sequence),
-    /// Esc and the character that opens a text of the terminal's.
+    /// Esc and the character that begins a control string: a closing bracket, P or an underscore.
     Opening(char),
-    /// A text of the terminal's, up to BEL, or Esc and a backslash.
+    /// A control string (OSC, DCS or APC), up to BEL, or to ST: Esc and a backslash.
     Text {
         /// Whether an Esc was just read.
         escape: bool,
@@ -61,8 +61,6 @@ const BELL: char = '\u{7}';
 const CANCEL: char = '\u{18}';
 
 const SUBSTITUTE: char = '\u{1a}';
-
-const UNKNOWN: KeyEvent = KeyEvent(KeyCode::UnknownEscSeq, Modifiers::NONE);
 
 impl Begun {
     /// Returns what one more character does.
@@ -128,7 +126,7 @@ impl Begun {
     }
 
     /// Returns what is given and what has begun then, where no more characters come for a while: a key that was begun is settled.
-    /// A sequence of which more than its beginning was read, a text of the terminal's and a pasted text go on.
+    /// A sequence of which more than its beginning was read, a control string and a pasted text go on.
     pub fn settled(self) -> Step
         ensures { result ≡ settled self }
     {
@@ -253,7 +251,7 @@ fn escape_if(alt: bool) -> Option<Given>
     None
 }
 
-// Returns whether a text of the terminal's goes on with this character behind what opens it.
+// Returns whether a control string goes on with this character behind what opens it.
 fn goes_on_as_text(sign: char, c: char) -> bool
     ensures { result ≡ goes_on_as_text sign c }
 {
@@ -264,7 +262,7 @@ fn goes_on_as_text(sign: char, c: char) -> bool
     }
 }
 
-// Returns what a character does in a text of the terminal's.
+// Returns what a character does in a control string.
 fn text_step(c: char) -> Step
     ensures { result ≡ text_step c }
 {

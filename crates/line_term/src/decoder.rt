@@ -82,7 +82,7 @@ impl Decoder {
     }
 
     /// Settles what has begun, as no more bytes come for a while: a lone Esc is the Esc key, and bytes that have begun a character
-    /// are U+FFFD. A sequence of which more than its beginning came, a pasted text and a text of the terminal's go on.
+    /// are U+FFFD. A sequence of which more than its beginning came, a pasted text and a control string go on.
     ///
     /// # Errors
     /// `Memory`. Called again, it appends what is missing.
@@ -178,7 +178,7 @@ impl Decoder {
         self.take(self.begun.settled(), keys)
     }
 
-    // Reads a byte with which the bytes before it go on.
+    // Reads a byte that goes on with the bytes before it.
     fn read_on(&mut self, byte: u8, keys: &mut KeyQueue) -> Result<()>
         ensures fed { OnOk result (Gives (read_on byte self.old) self.new keys.old keys.new) }
         ensures cut { OnErr result (CutShort (read_on byte) self.old self.new keys.old keys.new) }

@@ -31,7 +31,7 @@ pub fn sequences_never_type()
     ensures { SequencesNeverType }
 {}
 
-/// A text of the terminal's and a report of the mouse give nothing, as long as they go on.
+/// A control string and a report of the mouse give nothing, as long as they go on.
 pub fn texts_are_silent()
     ensures { TextsAreSilent }
 {}

@@ -76,9 +76,9 @@ pub struct Numbers {
 /// How a sequence begins.
 #[derive(Clone, Copy)]
 pub enum Introducer {
-    /// By `ESC [`.
+    /// By `ESC [` (CSI).
     Control,
-    /// By `ESC O`.
+    /// By `ESC O` (SS3).
     Single,
     /// By `ESC [ [`, as the Linux console begins its function keys.
     Console,
@@ -93,13 +93,14 @@ pub struct Sequence {
     pub introducer: Introducer,
     /// Whether nothing was read yet behind what it begins by.
     pub bare: bool,
-    /// Whether it has a character beside digits and semicolons: then it is a report, or no key that is known.
+    /// Whether a character beside digits and semicolons was read in it: then it is a report, and gives no key.
     pub marked: bool,
     /// Its numbers.
     pub numbers: Numbers,
 }
 
-const UNKNOWN: KeyEvent = KeyEvent(KeyCode::UnknownEscSeq, Modifiers::NONE);
+/// The key of a sequence that no key is known to send.
+pub(crate) const UNKNOWN: KeyEvent = KeyEvent(KeyCode::UnknownEscSeq, Modifiers::NONE);
 
 impl Sequence {
     /// Returns the sequence that has just begun.

@@ -3,18 +3,18 @@ ghost use Rattle.std.specs.Prelude.{◌≡◌, ◌==◌, ◌++◌, ◌∷◌, []
 ghost use Rattle.line_term.specs.Utf8.{bytes_of, goes_on, piece_of};
 ghost use Rattle.line_term.specs.declared.utf8.Piece.TheVariants.{Begun};
 
-/// What some bytes are.
+/// What a few bytes are in UTF-8.
 #[derive(Clone, Copy)]
 pub enum Piece {
-    /// A character.
+    /// The bytes of a character.
     Char(char),
-    /// The first bytes of one.
+    /// The first bytes of a character.
     Begun,
-    /// Neither.
+    /// Bytes that begin no character.
     Broken,
 }
 
-/// The bytes of a character that has begun, or none.
+/// The first bytes of a character, or none.
 #[derive(Clone, Copy)]
 pub enum Utf8 {
     /// None.
@@ -47,14 +47,14 @@ impl Utf8 {
         matches!(self, Utf8::Empty)
     }
 
-    /// Returns whether the bytes and one more are a character, or the first bytes of one; none and one more are enough.
+    /// Returns whether the byte goes on with these: with it they are a character, or the first bytes of one. With none it always does.
     pub fn goes_on(self, byte: u8) -> bool
         ensures { result ≡ goes_on (bytes_of self) byte }
     {
         self.is_empty() || !matches!(self.piece(byte), Piece::Broken)
     }
 
-    /// Returns the bytes with one more, with which they are the first bytes of a character.
+    /// Returns these bytes and one more, which together are the first bytes of a character.
     pub fn with(self, byte: u8) -> Utf8
         requires { piece_of (bytes_of self ++ byte ∷ []) ≡ Begun }
         ensures { bytes_of result ≡ bytes_of self ++ byte ∷ [] }
@@ -69,7 +69,7 @@ impl Utf8 {
     }
 }
 
-// Returns what some bytes are.
+// Returns what a few bytes are in UTF-8.
 fn decoded(bytes: &[u8]) -> Piece
     ensures { result ≡ piece_of bytes.now }
 {
