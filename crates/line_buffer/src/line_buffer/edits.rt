@@ -60,6 +60,7 @@ impl LineBuffer {
     fn insert_char(&mut self, c: char) -> Result<bool, OutOfMemory>
         ensures answer { IfOk result (λ at_end. at_end ≡ is_at_end self.old) }
         ensures line { OnOk result (self.new ≡ inserted_at_cursor self.old (encode_utf8 c)) }
+        ensures err { OnErr result (self.new ≡ self.old) }
         ensures front { OnOk result (KeepsFront self.old.text self.new.text self.old.cursor) }
         ensures cursor { IsCharBoundary self.new.text self.new.cursor }
     {
@@ -71,10 +72,11 @@ impl LineBuffer {
         self.insert_text(c.encode_utf8(&mut bytes))
     }
 
-    /// Puts the character at the text's end, where the cursor is, which goes behind it.
+    /// Appends the character to the text, at whose end the cursor is. The cursor goes after it.
     fn push_char(&mut self, c: char) -> Result<(), OutOfMemory>
         requires { self.old.cursor ≡ length self.old.text }
         ensures line { OnOk result (self.new ≡ inserted_at_cursor self.old (encode_utf8 c)) }
+        ensures err { OnErr result (self.new ≡ self.old) }
         ensures front { OnOk result (KeepsFront self.old.text self.new.text self.old.cursor) }
         ensures cursor { IsCharBoundary self.new.text self.new.cursor }
     {

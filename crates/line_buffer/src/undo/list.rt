@@ -12,7 +12,7 @@ use crate::movement::RepeatCount;
 use std::alloc::Global;
 use std::marker::Model;
 
-/// The bytes that a text which came in has room for at least, so that a word typed behind it needs no other.
+/// The least room, in bytes, of a text that came in, so that a word typed after it needs no other.
 const TYPED_ROOM: usize = 24;
 
 #[derive(Debug, Drop)]
