@@ -12,10 +12,12 @@ use Rattle.line_parts.specs.declared.highlight.CmdKind.{CmdKind}
 abbrev pub Measure : Type 0
 Measure = List ℕ → Position → Position
 
--- what of a screen never changes: how it measures, how many columns it has, whether it shows colors, and how it counts clusters
+-- what no drawing changes of a screen: how it measures, how many columns and rows it has, whether it shows colors, and how it counts
+-- clusters
 pub record Surface : Type 0 where
   pub measure : Measure
   pub columns : ℕ
+  pub rows : ℕ
   pub colors : Bool
   pub mode : GraphemeClusterMode
 
@@ -36,9 +38,11 @@ pub record Beside : Type 0 where
 abbrev pub uncounted : Beside
 uncounted = record { held = false; written = 0; beeps = 0 }
 
--- what is drawn of a line: the screen, where the prompt ends, the layout that is kept of it, and the last answer of `highlight_char`
+-- what is drawn of a line: the screen, the own prompt and where it ends, the layout that is kept of it, and the last answer of
+-- `highlight_char`
 pub record Display : Type 0 where
   pub surface : Surface
+  pub prompt : List ℕ
   pub prompt_end : Position
   pub layout : Layout
   pub screen : Screen
@@ -52,6 +56,7 @@ corner = record { row = 0; col = 0 }
 abbrev pub never_drawn : Surface → Screen → List ℕ → Display
 never_drawn surface screen prompt = record {
   surface = surface;
+  prompt = prompt;
   prompt_end = surface.measure prompt corner;
   layout = record {
     grapheme_cluster_mode = surface.mode;

@@ -6,11 +6,12 @@ use Rattle.line_config.specs.declared.error.ReadlineError.{ReadlineError}
 use Rattle.line_parts.specs.Asks.{Asks, is_sure}
 use Rattle.line_keys.specs.declared.editor_state.EditorState.{Ghosts}
 
--- the frame: what no call of an editor changes; the count of failures never falls
+-- the frame: what no call of an editor but `resized` changes; the count of failures never falls
 pub record Frame {X : Type 0} (e : Ghosts X) (old new : X) : Type 0 where
   pub environment : e.environment new ≡ e.environment old
   pub loan : e.loan new ≡ e.loan old
   pub surface : (e.display new).surface ≡ (e.display old).surface
+  pub prompt : (e.display new).prompt ≡ (e.display old).prompt
   pub prompt_end : (e.display new).prompt_end ≡ (e.display old).prompt_end
   pub sure : e.sure new ≡ e.sure old
   pub failures : e.failures old ≤ e.failures new
