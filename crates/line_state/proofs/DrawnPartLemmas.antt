@@ -19,15 +19,15 @@ TakesOneColumn surface = (s : List ℕ) (c : ℕ) (o : Position) → o.col < sur
     → surface.measure (s ++ c ∷ []) o ≡ next_column surface.columns (surface.measure s o)
 
 -- a display with these parts
-abbrev display_of : Surface → Position → Layout → Screen → Bool → Display
-display_of surface prompt_end layout screen lit =
-    record { surface = surface; prompt_end = prompt_end; layout = layout; screen = screen; lit = lit }
+abbrev display_of : Surface → List ℕ → Position → Layout → Screen → Bool → Display
+display_of surface prompt prompt_end layout screen lit =
+    record { surface = surface; prompt = prompt; prompt_end = prompt_end; layout = layout; screen = screen; lit = lit }
 
 same_display : (d : Display) (surface : Surface) (prompt_end : Position) (layout : Layout) (screen : Screen)
-    → d.surface ≡ surface → d.prompt_end ≡ prompt_end → d.layout ≡ layout → d.screen ≡ screen → d ≡ display_of surface prompt_end layout screen d.lit
+    → d.surface ≡ surface → d.prompt_end ≡ prompt_end → d.layout ≡ layout → d.screen ≡ screen → d ≡ display_of surface d.prompt prompt_end layout screen d.lit
 same_display d surface prompt_end layout screen s p l c =
-    ap (λ (x : Surface). display_of x d.prompt_end d.layout d.screen d.lit) s ∙ ap (λ (x : Position). display_of surface x d.layout d.screen d.lit) p
-    ∙ ap (λ (x : Layout). display_of surface prompt_end x d.screen d.lit) l ∙ ap (λ (x : Screen). display_of surface prompt_end layout x d.lit) c
+    ap (λ (x : Surface). display_of x d.prompt d.prompt_end d.layout d.screen d.lit) s ∙ ap (λ (x : Position). display_of surface d.prompt x d.layout d.screen d.lit) p
+    ∙ ap (λ (x : Layout). display_of surface d.prompt prompt_end x d.screen d.lit) l ∙ ap (λ (x : Screen). display_of surface d.prompt prompt_end layout x d.lit) c
 
 -- a character written at the end of what is known to be shown is known to be shown
 module _ (surface : Surface) (screen screen' : Screen) (layout : Layout) (printable printable' c : ℕ) (one : TakesOneColumn surface) (stands : StandsAtEnd surface screen layout printable)
@@ -124,7 +124,7 @@ written_right line display display' c one end plain print free below written lay
     next : columns_on 1 display.layout.cursor ≡ measure (line.text ++ c ∷ []) display.prompt_end
     next = sym (one line.text c display.prompt_end below plain print ∙ ap (next_column display.surface.columns) (sym ends) ∙ one_on display.surface.columns display.layout.cursor free)
 
-    display_is : display' ≡ display_of display.surface display.prompt_end (ending_at (columns_on 1 display.layout.cursor) display.layout) (with_shown display.screen c) display'.lit
+    display_is : display' ≡ display_of display.surface display'.prompt display.prompt_end (ending_at (columns_on 1 display.layout.cursor) display.layout) (with_shown display.screen c) display'.lit
     display_is = same_display display' _ _ _ _ surface prompt_end layout is_written
 
 -- printable characters that are cleared at the end of what is known to be shown
@@ -234,7 +234,7 @@ cleared_right display display' front behind count one below fits placed cleared 
     is_cleared : display'.screen ≡ record display.screen { text = front }
     is_cleared = cleared front behind shows.shows print ends_behind
 
-    display_is : display' ≡ display_of display.surface display.prompt_end (record display.layout { end = display.layout.cursor }) (record display.screen { text = front }) display'.lit
+    display_is : display' ≡ display_of display.surface display'.prompt display.prompt_end (record display.layout { end = display.layout.cursor }) (record display.screen { text = front }) display'.lit
     display_is = same_display display' _ _ _ _ surface prompt_end layout is_cleared
 
 -- where the cursor of a plain line is that stands before a place, printable characters between the two, and on the row of the kept cursor

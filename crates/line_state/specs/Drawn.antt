@@ -9,13 +9,14 @@ use Rattle.line_config.specs.Error.{IsOneMore, Rose}
 use Rattle.line_config.specs.declared.error.ReadlineError.{ReadlineError}
 use Rattle.line_keys.specs.Display.{IsFullRedraw, IsRight, ShowsInFull, ShowsText, columns_back, columns_on, corner, ending_at}
 use Rattle.line_keys.specs.Frame.{FailsOnlyIf}
-use Rattle.line_state.specs.ScreenState.{WritesAtMost}
+use Rattle.line_state.specs.ScreenState.{ResizesTo, WritesAtMost}
 use Rattle.line_state.specs.declared.drawn.Drawn.{Ghosts}
 
--- what no drawing changes: whose loan the renderer is, the surface and the prompt's end; the count of failures never falls
+-- what no drawing changes: whose loan the renderer is, the surface, the own prompt and its end; the count of failures never falls
 pub record KeepsSurface {X : Type 0} (d : Ghosts X) (old new : X) : Type 0 where
   pub loan : d.loan new ≡ d.loan old
   pub surface : (d.display new).surface ≡ (d.display old).surface
+  pub prompt : (d.display new).prompt ≡ (d.display old).prompt
   pub prompt_end : (d.display new).prompt_end ≡ (d.display old).prompt_end
   pub failures : d.failures old ≤ d.failures new
 
@@ -37,6 +38,22 @@ pub record DrawsInFull {X T : Type 0} (d : Ghosts X) (result : Result T Readline
   pub redraws : OnOk result (IsOneMore (d.redraws old) (d.redraws new))
   pub beside : d.beside new ≡ d.beside old
   pub keeps : KeepsSurface d old new
+  pub fails : FailsBySurface d result old new
+
+-- the screen has so many columns and rows from now on, and the own prompt is measured anew. Then the line is drawn in full behind it,
+-- with a trailing text or none. After an error the kept layout stays
+pub record DrawsResized {X T : Type 0} (d : Ghosts X) (result : Result T ReadlineError) (old new : X) (columns rows : ℕ) (line : Line) (trailing : Option (List ℕ)) : Type 0 where
+  pub surface : ResizesTo columns rows (d.display old).surface (d.display new).surface
+  pub prompt : (d.display new).prompt ≡ (d.display old).prompt
+  pub prompt_end : (d.display new).prompt_end ≡ (d.display new).surface.measure (d.display new).prompt corner
+  pub shown : OnOk result (ShowsInFull (d.display new) (d.display new).prompt_end line trailing)
+  pub own_prompt : OnOk result ((d.display new).layout.default_prompt ≡ true)
+  pub lit : (d.display new).lit ≡ (d.display old).lit
+  pub kept : OnErr result ((d.display new).layout ≡ (d.display old).layout)
+  pub redraws : OnOk result (IsOneMore (d.redraws old) (d.redraws new))
+  pub beside : d.beside new ≡ d.beside old
+  pub loan : d.loan new ≡ d.loan old
+  pub failures : d.failures old ≤ d.failures new
   pub fails : FailsBySurface d result old new
 
 -- a kept layout is drawn again behind the own prompt, and stays; where it is a full redraw's, the line is shown in full

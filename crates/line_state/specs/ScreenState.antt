@@ -16,6 +16,10 @@ pub record Agrees (surface : Surface) (screen : Screen) (prompt : List ℕ) (lin
   pub drawn : IfSome old (λ l. l.cursor ≡ screen.position)
   pub colored : highlighted ≡ true → surface.colors ≡ true
 
+-- a screen has so many columns and rows from now on: how it measures may change with them, its colors and how it counts clusters stay
+abbrev pub ResizesTo : ℕ → ℕ → Surface → Surface → Type 0
+ResizesTo columns rows old new = new ≡ record old { measure = new.measure; columns = columns; rows = rows }
+
 -- the line is shown by its layout
 abbrev pub shown_by : Layout → Line → Screen
 shown_by layout line = record { position = layout.cursor; text = line.text; origin = layout.prompt_size }

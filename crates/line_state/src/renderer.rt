@@ -5,7 +5,7 @@ ghost use Rattle.line_config.specs.Error.{IsOneMore};
 ghost use Rattle.line_buffer.specs.Printable.{is_plain, is_printable};
 ghost use Rattle.line_buffer.specs.declared.layout.Position.{Position};
 ghost use Rattle.line_keys.specs.Display.{IsFullRedraw, next_column};
-ghost use Rattle.line_state.specs.ScreenState.{Agrees, BeepsAtMost, DrawsNoLine, DrawsPart, EndsBehind, HasRoom, HoldsAtMost, Tries, WritesAtMost, shown_by, with_shown};
+ghost use Rattle.line_state.specs.ScreenState.{Agrees, BeepsAtMost, DrawsNoLine, DrawsPart, EndsBehind, HasRoom, HoldsAtMost, ResizesTo, Tries, WritesAtMost, shown_by, with_shown};
 
 use crate::screen_state::ScreenState;
 use line_buffer::{GraphemeClusterMode, Layout, LineBuffer, Position, Unit};
@@ -119,10 +119,20 @@ pub trait Renderer: ScreenState {
             → OnOk result (Self.screen self.new ≡ record (Self.screen self.old) { text = kept }) }
         ensures part { DrawsPart Self.ScreenState result self.old self.new };
 
-    /// Asks the terminal for its size again. The columns stay what they were.
+    /// Asks the terminal for its size again. Columns and rows stay what they were: `resize` gives others.
     fn update_size(&mut self)
         ensures screen { Self.screen self.new ≡ Self.screen self.old }
         ensures surface { Self.surface self.new ≡ Self.surface self.old }
+        ensures beside { Self.beside self.new ≡ Self.beside self.old }
+        ensures redraws { Self.redraws self.new ≡ Self.redraws self.old }
+        ensures failures { Self.failures self.new ≡ Self.failures self.old };
+
+    /// Gives the screen another number of columns and of rows. Nothing is drawn, and the cursor is taken to stand where it
+    /// stood: a full redraw is to follow.
+    fn resize(&mut self, columns: Unit, rows: Unit)
+        requires { 0 < columns }
+        ensures surface { ResizesTo columns rows (Self.surface self.old) (Self.surface self.new) }
+        ensures screen { Self.screen self.new ≡ Self.screen self.old }
         ensures beside { Self.beside self.new ≡ Self.beside self.old }
         ensures redraws { Self.redraws self.new ≡ Self.redraws self.old }
         ensures failures { Self.failures self.new ≡ Self.failures self.old };
@@ -133,7 +143,8 @@ pub trait Renderer: ScreenState {
         ensures positive { 0 < result };
 
     /// Returns how many rows the terminal has.
-    fn get_rows(&self) -> Unit;
+    fn get_rows(&self) -> Unit
+        ensures { result ≡ (Self.surface self.now).rows };
 
     /// Returns whether colors are shown.
     fn colors_enabled(&self) -> bool

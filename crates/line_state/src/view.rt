@@ -1,12 +1,12 @@
 //! What is drawn of a line: the renderer, the prompt, and the layout that is kept of them.
-ghost use Rattle.std.specs.Prelude.{◌≡◌, ◌↔◌, ◌+◌, ◌-◌, ◌≤◌, nat_lt, if◌then◌else◌, Some, None, ℕ, Bool, true, false, List, length, drop, Option, is_some, option_map, IsOk, IfSome, OnOk, OnErr, IsTrue};
+ghost use Rattle.std.specs.Prelude.{◌≡◌, ◌↔◌, ◌+◌, ◌-◌, ◌<◌, ◌≤◌, nat_lt, if◌then◌else◌, Some, None, ℕ, Bool, true, false, List, length, drop, Option, is_some, option_map, IsOk, IfSome, OnOk, OnErr, IsTrue};
 ghost use Rattle.line_buffer.specs.declared.layout.Position.{Position};
 ghost use Rattle.std.specs.List.{list_all};
 ghost use Rattle.line_buffer.specs.Line.{with_cursor};
 ghost use Rattle.line_buffer.specs.Printable.{is_plain, is_printable};
 ghost use Rattle.line_keys.specs.Display.{GoesToPosition, GoesToShownEnd, HasCursorAt, columns_back, corner, cursor_position, never_drawn};
-ghost use Rattle.line_state.specs.Drawn.{ColorsAreOn, DrawsInFull, DrawsNoneInFull, RedrawsKept, TakesBack, Writes, cleared};
-ghost use Rattle.line_state.specs.ScreenState.{BeepsAtMost};
+ghost use Rattle.line_state.specs.Drawn.{ColorsAreOn, DrawsInFull, DrawsNoneInFull, DrawsResized, RedrawsKept, TakesBack, Writes, cleared};
+ghost use Rattle.line_state.specs.ScreenState.{BeepsAtMost, ResizesTo};
 ghost use Rattle.line_state.specs.Shown.{IsShownPlain, KnowsEnd, StandsAtEnd};
 
 use crate::drawn::Drawn;
@@ -66,6 +66,7 @@ impl<W: Renderer, P: Prompt> Drop for View<'_, '_, W, P> {
 impl<'out, 'prompt, W: Renderer, P: Prompt> Drawn for View<'out, 'prompt, W, P> {
     ghost display = { λ v. record {
       surface = W.surface v.out.now;
+      prompt = P.raw_text v.prompt.now;
       prompt_end = v.prompt_size;
       layout = v.layout;
       screen = W.screen v.out.now;
@@ -182,6 +183,51 @@ impl<'out, 'prompt, W: Renderer, P: Prompt> View<'out, 'prompt, W, P> {
         let corner = Position { row: 0, col: 0 };
         let prompt_size = self.out.calculate_position(prompt, corner);
         self.redraw(&prompt, prompt_size, false, line, info, highlighter)
+    }
+
+    /// Gives the screen another number of columns and of rows, measures the prompt anew, and draws the line in full behind
+    /// it, with `info` behind the line, if there is one. The rows of the kept layout are cleared. A highlighter may come only
+    /// with colors.
+    ///
+    /// # Errors
+    /// Those of the renderer. Then the kept layout stays, which is that of the old columns.
+    pub fn resized<H: Highlighter>(
+        &mut self,
+        columns: Unit,
+        rows: Unit,
+        line: &LineBuffer,
+        info: Option<&str>,
+        highlighter: Option<&H>,
+    ) -> Result<()>
+        requires columns { 0 < columns }
+        requires colors { ColorsAreOn ⟦<Self as Drawn>⟧ self.old (is_some highlighter) }
+        ensures { DrawsResized ⟦<Self as Drawn>⟧ result self.old self.new columns rows
+            line.now (option_map (λ s. s.now) info.entry) }
+    {
+        self.resize(columns, rows);
+        self.refresh_line(line, info, highlighter)
+    }
+
+    // Gives the screen another number of columns and of rows, and measures the prompt anew. Nothing is drawn.
+    fn resize(&mut self, columns: Unit, rows: Unit)
+        requires { 0 < columns }
+        ensures surface { let d = ⟦<Self as Drawn>⟧.display in
+            ResizesTo columns rows (d self.old).surface (d self.new).surface }
+        ensures prompt_end { let d = ⟦<Self as Drawn>⟧.display self.new in
+            d.prompt_end ≡ d.surface.measure d.prompt corner }
+        ensures display { let d = ⟦<Self as Drawn>⟧.display in d self.new ≡ record (d self.old) {
+          surface = (d self.new).surface;
+          prompt_end = (d self.new).prompt_end;
+        } }
+        ensures beside { let d = ⟦<Self as Drawn>⟧ in d.beside self.new ≡ d.beside self.old }
+        ensures redraws { let d = ⟦<Self as Drawn>⟧ in d.redraws self.new ≡ d.redraws self.old }
+        ensures failures { let d = ⟦<Self as Drawn>⟧ in d.failures self.new ≡ d.failures self.old }
+        ensures loan { let d = ⟦<Self as Drawn>⟧ in d.loan self.new ≡ d.loan self.old }
+    {
+        self.shows_plain = false;
+        self.out.resize(columns, rows);
+        let corner = Position { row: 0, col: 0 };
+        self.prompt_size = self.out.calculate_position(self.prompt.raw(), corner);
     }
 
     // Draws all again, and keeps the layout that is drawn.
