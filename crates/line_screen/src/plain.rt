@@ -23,15 +23,13 @@ use std::marker::PhantomData;
 
 const ORIGIN: Position = Position { row: 0, col: 0 };
 
-/// The rows that the screen says it has.
-const ROWS: Unit = 24;
-
 /// A screen without colors, for any reader of keys. It writes nothing: it keeps what is shown, and counts its full
 /// redraws, for a program that draws by itself. The memory of its longest line and prompt is kept for the next ones.
 #[derive(Drop)]
 pub struct Plain<R: RawReader> {
     alloc: Global,
     columns: Unit,
+    rows: Unit,
     place: Position,
     text: String,
     origin: Position,
@@ -47,14 +45,15 @@ pub struct Plain<R: RawReader> {
 }
 
 impl<R: RawReader> Plain<R> {
-    /// Returns an empty screen of so many columns, with the cursor at its first place. What it shows is kept in memory
-    /// of `alloc`.
+    /// Returns an empty screen of so many columns and of 24 rows, with the cursor at its first place. What it shows is kept in
+    /// memory of `alloc`.
     pub fn new(alloc: Global, columns: Unit) -> Plain<R>
         requires { 0 < columns }
         ensures surface { ⟦<Self as ScreenState>⟧.surface result
             ≡ record {
               measure = measured columns;
               columns = columns;
+              rows = 24;
               colors = false;
               mode = Unicode;
             } }
@@ -67,6 +66,7 @@ impl<R: RawReader> Plain<R> {
         Plain {
             alloc,
             columns,
+            rows: 24,
             place: ORIGIN,
             text: String::new(alloc),
             origin: ORIGIN,
@@ -126,6 +126,7 @@ impl<R: RawReader> Plain<R> {
         ensures prompt { string_bytes self.new.prompt ≡ [] }
         ensures hint { self.new.hint ≡ None }
         ensures columns { self.new.columns ≡ self.old.columns }
+        ensures rows { self.new.rows ≡ self.old.rows }
         ensures redraws { self.new.redraws ≡ self.old.redraws }
         ensures failures { self.new.failures ≡ self.old.failures }
     {
@@ -237,6 +238,7 @@ impl<R: RawReader> ScreenState for Plain<R> {
     ghost surface = { λ p. record {
       measure = measured p.columns;
       columns = p.columns;
+      rows = p.rows;
       colors = false;
       mode = Unicode;
     } };
@@ -422,14 +424,37 @@ impl<R: RawReader> Renderer for Plain<R> {
         ensures { self.new ≡ self.old }
     {}
 
+    /// What is shown stays, and so do the prompt and the text behind the line.
+    fn resize(&mut self, columns: Unit, rows: Unit)
+        requires { 0 < columns }
+        ensures surface { ⟦<Self as ScreenState>⟧.surface self.new
+            ≡ record (⟦<Self as ScreenState>⟧.surface self.old) {
+              measure = measured columns;
+              columns = columns;
+              rows = rows;
+            } }
+        ensures screen { ⟦<Self as ScreenState>⟧.screen self.new
+            ≡ ⟦<Self as ScreenState>⟧.screen self.old }
+        ensures prompt { ⟦<Self as Surroundings>⟧.prompt self.new
+            ≡ ⟦<Self as Surroundings>⟧.prompt self.old }
+        ensures hint { ⟦<Self as Surroundings>⟧.hint self.new
+            ≡ ⟦<Self as Surroundings>⟧.hint self.old }
+        ensures redraws { ⟦<Self as ScreenState>⟧.redraws self.new
+            ≡ ⟦<Self as ScreenState>⟧.redraws self.old }
+        ensures failures { ⟦<Self as ScreenState>⟧.failures self.new
+            ≡ ⟦<Self as ScreenState>⟧.failures self.old }
+    {
+        self.end = None;
+        self.columns = columns;
+        self.rows = rows;
+    }
+
     fn get_columns(&self) -> Unit {
         self.columns
     }
 
-    fn get_rows(&self) -> Unit
-        ensures { result ≡ ROWS }
-    {
-        ROWS
+    fn get_rows(&self) -> Unit {
+        self.rows
     }
 
     fn colors_enabled(&self) -> bool {
