@@ -91,7 +91,7 @@ module _ {X Y : Type 0} (e : editors.Ghosts X) (r : readers.Ghosts Y) (start : X
     continue = refl;
     counted = counted;
     left = inl refl;
-    frame = record { environment = refl; loan = refl; surface = refl; prompt_end = refl; sure = refl; failures = omega arith };
+    frame = record { environment = refl; loan = refl; surface = refl; prompt = refl; prompt_end = refl; sure = refl; failures = omega arith };
     own = refl;
     unread = refl;
     undrawn = refl;

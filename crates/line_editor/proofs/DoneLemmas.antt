@@ -37,6 +37,7 @@ nothing_drawn e old new environment loan display sure failures redraws = record 
     environment = environment;
     loan = loan;
     surface = ap (λ (d : Display). d.surface) display;
+    prompt = ap (λ (d : Display). d.prompt) display;
     prompt_end = ap (λ (d : Display). d.prompt_end) display;
     sure = sure;
     failures = omega (arith, failures);

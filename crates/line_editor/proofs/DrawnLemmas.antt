@@ -253,6 +253,7 @@ frame_then e old middle new first second = record {
   environment = second.environment ∙ first.environment;
   loan = second.loan ∙ first.loan;
   surface = second.surface ∙ first.surface;
+  prompt = second.prompt ∙ first.prompt;
   prompt_end = second.prompt_end ∙ first.prompt_end;
   sure = second.sure ∙ first.sure;
   failures = omega (arith, first.failures, second.failures);

@@ -39,7 +39,7 @@ use Rattle.line_keys.specs.Display.{Display}
 
 -- all stays
 frame_stays : {X : Type 0} (e : Ghosts X) (old : X) → Frame e old old
-frame_stays e old = record { environment = refl; loan = refl; surface = refl; prompt_end = refl; sure = refl; failures = omega arith }
+frame_stays e old = record { environment = refl; loan = refl; surface = refl; prompt = refl; prompt_end = refl; sure = refl; failures = omega arith }
 
 -- a step that draws nothing and leaves the line does nothing else
 pub still_done : {X T : Type 0} (e : Ghosts X) (asks : Asks) (r : Result T ReadlineError) (old new : X) (left : Draft)

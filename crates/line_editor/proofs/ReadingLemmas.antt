@@ -70,7 +70,7 @@ unless_io (Ok x) goes p = goes p
 unless_io (Err f) goes p = λ no. goes (p no)
 
 pub frame_stays : {X : Type 0} (e : editors.Ghosts X) (editor : X) → Frame e editor editor
-frame_stays e editor = record { environment = refl; loan = refl; surface = refl; prompt_end = refl; sure = refl; failures = omega arith }
+frame_stays e editor = record { environment = refl; loan = refl; surface = refl; prompt = refl; prompt_end = refl; sure = refl; failures = omega arith }
 
 -- a reader that failed behind other failures has failed
 either_rose : (read mid read' drew drew' : ℕ) → read ≤ mid → mid ≤ read' → drew ≤ drew' → Rose mid read' → EitherRose read drew read' drew'

@@ -1,13 +1,15 @@
 //! Drawing again, and what is asked of the screen.
 ghost use Rattle.line_editor.specs.Outcomes.{DoesCommand};
+ghost use Rattle.line_editor.specs.Resized.{Resizes};
 ghost use Rattle.line_keys.specs.Command as commands;
-ghost use Rattle.std.specs.Prelude.{◌≡◌, ◌&&◌, true, false, is_some, OnOk, OnErr};
+ghost use Rattle.std.specs.Prelude.{◌≡◌, ◌<◌, ◌&&◌, true, false, is_some, OnOk, OnErr};
 ghost use Rattle.line_keys.specs.Draft.{hint_shown};
 ghost use Rattle.line_keys.specs.Drawing.{Paints};
 ghost use Rattle.line_keys.specs.ShownLine.{Shows, ShowsByLayout, info_kept};
 ghost use Rattle.line_state.specs.Drawn.{cleared};
 
 use crate::edit::{Info, State, info_text};
+use line_buffer::Unit;
 use line_config::{Prompt, Result};
 use line_keys::editor_state::EditorState;
 use line_keys::refresher::Refresher;
@@ -72,6 +74,29 @@ impl<'out, 'prompt, W: Renderer, H: Helper, P: Prompt, S: History> State<
         self.view.repaint_kept(
             self.edited.line(),
             info_text(info, &self.hint),
+            self.parties.highlighter(colors),
+        )
+    }
+
+    /// Gives the screen another number of columns and of rows, measures the prompt anew, and draws the line in full behind it,
+    /// with the hint that is there; a message or another prompt that is shown goes. The line, its changes, the hint and the
+    /// history index stay. The rows that were drawn before are cleared; a terminal that wraps lines anew by itself may keep some
+    /// of them above.
+    ///
+    /// # Errors
+    /// Those of the renderer. Columns and rows are the new ones then, and the kept layout is the old one: another full redraw
+    /// is to follow.
+    #[tactic(auto, using(crate::proofs::EditLemmas::shown_hint))]
+    pub fn resized(&mut self, columns: Unit, rows: Unit) -> Result<()>
+        requires { 0 < columns }
+        ensures { Resizes ⟦<Self as EditorState>⟧ result self.old self.new columns rows }
+    {
+        let colors = self.view.colors_enabled();
+        self.view.resized(
+            columns,
+            rows,
+            self.edited.line(),
+            info_text(Info::Hint, &self.hint),
             self.parties.highlighter(colors),
         )
     }

@@ -28,6 +28,7 @@ editor_state g = record {
   };
   display = λ s. record {
     surface = g.W.ScreenState.surface s.view.out.now;
+    prompt = g.P.Prompt.raw_text s.view.prompt.now;
     prompt_end = s.view.prompt_size;
     layout = s.view.layout;
     screen = g.W.ScreenState.screen s.view.out.now;
