@@ -15,11 +15,11 @@ use Rattle.line_term.specs.Cells.{Cells, cells_after, is_before, put_cells, with
 use Rattle.line_term.specs.Drawn.{drawn, uncolored}
 use Rattle.line_term.specs.Escape.{clear_below, clear_from, move_bytes, return, steps}
 use Rattle.line_term.specs.Laws.{IsColoring, IsPlainDrawing, OnlyColors, RedrawsClear}
-use Rattle.line_term.specs.Painted.{Draws, Handed, PaintsBehind, PaintsPrompt, clear_drawn, wrap, wrap_behind}
+use Rattle.line_term.specs.Painted.{Draws, Handed, PaintsBehind, PaintsPrompt, clear_drawn, wrap}
 use Rattle.line_term.specs.Terminal.{put, sent, standing}
 use Rattle.line_term.proofs.CellLemmas.{cells-append, measured-leaves, not-before-place, wrap-cells}
 use Rattle.line_term.proofs.ColorLemmas.{uncolored-plain}
-use Rattle.line_term.proofs.RedrawLemmas.{behind-sent, behind_end, drawing-sent, drawn-sent, line-row, prompt-sent, shown-end, text-sent, usual-or-own}
+use Rattle.line_term.proofs.RedrawLemmas.{behind-sent, behind_end, drawing-measured, drawing-sent, drawn-sent, line-row, prompt-sent, shown-end, text-sent, usual-or-own, wrap_more}
 use Rattle.line_term.proofs.RedrawShownLemmas.{cleaned-drawn, colored-drawn, marked, part-cells, parts-cells}
 use Rattle.line_term.proofs.ShownLemmas.{move-cells, steps-cells}
 use Rattle.line_term.proofs.TerminalLemmas.{stands, up-sent}
@@ -73,7 +73,7 @@ behind-leaves : {H : Type 0} (columns base : ℕ) (place : Position) (behind : O
     → IfSome behind (λ text. IfSome highlighter (λ o. IsColoring (own o text) text))
     → IfSome behind (λ s. list_all is_plain s ≡ true) → place.col < columns → (behind_end columns place behind).row < 65535
     → is_before base (behind_end columns place behind) row col ≡ false
-    → (cells_after columns (standing base place) cells (bytes ++ wrap_behind (measured columns) behind place) row col ≡ cells row col)
+    → (cells_after columns (standing base place) cells (bytes ++ wrap_more (measured columns) behind place) row col ≡ cells row col)
     × (is_before base place row col ≡ false)
 behind-leaves columns base place None bytes highlighter own cells row col painted coloring all within last outside =
     (ap (λ b. cells_after columns (standing base place) cells (b ++ []) row col) painted, outside)
@@ -119,7 +119,7 @@ module _ {P H : Type 0} (p : prompts.Ghosts P) (h : highlighters.Ghosts H) where
       let l = draws.painted.line in
       let w = wrap measure text p₁ in
       let e = draws.painted.behind in
-      let f = wrap_behind measure behind p₂ in
+      let f = wrap_more measure behind p₂ in
       let m = move_bytes layout.end layout.cursor in
       let own_line = λ (o : H). h.own_line o text handed.line.cursor in
       let own_prompt = λ (o : H) (s : List ℕ). h.own_prompt o s layout.default_prompt in
@@ -137,7 +137,7 @@ module _ {P H : Type 0} (p : prompts.Ghosts P) (h : highlighters.Ghosts H) where
       let third = behind-leaves columns base p₂ behind e highlighter h.own_hint cells₂ row col draws.behind colors.behind is.behind_plain col₂ last outside₃ in
       let outside₁ : is_before base p₁ row col ≡ false = not-before-place columns base p₁ text row col is.text_plain col₁ second third.1 in
       let outside₀ : is_before base (measure raw corner) row col ≡ false = ap (λ q. is_before base q row col) (sym is.prompt_end) ∙ outside₁ in
-      ap (λ s. cells_after columns start cells s row col) draws.whole
+      ap (λ s. cells_after columns start cells s row col) (drawing-measured p h columns handed bytes draws is)
       ∙ ap (λ (g : Cells). g row col) (parts-cells columns start cells a b l w e f m)
       ∙ ap (λ t. cells_after columns (sent columns (sent columns t (l ++ w)) (e ++ f))
       (cells_after columns (sent columns t (l ++ w)) (cells_after columns t cells₁ (l ++ w)) (e ++ f)) m row col) front

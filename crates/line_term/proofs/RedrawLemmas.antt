@@ -1,5 +1,5 @@
 -- A full redraw that is read by a terminal.
-use Rattle.std.proofs.Common.{◌≡◌, subst, ◌<◌, ◌^◌, ℕ, ◌+◌, ◌-◌, Bool, true, false, List, [], ◌++◌, Option, Some, None, refl, sym, ap, ◌∙◌, append_assoc, arith, ⊎_elim, option_map}
+use Rattle.std.proofs.Common.{◌≡◌, subst, ◌<◌, ◌^◌, ℕ, ◌+◌, ◌-◌, Bool, true, false, List, [], ◌++◌, Option, Some, None, refl, sym, ap, ap₂, ◌∙◌, append_assoc, arith, ⊎_elim, option_map}
 use Rattle.std.specs.Option.{IfSome}
 use Rattle.std.specs.List.{list_all}
 use Rattle.std.proofs.lemmas.List.{append-nil}
@@ -8,14 +8,14 @@ use Rattle.line_buffer.specs.Printable.{is_plain}
 use Rattle.line_buffer.specs.declared.layout.Layout.{Layout}
 use Rattle.line_buffer.specs.declared.layout.Position.{Position}
 use Rattle.line_config.specs.declared.prompt.Prompt as prompts
-use Rattle.line_keys.specs.Display.{corner, shown_end}
+use Rattle.line_keys.specs.Display.{Measure, corner, shown_end}
 use Rattle.line_parts.specs.declared.highlight.Highlighter as highlighters
 use Rattle.line_screen.specs.Measure.{measured}
 use Rattle.line_screen.specs.MeasureLaws.{measured-below}
 use Rattle.line_term.specs.Drawn.{colored, uncolored}
 use Rattle.line_term.specs.Escape.{clear_below, clear_from, hold, move_bytes, release, return, steps}
 use Rattle.line_term.specs.Laws.{IsColoring, IsPlainDrawing, OnlyColors, RedrawsArrive, before_redraw}
-use Rattle.line_term.specs.Painted.{Draws, Handed, Paints, PaintsBehind, PaintsPrompt, at_once, clear_drawn, wrap, wrap_behind}
+use Rattle.line_term.specs.Painted.{Draws, Handed, Paints, PaintsBehind, PaintsPrompt, at_once, clear_drawn, drawing, wrap, wrap_ending, Painted}
 use Rattle.line_term.specs.Terminal.{Terminal, put, sent, standing}
 use Rattle.line_term.proofs.TerminalLemmas.{move-arrives, others-stay, stands, up-sent}
 use Rattle.line_term.proofs.TextLemmas.{measured-row, text-arrives}
@@ -54,6 +54,11 @@ parts-sent columns t a b c d e f m =
 abbrev pub behind_end : ℕ → Position → Option (List ℕ) → Position
 behind_end columns place None = place
 behind_end columns place (Some text) = measured columns text place
+
+-- the new row behind what is measured behind the line
+abbrev pub wrap_more : Measure → Option (List ℕ) → Position → List ℕ
+wrap_more measure None place = []
+wrap_more measure (Some text) place = wrap measure text place
 
 -- a text as a highlighter shows it
 shown-sent : (columns base : ℕ) (origin : Position) (text shown bytes : List ℕ) → uncolored shown ≡ text → bytes ≡ colored shown
@@ -104,7 +109,7 @@ pub behind-sent : {H : Type 0} (columns base : ℕ) (place : Position) (behind :
     → PaintsBehind (option_map own highlighter) behind bytes
     → IfSome behind (λ text. IfSome highlighter (λ o. IsColoring (own o text) text))
     → IfSome behind (λ s. list_all is_plain s ≡ true) → place.col < columns → (behind_end columns place behind).row < 65535
-    → sent columns (standing base place) (bytes ++ wrap_behind (measured columns) behind place) ≡ standing base (behind_end columns place behind)
+    → sent columns (standing base place) (bytes ++ wrap_more (measured columns) behind place) ≡ standing base (behind_end columns place behind)
 behind-sent columns base place None bytes highlighter own painted coloring all within last = ap (λ b. sent columns (standing base place) (b ++ [])) painted
 behind-sent columns base place (Some text) bytes None own painted coloring all within last =
     text-sent columns base place text bytes None (λ o. own o text) painted coloring all within last
@@ -123,7 +128,32 @@ pub line-row : (columns : ℕ) (place : Position) (behind : Option (List ℕ)) �
 line-row columns place None all last = last
 line-row columns place (Some text) all last = measured-row columns place text all last
 
+-- by a layout whose places are as they are measured, the new rows of a drawing are those behind the measured texts
+drawing-of : (columns : ℕ) (raw text : List ℕ) (behind : Option (List ℕ)) (layout : Layout) (painted : Painted)
+    → layout.prompt_size ≡ measured columns raw corner → layout.end ≡ shown_end (measured columns) layout.prompt_size text behind
+    → drawing (measured columns) raw text behind layout painted
+    ≡ painted.prompt ++ wrap (measured columns) raw corner ++ painted.line ++ wrap (measured columns) text layout.prompt_size
+    ++ painted.behind ++ wrap_more (measured columns) behind (measured columns text layout.prompt_size) ++ move_bytes layout.end layout.cursor
+drawing-of columns raw text None layout painted first ends =
+    let measure = measured columns in
+    ap₂ (λ (e₁ e₂ : Position). painted.prompt ++ wrap_ending measure raw corner e₁ ++ painted.line ++ wrap_ending measure text layout.prompt_size e₂
+    ++ painted.behind ++ [] ++ move_bytes layout.end layout.cursor) first ends
+drawing-of columns raw text (Some more) layout painted first ends =
+    let measure = measured columns in
+    let place = measure text layout.prompt_size in
+    ap₂ (λ (e₁ e₂ : Position). painted.prompt ++ wrap_ending measure raw corner e₁ ++ painted.line ++ wrap measure text layout.prompt_size
+    ++ painted.behind ++ wrap_ending measure more place e₂ ++ move_bytes layout.end layout.cursor) first ends
+
 module _ {P H : Type 0} (p : prompts.Ghosts P) (h : highlighters.Ghosts H) where
+  -- so it is of a drawing of printable ASCII and newlines
+  pub drawing-measured : (columns : ℕ) (handed : Handed P H) (bytes : List ℕ) → (draws : Draws p h (measured columns) handed bytes)
+      → IsPlainDrawing columns (p.raw_text handed.prompt) handed.line.text handed.behind handed.layout
+      → (let layout = handed.layout in let painted = draws.painted in
+      bytes ≡ painted.prompt ++ wrap (measured columns) (p.raw_text handed.prompt) corner ++ painted.line ++ wrap (measured columns) handed.line.text layout.prompt_size
+      ++ painted.behind ++ wrap_more (measured columns) handed.behind (measured columns handed.line.text layout.prompt_size) ++ move_bytes layout.end layout.cursor)
+  drawing-measured columns handed bytes draws is =
+      draws.whole ∙ drawing-of columns (p.raw_text handed.prompt) handed.line.text handed.behind handed.layout draws.painted is.prompt_end is.ends
+
   -- a drawing takes the cursor from the prompt's first place to the layout's
   pub drawing-sent : (columns base : ℕ) (handed : Handed P H) (bytes : List ℕ) → Draws p h (measured columns) handed bytes → OnlyColors p h handed
       → IsPlainDrawing columns (p.raw_text handed.prompt) handed.line.text handed.behind handed.layout
@@ -157,11 +187,11 @@ module _ {P H : Type 0} (p : prompts.Ghosts P) (h : highlighters.Ghosts H) where
       is.text_plain col₁ second in
       let back = behind-sent columns base p₂ behind draws.painted.behind highlighter h.own_hint draws.behind colors.behind is.behind_plain
       col₂ last in
-      ap (sent columns start) draws.whole
+      ap (sent columns start) (drawing-measured columns handed bytes draws is)
       ∙ parts-sent columns start draws.painted.prompt (wrap measure raw corner) draws.painted.line (wrap measure text p₁) draws.painted.behind
-      (wrap_behind measure behind p₂) (move_bytes layout.end layout.cursor)
-      ∙ ap (λ t. sent columns (sent columns (sent columns t (draws.painted.line ++ wrap measure text p₁)) (draws.painted.behind ++ wrap_behind measure behind p₂)) (move_bytes layout.end layout.cursor)) front
-      ∙ ap (λ t. sent columns (sent columns t (draws.painted.behind ++ wrap_behind measure behind p₂)) (move_bytes layout.end layout.cursor)) middle
+      (wrap_more measure behind p₂) (move_bytes layout.end layout.cursor)
+      ∙ ap (λ t. sent columns (sent columns (sent columns t (draws.painted.line ++ wrap measure text p₁)) (draws.painted.behind ++ wrap_more measure behind p₂)) (move_bytes layout.end layout.cursor)) front
+      ∙ ap (λ t. sent columns (sent columns t (draws.painted.behind ++ wrap_more measure behind p₂)) (move_bytes layout.end layout.cursor)) middle
       ∙ ap (λ t. sent columns t (move_bytes layout.end layout.cursor)) (back ∙ ap (standing base) (sym ends))
       ∙ move-arrives columns base layout.end layout.cursor (omega (arith, is.last_row)) (omega (arith, is.cursor.0)) (omega (arith, is.cursor.1)) is.cursor.2
 

@@ -18,11 +18,11 @@ use Rattle.line_term.specs.Cells.{Cells, cells_after, is_before, put_cells}
 use Rattle.line_term.specs.Drawn.{cleaned, colored, colored_from, drawn, uncolored}
 use Rattle.line_term.specs.Escape.{hold, move_bytes, release}
 use Rattle.line_term.specs.Laws.{IsColoring, IsPlainDrawing, OnlyColors, RedrawsShow, before_redraw}
-use Rattle.line_term.specs.Painted.{Draws, Handed, Paints, PaintsBehind, at_once, clear_drawn, wrap, wrap_behind}
+use Rattle.line_term.specs.Painted.{Draws, Handed, Paints, PaintsBehind, at_once, clear_drawn, wrap}
 use Rattle.line_term.specs.Terminal.{Terminal, put, sent, standing}
 use Rattle.line_term.proofs.CellLemmas.{cells-append, shows-of, text-keeps, wrap-cells}
 use Rattle.line_term.proofs.ColorLemmas.{colored-goes, off-sent, uncolored-plain}
-use Rattle.line_term.proofs.RedrawLemmas.{behind-sent, behind_end, drawing-sent, drawn-sent, line-row, prompt-sent, shown-end, text-sent, usual-or-own}
+use Rattle.line_term.proofs.RedrawLemmas.{behind-sent, behind_end, drawing-measured, drawing-sent, drawn-sent, line-row, prompt-sent, shown-end, text-sent, usual-or-own, wrap_more}
 use Rattle.line_term.proofs.ShownLemmas.{colored-cells, move-cells}
 use Rattle.line_term.proofs.TerminalLemmas.{others-stay}
 use Rattle.line_term.proofs.TextLemmas.{at_place, measured-plain, measured-row, text-goes, waiting, wrapped-row}
@@ -98,7 +98,7 @@ behind-keeps : {H : Type 0} (columns base : ℕ) (place : Position) (behind : Op
     → IfSome behind (λ text. IfSome highlighter (λ o. IsColoring (own o text) text))
     → IfSome behind (λ s. list_all is_plain s ≡ true) → place.col < columns → (behind_end columns place behind).row < 65535
     → is_before base place row col ≡ true
-    → cells_after columns (standing base place) cells (bytes ++ wrap_behind (measured columns) behind place) row col ≡ cells row col
+    → cells_after columns (standing base place) cells (bytes ++ wrap_more (measured columns) behind place) row col ≡ cells row col
 behind-keeps columns base place None bytes highlighter own cells row col painted coloring all within last before =
     ap (λ b. cells_after columns (standing base place) cells (b ++ []) row col) painted
 behind-keeps columns base place (Some text) bytes None own cells row col painted coloring all within last before =
@@ -187,7 +187,7 @@ module _ {P H : Type 0} (p : prompts.Ghosts P) (h : highlighters.Ghosts H) where
       let l = draws.painted.line in
       let w = wrap measure text p₁ in
       let e = draws.painted.behind in
-      let f = wrap_behind measure behind p₂ in
+      let f = wrap_more measure behind p₂ in
       let m = move_bytes layout.end layout.cursor in
       let own_line = λ (o : H). h.own_line o text handed.line.cursor in
       let cells₁ = cells_after columns start cells (a ++ b) in
@@ -202,7 +202,7 @@ module _ {P H : Type 0} (p : prompts.Ghosts P) (h : highlighters.Ghosts H) where
       behind-sent columns base p₂ behind e highlighter h.own_hint draws.behind colors.behind is.behind_plain col₂ last in
       let cells₃ = cells_after columns (standing base p₂) cells₂ (e ++ f) in
       let shows = shows-of columns base p₁ text before c after cells₁ has is.text_plain print col₁ second in
-      ap (λ s. cells_after columns start cells s row col) draws.whole
+      ap (λ s. cells_after columns start cells s row col) (drawing-measured p h columns handed bytes draws is)
       ∙ ap (λ (g : Cells). g row col) (parts-cells columns start cells a b l w e f m)
       ∙ ap (λ t. cells_after columns (sent columns (sent columns t (l ++ w)) (e ++ f))
       (cells_after columns (sent columns t (l ++ w)) (cells_after columns t cells₁ (l ++ w)) (e ++ f)) m row col) front

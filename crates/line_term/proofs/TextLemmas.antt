@@ -194,7 +194,7 @@ fills columns q false is some below = grind (arith, nat_tests)
 
 pub fills-plain : (columns : ℕ) (origin : Position) (text : List ℕ) → list_all is_plain text ≡ true → 0 < columns
     → (fold (after_char columns) origin text).row < 65535
-    → fills_row (measured columns) text origin ≡ ((fold (after_char columns) origin text).col == columns)
+    → fills_row (measured columns) text origin (measured columns text origin) ≡ ((fold (after_char columns) origin text).col == columns)
 fills-plain columns origin text all some below =
     let q = fold (after_char columns) origin text in
     ap₂ (λ (e b : Position). (e.col == 0) && (b.row == e.row)) (measured-plain columns origin text all) (measured-newline columns origin text all some)

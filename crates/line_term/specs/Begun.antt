@@ -41,19 +41,15 @@ escape_step twice c =
     else if opens_text c then (if twice then gives (Opening c) (Key (event Esc NONE)) else leads_to (Opening c))
     else gives Nothing (Key (event_of c ALT))
 
--- an Esc, if one was read in front
-abbrev pub escape_if : Bool → Option Given
-escape_if alt = if alt then Some (Key (event Esc NONE)) else None
-
--- a sequence has ended that means this; an Esc in front of what is no key is a key of its own
-abbrev pub ends : Bool → Option Given → Step
-ends alt None = record { begun = Nothing; given = escape_if alt }
-ends alt (Some PasteStart) = record { begun = Paste false; given = escape_if alt }
-ends alt (Some given) = gives Nothing given
+-- a sequence has ended that means this
+abbrev pub ends : Option Given → Step
+ends None = leads_to Nothing
+ends (Some PasteStart) = leads_to (Paste false)
+ends (Some given) = gives Nothing given
 
 -- a sequence has ended
 abbrev pub ended : Sequence → ℕ → Step
-ended s last = ends s.alt (meaning s last)
+ended s last = ends (meaning s last)
 
 -- a sequence is cancelled, goes on by digits, semicolons and marks, and ends by any other character
 abbrev pub sequence_step : Sequence → ℕ → Step
@@ -64,7 +60,7 @@ sequence_step s c =
     else if (c == 36) && has_one_number s then ended s c
     else if is_in_range 32 63 c then leads_to (begun.Sequence (record s { bare = false; marked = true }))
     else if (c == 91) && begins_control s then leads_to (begun.Sequence (opened Console s.alt))
-    else if (c == 77) && begins_control s then record { begun = Mouse 3; given = escape_if s.alt }
+    else if (c == 77) && begins_control s then leads_to (Mouse 3)
     else if is_in_range 64 126 c then ended s c
     else gives Nothing unknown
 
@@ -109,18 +105,33 @@ goes_on_as_text sign c =
     else if sign == 95 then c == 71
     else is_in_range 48 57 c || (c == 59) || (c == 62) || (c == 43) || (c == 36) || (c == 33) || (c == 124)
 
--- what has begun ends before this character, which is read anew: a sequence before an Esc, and what opens a text before what does not go
--- on with it
+-- a sequence has begun
+abbrev pub is_sequence : Begun → Bool
+is_sequence (begun.Sequence s) = true
+is_sequence _ = false
+
+-- a key is given
+abbrev pub is_key : Option Given → Bool
+is_key (Some (Key k)) = true
+is_key _ = false
+
+-- a sequence is over, and gave no key
+abbrev pub ends_without_key : Step → Bool
+ends_without_key step = not (is_sequence step.begun) && not (is_key step.given)
+
+-- what has begun ends before this character, which is read anew: a sequence before an Esc; the Esc in front of one, before the character
+-- that shows it to be no key; and what opens a text, before what does not go on with it
 abbrev pub ends_before : Begun → ℕ → Bool
-ends_before (begun.Sequence s) c = c == 27
+ends_before (begun.Sequence s) c = (c == 27) || (s.alt && ends_without_key (sequence_step s c))
 ends_before (Opening sign) c = not (goes_on_as_text sign c)
 ends_before _ c = false
 
--- what is given then
-abbrev pub cut : Begun → Step
-cut (begun.Sequence s) = gives Nothing (cut_off s)
-cut (Opening sign) = gives Nothing (Key (event_of sign ALT))
-cut b = leads_to b
+-- what is given where it ends before this character, and what has begun from then on
+abbrev pub cut : Begun → ℕ → Step
+cut (begun.Sequence s) c =
+    if c == 27 then gives Nothing (cut_off s) else gives (begun.Sequence (record s { alt = false })) (Key (event Esc NONE))
+cut (Opening sign) c = gives Nothing (Key (event_of sign ALT))
+cut b c = leads_to b
 
 -- what one more character does
 abbrev pub step : Begun → ℕ → Step
@@ -138,7 +149,6 @@ abbrev pub waits : Begun → Bool
 waits (Escape twice) = true
 waits (begun.Sequence s) = s.bare
 waits (Opening sign) = true
-waits (Mouse left) = true
 waits _ = false
 
 -- Esc was read twice
@@ -150,7 +160,6 @@ is_second_escape _ = false
 abbrev pub settled : Begun → Step
 settled (Escape true) = gives (Escape false) (Key (event Esc NONE))
 settled (Escape false) = gives Nothing (Key (event Esc NONE))
-settled (begun.Sequence s) = if s.bare then cut (begun.Sequence s) else leads_to (begun.Sequence s)
-settled (Opening sign) = cut (Opening sign)
-settled (Mouse left) = leads_to Nothing
+settled (begun.Sequence s) = if s.bare then gives Nothing (cut_off s) else leads_to (begun.Sequence s)
+settled (Opening sign) = gives Nothing (Key (event_of sign ALT))
 settled b = leads_to b

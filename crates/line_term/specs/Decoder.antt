@@ -81,7 +81,7 @@ take_char c s = given_turn (step s.begun c) s
 
 -- a character is read: what has begun may end before it
 abbrev pub read_char : ℕ → Standing → Turn
-read_char c s = if ends_before s.begun c then followed_by (given_turn (cut s.begun) s) (take_char c) else take_char c s
+read_char c s = if ends_before s.begun c then followed_by (given_turn (cut s.begun c) s) (take_char c) else take_char c s
 
 -- a byte is read with which the bytes before it are this
 abbrev pub read_piece : Piece → ℕ → Standing → Turn

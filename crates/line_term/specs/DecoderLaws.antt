@@ -7,11 +7,11 @@ use Rattle.std.specs.List.{AllByRecursion, list_all}
 use Rattle.line_keys.specs.Item.{key}
 use Rattle.line_keys.specs.Key.{bits_of, event, event_of}
 use Rattle.line_keys.specs.declared.keys.KeyCode.{KeyCode}
-use Rattle.line_keys.specs.declared.keys.KeyCode.TheVariants.{Char}
+use Rattle.line_keys.specs.declared.keys.KeyCode.TheVariants.{Char, Esc}
 use Rattle.line_keys.specs.declared.keys.KeyEvent.{KeyEvent}
 use Rattle.line_keys.specs.declared.keys.Modifiers.{Modifiers}
 use Rattle.line_keys.specs.declared.keys.TheConstants.Modifiers.{ALT, ALT_SHIFT, CTRL, CTRL_ALT, CTRL_ALT_SHIFT, CTRL_SHIFT, NONE, SHIFT}
-use Rattle.line_term.specs.Begun.{ends_before, step}
+use Rattle.line_term.specs.Begun.{cut, ends_before, is_key, step}
 use Rattle.line_term.specs.Decoder.{Standing, after_all, flushed, followed_by, is_waiting, read}
 use Rattle.line_term.specs.Paste.{cleaned, pasted_items}
 use Rattle.line_term.specs.Sequence.{is_control as is_control_sequence, modifiers_by}
@@ -22,6 +22,7 @@ use Rattle.line_term.specs.declared.begun.Begun.TheVariants.{Nothing}
 use Rattle.line_term.specs.declared.begun.Begun.TheVariants as begun
 use Rattle.line_term.specs.declared.sequence.Given.{Given}
 use Rattle.line_term.specs.declared.sequence.Given.TheVariants.{Key}
+use Rattle.line_term.specs.declared.sequence.Sequence.{Sequence}
 use Rattle.line_term.specs.declared.tables.TheConstants.{ARROWS, CONSOLE, FUNCTIONS, LETTERS, NUMBERS}
 
 -- however bytes are cut into pieces, they come to the same items, and the same has begun
@@ -142,14 +143,15 @@ pub record TextsAreSilent : Type 0 where
   pub opening : (sign c : ℕ) → ends_before (begun.Opening sign) c ≡ false → (step (begun.Opening sign) c).given ≡ None
   pub mouse : (left c : ℕ) → (step (begun.Mouse left) c).given ≡ None
 
--- a pasted text gives nothing but text until it has ended: no key
-abbrev pub is_no_key : Option Given → Bool
-is_no_key (Some (Key k)) = false
-is_no_key _ = true
+-- an Esc in front of a sequence that is no key is a key of its own
+abbrev pub EscapesAreKept : Type 0
+EscapesAreKept = (s : Sequence) (c : ℕ) → (c == 27) ≡ false → ends_before (begun.Sequence s) c ≡ true
+    → (cut (begun.Sequence s) c).given ≡ Some (Key (event Esc NONE))
 
+-- a pasted text gives nothing but text until it has ended: no key
 pub record PastesGiveNoKey : Type 0 where
-  pub paste : (returned : Bool) (c : ℕ) → is_no_key (step (begun.Paste returned) c).given ≡ true
-  pub mark : (matched c : ℕ) → is_no_key (step (begun.Mark matched) c).given ≡ true
+  pub paste : (returned : Bool) (c : ℕ) → is_key (step (begun.Paste returned) c).given ≡ false
+  pub mark : (matched c : ℕ) → is_key (step (begun.Mark matched) c).given ≡ false
   pub kept : (returned : Bool) (c d : ℕ) → cleaned returned c ≡ Some d → is_kept d ≡ true
 
 -- bytes that have begun a character, or none

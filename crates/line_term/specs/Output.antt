@@ -6,7 +6,6 @@ use Rattle.line_config.specs.Error.{is_io, is_memory}
 use Rattle.line_config.specs.Failures.{CountsFailures}
 use Rattle.line_config.specs.declared.error.ReadlineError.{ReadlineError}
 use Rattle.line_screen.specs.Measure.{measured}
-use Rattle.line_screen.specs.Surroundings.{blank_screen}
 use Rattle.line_state.specs.ScreenState.{DrawsNoLine, DrawsPart}
 use Rattle.line_state.specs.declared.screen_state.ScreenState as screens
 use Rattle.std.specs.declared.io.traits.Write as writers
@@ -53,10 +52,10 @@ module _ {X : Type 0} (e : screens.Ghosts X) (o : outputs.Ghosts X) where
   abbrev pub holds_back : X → Bool
   holds_back x = o.synchronized x && not (e.beside x).held
 
-  -- the screen has other columns and is blank; nothing is written
-  pub record Resizes (old new : X) (columns : ℕ) : Type 0 where
-    pub surface : e.surface new ≡ record (e.surface old) { measure = measured columns; columns = columns }
-    pub screen : e.screen new ≡ blank_screen
+  -- the screen has so many columns and rows from now on, and nothing is written
+  pub record Resizes (old new : X) (columns rows : ℕ) : Type 0 where
+    pub surface : e.surface new ≡ record (e.surface old) { measure = measured columns; columns = columns; rows = rows }
+    pub screen : e.screen new ≡ e.screen old
     pub beside : e.beside new ≡ e.beside old
     pub redraws : e.redraws new ≡ e.redraws old
     pub failures : e.failures new ≡ e.failures old

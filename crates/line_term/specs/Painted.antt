@@ -16,14 +16,17 @@ pub record AppendsSome (old new : List ℕ) (P : List ℕ → Type 0) : Type 0 w
   pub appended : new ≡ old ++ bytes
   pub holds : P bytes
 
--- a text fills its last row exactly: with a newline behind it, it ends at the same place
-abbrev pub fills_row : Measure → List ℕ → Position → Bool
-fills_row measure text origin =
-    ((measure text origin).col == 0) && ((measure (text ++ 10 ∷ []) origin).row == (measure text origin).row)
+-- a text that ends at a place fills its last row exactly: with a newline behind it, it ends at the same place
+abbrev pub fills_row : Measure → List ℕ → Position → Position → Bool
+fills_row measure text origin end = (end.col == 0) && ((measure (text ++ 10 ∷ []) origin).row == end.row)
 
 -- behind a text that fills its last row exactly, the cursor waits at that row's end: it goes on to the next row
+abbrev pub wrap_ending : Measure → List ℕ → Position → Position → List ℕ
+wrap_ending measure text origin end = if fills_row measure text origin end then next_line else []
+
+-- so it is behind a text that ends where it is measured to
 abbrev pub wrap : Measure → List ℕ → Position → List ℕ
-wrap measure text origin = if fills_row measure text origin then next_line else []
+wrap measure text origin = wrap_ending measure text origin (measure text origin)
 
 -- what is written for a text: without a highlighter the text, and else how that shows it
 abbrev pub Paints : Option (Option (List ℕ)) → List ℕ → List ℕ → Type 0
@@ -52,17 +55,23 @@ pub record Painted : Type 0 where
   pub line : List ℕ
   pub behind : List ℕ
 
+-- where the line ends by a layout of its own: with nothing behind it where the layout ends, and else where it is measured to end
+abbrev pub line_end : Measure → List ℕ → Option (List ℕ) → Layout → Position
+line_end measure text None layout = layout.end
+line_end measure text (Some _) layout = measure text layout.prompt_size
+
 -- behind the text behind the line, if there is one
-abbrev pub wrap_behind : Measure → Option (List ℕ) → Position → List ℕ
-wrap_behind measure None origin = []
-wrap_behind measure (Some text) origin = wrap measure text origin
+abbrev pub wrap_behind : Measure → Option (List ℕ) → Position → Position → List ℕ
+wrap_behind measure None origin end = []
+wrap_behind measure (Some text) origin end = wrap_ending measure text origin end
 
 -- the parts of a drawing one after another, each out of the wait at a row's end, and the cursor at its place
 abbrev pub drawing : Measure → List ℕ → List ℕ → Option (List ℕ) → Layout → Painted → List ℕ
 drawing measure prompt text behind layout painted =
-    painted.prompt ++ wrap measure prompt corner
-    ++ painted.line ++ wrap measure text layout.prompt_size
-    ++ painted.behind ++ wrap_behind measure behind (measure text layout.prompt_size)
+    let end = line_end measure text behind layout in
+    painted.prompt ++ wrap_ending measure prompt corner layout.prompt_size
+    ++ painted.line ++ wrap_ending measure text layout.prompt_size end
+    ++ painted.behind ++ wrap_behind measure behind end layout.end
     ++ move_bytes layout.end layout.cursor
 
 -- the rows that were drawn before are cleared, if there are any

@@ -1,20 +1,18 @@
 //! A screen that is drawn by writing bytes to a terminal.
-ghost use Rattle.std.specs.Prelude.{◌≡◌, nat_lt, ℕ, ◌<◌, ◌&&◌, ◌++◌, List, length, Bool, [], ◌∷◌, true, false, not, IfErr, IfOk, OnOk, OnErr, is_some, option_map, string_bytes, if◌then◌else◌};
+ghost use Rattle.std.specs.Prelude.{◌≡◌, nat_lt, ℕ, ◌<◌, ◌&&◌, ◌++◌, List, length, [], ◌∷◌, true, false, not, OnOk, OnErr, is_some, option_map, string_bytes, if◌then◌else◌};
 ghost use Rattle.std.specs.List.{list_all};
 ghost use Rattle.std.specs.Io.KnownBytes.{Appends};
-ghost use Rattle.line_config.specs.Error.{FaultsOnly, IsOneMore, MemoryOnly, is_io};
-ghost use Rattle.line_config.specs.Failures.{CountsFailures};
+ghost use Rattle.line_config.specs.Error.{FaultsOnly, IsOneMore};
 ghost use Rattle.line_buffer.specs.Printable.{is_printable};
 ghost use Rattle.line_buffer.specs.declared.layout.GraphemeClusterMode.TheVariants.{Unicode};
 ghost use Rattle.line_keys.specs.Display.{uncounted};
-ghost use Rattle.line_state.specs.ScreenState.{Agrees, BeepsAtMost, DrawsNoLine, DrawsPart, EndsBehind, HasRoom, HoldsAtMost, Tries, WritesAtMost, shown_by, with_shown};
+ghost use Rattle.line_state.specs.ScreenState.{Agrees, BeepsAtMost, DrawsNoLine, EndsBehind, HasRoom, HoldsAtMost, Tries, WritesAtMost, shown_by, with_shown};
 ghost use Rattle.line_screen.specs.Measure.{measured};
 ghost use Rattle.line_screen.specs.Surroundings.{blank_screen};
 ghost use Rattle.line_term.specs.Drawn.{cleaned};
 ghost use Rattle.line_term.specs.Escape.{bell, clear_all, clear_from, clear_row, hold, move_bytes, next_line, paste_marked, paste_typed, release};
 ghost use Rattle.line_term.specs.Output.{Resizes, Sends, Writes, WritesAside, WritesPart, WritesSome, holds_back};
-ghost use Rattle.line_term.specs.Written.{AppendsFirst};
-ghost use Rattle.line_term.specs.Painted.{AppendsSome, Draws, Redraws, asked, fills_row, wrap, wrap_behind};
+ghost use Rattle.line_term.specs.Painted.{AppendsSome, Draws, Redraws, asked, wrap};
 
 use crate::drawn::push_cleaned;
 use crate::escape::push_move;
@@ -23,7 +21,7 @@ use crate::painted::{
     asked, push_behind, push_clear, push_clear_from, push_if, push_line, push_prompt,
 };
 use crate::send::{counted, send};
-use crate::wrap::{push_wrap, push_wrap_behind};
+use crate::wrap::{line_end, push_wrap, push_wrap_behind};
 use line_buffer::{GraphemeClusterMode, Layout, LineBuffer, Position, Unit};
 use line_config::{Prompt, Result};
 use line_keys::raw_reader::RawReader;
@@ -37,7 +35,7 @@ const ORIGIN: Position = Position { row: 0, col: 0 };
 
 /// A terminal that understands the usual control sequences, drawn by writing to `O`. What is to be shown is kept as `Plain`
 /// keeps it, with its measure; each call writes what changes, in one piece, and flushes it. Behind a text that fills a row
-/// exactly a new row is begun, so that the cursor never waits at a row's end between two calls.
+/// exactly, by a layout of its own, a new row is begun, so that the cursor does not wait at a row's end between two calls.
 #[derive(Drop)]
 pub struct Ansi<O: Write + Drop, R: RawReader> {
     alloc: Global,
@@ -76,14 +74,15 @@ impl<O: Write + Drop, R: RawReader> Output for Ansi<O, R> {
 }
 
 impl<O: Write + Drop, R: RawReader> Ansi<O, R> {
-    /// Returns a terminal of so many columns, with nothing shown and the cursor at the first column of a row. `colors` says
-    /// whether highlighters are asked, and `synchronized` whether a full redraw is shown all at once.
+    /// Returns a terminal of so many columns and of 24 rows, with nothing shown and the cursor at the first column of a row.
+    /// `colors` says whether highlighters are asked, and `synchronized` whether a full redraw is shown all at once.
     pub fn new(alloc: Global, out: O, columns: Unit, colors: bool, synchronized: bool) -> Self
         requires { 0 < columns }
         ensures surface { ⟦<Self as ScreenState>⟧.surface result
             ≡ record {
               measure = measured columns;
               columns = columns;
+              rows = 24;
               colors = colors;
               mode = Unicode;
             } }
@@ -130,15 +129,6 @@ impl<O: Write + Drop, R: RawReader> Ansi<O, R> {
             failures: _,
         } = self;
         out
-    }
-
-    /// Gives the terminal another number of columns, and forgets what is shown. Nothing is written: a full redraw is to
-    /// follow.
-    pub fn resize(&mut self, columns: Unit)
-        requires { 0 < columns }
-        ensures { Resizes ⟦<Self as ScreenState>⟧ ⟦<Self as Output>⟧ self.old self.new columns }
-    {
-        self.shown = Plain::new(self.alloc, columns);
     }
 
     /// Asks the terminal to put marks round a text that is pasted.
@@ -262,19 +252,14 @@ impl<O: Write + Drop, R: RawReader> Ansi<O, R> {
     {
         let highlighter = asked(self.colors, highlighter);
         let (bytes, alloc, screen) = (&mut self.bytes, self.alloc, &self.shown);
+        let text = line.as_str();
+        let (begin, end) = (layout.prompt_size, line_end(screen, text, hint, layout));
         push_prompt(bytes, alloc, prompt, layout.default_prompt, highlighter)?;
-        push_wrap(bytes, alloc, screen, prompt.raw(), ORIGIN)?;
+        push_wrap(bytes, alloc, screen, prompt.raw(), ORIGIN, begin)?;
         push_line(bytes, alloc, line, highlighter)?;
-        push_wrap(bytes, alloc, screen, line.as_str(), layout.prompt_size)?;
+        push_wrap(bytes, alloc, screen, text, begin, end)?;
         push_behind(bytes, alloc, hint, highlighter)?;
-        push_wrap_behind(
-            bytes,
-            alloc,
-            screen,
-            hint,
-            line.as_str(),
-            layout.prompt_size,
-        )?;
+        push_wrap_behind(bytes, alloc, screen, hint, end, layout.end)?;
         push_move(bytes, layout.end, layout.cursor)?;
         Ok(())
     }
@@ -397,7 +382,8 @@ impl<O: Write + Drop, R: RawReader> Renderer for Ansi<O, R> {
         self.bytes.clear();
         push_cleaned(&mut self.bytes, buf)?;
         let place = self.shown.cursor();
-        push_wrap(&mut self.bytes, self.alloc, &self.shown, buf, place)?;
+        let end = self.shown.calculate_position(buf, place);
+        push_wrap(&mut self.bytes, self.alloc, &self.shown, buf, place, end)?;
         self.shown.write_and_flush(buf)?;
         self.send()
     }
@@ -453,6 +439,14 @@ impl<O: Write + Drop, R: RawReader> Renderer for Ansi<O, R> {
     fn update_size(&mut self)
         ensures { self.new ≡ self.old }
     {}
+
+    fn resize(&mut self, columns: Unit, rows: Unit)
+        requires { 0 < columns }
+        ensures { Resizes ⟦<Self as ScreenState>⟧ ⟦<Self as Output>⟧ self.old self.new
+            columns rows }
+    {
+        self.shown.resize(columns, rows);
+    }
 
     fn get_columns(&self) -> Unit {
         self.shown.get_columns()

@@ -1,6 +1,6 @@
 //! What has begun in the characters that a terminal sent, and what one more character does.
 ghost use Rattle.std.specs.Prelude.{◌≡◌};
-ghost use Rattle.line_term.specs.Begun.{cut, ended, ends_before, escape_if, escape_step, gives, goes_on_as_text, is_second_escape, leads_to, mark_step, mouse_step, paste_step, plain_step, sequence_step, settled, step, text_step, waits};
+ghost use Rattle.line_term.specs.Begun.{cut, ended, ends_before, escape_step, gives, goes_on_as_text, ends_without_key, is_second_escape, leads_to, mark_step, mouse_step, paste_step, plain_step, sequence_step, settled, step, text_step, waits};
 ghost use Rattle.line_term.specs.declared.sequence.Given.TheVariants.{Key};
 
 use crate::sequence::{Given, Introducer, PastedText, Sequence, UNKNOWN};
@@ -87,32 +87,41 @@ impl Begun {
     {
         match self {
             Begun::Sequence(sequence) => sequence.bare,
-            Begun::Escape { .. } | Begun::Opening(_) | Begun::Mouse { .. } => true,
+            Begun::Escape { .. } | Begun::Opening(_) => true,
             _ => false,
         }
     }
 
-    /// Returns whether what has begun ends before this character, which is read anew: a sequence before an Esc, and what opens a text
-    /// before what does not go on with it.
+    /// Returns whether what has begun ends before this character, which is read anew: a sequence before an Esc; the Esc in front of one,
+    /// before the character that shows it to be no key; and what opens a text, before what does not go on with it.
     pub fn ends_before(self, c: char) -> bool
         ensures { result ≡ ends_before self c }
     {
         match self {
-            Begun::Sequence(_) => c == ESC,
+            Begun::Sequence(_) if c == ESC => true,
+            Begun::Sequence(sequence) => sequence.alt
+                && sequence_step(sequence, c).ends_without_key(),
             Begun::Opening(sign) => !goes_on_as_text(sign, c),
             _ => false,
         }
     }
 
-    /// Returns what is given then.
-    pub fn cut(self) -> Step
-        ensures { result ≡ cut self }
+    /// Returns what is given where it ends before this character, and what has begun from then on.
+    pub fn cut(self, c: char) -> Step
+        ensures { result ≡ cut self c }
     {
         match self {
-            Begun::Sequence(sequence) => Step {
+            Begun::Sequence(sequence) if c == ESC => Step {
                 begun: Begun::Nothing,
                 given: Some(sequence.cut_off()),
             },
+            Begun::Sequence(sequence) => Step::key(
+                Begun::Sequence(Sequence {
+                    alt: false,
+                    ..sequence
+                }),
+                KeyEvent(KeyCode::Esc, Modifiers::NONE),
+            ),
             Begun::Opening(sign) => Step::key(Begun::Nothing, KeyEvent::alt(sign)),
             _ => Step::nothing(self),
         }
@@ -126,7 +135,7 @@ impl Begun {
     }
 
     /// Returns what is given and what has begun then, where no more characters come for a while: a key that was begun is settled.
-    /// A sequence of which more than its beginning was read, a control string and a pasted text go on.
+    /// A sequence of which more than its beginning was read, a control string, a report of the mouse and a pasted text go on.
     pub fn settled(self) -> Step
         ensures { result ≡ settled self }
     {
@@ -138,14 +147,24 @@ impl Begun {
             Begun::Escape { twice: false } => {
                 Step::key(Begun::Nothing, KeyEvent(KeyCode::Esc, Modifiers::NONE))
             }
-            Begun::Sequence(Sequence { bare: true, .. }) | Begun::Opening(_) => self.cut(),
-            Begun::Mouse { .. } => Step::nothing(Begun::Nothing),
+            Begun::Sequence(sequence) if sequence.bare => Step {
+                begun: Begun::Nothing,
+                given: Some(sequence.cut_off()),
+            },
+            Begun::Opening(sign) => Step::key(Begun::Nothing, KeyEvent::alt(sign)),
             _ => Step::nothing(self),
         }
     }
 }
 
 impl Step {
+    // Returns whether a sequence is over, and gave no key.
+    fn ends_without_key(self) -> bool
+        ensures { result ≡ ends_without_key self }
+    {
+        !matches!(self.begun, Begun::Sequence(_)) && !matches!(self.given, Some(Given::Key(_)))
+    }
+
     // Returns the step that gives nothing.
     fn nothing(begun: Begun) -> Step
         ensures { result ≡ leads_to begun }
@@ -186,10 +205,11 @@ fn escape_step(twice: bool, c: char) -> Step
         ESC => Step::nothing(Begun::Escape { twice: true }),
         '[' => Step::nothing(Begun::Sequence(Sequence::new(Introducer::Control, twice))),
         'O' => Step::nothing(Begun::Sequence(Sequence::new(Introducer::Single, twice))),
-        'P' | ']' | '_' => Step {
-            begun: Begun::Opening(c),
-            given: escape_if(twice),
-        },
+        'P' | ']' | '_' if twice => Step::key(
+            Begun::Opening(c),
+            KeyEvent(KeyCode::Esc, Modifiers::NONE),
+        ),
+        'P' | ']' | '_' => Step::nothing(Begun::Opening(c)),
         _ => Step::key(Begun::Nothing, KeyEvent::alt(c)),
     }
 }
@@ -212,43 +232,23 @@ fn sequence_step(sequence: Sequence, c: char) -> Step
             Introducer::Console,
             sequence.alt,
         ))),
-        'M' if sequence.begins_control() => Step {
-            begun: Begun::Mouse { left: 3 },
-            given: escape_if(sequence.alt),
-        },
+        'M' if sequence.begins_control() => Step::nothing(Begun::Mouse { left: 3 }),
         '@'..='~' => ended(sequence, c),
         _ => Step::key(Begun::Nothing, UNKNOWN),
     }
 }
 
-// Returns what the character does that ends a sequence. An Esc in front of what is no key is a key of its own.
+// Returns what the character does that ends a sequence.
 fn ended(sequence: Sequence, last: char) -> Step
     ensures { result ≡ ended sequence last }
 {
     match sequence.meaning(last) {
-        None => Step {
-            begun: Begun::Nothing,
-            given: escape_if(sequence.alt),
-        },
-        Some(Given::PasteStart) => Step {
-            begun: Begun::Paste { returned: false },
-            given: escape_if(sequence.alt),
-        },
+        Some(Given::PasteStart) => Step::nothing(Begun::Paste { returned: false }),
         given => Step {
             begun: Begun::Nothing,
             given,
         },
     }
-}
-
-// Returns an Esc, if one was read in front.
-fn escape_if(alt: bool) -> Option<Given>
-    ensures { result ≡ escape_if alt }
-{
-    if alt {
-        return Some(Given::Key(KeyEvent(KeyCode::Esc, Modifiers::NONE)));
-    }
-    None
 }
 
 // Returns whether a control string goes on with this character behind what opens it.

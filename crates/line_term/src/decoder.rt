@@ -208,7 +208,7 @@ impl Decoder {
         if !self.begun.ends_before(c) {
             return self.take_char(c, keys);
         }
-        self.take(self.begun.cut(), keys)?;
+        self.take(self.begun.cut(c), keys)?;
         self.take_char(c, keys)
     }
 
@@ -226,7 +226,8 @@ impl Decoder {
     // Takes a step: what is given is appended, or kept.
     fn take(&mut self, step: Step, keys: &mut KeyQueue) -> Result<()>
         ensures fed { OnOk result (Gives (given_turn step self.old) self.new keys.old keys.new) }
-        ensures cut { OnErr result (CutShort (given_turn step) self.old self.new keys.old keys.new) }
+        ensures cut { OnErr result
+            (CutShort (given_turn step) self.old self.new keys.old keys.new) }
         ensures pending { self.new.pending ≡ self.old.pending }
         ensures begun { OnErr result (self.new.begun ≡ self.old.begun) }
         ensures memory { MemoryOnly result }

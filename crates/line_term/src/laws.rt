@@ -1,6 +1,6 @@
 //! Laws of the bytes that come from a terminal, and of those that are written to it. Each function's contract is a law, and its body
 //! does nothing.
-ghost use Rattle.line_term.specs.DecoderLaws.{ComesBack, ComesInPieces, FlushSettles, PasteComesWhole, PastesGiveNoKey, RowsAreKeys, SequencesNeverType, TextIsTyped, TextsAreSilent};
+ghost use Rattle.line_term.specs.DecoderLaws.{ComesBack, ComesInPieces, EscapesAreKept, FlushSettles, PasteComesWhole, PastesGiveNoKey, RowsAreKeys, SequencesNeverType, TextIsTyped, TextsAreSilent};
 ghost use Rattle.line_term.specs.Laws.{MovesArrive, OthersStay, RedrawsArrive, RedrawsClear, RedrawsShow, TextsArrive};
 
 use line_config::Prompt;
@@ -34,6 +34,11 @@ pub fn sequences_never_type()
 /// A control string and a report of the mouse give nothing, as long as they go on.
 pub fn texts_are_silent()
     ensures { TextsAreSilent }
+{}
+
+/// An Esc in front of a sequence that is no key is a key of its own.
+pub fn escapes_are_kept()
+    ensures { EscapesAreKept }
 {}
 
 /// A pasted text gives no key, and no control characters but newlines and tabs.

@@ -9,7 +9,7 @@ returns-clause-draws g c =
     (string_bytes c.push_wrap_behind.new.bytes) _ (rw c.asked-highlighter.ensures at c.in_ok-push_prompt.ensures.appends)
     (rw c.raw.ensures at c.in_ok-push_wrap.ensures.appends)
     (rw c.asked-highlighter.ensures at c.in_ok-push_line.ensures.appends)
-    (rw c.as_str.ensures.value at c.in_ok-push_wrap-2.ensures.appends)
+    (rw (c.line_end-end.ensures, c.as_str-text.ensures.value) at c.in_ok-push_wrap-2.ensures.appends)
     (rw c.asked-highlighter.ensures at c.in_ok-push_behind.ensures.appends)
-    (rw c.as_str-2.ensures.value at c.in_ok-push_wrap_behind.ensures.appends)
+    (rw (c.line_end-end.ensures, c.as_str-text.ensures.value) at c.in_ok-push_wrap_behind.ensures.appends)
     c.in_ok-push_move.ensures.appends
