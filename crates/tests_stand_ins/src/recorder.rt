@@ -24,6 +24,7 @@ pub const CUT: &str = "the screen is cut";
 pub struct Recorder {
     alloc: Global,
     columns: Unit,
+    rows: Unit,
     colors: bool,
     place: Position,
     text: String,
@@ -45,6 +46,7 @@ impl Recorder {
         Recorder {
             alloc,
             columns,
+            rows: 24,
             colors,
             place: ORIGIN,
             text: String::new(alloc),
@@ -82,6 +84,7 @@ impl Recorder {
     /// Counts a call, writes it down, and fails where it is the one that is to fail.
     fn note(&mut self, call: &str) -> Result<()>
         ensures columns { self.new.columns ≡ self.old.columns }
+        ensures rows { self.new.rows ≡ self.old.rows }
         ensures colors { self.new.colors ≡ self.old.colors }
         ensures place { self.new.place ≡ self.old.place }
         ensures text { self.new.text ≡ self.old.text }
@@ -108,6 +111,7 @@ impl Recorder {
     /// Forgets what is shown. The cursor goes to the first place.
     fn clear(&mut self)
         ensures columns { self.new.columns ≡ self.old.columns }
+        ensures rows { self.new.rows ≡ self.old.rows }
         ensures colors { self.new.colors ≡ self.old.colors }
         ensures redraws { self.new.redraws ≡ self.old.redraws }
         ensures failures { self.new.failures ≡ self.old.failures }
@@ -203,6 +207,7 @@ impl ScreenState for Recorder {
     ghost surface = { λ r. record {
       measure = measured_by_bytes r.columns;
       columns = r.columns;
+      rows = r.rows;
       colors = r.colors;
       mode = Unicode;
     } };
@@ -302,12 +307,17 @@ impl Renderer for Recorder {
 
     fn update_size(&mut self) {}
 
+    fn resize(&mut self, columns: Unit, rows: Unit) {
+        self.columns = columns;
+        self.rows = rows;
+    }
+
     fn get_columns(&self) -> Unit {
         self.columns
     }
 
     fn get_rows(&self) -> Unit {
-        24
+        self.rows
     }
 
     fn colors_enabled(&self) -> bool {

@@ -90,6 +90,10 @@ fn call(
             return Some(state.edit_indent(&movement, amount, is_back));
         }
         "go" => return Some(goes(state, &source.movement()?)),
+        "resized" => {
+            let (columns, rows) = (source.count()?, source.count()?);
+            return Some(state.resized(columns.max(1), rows));
+        }
         "move_cursor_at_leftmost" => {
             return Some(state.move_cursor_at_leftmost(&mut Typist::new(alloc)));
         }
