@@ -31,6 +31,18 @@ pub fn come_to(alloc: Global, first: &[u8], others: &[u8], wanted: Wanted<'_>) -
         && are(&mut keys, wanted)
 }
 
+/// Whether bytes, a pause, others and a pause come to what is wanted.
+pub fn come_over_a_pause(alloc: Global, first: &[u8], others: &[u8], wanted: Wanted<'_>) -> bool {
+    let mut decoder = Decoder::new(alloc);
+    let mut keys = KeyQueue::new(alloc);
+    decoder.feed(first, &mut keys).is_ok()
+        && decoder.flush(&mut keys).is_ok()
+        && !decoder.is_waiting()
+        && decoder.feed(others, &mut keys).is_ok()
+        && decoder.flush(&mut keys).is_ok()
+        && are(&mut keys, wanted)
+}
+
 /// Whether bytes come to what is wanted, cut at each place. The answer is the first place where they do not.
 pub fn first_wrong(alloc: Global, bytes: &[u8], wanted: Wanted<'_>) -> Option<usize> {
     for place in 0..=bytes.len() {

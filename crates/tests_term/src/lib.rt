@@ -1,4 +1,5 @@
-//! The tests of `line_term`: sequences of terminals, texts and pasted texts by their bytes, and bytes that are made from a number.
+//! The tests of `line_term`: sequences of terminals, texts and pasted texts by their bytes, bytes that are made from a number, and what
+//! a terminal asks of its output.
 #![tactic(auto)]
 
 #[cfg(test)]
@@ -10,6 +11,8 @@ mod by_bytes;
 mod random;
 #[cfg(test)]
 mod sequences;
+#[cfg(test)]
+mod terminal;
 #[cfg(test)]
 mod texts;
 

@@ -1,7 +1,7 @@
 //! The sequences that terminals send, by what they come to: those of the keys that terminfo has for each terminal, and those of other
 //! protocols; each whole, cut at each place, and behind an Esc.
 
-use crate::by_bytes::{Wanted, come_to, first_wrong};
+use crate::by_bytes::{Wanted, come_over_a_pause, come_to, first_wrong};
 use crate::holds;
 use line_screen::KeyQueue;
 use line_term::Decoder;
@@ -253,6 +253,11 @@ const OTHERS: &[(&[u8], &str)] = &[
     (b"\x1b\x1b[Ix", "Esc x"),
     (b"\x1b\x1b[M !!x", "Esc x"),
     (b"\x1b\x1b]11;a\x07x", "Esc x"),
+    (b"\x1b\x1b[8;24;80tx", "Esc x"),
+    (b"\x1b\x1b[12;40Rx", "Esc x"),
+    (b"\x1b\x1b[1;\x18x", "Esc x"),
+    (b"\x1b\x1b[\x1ax", "Esc x"),
+    (b"\x1b\x1b\x1b[Ix", "Esc Esc x"),
     // texts, to their end by BEL, by ESC and a backslash, or cancelled
     (b"\x1b]11;rgb:0/0/0\x07x", "x"),
     (b"\x1b]11;rgb:0/0/0\x1b\\x", "x"),
@@ -337,6 +342,32 @@ fn are_plain_keys(rt: HostRuntime) {
 fn of_others(rt: HostRuntime) {
     for (bytes, names) in OTHERS {
         come_to_names(&rt, rt.alloc(), bytes, names);
+    }
+}
+
+/// Bytes before a pause, bytes behind it, and the keys that they come to.
+const PAUSED: &[(&[u8], &[u8], &str)] = &[
+    (b"\x1b", b"[A", "Esc [ A"),
+    (b"\x1b\x1b", b"x", "Esc Esc x"),
+    (b"\x1b[", b"A", "M-[ A"),
+    (b"\x1b\x1b[", b"A", "M-[ A"),
+    (b"\x1b\x1b]", b"A", "Esc M-] A"),
+    (b"\x1b]", b"0", "M-] 0"),
+    // more than the beginning of a sequence, a report, a control string
+    (b"\x1b[1;5", b"A", "C-Up"),
+    (b"\x1b[M ", b"abx", "x"),
+    (b"\x1b[M", b"abcx", "x"),
+    (b"\x1b]0;a", b"b\x07x", "x"),
+    (b"\x1b]0;a\x1b", b"\\x", "x"),
+    // a character is cut off
+    (b"\xe6\x97", b"\xa5x", "\u{fffd} \u{fffd} x"),
+];
+
+#[test]
+fn go_on_over_a_pause(rt: HostRuntime) {
+    for (first, others, names) in PAUSED {
+        let is_so = come_over_a_pause(rt.alloc(), first, others, Wanted::Keys(names));
+        holds(&rt, is_so, names, 0);
     }
 }
 

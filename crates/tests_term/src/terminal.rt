@@ -1,0 +1,237 @@
+//! What a terminal asks of its output, and what comes of failures.
+ghost use Rattle.std.specs.Prelude.{None, false};
+ghost use Rattle.line_config.specs.Error.{FaultsOnly};
+ghost use Rattle.line_parts.specs.Colored.{IsShownAs};
+
+use crate::holds;
+use line_buffer::{GraphemeClusterMode, Layout, LineBuffer, Position};
+use line_config::{ReadlineError, Result};
+use line_parts::{CmdKind, Highlighter};
+use line_screen::KeyQueue;
+use line_state::Renderer;
+use line_term::Ansi;
+use std::alloc::Global;
+use std::borrow::CowStr;
+use std::io::{self, ErrorKind, Write};
+
+/// An output that counts what it is asked for. It takes at most so many bytes at once. Its write of this number, from 1 on, fails; or
+/// each flush, where the number is the greatest.
+#[derive(Drop)]
+struct Counted {
+    bytes: Vec<u8>,
+    writes: usize,
+    flushes: usize,
+    most: usize,
+    failing: usize,
+    kind: ErrorKind,
+}
+
+impl Write for Counted {
+    fn write(&mut self, buf: &[u8]) -> io::Result<usize> {
+        self.writes = self.writes.saturating_add(1);
+        if self.writes == self.failing {
+            return Err(io::Error::from(self.kind));
+        }
+        let count = buf.len().min(self.most);
+        self.bytes.extend_from_slice(&buf[..count])?;
+        Ok(count)
+    }
+
+    fn flush(&mut self) -> io::Result<()> {
+        if self.failing == usize::MAX {
+            return Err(io::Error::from(self.kind));
+        }
+        self.flushes = self.flushes.saturating_add(1);
+        Ok(())
+    }
+}
+
+/// A highlighter that fails where it is to show a prompt, a line, or a hint.
+#[derive(Drop)]
+struct Failing(&'static str);
+
+impl Failing {
+    fn shown<'t>(&self, name: &str, text: &'t str) -> Result<CowStr<'t>>
+        ensures text { IsShownAs result text.now None }
+        ensures faults { FaultsOnly result }
+    {
+        if self.0 == name {
+            return Err(ReadlineError::from(ErrorKind::NotConnected));
+        }
+        Ok(CowStr::Borrowed(text))
+    }
+}
+
+impl Highlighter for Failing {
+    ghost sure = { λ _. false };
+
+    ghost lights = { λ _ _ _ _. false };
+
+    fn highlight<'l>(&self, _alloc: Global, line: &'l str, _pos: usize) -> Result<CowStr<'l>> {
+        self.shown("line", line)
+    }
+
+    fn highlight_prompt<'b, 's: 'b, 'p: 'b>(
+        &'s self,
+        _alloc: Global,
+        prompt: &'p str,
+        _default: bool,
+    ) -> Result<CowStr<'b>> {
+        self.shown("prompt", prompt)
+    }
+
+    fn highlight_hint<'h>(&self, _alloc: Global, hint: &'h str) -> Result<CowStr<'h>> {
+        self.shown("hint", hint)
+    }
+
+    fn highlight_char(&mut self, _line: &str, _pos: usize, _kind: CmdKind) -> bool {
+        false
+    }
+}
+
+type Terminal = Ansi<Counted, KeyQueue>;
+
+/// A terminal of ten columns, whose output takes so many bytes at once and fails at this write.
+fn terminal(alloc: Global, most: usize, failing: usize, kind: ErrorKind) -> Terminal {
+    let out = Counted {
+        bytes: Vec::new(alloc),
+        writes: 0,
+        flushes: 0,
+        most,
+        failing,
+        kind,
+    };
+    Ansi::new(alloc, out, 10, true, true)
+}
+
+/// Draws a line in full, with a hint behind it.
+fn redraw(alloc: Global, terminal: &mut Terminal, failing: &'static str) -> Result<()> {
+    let line = LineBuffer::init(alloc, "ab", 2)?;
+    let begin = terminal.calculate_position("> ", Position { row: 0, col: 0 });
+    let layout = terminal.compute_layout(begin, true, &line, Some("c"));
+    terminal.refresh_line(
+        &"> ",
+        &line,
+        Some("c"),
+        None,
+        &layout,
+        Some(&Failing(failing)),
+    )
+}
+
+/// Calls, and the bytes that each writes.
+const CALLS: &[(&str, &str)] = &[
+    ("beep", "\x07"),
+    ("move_cursor", "\x1b[1B\r\x1b[2C"),
+    ("write_and_flush", "xyz"),
+    ("clear_to_eol", "\x1b[K"),
+    ("clear_rows", "\x1b[2A\r\x1b[J"),
+    ("clear_screen", "\x1b[H\x1b[J"),
+    ("enable_bracketed_paste", "\x1b[?2004h"),
+    ("disable_bracketed_paste", "\x1b[?2004l"),
+    ("begin_synchronized_update", "\x1b[?2026h"),
+    ("end_synchronized_update", "\x1b[?2026l"),
+    (
+        "refresh_line",
+        "\x1b[?2026h> \x1b[0mab\x1b[0mc\x1b[0m\r\x1b[4C\x1b[?2026l",
+    ),
+];
+
+/// Makes the call of this name.
+fn call(alloc: Global, terminal: &mut Terminal, name: &str) -> Result<()> {
+    match name {
+        "beep" => terminal.beep(),
+        "move_cursor" => {
+            terminal.move_cursor(Position { row: 0, col: 0 }, Position { row: 1, col: 2 })
+        }
+        "write_and_flush" => terminal.write_and_flush("xyz"),
+        "clear_to_eol" => terminal.clear_to_eol(),
+        "clear_screen" => terminal.clear_screen(),
+        "clear_rows" => {
+            let mut layout = Layout::new(GraphemeClusterMode::Unicode);
+            layout.cursor = Position { row: 2, col: 1 };
+            terminal.clear_rows(&layout)
+        }
+        "enable_bracketed_paste" => terminal.enable_bracketed_paste(),
+        "disable_bracketed_paste" => terminal.disable_bracketed_paste(),
+        "begin_synchronized_update" => terminal.begin_synchronized_update(),
+        "end_synchronized_update" => terminal.end_synchronized_update(),
+        _ => redraw(alloc, terminal, ""),
+    }
+}
+
+/// Whether a call that succeeds writes these bytes in so many writes, and flushes them once.
+fn writes(alloc: Global, name: &str, most: usize, failing: usize, bytes: &str) -> Option<usize> {
+    let mut terminal = terminal(alloc, most, failing, ErrorKind::Interrupted);
+    call(alloc, &mut terminal, name).ok()?;
+    let out = terminal.into_out();
+    if out.bytes.as_slice() != bytes.as_bytes() || out.flushes != 1 {
+        return None;
+    }
+    Some(out.writes)
+}
+
+/// Whether a call fails by the error of this kind, with so many bytes written and none flushed.
+fn fails(alloc: Global, name: &str, failing: usize, bytes: &[u8]) -> bool {
+    let mut terminal = terminal(alloc, 1, failing, ErrorKind::PermissionDenied);
+    let outcome = call(alloc, &mut terminal, name);
+    let is_same =
+        matches!(&outcome, Err(ReadlineError::Io(e)) if e.kind() == ErrorKind::PermissionDenied);
+    let out = terminal.into_out();
+    is_same && out.bytes.as_slice() == bytes && out.flushes == 0
+}
+
+#[test]
+fn writes_in_one_piece_and_flushes(rt: HostRuntime) {
+    for (name, bytes) in CALLS {
+        let is_so = writes(rt.alloc(), name, usize::MAX, 0, bytes) == Some(1);
+        holds(&rt, is_so, name, 0);
+    }
+}
+
+#[test]
+fn goes_on_behind_what_was_taken(rt: HostRuntime) {
+    for (name, bytes) in CALLS {
+        let is_so = writes(rt.alloc(), name, 1, 0, bytes) == Some(bytes.len());
+        holds(&rt, is_so, name, 0);
+        // an interrupted write is tried again
+        let again = writes(rt.alloc(), name, usize::MAX, 1, bytes) == Some(2);
+        holds(&rt, again, name, 1);
+    }
+}
+
+#[test]
+fn hands_on_the_failures_of_its_output(rt: HostRuntime) {
+    for (name, bytes) in CALLS {
+        let bytes = bytes.as_bytes();
+        for count in 0..bytes.len() {
+            let is_so = fails(rt.alloc(), name, count + 1, &bytes[..count]);
+            holds(&rt, is_so, name, count);
+        }
+        let is_flushed = fails(rt.alloc(), name, usize::MAX, bytes);
+        holds(&rt, is_flushed, name, bytes.len());
+    }
+}
+
+#[test]
+fn hands_on_the_failures_of_a_highlighter(rt: HostRuntime) {
+    for name in ["prompt", "line", "hint"] {
+        let mut terminal = terminal(rt.alloc(), usize::MAX, 0, ErrorKind::Other);
+        let outcome = redraw(rt.alloc(), &mut terminal, name);
+        let is_same =
+            matches!(&outcome, Err(ReadlineError::Io(e)) if e.kind() == ErrorKind::NotConnected);
+        holds(&rt, is_same && terminal.into_out().writes == 0, name, 0);
+    }
+}
+
+#[test]
+fn has_the_columns_of_the_last_resize(rt: HostRuntime) {
+    let mut terminal = terminal(rt.alloc(), usize::MAX, 0, ErrorKind::Other);
+    let is_new = (terminal.get_columns(), terminal.get_rows()) == (10, 24);
+    terminal.resize(3, 7);
+    let is_resized = (terminal.get_columns(), terminal.get_rows()) == (3, 7);
+    let end = terminal.calculate_position("abcd", Position { row: 0, col: 0 });
+    let is_measured = end == Position { row: 1, col: 1 };
+    let is_silent = terminal.into_out().writes == 0;
+    holds(&rt, is_new && is_resized && is_measured && is_silent, "", 0);
+}
