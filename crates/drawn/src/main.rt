@@ -3,6 +3,7 @@
 #![tactic(auto)]
 
 mod cells;
+mod told;
 mod turns;
 
 use std::io;

@@ -1,8 +1,8 @@
 //! A script that runs twice: on a terminal, and on a screen in memory.
 
-ghost use Rattle.std.specs.Prelude.{◌<◌};
+ghost use Rattle.std.specs.Prelude.{◌<◌, IfSome};
 
-use crate::cells::{print_bytes, print_cells};
+use crate::told::Told;
 use line_buffer::{GraphemeClusterMode, KillRing, Unit};
 use line_config::{Config, ReadlineError, Result};
 use line_editor::edit::State;
@@ -18,6 +18,37 @@ use std::io::{Read, Write};
 /// The slots of the kill ring.
 const KILL_RING_SIZE: usize = 60;
 
+/// The rows of a screen that was resized.
+const ROWS: Unit = 200;
+
+/// How many turns a screen keeps its columns, where it is resized at all.
+const TURNS: u64 = 3;
+
+/// The columns that a screen begins with, and those that it has after every other resize.
+#[derive(Clone, Copy)]
+struct Widths {
+    first: Unit,
+    other: Unit,
+    ghost some_first: { 0 < first },
+    ghost some_other: { 0 < other },
+}
+
+impl Widths {
+    /// Returns the columns that the screen has from this turn on, if it is resized before it.
+    fn before(self, turn: u64) -> Option<Unit>
+        ensures { IfSome result (λ columns. 0 < columns) }
+    {
+        if self.first == self.other || turn % TURNS != 0 {
+            return None;
+        }
+        if turn % (2 * TURNS) == 0 {
+            Some(self.first)
+        } else {
+            Some(self.other)
+        }
+    }
+}
+
 /// Runs a script, and prints what each turn wrote and what is shown. Returns the status to end with: 0, or 3 after a fault.
 pub fn play<R: Read + Drop, O: Write>(alloc: Global, input: R, out: &mut O) -> u8 {
     match play_script(alloc, input, out) {
@@ -31,22 +62,27 @@ fn play_script<R: Read + Drop, O: Write>(alloc: Global, mut input: R, out: &mut 
     let mut script = Vec::new(alloc);
     input.read_to_end(&mut script)?;
     let columns = parsed(alloc, &script)?.columns;
-    for columns in [columns, 2, 1] {
-        print_turns(alloc, &script, columns, out)?;
+    for (first, other) in [
+        (columns, columns),
+        (2, 2),
+        (1, 1),
+        (columns, columns / 4 + 1),
+    ] {
+        print_turns(alloc, &script, Widths { first, other }, out)?;
     }
     out.flush()?;
     Ok(())
 }
 
 /// Prints the turns of a script on so many columns, what each wrote and then what each shows.
-fn print_turns<O: Write>(alloc: Global, script: &[u8], columns: Unit, out: &mut O) -> Result<()>
-    requires { 0 < columns }
-{
+fn print_turns<O: Write>(alloc: Global, script: &[u8], widths: Widths, out: &mut O) -> Result<()> {
+    let columns = widths.first;
     writeln!(out, "columns {columns}")?;
-    let mut on_terminal = parsed(alloc, script)?;
-    print_written(alloc, &mut on_terminal, columns, out)?;
-    let mut in_memory = parsed(alloc, script)?;
-    print_shown(alloc, &mut in_memory, columns, out)
+    let written: Vec<u8> = Vec::new(alloc);
+    let terminal: Ansi<Vec<u8>, Script> = Ansi::new(alloc, written, columns, true, true);
+    print_run(alloc, terminal, script, widths, out)?;
+    let screen: Plain<Script> = Plain::new(alloc, columns);
+    print_run(alloc, screen, script, widths, out)
 }
 
 /// What a script says. A bad line is a fault.
@@ -58,76 +94,26 @@ fn parsed(alloc: Global, script: &[u8]) -> Result<Parsed> {
     }
 }
 
-/// Takes the turns of a script on a terminal, and prints the bytes that each wrote. A turn that fails ends the run.
-fn print_written<O: Write>(
+/// Reads a script, and takes its turns on a screen.
+fn print_run<W: Told + Drop, O: Write>(
     alloc: Global,
-    parsed: &mut Parsed,
-    columns: Unit,
+    screen: W,
+    script: &[u8],
+    widths: Widths,
     out: &mut O,
-) -> Result<()>
-    requires { 0 < columns }
-{
-    let mut terminal = terminal_of(alloc, columns);
-    let config = config_of(parsed);
-    let bindings = Bindings::new(alloc);
-    let mut input = InputState::new(&config, &bindings);
-    let mut kills = KillRing::new(alloc, KILL_RING_SIZE);
-    let prompt = colored(alloc, parsed.prompt.as_str())?;
-    let context = Context::new(&parsed.history);
-    let mut state = State::new(
-        alloc,
-        &mut terminal,
-        &prompt,
-        Some(&mut parsed.helper),
-        context,
-    )?;
-    state.refresh_line()?;
-    let mut written = 0;
-    for _ in 0..u64::MAX {
-        written = print_new(state.out(), written, out)?;
-        let turned = advance(
-            &mut state,
-            &mut input,
-            &mut parsed.items,
-            &mut kills,
-            &config,
-        );
-        if !matches!(turned, Ok(Turned::Proceeds)) {
-            break;
-        }
-    }
-    Ok(())
+) -> Result<()> {
+    let mut parsed = parsed(alloc, script)?;
+    print_parsed(alloc, screen, &mut parsed, widths, out)
 }
 
-/// A terminal of so many columns that shows colors and whole redraws, and keeps what is written.
-fn terminal_of(alloc: Global, columns: Unit) -> Ansi<Vec<u8>, Script>
-    requires { 0 < columns }
-{
-    Ansi::new(alloc, Vec::new(alloc), columns, true, true)
-}
-
-/// Prints the bytes that were written behind the first ones. Returns how many there are.
-fn print_new<O: Write>(
-    terminal: &Ansi<Vec<u8>, Script>,
-    written: usize,
-    out: &mut O,
-) -> Result<usize> {
-    let bytes = terminal.out();
-    write!(out, "bytes ")?;
-    print_bytes(bytes.get(written..).unwrap_or(&[]), out)?;
-    Ok(bytes.len())
-}
-
-/// Takes the turns of a script on a screen in memory, and prints where each shows what. A turn that fails ends the run.
-fn print_shown<O: Write>(
+/// Takes the turns of a script on a screen, and prints what it tells of each. A turn that fails ends the run.
+fn print_parsed<W: Told + Drop, O: Write>(
     alloc: Global,
+    mut screen: W,
     parsed: &mut Parsed,
-    columns: Unit,
+    widths: Widths,
     out: &mut O,
-) -> Result<()>
-    requires { 0 < columns }
-{
-    let mut screen = Plain::new(alloc, columns);
+) -> Result<()> {
     let config = config_of(parsed);
     let bindings = Bindings::new(alloc);
     let mut input = InputState::new(&config, &bindings);
@@ -142,18 +128,19 @@ fn print_shown<O: Write>(
         context,
     )?;
     state.refresh_line()?;
-    for _ in 0..u64::MAX {
-        print_cells(state.out(), columns, out)?;
-        let turned = advance(
-            &mut state,
-            &mut input,
-            &mut parsed.items,
-            &mut kills,
-            &config,
-        );
+    let mut told = state.out().tell(0, out)?;
+    for turn in 1..u64::MAX {
+        if let Some(columns) = widths.before(turn) {
+            state.resized(columns, ROWS)?;
+            state.out().tell_resized(out)?;
+            told = state.out().tell(told, out)?;
+        }
+        let items = &mut parsed.items;
+        let turned = advance(&mut state, &mut input, items, &mut kills, &config);
         if !matches!(turned, Ok(Turned::Proceeds)) {
             break;
         }
+        told = state.out().tell(told, out)?;
     }
     Ok(())
 }
