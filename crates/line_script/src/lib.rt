@@ -4,11 +4,14 @@
 ghost use Rattle.std.specs.Prelude.{◌≡◌, ◌≤◌};
 ghost use Rattle.line_script.specs.Outcome.{Reports};
 
+pub mod complaint;
 pub mod helper;
 pub mod names;
 pub mod report;
 pub mod script;
 
+pub use complaint::Complaint;
+use complaint::complaint_at;
 pub use helper::ScriptHelper;
 use line_buffer::{GraphemeClusterMode, KillRing};
 use line_config::{Config, Result};
@@ -22,6 +25,7 @@ use line_parts::{Context, FileHistory};
 use line_screen::Plain;
 pub use names::key_named;
 pub use report::{Ending, Outcome, Report, exit_status};
+use script::parse_script;
 pub use script::{Parsed, Script, ScriptError, read_script};
 use std::alloc::Global;
 use std::io::{Read, Write};
@@ -29,23 +33,38 @@ use std::io::{Read, Write};
 /// The slots of the kill ring where nobody asks for others.
 pub const KILL_RING_SIZE: usize = 60;
 
-/// Runs a script and prints what became of the line, in six lines, or the script's first bad line, in one.
+/// Runs a script and prints what became of the line, in six lines, or the script's first bad line, in one. Why that line is bad
+/// is written to `errors`; where that fails, nothing else changes.
 ///
 /// Returns the status to end with: 0 where the line was submitted, 1 where the input ended, 2 where the line was
 /// interrupted, 3 after a fault of the editor, of memory or of a stream, and 4 where the script has a bad line.
-pub fn play<R: Read + Drop, O: Write>(alloc: Global, input: R, out: &mut O) -> u8
+pub fn play<R: Read + Drop, O: Write, E: Write>(
+    alloc: Global,
+    input: R,
+    out: &mut O,
+    errors: &mut E,
+) -> u8
     ensures { result ≤ 4 }
 {
-    exit_status(play_script(alloc, input, out))
+    exit_status(play_script(alloc, input, out, errors))
 }
 
-/// The same, and the answer is what was done. An error is a fault of memory, or of one of the two streams.
-fn play_script<R: Read + Drop, O: Write>(alloc: Global, input: R, out: &mut O) -> Result<Ending> {
-    let mut parsed = match read_script(alloc, input) {
+/// The same, and the answer is what was done. An error is a fault of memory, or of one of the streams.
+fn play_script<R: Read + Drop, O: Write, E: Write>(
+    alloc: Global,
+    mut input: R,
+    out: &mut O,
+    errors: &mut E,
+) -> Result<Ending> {
+    let mut script = Vec::new(alloc);
+    input.read_to_end(&mut script)?;
+    let mut parsed = match parse_script(alloc, &script) {
         Ok(parsed) => parsed,
         Err(ScriptError::BadLine(line)) => {
             writeln!(out, "bad script line {line}")?;
             out.flush()?;
+            // the status says that a line is bad, also where no more can be said
+            let _ = complain(&script, line, errors);
             return Ok(Ending::BadScript);
         }
         Err(ScriptError::Fault(error)) => return Err(error),
@@ -54,6 +73,15 @@ fn play_script<R: Read + Drop, O: Write>(alloc: Global, input: R, out: &mut O) -
     let outcome = edit(alloc, &mut parsed, &bindings, KILL_RING_SIZE, out)?;
     out.flush()?;
     Ok(Ending::Ran(outcome))
+}
+
+/// Writes why the line of this number is bad.
+fn complain<E: Write>(script: &[u8], line: usize, errors: &mut E) -> Result<()> {
+    if let Some(complaint) = complaint_at(script, line) {
+        writeln!(errors, "line {line}: {complaint}")?;
+        errors.flush()?;
+    }
+    Ok(())
 }
 
 /// Edits a line as a script says, with these bindings and a kill ring of so many slots, and prints what became of it.

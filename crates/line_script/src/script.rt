@@ -164,7 +164,7 @@ pub fn read_script<R: Read + Drop>(alloc: Global, mut input: R) -> Result<Parsed
 }
 
 /// What a script gives, whose lines end in line feeds, the last one possibly in none. Empty lines give nothing.
-fn parse_script(alloc: Global, script: &[u8]) -> Result<Parsed, ScriptError> {
+pub(crate) fn parse_script(alloc: Global, script: &[u8]) -> Result<Parsed, ScriptError> {
     let mut parsed = Parsed::new(alloc)?;
     let mut number = 1;
     let mut rest = script;

@@ -7,5 +7,6 @@ use std::io;
 use std::process::ExitCode;
 
 fn main(rt: HostRuntime) -> ExitCode {
-    ExitCode::from(play(rt.alloc(), rt.reader(), &mut io::writer(&rt)))
+    let mut errors = rt.stderr();
+    ExitCode::from(play(rt.alloc(), rt.reader(), &mut io::writer(&rt), &mut errors))
 }
