@@ -14,12 +14,84 @@ use std::process::Abort;
 /// A script, what is printed, and the status.
 type Case = (&'static str, &'static str, u8);
 
+/// Plays a script where nothing can be said of a bad line.
+fn played<R: Read + Drop, O: Write>(alloc: Global, input: R, out: &mut O) -> u8 {
+    let mut errors = Faulty {
+        bytes: Vec::new(alloc),
+        writes: 0,
+        failing: 0,
+        goes_on: false,
+        flushes: false,
+    };
+    play(alloc, input, out, &mut errors)
+}
+
+/// Scripts, and what is said of their bad line.
+const COMPLAINTS: &[(&str, &str)] = &[
+    (
+        "type a\nkey Left\nkey Foo\n",
+        "line 3: no key is called Foo\n",
+    ),
+    (
+        "key Enter\r\n",
+        "line 1: it ends in a carriage return; lines end in a line feed alone\n",
+    ),
+    (
+        "\r",
+        "line 1: it ends in a carriage return; lines end in a line feed alone\n",
+    ),
+    ("\n\nfoo bar", "line 3: no line begins with \"foo\"\n"),
+    ("foo", "line 1: no line begins with \"foo\"\n"),
+    (" type a", "line 1: no line begins with \"\"\n"),
+    (
+        "type a\n\nkey Enter\nkey\n",
+        "line 4: key needs a blank and a text behind it\n",
+    ),
+    ("hints on\n", "line 1: hints takes no text\n"),
+    (
+        "type a\nhints\n",
+        "line 2: the setting hints stands behind items\n",
+    ),
+    (
+        "paste a\nmode vi\n",
+        "line 2: the setting mode stands behind items\n",
+    ),
+    (
+        "load x\\q\n",
+        "line 1: a backslash has neither n nor a backslash behind it\n",
+    ),
+    (
+        "type x\\",
+        "line 1: a backslash has neither n nor a backslash behind it\n",
+    ),
+    (
+        "columns 9\n",
+        "line 1: columns are a number from 10 to 1000, and not \"9\"\n",
+    ),
+    (
+        "mode ed\n",
+        "line 1: the mode is emacs or vi, and not \"ed\"\n",
+    ),
+    ("type a\n", ""),
+];
+
+#[test]
+fn says_why_a_line_is_bad(rt: HostRuntime) {
+    for (script, said) in COMPLAINTS {
+        let mut out = Vec::new(rt.alloc());
+        let mut errors = Vec::new(rt.alloc());
+        let ended = play(rt.alloc(), script.as_bytes(), &mut out, &mut errors);
+        let is_so = errors.as_slice() == said.as_bytes() && (ended == 4) != said.is_empty();
+        holds(&rt, is_so, script, usize::from(ended));
+    }
+}
+
 /// Plays a script, at once and byte by byte: each prints the same and ends with the same status.
 fn prints(rt: &impl Abort, alloc: Global, case: Case) {
     prints_by_bytes(rt, alloc, case);
     let (script, printed, status) = case;
     let mut out = Vec::new(alloc);
-    let ended = play(alloc, script.as_bytes(), &mut out);
+    let ended = played(alloc, script.as_bytes(), &mut out);
     let is_so = out.as_slice() == printed.as_bytes() && ended == status;
     holds(rt, is_so, script, usize::from(ended));
 }
@@ -108,7 +180,7 @@ fn keeps_sixty_killed_texts(rt: HostRuntime) {
             write!(script, "key C-y\n{steps}").expect(&rt, "no fault");
         }
         let mut out = Vec::new(alloc);
-        let ended = play(alloc, script.as_slice(), &mut out);
+        let ended = played(alloc, script.as_slice(), &mut out);
         let is_so = out.as_slice() == printed.as_bytes() && ended == 1;
         holds(&rt, is_so, printed, *kills);
     }
@@ -125,7 +197,7 @@ const GOOD: &[&str] = &[
 fn takes_no_refused_allocation_for_a_bad_line(rt: HostRuntime) {
     for script in GOOD {
         let mut out = Vec::new(rt.alloc());
-        let ended = play(rt.alloc(), script.as_bytes(), &mut out);
+        let ended = played(rt.alloc(), script.as_bytes(), &mut out);
         let is_good = ended < 4 && !out.starts_with(b"bad");
         holds(&rt, is_good, script, usize::from(ended));
     }
@@ -157,7 +229,7 @@ fn is_cut(rt: &impl Abort, alloc: Global, script: &'static str, at: usize, at_on
         at_once,
         fails: true,
     };
-    let ended = play(alloc, input, &mut out);
+    let ended = played(alloc, input, &mut out);
     holds(rt, ended == 3 && out.is_empty(), script, at);
 }
 
@@ -228,7 +300,7 @@ fn prints_by_bytes(rt: &impl Abort, alloc: Global, case: Case) {
         goes_on: false,
         flushes: true,
     };
-    let ended = play(alloc, input, &mut out);
+    let ended = played(alloc, input, &mut out);
     let is_so = out.bytes.as_slice() == printed.as_bytes() && ended == status;
     holds(rt, is_so, script, usize::from(ended));
 }
@@ -273,7 +345,7 @@ const NO_FAULTS: &[Case] = &[
 fn prints_a_beginning_without_memory(rt: HostRuntime) {
     for (script, whole, status) in NO_FAULTS {
         let mut out = Vec::new(rt.alloc());
-        let ended = play(rt.alloc(), script.as_bytes(), &mut out);
+        let ended = played(rt.alloc(), script.as_bytes(), &mut out);
         let shown = str::from_utf8(&out).expect(&rt, "a text");
         let is_right = if ended == 3 {
             let is_of_these = whole.starts_with(shown) || shown.starts_with("outcome fault\n");
@@ -313,7 +385,7 @@ fn faults(
         goes_on,
         flushes,
     };
-    let ended = play(alloc, script.as_bytes(), &mut out);
+    let ended = played(alloc, script.as_bytes(), &mut out);
     let printed = failing.min(whole.len());
     let wanted = if failing < whole.len() || !flushes {
         3
