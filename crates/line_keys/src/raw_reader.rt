@@ -21,7 +21,12 @@ pub trait RawReader {
 
     ghost failures: { Self → ℕ };
 
-    ghost own_binding: { Self → KeyEvent → Option Command };
+    // What no reading changes, and of it the commands that the reader itself gives keys.
+    ghost Kept: { Type 0 };
+
+    ghost kept: { Self → Kept };
+
+    ghost own_binding: { Kept → KeyEvent → Option Command };
 
     /// Takes the next item, which is a key, and returns it. A pasted text there is a failure, and stays.
     ///
@@ -31,7 +36,7 @@ pub trait RawReader {
         ensures kept { OnErr result (rest self.new ≡ rest self.old) }
         ensures fault { IfErr result (λ e. ReadFault e (rest self.old)) }
         ensures counts { CountsFailures result (failures self.old) (failures self.new) }
-        ensures binding { own_binding self.new ≡ own_binding self.old };
+        ensures stays { kept self.new ≡ kept self.old };
 
     /// Takes the next item, which is the key of a character without a modifier, and returns the character. Another item
     /// there is a failure, and stays.
@@ -41,7 +46,7 @@ pub trait RawReader {
         ensures kept { OnErr result (rest self.new ≡ rest self.old) }
         ensures fault { IfErr result (λ e. ReadFault e (rest self.old)) }
         ensures counts { CountsFailures result (failures self.old) (failures self.new) }
-        ensures binding { own_binding self.new ≡ own_binding self.old };
+        ensures stays { kept self.new ≡ kept self.old };
 
     /// Takes the next item, which is a pasted text, and returns it. A key there is a failure, and stays.
     fn read_pasted_text(&mut self) -> Result<String, ReadlineError>
@@ -49,9 +54,9 @@ pub trait RawReader {
         ensures kept { OnErr result (rest self.new ≡ rest self.old) }
         ensures fault { IfErr result (λ e. ReadFault e (rest self.old)) }
         ensures counts { CountsFailures result (failures self.old) (failures self.new) }
-        ensures binding { own_binding self.new ≡ own_binding self.old };
+        ensures stays { kept self.new ≡ kept self.old };
 
     /// Returns the command that the reader itself gives the key, if it gives one.
     fn find_binding(&self, key: &KeyEvent) -> Option<Cmd>
-        ensures { option_map command_of result ≡ own_binding self.now key.now };
+        ensures { option_map command_of result ≡ own_binding (kept self.now) key.now };
 }

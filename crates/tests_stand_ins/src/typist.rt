@@ -112,6 +112,10 @@ impl RawReader for Typist {
 
     ghost failures = { λ t. t.failures };
 
+    ghost Kept = { Unit };
+
+    ghost kept = { λ _. tt };
+
     ghost own_binding = { λ _. typed_binding };
 
     fn next_key(&mut self, single_esc_abort: bool) -> Result<KeyEvent, ReadlineError> {
