@@ -1,5 +1,6 @@
 //! What contracts see of the parties that are asked about a line.
-ghost use Rattle.std.specs.Prelude.{ℕ};
+ghost use Rattle.std.specs.Prelude.{ℕ, Option};
+ghost use Rattle.std.specs.Borrow.{GName};
 ghost use Rattle.line_parts.specs.Asks.{Sureness};
 ghost use Rattle.line_parts.specs.Environment.{Environment};
 
@@ -13,4 +14,7 @@ pub trait Consulted {
 
     // Which of its answers come without an error of input or output.
     ghost sure: { Self → Sureness };
+
+    // What tells the loan of the helper from another, if there is a helper.
+    ghost loan: { Self → Option GName };
 }

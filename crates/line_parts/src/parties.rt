@@ -1,6 +1,6 @@
 //! The parties that are asked about a line: the helper, if there is one, and the history.
 ghost use Rattle.std.specs.Prelude.{◌≡◌, ◌≤◌, ◌&&◌, true, false};
-ghost use Rattle.std.specs.Prelude.{is_some, length, option_map, IfOk};
+ghost use Rattle.std.specs.Prelude.{is_some, length, option_map, IfOk, IfSome, Some};
 ghost use Rattle.line_config.specs.Error.{FaultsOnly, IoOnlyIf};
 ghost use Rattle.line_parts.specs.Asks.{for_hint, for_look_up, for_verdict, is_sure};
 ghost use Rattle.line_parts.specs.Consulted.{Unchanged};
@@ -41,6 +41,8 @@ impl<'out, H: Helper, S: History> Consulted for Parties<'out, H, S> {
 
     ghost sure = { λ p.
         sure_by H.Hinter.sure H.Validator.sure (S.sure p.ctx.history) p.helper };
+
+    ghost loan = { λ p. option_map (λ h. h.ghost_name) p.helper };
 }
 
 // Returns the hint, or None where it displays nothing.
@@ -62,8 +64,24 @@ impl<'out, H: Helper, S: History> Parties<'out, H, S> {
         ensures index { ⟦<Self as Consulted>⟧.index result ≡ ctx.entry.index }
         ensures sure { ⟦<Self as Consulted>⟧.sure result ≡ sure_by H.Hinter.sure H.Validator.sure
             (S.sure ctx.entry.history) helper.entry }
+        ensures loan { ⟦<Self as Consulted>⟧.loan result
+            ≡ option_map (λ h. h.ghost_name) helper.entry }
     {
         Parties { helper, ctx }
+    }
+
+    /// Returns the helper, if there is one, and the position in the history, which answer as they did.
+    pub fn release(self) -> (Option<&'out mut H>, Context<'out, S>)
+        ensures environment { ⟦<Self as Consulted>⟧.environment self.entry ≡ environment_by
+            H.hint_at H.verdict_at H.lights result.0 (S.lines result.1.history) }
+        ensures index { result.1.index ≡ ⟦<Self as Consulted>⟧.index self.entry }
+        ensures sure { ⟦<Self as Consulted>⟧.sure self.entry ≡ sure_by
+            H.Hinter.sure H.Validator.sure (S.sure result.1.history) result.0 }
+        ensures loan { option_map (λ h. h.ghost_name) result.0
+            ≡ ⟦<Self as Consulted>⟧.loan self.entry }
+    {
+        let Parties { helper, ctx } = self;
+        (helper, ctx)
     }
 
     /// Returns the helper's hint for `line`, or None where there is no hint or it displays nothing.
@@ -126,6 +144,21 @@ impl<'out, H: Helper, S: History> Parties<'out, H, S> {
         }
     }
 
+    /// Returns the helper, if there is one: its answers are those of the parties.
+    #[tactic(auto, unfolding(crate::specs::Helped::hint_by, crate::specs::Helped::verdict_by, crate::specs::Helped::lights_by))]
+    pub fn helper(&self) -> Option<&H>
+        ensures some { is_some result
+            ≡ is_some (⟦<Self as Consulted>⟧.environment self.now).verdict_at }
+        ensures answers { let w = ⟦<Self as Consulted>⟧.environment self.now in
+            IfSome result (λ h. (w.hint_at ≡ H.hint_at h.now)
+            × (w.verdict_at ≡ Some (H.verdict_at h.now)) × (w.lights ≡ H.lights h.now)) }
+    {
+        match &self.helper {
+            Some(h) => Some(h),
+            None => None,
+        }
+    }
+
     /// Returns the helper if there is one and colors are on.
     #[tactic(auto, unfolding(crate::specs::Helped::verdict_by))]
     pub fn highlighter(&self, colors: bool) -> Option<&H>
@@ -162,6 +195,7 @@ impl<'out, H: Helper, S: History> Parties<'out, H, S> {
         ensures environment { let p = ⟦<Self as Consulted>⟧ in
             p.environment self.new ≡ p.environment self.old }
         ensures sure { let p = ⟦<Self as Consulted>⟧ in p.sure self.new ≡ p.sure self.old }
+        ensures loan { let p = ⟦<Self as Consulted>⟧ in p.loan self.new ≡ p.loan self.old }
     {
         self.ctx.set_history_index(index);
     }
