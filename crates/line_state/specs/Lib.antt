@@ -1,5 +1,6 @@
 pub mod Drawn
 pub mod Edited
+pub mod Kept
 pub mod Moves
 pub mod ScreenState
 pub mod Shown

@@ -11,4 +11,5 @@ pub use drawn::Drawn;
 pub use edited_line::EditedLine;
 pub use renderer::Renderer;
 pub use screen_state::ScreenState;
+pub use view::kept::KeptView;
 pub use view::{RefreshKind, View};

@@ -9,6 +9,8 @@ ghost use Rattle.line_state.specs.Drawn.{ColorsAreOn, DrawsInFull, DrawsNoneInFu
 ghost use Rattle.line_state.specs.ScreenState.{BeepsAtMost, ResizesTo};
 ghost use Rattle.line_state.specs.Shown.{IsShownPlain, KnowsEnd, StandsAtEnd};
 
+pub mod kept;
+
 use crate::drawn::Drawn;
 use crate::renderer::Renderer;
 use crate::screen_state::ScreenState;
