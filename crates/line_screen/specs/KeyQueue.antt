@@ -31,6 +31,10 @@ pub record Queued : Type 0 where
 abbrev pub standing : Queued → List input.Item
 standing q = q.read ++ q.rest
 
+-- what no call that reads changes: whether keys are bound, and all that stands in the queue
+abbrev pub kept_by : Queued → Bool × List input.Item
+kept_by q = (q.binds, standing q)
+
 -- what a call reads that takes no memory: the item in front, where it is of the kind that is asked for; else it answers an error of
 -- input or output, and the end of the input where nothing is left
 pub record Reads {T : Type 0} (result : Result T ReadlineError) (as_item : T → input.Item) (rest : List input.Item) : Type 0 where
@@ -78,5 +82,4 @@ pub record Takes {T : Type 0} (result : Result T ReadlineError) (as_item : T →
   pub fault : IfErr result (λ error. ReadFault error old.rest)
   pub counts : CountsFailures result old.failures new.failures
   pub one : IoOnlyIf result (new.failures ≡ min max_count (old.failures + 1))
-  pub binding : queue_binding new.binds ≡ queue_binding old.binds
-  pub stands : standing new ≡ standing old
+  pub stays : kept_by new ≡ kept_by old

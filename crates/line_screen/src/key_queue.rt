@@ -1,5 +1,5 @@
 //! A reader of the keys and pasted texts that a program hands over.
-ghost use Rattle.std.specs.Prelude.{◌≡◌, ℕ, ◌+◌, ◌≤◌, min, ◌==◌, ◌∷◌, [], List, true, false, length, map, chars, Err, IfOk, IfErr, OnOk, OnErr, string_bytes};
+ghost use Rattle.std.specs.Prelude.{◌≡◌, ℕ, ◌+◌, ◌≤◌, min, ◌==◌, ◌∷◌, [], List, true, false, length, map, chars, Err, is_some, IfOk, IfErr, IfSome, OnOk, OnErr, string_bytes};
 ghost use Rattle.line_config.specs.Error.{MemoryOnly, is_io, max_count};
 ghost use Rattle.line_config.specs.declared.error.ReadlineError.TheVariants.{Eof};
 ghost use Rattle.line_keys.specs.Item as input;
@@ -155,6 +155,33 @@ impl KeyQueue {
         self.read = 0;
     }
 
+    /// Takes the next item, where it is a pasted text, and returns the text: it stands alone, as the key before it was read
+    /// as the key of something else. Returns None, and takes nothing, where the next item is a key or nothing is left.
+    ///
+    /// # Errors
+    /// `Memory`: the text is a copy. Then nothing is taken.
+    pub fn next_paste(&mut self) -> Result<Option<String>>
+        ensures took { IfOk result (λ next. IfSome next
+            (λ t. self.old.rest ≡ input.paste (string_bytes t) ∷ self.new.rest)) }
+        ensures takes { (t : List ℕ) (more : List input.Item) → self.old.rest ≡ input.paste t ∷ more
+            → IfOk result (λ next. is_some next ≡ true) }
+        ensures none { IfOk result (λ next. is_some next ≡ false → self.new ≡ self.old) }
+        ensures err { OnErr result (self.new ≡ self.old) }
+        ensures memory { MemoryOnly result }
+        ensures stands { standing self.new ≡ standing self.old }
+        ensures stays { self.new
+            ≡ record self.old { read = self.new.read; rest = self.new.rest } }
+    {
+        match self.items.get(self.read) {
+            Some(Item::Paste(text)) => {
+                let text = String::from_str(self.alloc, text.as_str())?;
+                self.read += 1;
+                Ok(Some(text))
+            }
+            _ => Ok(None),
+        }
+    }
+
     /// Goes back to the mark: what was read since then is read again.
     #[tactic(auto, using(crate::proofs::QueueLemmas::rewound))]
     pub fn rewind(&mut self)
@@ -191,13 +218,20 @@ fn push_typed(items: &mut VecDeque<Item>, text: &str) -> Result<()>
 }
 
 impl RawReader for KeyQueue {
-    ghost use Rattle.line_screen.specs.KeyQueue.{queue_binding};
+    ghost use Rattle.line_keys.specs.Item as input;
+    ghost use Rattle.line_screen.specs.KeyQueue.{kept_by, queue_binding};
+    ghost use Rattle.std.specs.Prelude.{Bool, List};
 
     ghost rest = { λ q. q.rest };
 
     ghost failures = { λ q. q.failures };
 
-    ghost own_binding = { λ q. queue_binding q.binds };
+    // Whether keys are bound, and all that stands in the queue since the mark.
+    ghost Kept = { Bool × List input.Item };
+
+    ghost kept = { kept_by };
+
+    ghost own_binding = { λ kept. queue_binding kept.0 };
 
     fn next_key(&mut self, single_esc_abort: bool) -> Result<KeyEvent>
         ensures takes { Takes result (λ k. input.key k) self.old self.new }
