@@ -1,10 +1,13 @@
 -- Facts on lines that are accepted.
-use Rattle.std.proofs.Common.{◌≡◌, inl, inr, ℕ, ◌+◌, Bool, true, false, cond, not, List, Option, None, Ok, Err, refl, sym, ◌∙◌, ap, subst, arith}
+use Rattle.std.proofs.Common.{◌≡◌, inl, inr, ℕ, ◌+◌, ◌==◌, Bool, true, false, cond, not, List, [], ◌∷◌, length, Option, None, Ok, Err, refl, sym, ◌∙◌, ap, subst, arith}
 use Rattle.std.specs.Prelude.{◌||◌, ◌&&◌, if◌then◌else◌, is_some}
 use Rattle.line_buffer.specs.Changes.{adds_end}
 use Rattle.line_buffer.specs.KillRing.{Ring}
 use Rattle.line_buffer.specs.Line.{Line, ends_in_white_space}
+use Rattle.line_config.specs.declared.config.EditMode.{EditMode}
+use Rattle.line_config.specs.declared.config.EditMode.TheVariants.{Emacs, Vi}
 use Rattle.line_config.specs.declared.error.ReadlineError.{ReadlineError}
+use Rattle.line_config.specs.declared.error.ReadlineError.TheVariants.{Eof}
 use Rattle.line_keys.specs.Command.{Command, accept_line, accept_or_insert_line, end_of_file}
 use Rattle.line_keys.specs.Display.{Display, KeepsPrompt, Surface}
 use Rattle.line_keys.specs.Draft.{Draft, KeepsText, hint_shown, in_group, out_of_group, unhinted}
@@ -19,16 +22,18 @@ use Rattle.line_parts.specs.declared.highlight.CmdKind.{CmdKind}
 use Rattle.line_parts.specs.declared.highlight.CmdKind.TheVariants.{ForcedRefresh, Other}
 use Rattle.line_editor.specs.Accept.{accepted, answer_at_end, replied, reply_to, unhinted_by, validated}
 use Rattle.line_editor.specs.Drawings.{asked_for_reply, asked_of, once_for, reply_drawn, reply_times, unhinted_drawn, validated_drawn, validated_times, verdict_drawn}
-use Rattle.line_editor.specs.Editor.{Answer, proceeds, submitted}
+use Rattle.line_editor.specs.Editor.{Answer, ended, proceeds, submitted}
 use Rattle.line_editor.specs.DraftEdits.{typed_in}
 use Rattle.line_editor.specs.Input.{Input}
 use Rattle.line_editor.specs.Outcomes.{DrawnAfter, Executed, Executes, editor_of, step_from}
+use Rattle.line_editor.specs.Status.{answer_of}
+use Rattle.line_editor.specs.declared.command.Status.{Status}
 use Rattle.line_editor.specs.Step.{halfway_of}
 use Rattle.line_editor.specs.declared.command.Reply.{Reply}
 use Rattle.line_editor.specs.declared.command.Reply.TheVariants.{GoesOn, Stays, Submits}
 use Rattle.line_editor.specs.DrawnVerdict.{draws_verdict, draws_verdict_on, kind_of_verdict}
 use Rattle.line_editor.proofs.AskedLemmas.{fails_more, sure_all}
-use Rattle.line_editor.proofs.CommandLemmas.{draft_wrong, editor_with, fails_then, few_by, line_kept, line_then, perhaps_lit, perhaps_prompt, perhaps_redraws, twice_at_most}
+use Rattle.line_editor.proofs.CommandLemmas.{draft_wrong, editor_with, executed_ok, fails_then, few_by, line_kept, line_then, perhaps_lit, perhaps_prompt, perhaps_redraws, twice_at_most}
 use Rattle.line_editor.proofs.CountLemmas.{rises_twice, rises_within}
 use Rattle.line_editor.proofs.DoneLemmas.{line_after}
 use Rattle.line_editor.proofs.DrawnLemmas.{frame_then, hint_trails, keeps_then, no_hint_line, prompt_after, prompt_then}
@@ -49,6 +54,46 @@ ends_at e x old new input indent kills answer drop is drawn = record {
   part = λ is. absurd (cc);
   start = drop.start;
 }
+
+-- the end of the input, where no error comes of it
+pub end_answers : {X T : Type 0} (e : Ghosts X) (x : T) (old new : X) (input : Input) (indent : ℕ) (kills : Ring) (status : Status)
+    → DoesAsking e nobody (Ok x) old new (unhinted (e.draft old)) (unhinted_drawn (e.display old) (e.draft old)) 1
+    → answer_at_end input.style (e.draft old).line.text ≡ answer_of status → DrawnAfter e (answer_of status) old new
+    → Executes e (Ok status) old input indent kills end_of_file new kills
+end_answers e x old new input indent kills status drop is drawn =
+    executed_ok e old new input indent kills kills end_of_file status (ends_at e x old new input indent kills (answer_of status) drop is drawn) drop.frame drop.fails.quiet
+
+-- and on an empty line, where it ends the run
+pub end_ends : {X T : Type 0} (e : Ghosts X) (x : T) (old new : X) (input : Input) (indent : ℕ) (kills : Ring)
+    → DoesAsking e nobody (Ok x) old new (unhinted (e.draft old)) (unhinted_drawn (e.display old) (e.draft old)) 1
+    → LosesHint e old new → answer_at_end input.style (e.draft old).line.text ≡ ended
+    → Executes e (Err Eof) old input indent kills end_of_file new kills
+end_ends e x old new input indent kills drop loses is = record {
+  comes = λ calm. ends_at e x old new input indent kills ended drop is loses;
+  wrong = record {
+    draft = λ fault. absurd (cc);
+    kills_left = inl refl;
+    moment = λ io. absurd (cc);
+    prompt = perhaps_prompt e (is_some (e.draft old).hint || (e.display old).lit || not (e.display old).layout.default_prompt) None ForcedRefresh old new drop.frame drop.drew;
+  };
+  frame = drop.frame;
+  io = λ io. absurd (cc);
+  quiet = λ io. drop.fails.quiet;
+}
+
+-- an empty line ends the run, and another one is kept by Emacs and submitted by Vi
+pub empty_ends : (style : EditMode) (text : List ℕ) → (length text == 0) ≡ true → answer_at_end style text ≡ ended
+empty_ends style [] is = refl
+empty_ends style (x ∷ xs) is = absurd (grind (arith, is))
+
+pub emacs_keeps : (text : List ℕ) → (length text == 0) ≡ false → answer_at_end Emacs text ≡ proceeds
+emacs_keeps [] is = absurd (cc)
+emacs_keeps (x ∷ xs) is = refl
+
+pub others_submit : (style : EditMode) (text : List ℕ) → (style ≡ Emacs → ⊥) → (length text == 0) ≡ false → answer_at_end style text ≡ submitted
+others_submit Emacs text other is = absurd (other refl)
+others_submit Vi [] other is = absurd (cc)
+others_submit Vi (x ∷ xs) other is = refl
 
 -- a verdict keeps the line
 verdict_keeps : (asked : Bool) (verdict : Verdict) (draft : Draft)

@@ -53,7 +53,7 @@ counted-again environment [] draft some = absurd (some refl)
 counted-again environment (k ∷ ks) draft some = refl
 
 -- where a phrase that was cut short left the hint as it was, it left the draft
-left-as-it-was : (environment : Environment) (draft cut : Draft) → LeftByCut environment draft cut → cut.hint ≡ draft.hint → cut ≡ draft
+pub left-as-it-was : (environment : Environment) (draft cut : Draft) → LeftByCut environment draft cut → cut.hint ≡ draft.hint → cut ≡ draft
 left-as-it-was environment draft cut (inl same) hint = same
 left-as-it-was environment draft cut (inr asked) hint =
     let stays : hint_for environment draft.line.text draft.line.cursor draft.index ≡ draft.hint = sym (ap (λ (d : Draft). d.hint) asked) ∙ hint in
@@ -96,7 +96,7 @@ same-source f g None None (Some k) entry other plain is = is
 same-source f g None None None entry other plain is = absurd (cc)
 
 -- where a key stands for one of command mode, it does so behind groups that have ended, and before they end
-alt-ended : (keymap : Keymap) (draft : Draft) (input : Input) (k plain : KeyEvent)
+pub alt-ended : (keymap : Keymap) (draft : Draft) (input : Input) (k plain : KeyEvent)
     → source_of keymap draft input None k ≡ by_phrase plain → source_of keymap (out_of_group draft) input None k ≡ by_phrase plain
 alt-ended keymap draft input k plain is =
     same-source (bound_anew (new_count input.style None) (last_insert_of draft.changes.entries)) (bound_anew (new_count input.style None) (last_insert_of (out_of_group draft).changes.entries))
@@ -113,7 +113,7 @@ ended-alt keymap draft input k plain is =
     ((row_of input.style input.mode k (out_of_group draft)).entry None) ((row_of input.style input.mode k draft).entry None) plain is
 
 -- nothing is drawn of what is read quietly
-quiet-never : (items : List Item) → any_drawn (none_shown items) ≡ true → ⊥
+pub quiet-never : (items : List Item) → any_drawn (none_shown items) ≡ true → ⊥
 quiet-never items drawn = let none = quiet-any items in absurd (cc)
 
 search-never : (draft : Draft) (input : Input) (items : List Item) (done : Option Movement → Command) (n : ℕ) (search : Option CharSearch)
@@ -121,7 +121,7 @@ search-never : (draft : Draft) (input : Input) (items : List Item) (done : Optio
 search-never draft input items done n (Some search) drawn = quiet-never items drawn
 search-never draft input items done n None drawn = quiet-never items drawn
 
-reaches-never : (draft : Draft) (input : Input) (operator : Operator) (motion : Motion) (items : List Item) (read : Read)
+pub reaches-never : (draft : Draft) (input : Input) (operator : Operator) (motion : Motion) (items : List Item) (read : Read)
     → Reaches draft input operator motion items read → any_drawn read.shown ≡ true → ⊥
 reaches-never draft input operator _ _ _ (by_movement movement) drawn = quiet-never [] drawn
 reaches-never draft input operator _ _ _ (to_character n by second) drawn =
@@ -131,7 +131,7 @@ reaches-never draft input operator _ _ _ to_match drawn = quiet-never [] drawn
 reaches-never draft input operator _ _ _ nowhere drawn = quiet-never [] drawn
 
 -- what is drawn of what belongs to a key is drawn of an operator's count
-drawn-motion : (s : Sequences) (w : Environment) (d : Draft) (i : Input) (last : KeyEvent) (meaning : Meaning) (tail : List Item) (read : Read)
+pub drawn-motion : (s : Sequences) (w : Environment) (d : Draft) (i : Input) (last : KeyEvent) (meaning : Meaning) (tail : List Item) (read : Read)
     → Tailed s w d i last meaning tail read → any_drawn read.shown ≡ true
     → (operator : Operator) × (n : ℕ) × (meaning ≡ operates operator n) × Operated w d i operator n tail read
 drawn-motion s w d i last _ _ _ (alone command) drawn = absurd (quiet-never [] drawn)
@@ -211,14 +211,14 @@ module _ (keymap : Keymap) (environment : Environment) (draft : Draft) (hint : O
       (answers-alike (key_handler keymap.bound k) k (handed input.style input.mode None) draft hint input blind)
 
   -- a key stands for one of command mode
-  stands-alike : (k plain : KeyEvent) → KeyLooksAtNoHint keymap.bound k → source_of keymap draft input None k ≡ by_phrase plain → source_of keymap other input None k ≡ by_phrase plain
+  pub stands-alike : (k plain : KeyEvent) → KeyLooksAtNoHint keymap.bound k → source_of keymap draft input None k ≡ by_phrase plain → source_of keymap other input None k ≡ by_phrase plain
   stands-alike k plain blind is =
       subst (λ b. first_source b (on_line draft.line.text (keymap.own k)) (stands_for input.style input.mode k) ((row_of input.style input.mode k other).entry None) ≡ by_phrase plain) (sym (bound-alike k blind))
       (phrase-source (bound_command keymap draft input None k) (on_line draft.line.text (keymap.own k)) (stands_for input.style input.mode k)
       ((row_of input.style input.mode k draft).entry None) ((row_of input.style input.mode k other).entry None) plain is)
 
   -- a key is an operator of the tables
-  table-alike : (k : KeyEvent) (entry : KeyEntry) (operator : Operator) (n : ℕ) → KeyLooksAtNoHint keymap.bound k → source_of keymap draft input None k ≡ by_table entry → entry.meaning ≡ operates operator n
+  pub table-alike : (k : KeyEvent) (entry : KeyEntry) (operator : Operator) (n : ℕ) → KeyLooksAtNoHint keymap.bound k → source_of keymap draft input None k ≡ by_table entry → entry.meaning ≡ operates operator n
       → source_of keymap other input None k ≡ by_table entry
   table-alike k entry operator n blind is means =
       let there = table-source (bound_command keymap draft input None k) (on_line draft.line.text (keymap.own k)) (stands_for input.style input.mode k)

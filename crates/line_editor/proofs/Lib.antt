@@ -1,5 +1,6 @@
 pub mod AgainLaws
 pub mod AskedLemmas
+pub mod DrawnAgainLaws
 pub mod BeginLemmas
 pub mod BoundLemmas
 pub mod ChordLemmas

@@ -107,13 +107,13 @@ module _ {X Y : Type 0} (e : editors.Ghosts X) (r : readers.Ghosts Y) (editor : 
 
   -- the first key and the rest
   pub motion_part : (mid : Y) (k : KeyEvent) (editor' : X) (reader' : Y) (result : Result phrases.Read ReadlineError)
-      → r.rest reader ≡ key k ∷ r.rest mid → r.own_binding mid ≡ r.own_binding reader → r.failures mid ≡ r.failures reader
+      → r.rest reader ≡ key k ∷ r.rest mid → r.kept mid ≡ r.kept reader → r.failures mid ≡ r.failures reader
       → MotionPart (key k ∷ []) result mid editor' reader' → MotionPart [] result reader editor' reader'
   motion_part mid k editor' reader' result took own quiet part =
       key_taken e r MotionHere (e.draft editor) (λ c d. d) (λ b. command_of b.command) (λ b. behind_input b i) editor keys reader mid editor' reader' k took own quiet result part
 
   -- the first key could not be read
-  pub motion_none : {S : Type 0} (mid : Y) (f : ReadlineError) → ReadFault f (r.rest reader) → r.rest mid ≡ r.rest reader → r.own_binding mid ≡ r.own_binding reader
+  pub motion_none : {S : Type 0} (mid : Y) (f : ReadlineError) → ReadFault f (r.rest reader) → r.rest mid ≡ r.rest reader → r.kept mid ≡ r.kept reader
       → CountsFailures {T = S} (Err f) (r.failures reader) (r.failures mid)
       → MotionPart [] (Err f) reader editor mid
   motion_none mid f fault stays own counts =

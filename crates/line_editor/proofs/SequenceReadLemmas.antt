@@ -19,7 +19,7 @@ module _ {Y : Type 0} (r : readers.Ghosts Y) (s : Sequences) (first : KeyEvent) 
     pub read_on : IsReadOn s first more
     pub leads : s.leads (first ∷ more) ≡ true
     pub unanswered : sequence_command s first more ≡ None
-    pub own : r.own_binding now ≡ r.own_binding reader
+    pub own : r.kept now ≡ r.kept reader
     pub quiet : r.failures now ≡ r.failures reader
     pub fewer : length (r.rest now) ≤ length (r.rest reader)
 
@@ -69,7 +69,7 @@ module _ {Y : Type 0} (r : readers.Ghosts Y) (s : Sequences) (first : KeyEvent) 
     }
 
     -- they have none, and lead on
-    pub leads_further : (own : r.own_binding next ≡ r.own_binding now) → r.failures next ≡ r.failures now
+    pub leads_further : (own : r.kept next ≡ r.kept now) → r.failures next ≡ r.failures now
         → None ≡ s.command (typed ++ (k ∷ [])) → true ≡ s.leads (typed ++ (k ∷ [])) → InSequence (typed ++ (k ∷ [])) next
     leads_further own quiet is leads = record {
       more = further;

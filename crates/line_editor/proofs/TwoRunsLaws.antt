@@ -39,7 +39,7 @@ two-renderers e r e' r' indent one one' other other' end end' alike run run' =
     let h : GraphemeClusterMode → Ruler = λ m. record { prompt_column = (e'.display other.state).prompt_end.col; cluster_mode = m; indent_size = indent } in
     let ruler : own_ruler (e.display one.state) indent ≡ own_ruler (e'.display other.state) indent =
     ap f (ap (λ (p : Position). p.col) alike.prompt_end) ∙ ap h alike.mode in
-    runs-fit (keymap_of one.keys (r.own_binding one.reader)) (own_ruler (e.display one.state) indent) (e.environment one.state)
+    runs-fit (keymap_of one.keys (r.own_binding (r.kept one.reader))) (own_ruler (e.display one.state) indent) (e.environment one.state)
     (record { draft = hinted (e.environment one.state) (e.draft one.state); kills = one.kills }) (editor_of e one'.state one'.kills) (editor_of e' other'.state other'.kills)
     one.keys.input one'.keys.input other'.keys.input (r.rest one.reader) end end' run
     (run-from _ _ _ _ _ _ (e.draft one.state) (e'.draft other.state) one.kills other.kills _ _ _ _ alike.keymap ruler alike.environment alike.draft alike.kills alike.input_value alike.items run')

@@ -103,7 +103,7 @@ was_read r k reader reader' took none = absurd (cc)
 
 module _ {X Y : Type 0} (e : editors.Ghosts X) (r : readers.Ghosts Y) (editor : X) (keys : KeyState) (reader : Y) where
   -- a key that types a character is the command that types it
-  pub typed_read : (reader' : Y) (k : KeyEvent) (c : ℕ) → TookKey r k reader reader' → TypesChar (keymap_of keys (r.own_binding reader')) keys.input k c
+  pub typed_read : (reader' : Y) (k : KeyEvent) (c : ℕ) → TookKey r k reader reader' → TypesChar (keymap_of keys (r.own_binding (r.kept reader'))) keys.input k c
       → ReadsCommand e r grouped (Ok (commands.SelfInsert 1 c)) editor keys reader editor keys reader'
   typed_read reader' k c took types = record {
     phrase = record {
@@ -111,7 +111,7 @@ module _ {X Y : Type 0} (e : editors.Ghosts X) (r : readers.Ghosts Y) (editor : 
         items = key k ∷ [];
         read = quiet_read (e.draft editor) keys.input (key k ∷ []) (self_insert 1 c);
         cut = took.took;
-        comes = subst (λ own. Phrase (keymap_of keys own) (e.environment editor) (e.draft editor) keys.input (key k ∷ [])
+        comes = subst (λ kept. Phrase (keymap_of keys (r.own_binding kept)) (e.environment editor) (e.draft editor) keys.input (key k ∷ [])
             (quiet_read (e.draft editor) keys.input (key k ∷ []) (self_insert 1 c))) took.own (types (e.environment editor) (e.draft editor));
         command_read = refl;
         input_read = refl;
@@ -135,7 +135,7 @@ module _ {X Y : Type 0} (e : editors.Ghosts X) (r : readers.Ghosts Y) (editor : 
 
   -- where no key could be read, no command was
   pub none_read : (begun : Command → Draft → Draft) (reader' : Y) (f : ReadlineError) → ReadFault f (r.rest reader) → r.rest reader' ≡ r.rest reader
-      → r.own_binding reader' ≡ r.own_binding reader → CountsFailures {T = KeyEvent} (Err f) (r.failures reader) (r.failures reader')
+      → r.kept reader' ≡ r.kept reader → CountsFailures {T = KeyEvent} (Err f) (r.failures reader) (r.failures reader')
       → ReadsCommand e r begun (Err f) editor keys reader editor keys reader'
   none_read begun reader' f fault stays own counts =
       command_failed e r begun command_of (λ _. keys.input) f editor keys reader editor reader' (λ none. (refl, record { display = refl; redraws = refl }))

@@ -49,8 +49,8 @@ module _ {X Y : Type 0} (e : editors.Ghosts X) (r : readers.Ghosts Y) (indent : 
   -- each run from here is the rest of a run from the start; what is drawn is right, nothing failed, and a part of the items is read
   pub record Underway (now : Session X Y) : Type 0 where
     pub goes_on : (last : Editor) (i : Input) (end : End)
-        → Run (keymap_of start.keys (r.own_binding start.reader)) (own_ruler (e.display start.state) indent) (e.environment start.state) (editor_of e now.state now.kills) now.keys.input (r.rest now.reader) last i end
-        → Run (keymap_of start.keys (r.own_binding start.reader)) (own_ruler (e.display start.state) indent) (e.environment start.state)
+        → Run (keymap_of start.keys (r.own_binding (r.kept start.reader))) (own_ruler (e.display start.state) indent) (e.environment start.state) (editor_of e now.state now.kills) now.keys.input (r.rest now.reader) last i end
+        → Run (keymap_of start.keys (r.own_binding (r.kept start.reader))) (own_ruler (e.display start.state) indent) (e.environment start.state)
         (record { draft = hinted (e.environment start.state) (e.draft start.state); kills = start.kills }) start.keys.input (r.rest start.reader) last i end
     pub proceeded : HasProceeded e r indent start now
     pub unread : r.failures now.reader ≡ r.failures start.reader
@@ -63,9 +63,9 @@ module _ {X Y : Type 0} (e : editors.Ghosts X) (r : readers.Ghosts Y) (indent : 
   pub begins : (now : X) → Refreshes {T = Unit {0}} e (Ok tt) start.state now (hinted (e.environment start.state) (e.draft start.state)) with_hint
       → Underway (session now start.keys start.reader start.kills)
   begins now drew = record {
-    goes_on = λ last i end run. subst (λ (d : Draft). Run (keymap_of start.keys (r.own_binding start.reader)) (own_ruler (e.display start.state) indent) (e.environment start.state) (record { draft = d; kills = start.kills }) start.keys.input (r.rest start.reader) last i end) drew.draft run;
+    goes_on = λ last i end run. subst (λ (d : Draft). Run (keymap_of start.keys (r.own_binding (r.kept start.reader))) (own_ruler (e.display start.state) indent) (e.environment start.state) (record { draft = d; kills = start.kills }) start.keys.input (r.rest start.reader) last i end) drew.draft run;
     proceeded =
-        let P : Draft → Type 0 = λ d. Turns (keymap_of start.keys (r.own_binding start.reader)) (own_ruler (e.display start.state) indent) (e.environment start.state)
+        let P : Draft → Type 0 = λ d. Turns (keymap_of start.keys (r.own_binding (r.kept start.reader))) (own_ruler (e.display start.state) indent) (e.environment start.state)
         (record { draft = d; kills = start.kills }) start.keys.input (r.rest start.reader) (editor_of e now start.kills) start.keys.input (r.rest start.reader) in
         record {
           drawn = now;
@@ -99,10 +99,10 @@ module _ {X Y : Type 0} (e : editors.Ghosts X) (r : readers.Ghosts Y) (indent : 
   }
 
   module _ (now : Session X Y) (u : Underway now) where
-    same_keymap : keymap_of now.keys (r.own_binding now.reader) ≡ keymap_of start.keys (r.own_binding start.reader)
+    same_keymap : keymap_of now.keys (r.own_binding (r.kept now.reader)) ≡ keymap_of start.keys (r.own_binding (r.kept start.reader))
     same_keymap =
-        let f : Bound → Keymap = λ b. record { bound = b; own = r.own_binding start.reader } in
-        ap (λ own. keymap_of now.keys own) u.proceeded.keeps.both.own ∙ ap f u.proceeded.keeps.bound
+        let f : Bound → Keymap = λ b. record { bound = b; own = r.own_binding (r.kept start.reader) } in
+        ap (λ kept. keymap_of now.keys (r.own_binding kept)) u.proceeded.keeps.both.own ∙ ap f u.proceeded.keeps.bound
 
     -- behind the own prompt the ruler is the same all the way
     same_ruler : ruler_of (e.display now.state) indent ≡ own_ruler (e.display start.state) indent
@@ -251,10 +251,10 @@ module _ {X Y : Type 0} (e : editors.Ghosts X) (r : readers.Ghosts Y) (indent : 
       -- items that run dry end the run
       pub dries : {turned : Turned} → Advances e r indent (Ok turned) now next → NeedsMoreItems e r now next → Runs e r {T = Unit {0}} indent (Err Eof) start next
       dries advances dry_up =
-          let Q : Input → Type 0 = λ i. Run (keymap_of start.keys (r.own_binding start.reader)) (own_ruler (e.display start.state) indent) (e.environment start.state) (editor_of e now.state now.kills) now.keys.input (r.rest now.reader) (editor_of e next.state next.kills) i (dry (r.rest now.reader)) in
+          let Q : Input → Type 0 = λ i. Run (keymap_of start.keys (r.own_binding (r.kept start.reader))) (own_ruler (e.display start.state) indent) (e.environment start.state) (editor_of e now.state now.kills) now.keys.input (r.rest now.reader) (editor_of e next.state next.kills) i (dry (r.rest now.reader)) in
           let R : Display → Type 0 = λ d. IsRight d (e.draft now.state).line in
           let S : Draft → Type 0 = λ d. IsRight (e.display next.state) d.line in
-          let short : CutShort (keymap_of now.keys (r.own_binding now.reader)) (e.environment now.state) now.keys.input (r.rest now.reader) dry_up.out.lacks.shown (editor_of e now.state now.kills) (editor_of e next.state next.kills) =
+          let short : CutShort (keymap_of now.keys (r.own_binding (r.kept now.reader))) (e.environment now.state) now.keys.input (r.rest now.reader) dry_up.out.lacks.shown (editor_of e now.state now.kills) (editor_of e next.state next.kills) =
           record { draft = dry_up.out.draft; kills = dry_up.kills_left } in
           record {
             ran = λ no. (
@@ -272,7 +272,7 @@ module _ {X Y : Type 0} (e : editors.Ghosts X) (r : readers.Ghosts Y) (indent : 
                           (ap (λ (d : Draft). d.line) n.0) u.proceeded.shown,
                     );
                 start = start_of_cut (e.environment now.state) dry_up.out.lacks.shown _ _ dry_up.out.draft
-                    ∙ start_there (keymap_of now.keys (r.own_binding now.reader)) (e.draft now.state) now.keys.input (r.rest now.reader) ∙ u.first;
+                    ∙ start_there (keymap_of now.keys (r.own_binding (r.kept now.reader))) (e.draft now.state) now.keys.input (r.rest now.reader) ∙ u.first;
                 redraws =
                     let none : length (r.rest next.reader) ≡ 0 = ap length dry_up.out.empty in
                     λ below.

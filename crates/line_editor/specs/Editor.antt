@@ -17,7 +17,7 @@ pub record Editor : Type 0 where
   pub kills : Ring
 
 -- what an editor begins with: a draft, those who are asked and how far they are sure, and a renderer on which nothing is drawn,
--- with its counts of failures and of full redraws and whose loan it is
+-- with its counts of failures and of full redraws and whose loans they are
 pub record Begins {X : Type 0} (e : Ghosts X) (editor : X) (start : Draft) (asked : Environment) (surely : Sureness) (undrawn : Display) (failed drawn : ℕ) (lent : e.Loan) : Type 0 where
   pub draft : e.draft editor ≡ start
   pub environment : e.environment editor ≡ asked

@@ -17,10 +17,10 @@ use Rattle.line_parts.specs.Environment.{Environment}
 use Rattle.line_editor.specs.Event.{Chord, same_chord}
 use Rattle.line_editor.specs.HistoryMoves.{is_own_line}
 use Rattle.line_editor.specs.Input.{Input, is_vi_command}
-use Rattle.line_editor.specs.ItemShown.{any_drawn}
+use Rattle.line_editor.specs.ItemShown.{ItemShown, any_drawn}
 use Rattle.line_editor.specs.Binding.{Bound}
 use Rattle.line_editor.specs.Keymap.{KeyLooksAtNoHint, Keymap, key_handler, keymap_of}
-use Rattle.line_editor.specs.Phrase.{Phrase, count_in_front, entered}
+use Rattle.line_editor.specs.Phrase.{IsBeginning, Phrase, count_in_front, entered}
 use Rattle.line_editor.specs.Read.{Begins, Read}
 use Rattle.line_editor.specs.Reading.{LeftByCut}
 use Rattle.line_editor.specs.Run.{End, Run, Turn, Turns, commands_in, keys_in, ready, stopped, unread}
@@ -119,6 +119,23 @@ ReadFromTheCut = (keymap : Keymap) (ruler : Ruler) (environment : Environment) (
     → HintMakesNoDifference keymap input items editor.draft cut (count_in_front turn.reads) turn.read
     → Turn keymap ruler environment editor input items left i more answer
 
+-- something is drawn of items, and some of it after the first so many of them
+pub record IsDrawnWithin (count : ℕ) (shown : List ItemShown) : Type 0 where
+  pub whole : any_drawn shown ≡ true
+  pub within : (front behind : List ItemShown) → shown ≡ front ++ behind → count ≤ length front → any_drawn front ≡ true
+
+-- where something is drawn of items that are no phrase yet, something is drawn within as many items of each phrase that is read of them
+-- and of items behind them, from the draft which they left, if the binding of the first key looks at no hint
+abbrev pub DrawingStays : Type 0
+DrawingStays = (keymap : Keymap) (environment : Environment) (draft cut : Draft) (input : Input) (items more phrase rest : List Item) (read : Read)
+    → (begins : IsBeginning keymap environment draft input items)
+    → any_drawn begins.shown ≡ true
+    → LeftByCut environment (entered keymap draft input items) cut
+    → FirstLooksAtNoHint keymap.bound input items
+    → items ++ more ≡ phrase ++ rest
+    → Phrase keymap environment cut input phrase read
+    → IsDrawnWithin (length items) read.shown
+
 -- an undo of at least as many steps as there are changes leaves the text that taking back all of them gives
 abbrev pub EnoughUndo : Type 0
 EnoughUndo = (ruler : Ruler) (environment : Environment) (input : Input) (editor : Editor) (n : ℕ)
@@ -188,7 +205,7 @@ module _ {X Y X' Y' : Type 0} (e : editors.Ghosts X) (r : readers.Ghosts Y) (e' 
     pub environment : e.environment one.state ≡ e'.environment other.state
     pub draft : e.draft one.state ≡ e'.draft other.state
     pub input_value : one.keys.input ≡ other.keys.input
-    pub keymap : keymap_of one.keys (r.own_binding one.reader) ≡ keymap_of other.keys (r'.own_binding other.reader)
+    pub keymap : keymap_of one.keys (r.own_binding (r.kept one.reader)) ≡ keymap_of other.keys (r'.own_binding (r'.kept other.reader))
     pub items : r.rest one.reader ≡ r'.rest other.reader
     pub kills : one.kills ≡ other.kills
 

@@ -23,6 +23,7 @@ pub mod Tail
 pub mod DrawnVerdict
 pub mod Run
 pub mod Drawings
+pub mod Released
 pub mod Resized
 pub mod Outcomes
 pub mod Status

@@ -184,7 +184,7 @@ module _ {X Y : Type 0} (e : editors.Ghosts X) (r : readers.Ghosts Y) where
   -- by this ruler and with this answer there is a turn
   abbrev pub LeadsTo : Ruler → Session X Y → Session X Y → Answer → Type 0
   LeadsTo ruler before after answer =
-      Turn (keymap_of before.keys (r.own_binding before.reader)) ruler (e.environment before.state)
+      Turn (keymap_of before.keys (r.own_binding (r.kept before.reader))) ruler (e.environment before.state)
       (editor_of e before.state before.kills) before.keys.input (r.rest before.reader)
       (editor_of e after.state after.kills) after.keys.input (r.rest after.reader) answer
 
@@ -281,14 +281,14 @@ module _ {X Y : Type 0} (e : editors.Ghosts X) (r : readers.Ghosts Y) where
   -- once the hint was asked, there is a run with this end
   abbrev pub RunsTo : ℕ → Session X Y → Session X Y → End → Type 0
   RunsTo indent before after end =
-      Run (keymap_of before.keys (r.own_binding before.reader)) (own_ruler (e.display before.state) indent) (e.environment before.state)
+      Run (keymap_of before.keys (r.own_binding (r.kept before.reader))) (own_ruler (e.display before.state) indent) (e.environment before.state)
       (record { draft = hinted (e.environment before.state) (e.draft before.state); kills = before.kills }) before.keys.input (r.rest before.reader)
       (editor_of e after.state after.kills) after.keys.input end
 
   -- once the hint was asked, turns that proceed lead to a session
   abbrev pub TurnsTo : ℕ → Session X Y → Session X Y → Type 0
   TurnsTo indent before after =
-      Turns (keymap_of before.keys (r.own_binding before.reader)) (own_ruler (e.display before.state) indent) (e.environment before.state)
+      Turns (keymap_of before.keys (r.own_binding (r.kept before.reader))) (own_ruler (e.display before.state) indent) (e.environment before.state)
       (record { draft = hinted (e.environment before.state) (e.draft before.state); kills = before.kills }) before.keys.input (r.rest before.reader)
       (editor_of e after.state after.kills) after.keys.input (r.rest after.reader)
 

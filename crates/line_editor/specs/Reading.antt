@@ -39,7 +39,7 @@ module _ {Y : Type 0} (r : readers.Ghosts Y) where
   -- a key was taken from a reader
   pub record TookKey (taken : KeyEvent) (reader reader' : Y) : Type 0 where
     pub took : r.rest reader ≡ key taken ∷ r.rest reader'
-    pub own : r.own_binding reader' ≡ r.own_binding reader
+    pub own : r.kept reader' ≡ r.kept reader
     pub stays : r.failures reader' ≡ r.failures reader
 
   -- this holds of each reader from which taking this key leaves that one
@@ -48,7 +48,7 @@ module _ {Y : Type 0} (r : readers.Ghosts Y) where
 
   -- what a call leaves that takes items from a reader, and asks the handlers of bindings
   pub record TakesItems {T : Type 0} (bindings : Bound) (result : Result T ReadlineError) (reader reader' : Y) : Type 0 where
-    pub own : r.own_binding reader' ≡ r.own_binding reader
+    pub own : r.kept reader' ≡ r.kept reader
     pub counts : r.failures reader ≤ r.failures reader'
     pub fewer : length (r.rest reader') ≤ length (r.rest reader)
     pub not_interrupted : IsErrOf result Interrupted → ⊥
@@ -173,11 +173,11 @@ module _ {X Y : Type 0} (e : editors.Ghosts X) (r : readers.Ghosts Y) where
   -- what phrases come to that are read from here
   abbrev pub PhraseHere : X → KeyState → Y → List Item → Read → Type 0
   PhraseHere editor keys reader items read =
-      Phrase (keymap_of keys (r.own_binding reader)) (e.environment editor) (e.draft editor) keys.input items read
+      Phrase (keymap_of keys (r.own_binding (r.kept reader))) (e.environment editor) (e.draft editor) keys.input items read
 
   -- the draft that a phrase is read on from, once its first key was read
   abbrev pub entered_here : X → KeyState → Y → Draft
-  entered_here editor keys reader = entered (keymap_of keys (r.own_binding reader)) (e.draft editor) keys.input (r.rest reader)
+  entered_here editor keys reader = entered (keymap_of keys (r.own_binding (r.kept reader))) (e.draft editor) keys.input (r.rest reader)
 
   -- the items end before a phrase or inside of one
   abbrev pub OutOfItems : X → KeyState → Y → X → Y → Type 0
@@ -201,7 +201,7 @@ module _ {X Y : Type 0} (e : editors.Ghosts X) (r : readers.Ghosts Y) where
   -- what stays of the editor and of the reader's own bindings
   pub record KeepsBoth (editor : X) (reader : Y) (editor' : X) (reader' : Y) : Type 0 where
     pub frame : Frame e editor editor'
-    pub own : r.own_binding reader' ≡ r.own_binding reader
+    pub own : r.kept reader' ≡ r.kept reader
     pub counts : r.failures reader ≤ r.failures reader'
 
   -- a step in reading a count: the count is shown, once, and a key is read; after an error none is taken

@@ -44,19 +44,19 @@ module _ {X Y : Type 0} (e : editors.Ghosts X) (r : readers.Ghosts Y) where
   abbrev pub ReadsPhrase : KeyEvent → Result read.Read ReadlineError → X → Y → X → Y → KeyState → Type 0
   ReadsPhrase first result editor reader editor' reader' keys =
       ReadsRest (PhraseHere e r editor keys reader) (key first ∷ [])
-      (entered (keymap_of keys (r.own_binding reader)) (e.draft editor) keys.input (key first ∷ []))
+      (entered (keymap_of keys (r.own_binding (r.kept reader))) (e.draft editor) keys.input (key first ∷ []))
       result editor reader editor' reader' keys
 
   -- the rest of a phrase of a mode that began with a key
   abbrev pub ReadsSpelled : InputMode → KeyEvent → Result read.Read ReadlineError → X → Y → X → Y → KeyState → Type 0
   ReadsSpelled mode first result editor reader editor' reader' keys =
-      ReadsRest (Spelled (keymap_of keys (r.own_binding reader)) (e.environment editor) (e.draft editor) (in_mode mode keys.input))
+      ReadsRest (Spelled (keymap_of keys (r.own_binding (r.kept reader))) (e.environment editor) (e.draft editor) (in_mode mode keys.input))
       (key first ∷ []) (e.draft editor) result editor reader editor' reader' keys
 
   -- what comes behind a key of a mode, in front of which a count may have been typed
   abbrev pub ReadsKeyed : InputMode → Option Count → KeyEvent → Result read.Read ReadlineError → X → Y → X → Y → KeyState → Type 0
   ReadsKeyed mode typed last result editor reader editor' reader' keys =
-      ReadsRest (Keyed (keymap_of keys (r.own_binding reader)) (e.environment editor) (e.draft editor) (in_mode mode keys.input) typed last)
+      ReadsRest (Keyed (keymap_of keys (r.own_binding (r.kept reader))) (e.environment editor) (e.draft editor) (in_mode mode keys.input) typed last)
       [] (e.draft editor) result editor reader editor' reader' keys
 
   -- what belongs to a key of a mode, under a count

@@ -1,5 +1,5 @@
 //! The line while it is edited, and how it is drawn.
-ghost use Rattle.std.specs.Prelude.{IsCharBoundary, ◌≡◌, ◌≤◌, ◌+◌, ◌++◌, ◌∷◌, [], ℕ, nat_lt, List, true, false, Option, Some, None, option_map, length, IfOk, OnOk, OnErr, IsOk};
+ghost use Rattle.std.specs.Prelude.{IsCharBoundary, ◌≡◌, ◌≤◌, ◌+◌, ◌++◌, ◌∷◌, [], ℕ, nat_lt, List, true, false, Option, Some, None, option_map, is_some, length, IfOk, IfSome, OnOk, OnErr, IsOk};
 ghost use Rattle.std.specs.Borrow.{GName};
 ghost use Rattle.line_config.specs.Error.{MemoryOnly};
 ghost use Rattle.line_editor.specs.Editor.{Begins};
@@ -22,6 +22,7 @@ mod drawing;
 mod hints;
 mod history_moves;
 mod inserts;
+pub mod kept;
 mod kills;
 mod moves;
 mod reading;
@@ -64,7 +65,7 @@ impl<W: Renderer, H: Helper, P: Prompt, S: History> Drop for State<'_, '_, W, H,
 
 impl<'out, 'prompt, W: Renderer, H: Helper, P: Prompt, S: History> EditorState
     for State<'out, 'prompt, W, H, P, S> {
-    ghost Loan = { GName };
+    ghost Loan = { GName × Option GName };
 
     ghost draft = { λ s. record {
       line = s.edited.line;
@@ -78,7 +79,10 @@ impl<'out, 'prompt, W: Renderer, H: Helper, P: Prompt, S: History> EditorState
 
     ghost display = { λ s. ⟦<View<'out, 'prompt, W, P> as Drawn>⟧.display s.view };
 
-    ghost loan = { λ s. ⟦<View<'out, 'prompt, W, P> as Drawn>⟧.loan s.view };
+    ghost loan = { λ s. (
+      ⟦<View<'out, 'prompt, W, P> as Drawn>⟧.loan s.view,
+      ⟦<Parties<'out, H, S> as Consulted>⟧.loan s.parties,
+    ) };
 
     ghost sure = { λ s. ⟦<Parties<'out, H, S> as Consulted>⟧.sure s.parties };
 
@@ -135,7 +139,8 @@ impl<'out, 'prompt, W: Renderer, H: Helper, P: Prompt, S: History> State<
             (S.lines ctx.entry.history))
             (sure_by H.Hinter.sure H.Validator.sure (S.sure ctx.entry.history) helper.entry)
             (never_drawn (W.surface out.old) (W.screen out.old) (P.raw_text prompt.now))
-            (W.failures out.old) (W.redraws out.old) out.entry.ghost_name) }
+            (W.failures out.old) (W.redraws out.old)
+            (out.entry.ghost_name, option_map (λ h. h.ghost_name) helper.entry)) }
     {
         Ok(State {
             alloc,
@@ -170,7 +175,8 @@ impl<'out, 'prompt, W: Renderer, H: Helper, P: Prompt, S: History> State<
             (S.lines ctx.entry.history))
             (sure_by H.Hinter.sure H.Validator.sure (S.sure ctx.entry.history) helper.entry)
             (never_drawn (W.surface out.old) (W.screen out.old) (P.raw_text prompt.now))
-            (W.failures out.old) (W.redraws out.old) out.entry.ghost_name) }
+            (W.failures out.old) (W.redraws out.old)
+            (out.entry.ghost_name, option_map (λ h. h.ghost_name) helper.entry)) }
         ensures memory { MemoryOnly result }
     {
         Ok(State {
@@ -213,6 +219,17 @@ impl<'out, 'prompt, W: Renderer, H: Helper, P: Prompt, S: History> State<
         ensures failures { W.failures result.now ≡ ⟦<Self as EditorState>⟧.failures self.now }
     {
         self.view.out()
+    }
+
+    /// Returns the helper, if there is one: its answers are those that the state goes by.
+    pub fn helper(&self) -> Option<&H>
+        ensures some { is_some result
+            ≡ is_some (⟦<Self as EditorState>⟧.environment self.now).verdict_at }
+        ensures answers { let w = ⟦<Self as EditorState>⟧.environment self.now in
+            IfSome result (λ h. (w.hint_at ≡ H.hint_at h.now)
+            × (w.verdict_at ≡ Some (H.verdict_at h.now)) × (w.lights ≡ H.lights h.now)) }
+    {
+        self.parties.helper()
     }
 
     /// Returns the history index: which line of the history is edited. For the line that is being written it is the number

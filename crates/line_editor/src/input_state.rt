@@ -9,6 +9,7 @@ ghost use Rattle.line_keys.specs.Command.{command_of};
 
 mod bound_keys;
 mod counts;
+pub mod kept;
 mod motions;
 mod phrases;
 mod sequences;

@@ -1,6 +1,6 @@
 //! Laws of the definitions that the contracts cite. No call of the editor is made here.
 ghost use Rattle.line_editor.specs.BracketLaws.{GoingToTheMatchTwice, KilledToTheMatchComesBack};
-ghost use Rattle.line_editor.specs.Laws.{ComingBack, ComparesEvents, EachKeyBegins, EnoughUndo, ExecutesNoMoreThanKeys, HasOneEnd, InsertionIsOneStep, IsPrefixFree, ReadFromTheCut, ReadingAgain, TurnsAndRun, TwoRenderers, TurnsBeforeMore, TurnsFollow, TurnsReadKeys};
+ghost use Rattle.line_editor.specs.Laws.{ComingBack, ComparesEvents, DrawingStays, EachKeyBegins, EnoughUndo, ExecutesNoMoreThanKeys, HasOneEnd, InsertionIsOneStep, IsPrefixFree, ReadFromTheCut, ReadingAgain, TurnsAndRun, TwoRenderers, TurnsBeforeMore, TurnsFollow, TurnsReadKeys};
 
 use crate::edit::State;
 use line_config::Prompt;
@@ -76,6 +76,12 @@ pub fn reading_again_gives_the_turn()
 /// hint.
 pub fn a_turn_read_again_is_the_whole_phrases()
     ensures { ReadFromTheCut }
+{}
+
+/// Where something is drawn of items that are no phrase yet, as of the keys of a count, something is drawn of each phrase that
+/// is read of them and of items behind them, from the draft which they left, if the binding of the first key looks at no hint.
+pub fn what_a_cut_drew_is_drawn_again()
+    ensures { DrawingStays }
 {}
 
 /// An undo of at least as many steps as there are changes leaves the text that taking back all of them gives.

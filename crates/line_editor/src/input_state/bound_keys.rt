@@ -136,7 +136,7 @@ pub(crate) fn own_command<R: RawReader, W: Refresher>(
     key: &KeyEvent,
 ) -> Option<Cmd>
     ensures { option_map command_of result
-        ≡ on_line (W.draft wrt.now).line.text (R.own_binding rdr.now key.now) }
+        ≡ on_line (W.draft wrt.now).line.text (R.own_binding (R.kept rdr.now) key.now) }
 {
     match rdr.find_binding(key) {
         Some(Cmd::EndOfFile) if !wrt.line().is_empty() => None,

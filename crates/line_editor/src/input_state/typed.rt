@@ -20,7 +20,8 @@ impl InputState<'_> {
     pub(crate) fn typed_by<R: RawReader>(&self, rdr: &R, key: KeyEvent) -> Option<char>
         ensures { let k =
             keys_of ⟦<dyn ConditionalEventHandler as ConditionalEventHandler>⟧ self.now in
-            IfSome result (λ c. TypesChar (keymap_of k (R.own_binding rdr.now)) k.input key c) }
+            let own = R.own_binding (R.kept rdr.now) in
+            IfSome result (λ c. TypesChar (keymap_of k own) k.input key c) }
     {
         match key {
             KeyEvent(KeyCode::Char(c), Modifiers::NONE) if self.types(c) => {

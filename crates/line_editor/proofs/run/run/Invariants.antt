@@ -1,4 +1,4 @@
-use Rattle.std.proofs.Common.{◌≡◌, option_map, length}
+use Rattle.std.proofs.Common.{◌≡◌, Option, option_map, length}
 use Rattle.std.specs.Borrow.{GName}
 use Rattle.line_parts.specs.Helped.{hint_by, sure_by, lights_by, verdict_by}
 use Rattle.line_parts.specs.Hint.{suggestion_of}
@@ -12,7 +12,7 @@ use Rattle.line_editor.proofs.run.run.Given as goal
 -- what contracts see of the state
 abbrev pub editor_state : (g : goal.Over) → Ghosts (State g.row.W.Denot g.row.H.Denot g.row.P.Denot g.row.S.Denot g.row.W-Reader.Denot g.row.H-Candidate.Denot g.row.H-Hint.Denot g.W.ScreenState g.W.Reader.RawReader g.P.Prompt)
 editor_state g = record {
-  Loan = GName;
+  Loan = GName × Option GName;
   draft = λ s. record {
     line = s.edited.line;
     saved = s.saved_line_for_history;
@@ -34,7 +34,7 @@ editor_state g = record {
     screen = g.W.ScreenState.screen s.view.out.now;
     lit = s.view.highlight_char;
   };
-  loan = λ s. s.view.out.ghost_name;
+  loan = λ s. (s.view.out.ghost_name, option_map (λ h. h.ghost_name) s.parties.helper);
   sure = λ s. sure_by g.H.Hinter.sure g.H.Validator.sure (g.S.History.sure s.parties.ctx.history) s.parties.helper;
   failures = λ s. g.W.ScreenState.failures s.view.out.now;
   redraws = λ s. g.W.ScreenState.redraws s.view.out.now;

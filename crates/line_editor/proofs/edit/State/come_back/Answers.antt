@@ -9,6 +9,6 @@ returns g c =
     let back = c.in_ok-restore.ensures in
     let set = c.set_history_index.ensures in
     came_back _ _ c.args.self.now _ _ _ _ back.undrawn back.draft back.start
-    (nothing_drawn _ _ _ set.environment refl refl set.sure refl refl) refl
+    (nothing_drawn _ _ _ set.environment (ap (λ l. (c.restore.new.self.view.out.ghost_name, l)) set.loan) refl set.sure refl refl) refl
     (set.index ∙ c.len-end.ensures ∙ ap length c.history.ensures.lines ∙ ap (λ (w : Environment). length w.lines) back.undrawn.frame.environment)
     c.refresh_line.ensures

@@ -13,7 +13,7 @@ returns-in_default g c =
     search_fails _ _ c.args.self.now _ _ _ _ _
     (same_search _ _ _ _ c.args.index c.args.dir (option_map found_of c.in_ok-found.field-0) (ap (option_map found_of) (sym c.in_default.is))
     c.in_ok-found.ensures.answer c.history.ensures.lines term)
-    (nothing_drawn _ _ _ set.environment refl refl set.sure refl refl) refl set.index beep.drew beep.paints
+    (nothing_drawn _ _ _ set.environment (ap (λ l. (c.args.self.now.view.out.ghost_name, l)) set.loan) refl set.sure refl refl) refl set.index beep.drew beep.paints
 
 pub show_text-requires-clause-boundary : goal.show_text-requires-clause-boundary
 show_text-requires-clause-boundary g c =

@@ -25,7 +25,7 @@ keys-preserved g c =
     let pushed = c.in_ok-push-2.ensures.items in
     let key = c.in_ok-next_key.ensures in
     let none = ap (λ o. option_map command_of o) (sym c.in-None.is) ∙ c.in_ok-command.ensures.command in
-    rw pushed (leads_further _ _ _ _ _ _ _ _ c.keys.invariant key.took key.binding key.counts.stays (rw (← pushed, ← c.as_slice.ensures.value) none)
+    rw pushed (leads_further _ _ _ _ _ _ _ _ c.keys.invariant key.took key.stays key.counts.stays (rw (← pushed, ← c.as_slice.ensures.value) none)
     (rw (← pushed, ← c.as_slice-in-keys.ensures.value) c.if-not-leads_on-2.ensures))
 
 pub returns-in_err-next_key-clause-reads : goal.returns-in_err-next_key-clause-reads

@@ -12,14 +12,14 @@ returns g c =
     let first = c.in_ok-first.ensures in
     let told = c.remember.ensures in
     remembered_plainly g.W.EditorState g.R.RawReader (λ (x : Read). command_of x.command) (λ x. read_input x k.input) _ _ c.args.wrt.now _ k _ c.args.rdr.now _ told.memory told.command told.keys told.err
-    (command_part g.W.EditorState g.R.RawReader (λ (x : Read). command_of x.command) (λ x. read_input x k.input) c.args.wrt.now k c.args.rdr.now _ _ _ _ _ first.took first.binding first.counts.stays c.in_ok-read.ensures)
+    (command_part g.W.EditorState g.R.RawReader (λ (x : Read). command_of x.command) (λ x. read_input x k.input) c.args.wrt.now k c.args.rdr.now _ _ _ _ _ first.took first.stays first.counts.stays c.in_ok-read.ensures)
 
 pub returns-in_err-first : goal.returns-in_err-first
 returns-in_err-first g c =
     let k = keys_of (λ v. (g.dyn-1.0.entry v).1) c.args.self.now in
     let first = c.in_err-first.ensures in
     let p = err_from_is_err_and c.from_residual.result c.from_residual.ensures.1 in
-    rw (p.1, p.2) (none_read g.W.EditorState g.R.RawReader c.args.wrt.now k c.args.rdr.now (λ c d. d) _ _ first.fault first.kept first.binding first.counts)
+    rw (p.1, p.2) (none_read g.W.EditorState g.R.RawReader c.args.wrt.now k c.args.rdr.now (λ c d. d) _ _ first.fault first.kept first.stays first.counts)
 
 pub returns-in_err-read : goal.returns-in_err-read
 returns-in_err-read g c =
@@ -27,4 +27,4 @@ returns-in_err-read g c =
     let first = c.in_ok-first.ensures in
     let p = err_from_is_err_and c.from_residual-in_err-read.result c.from_residual-in_err-read.ensures.1 in
     rw (p.1, p.2) (command_failed g.W.EditorState g.R.RawReader (λ c d. d) (λ (x : Read). command_of x.command) (λ x. read_input x k.input) _ c.args.wrt.now k c.args.rdr.now _ _ (was_read g.R.RawReader _ c.args.rdr.now _ first.took)
-    (command_part g.W.EditorState g.R.RawReader (λ (x : Read). command_of x.command) (λ x. read_input x k.input) c.args.wrt.now k c.args.rdr.now _ _ _ _ _ first.took first.binding first.counts.stays c.in_err-read.ensures))
+    (command_part g.W.EditorState g.R.RawReader (λ (x : Read). command_of x.command) (λ x. read_input x k.input) c.args.wrt.now k c.args.rdr.now _ _ _ _ _ first.took first.stays first.counts.stays c.in_err-read.ensures))

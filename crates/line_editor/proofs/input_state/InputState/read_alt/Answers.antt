@@ -18,10 +18,10 @@ pub returns-in-Some : goal.returns-in-Some
 returns-in-Some g c =
     let k = keys_of (λ v. (g.dyn-1.0.entry v).1) c.args.self.now in
     let i = input_of c.args.self.now in
-    let keymap = keymap_of k (g.R.RawReader.own_binding c.args.rdr.now) in
+    let keymap = keymap_of k (g.R.RawReader.own_binding (g.R.RawReader.kept c.args.rdr.now)) in
     let draft = g.W.EditorState.draft c.args.wrt.now in
     let environment = g.W.EditorState.environment c.args.wrt.now in
-    let bound = ap (λ o. option_map command_of o) (sym c.in-Some.is) ∙ c.in_ok-command.ensures.command (g.R.RawReader.own_binding c.args.rdr.now) in
+    let bound = ap (λ o. option_map command_of o) (sym c.in-Some.is) ∙ c.in_ok-command.ensures.command (g.R.RawReader.own_binding (g.R.RawReader.kept c.args.rdr.now)) in
     alone_part g.W.EditorState g.R.RawReader (λ (x : Read). command_of x.command) (λ x. read_input x i) c.args.wrt.now k c.args.rdr.now c.args.first _ _ c.requires
     (rw c.at_once.ensures.command (bound-read keymap environment draft i None c.args.first _ bound)) c.at_once.ensures.input (bound-entered keymap environment draft i None c.args.first _ bound)
 
@@ -29,7 +29,7 @@ pub returns-in-Some-own_command : goal.returns-in-Some-own_command
 returns-in-Some-own_command g c =
     let k = keys_of (λ v. (g.dyn-1.0.entry v).1) c.args.self.now in
     let i = input_of c.args.self.now in
-    let own = g.R.RawReader.own_binding c.args.rdr.now in
+    let own = g.R.RawReader.own_binding (g.R.RawReader.kept c.args.rdr.now) in
     let keymap = keymap_of k own in
     let draft = g.W.EditorState.draft c.args.wrt.now in
     let environment = g.W.EditorState.environment c.args.wrt.now in
@@ -42,7 +42,7 @@ pub returns-in_err-read : goal.returns-in_err-read
 returns-in_err-read g c =
     let k = keys_of (λ v. (g.dyn-1.0.entry v).1) c.args.self.now in
     let i = input_of c.args.self.now in
-    let own = g.R.RawReader.own_binding c.args.rdr.now in
+    let own = g.R.RawReader.own_binding (g.R.RawReader.kept c.args.rdr.now) in
     let unbound = ap (λ o. option_map command_of o) (sym c.in_default.is) ∙ c.in_ok-command.ensures.command own in
     let stands = alt-stands (keymap_of k own) (g.W.EditorState.environment c.args.wrt.now) (g.W.EditorState.draft c.args.wrt.now) i None c.args.first c.args.plain unbound c.in_default-own_command.ensures c.requires in
     let ended = c.in_ok-done_inserting.ensures in
@@ -54,7 +54,7 @@ pub returns : goal.returns
 returns g c =
     let k = keys_of (λ v. (g.dyn-1.0.entry v).1) c.args.self.now in
     let i = input_of c.args.self.now in
-    let own = g.R.RawReader.own_binding c.args.rdr.now in
+    let own = g.R.RawReader.own_binding (g.R.RawReader.kept c.args.rdr.now) in
     let unbound = ap (λ o. option_map command_of o) (sym c.in_default.is) ∙ c.in_ok-command.ensures.command own in
     let stands = alt-stands (keymap_of k own) (g.W.EditorState.environment c.args.wrt.now) (g.W.EditorState.draft c.args.wrt.now) i None c.args.first c.args.plain unbound c.in_default-own_command.ensures c.requires in
     let ended = c.in_ok-done_inserting.ensures in
@@ -65,7 +65,7 @@ pub returns-in_err-command : goal.returns-in_err-command
 returns-in_err-command g c =
     let k = keys_of (λ v. (g.dyn-1.0.entry v).1) c.args.self.now in
     let i = input_of c.args.self.now in
-    let keymap = keymap_of k (g.R.RawReader.own_binding c.args.rdr.now) in
+    let keymap = keymap_of k (g.R.RawReader.own_binding (g.R.RawReader.kept c.args.rdr.now)) in
     let draft = g.W.EditorState.draft c.args.wrt.now in
     let environment = g.W.EditorState.environment c.args.wrt.now in
     let p = err_from_is_err_and c.from_residual.result c.from_residual.ensures.1 in
@@ -77,7 +77,7 @@ pub returns-in_err-done_inserting : goal.returns-in_err-done_inserting
 returns-in_err-done_inserting g c =
     let k = keys_of (λ v. (g.dyn-1.0.entry v).1) c.args.self.now in
     let i = input_of c.args.self.now in
-    let keymap = keymap_of k (g.R.RawReader.own_binding c.args.rdr.now) in
+    let keymap = keymap_of k (g.R.RawReader.own_binding (g.R.RawReader.kept c.args.rdr.now)) in
     let draft = g.W.EditorState.draft c.args.wrt.now in
     let environment = g.W.EditorState.environment c.args.wrt.now in
     let ended = c.in_err-done_inserting.ensures in

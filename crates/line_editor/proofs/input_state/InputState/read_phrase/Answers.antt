@@ -11,6 +11,6 @@ pub returns-in-None : goal.returns-in-None
 returns-in-None g c =
     let k = keys_of (λ v. (g.dyn-1.0.entry v).1) c.args.self.now in
     let i = input_of c.args.self.now in
-    let keymap = keymap_of k (g.R.RawReader.own_binding c.args.rdr.now) in
+    let keymap = keymap_of k (g.R.RawReader.own_binding (g.R.RawReader.kept c.args.rdr.now)) in
     let stays = none-entered keymap (g.W.EditorState.environment c.args.wrt.now) (g.W.EditorState.draft c.args.wrt.now) i None c.args.first (sym c.in-None.is ∙ c.stands_for.ensures) in
     mode_part g.W.EditorState g.R.RawReader (λ (x : Read). command_of x.command) (λ x. read_input x i) c.args.wrt.now k c.args.rdr.now i c.args.first _ _ _ refl stays c.read_spelled.ensures

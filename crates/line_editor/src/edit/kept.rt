@@ -1,0 +1,150 @@
+//! A line that is kept while nothing is lent to it: what a program with a loop of its own has between two reads.
+ghost use Rattle.std.specs.Prelude.{◌≡◌, ◌≤◌, length, option_map};
+ghost use Rattle.line_editor.specs.Editor.{Begins};
+ghost use Rattle.line_parts.specs.Helped.{environment_by, sure_by};
+ghost use Rattle.line_state.specs.Kept.{IsLeftOn, display_on};
+
+use crate::edit::State;
+use line_buffer::LineBuffer;
+use line_config::Prompt;
+use line_keys::editor_state::EditorState;
+use line_parts::parties::Parties;
+use line_parts::{Context, Helper, History};
+use line_state::{EditedLine, KeptView, Renderer, ScreenState, View};
+use std::alloc::Global;
+use std::marker::Model;
+
+/// A line while nothing is lent to it: the line with its changes, the line that was left for the history, the history index,
+/// the hint, and what is kept of the drawing.
+#[derive(Drop)]
+pub struct KeptLine<H: Helper> {
+    edited: EditedLine,
+    saved_line_for_history: LineBuffer,
+    history_index: usize,
+    hint: Option<H::Hint>,
+    view: KeptView,
+}
+
+impl<H: Helper> Model for KeptLine<H> {
+    ghost use Rattle.std.specs.Prelude.{option_map};
+    ghost use Rattle.line_editor.specs.Released.{KeptDraft};
+    ghost use Rattle.line_parts.specs.Hint.{suggestion_of};
+
+    ghost Value = { KeptDraft };
+
+    ghost view = { λ k. record {
+      draft = record {
+        line = k.edited.line;
+        saved = k.saved_line_for_history;
+        index = k.history_index;
+        hint = option_map (suggestion_of H.Hint.Hint) k.hint;
+        changes = k.edited.changes;
+      };
+      drawing = k.view;
+    } };
+}
+
+impl<H: Helper> KeptLine<H> {
+    /// Returns the whole text.
+    pub fn line(&self) -> &str
+        ensures { result.now ≡ self.now.draft.line.text }
+    {
+        self.edited.line().as_str()
+    }
+
+    /// Returns the cursor's byte offset, which is on a character boundary.
+    pub fn pos(&self) -> usize
+        ensures { result ≡ self.now.draft.line.cursor }
+    {
+        self.edited.line().pos()
+    }
+}
+
+impl<'out, 'prompt, W: Renderer, H: Helper, P: Prompt, S: History> State<
+    'out,
+    'prompt,
+    W,
+    H,
+    P,
+    S,
+> {
+    /// Ends the state. Returns the line, from which `resume` goes on, and the renderer and the helper that were lent. Nothing is
+    /// drawn and nothing changes.
+    pub fn release(self) -> (KeptLine<H>, &'out mut W, Option<&'out mut H>)
+        ensures draft { result.0.draft ≡ ⟦<Self as EditorState>⟧.draft self.entry }
+        ensures display { let d = ⟦<Self as EditorState>⟧.display self.entry in d ≡ display_on
+            result.0.drawing (W.surface result.1.now) (W.screen result.1.now) d.prompt }
+        ensures left { IsLeftOn result.0.drawing (W.surface result.1.now)
+            (W.screen result.1.now) (⟦<Self as EditorState>⟧.display self.entry).prompt }
+        ensures redraws { W.redraws result.1.now ≡ ⟦<Self as EditorState>⟧.redraws self.entry }
+        ensures failures { W.failures result.1.now ≡ ⟦<Self as EditorState>⟧.failures self.entry }
+        ensures loan { (result.1.ghost_name, option_map (λ h. h.ghost_name) result.2)
+            ≡ ⟦<Self as EditorState>⟧.loan self.entry }
+        ensures environment { let w = ⟦<Self as EditorState>⟧.environment self.entry in
+            w ≡ environment_by H.hint_at H.verdict_at H.lights result.2 w.lines }
+        ensures sure { let s = ⟦<Self as EditorState>⟧.sure self.entry in
+            s ≡ sure_by H.Hinter.sure H.Validator.sure s.history result.2 }
+        ensures within { result.0.draft.index
+            ≤ length (⟦<Self as EditorState>⟧.environment self.entry).lines }
+    {
+        let State {
+            alloc: _,
+            edited,
+            saved_line_for_history,
+            view,
+            parties,
+            hint,
+        } = self;
+        let (view, out, _) = view.release();
+        let (helper, ctx) = parties.release();
+        let history_index = ctx.history_index();
+        let kept = KeptLine {
+            edited,
+            saved_line_for_history,
+            history_index,
+            hint,
+            view,
+        };
+        (kept, out, helper)
+    }
+
+    /// Returns the state of a line that was kept, on the renderer and behind the prompt that it was drawn with. Nothing is
+    /// drawn and nothing changes. The history has at least as many lines as the line's history index says.
+    pub fn resume(
+        alloc: Global,
+        kept: KeptLine<H>,
+        out: &'out mut W,
+        prompt: &'prompt P,
+        helper: Option<&'out mut H>,
+        history: &'out S,
+    ) -> Self
+        requires left { IsLeftOn kept.drawing
+            (W.surface out.old) (W.screen out.old) (P.raw_text prompt.now) }
+        requires within { kept.draft.index ≤ length (S.lines history.now) }
+        ensures { Begins ⟦<Self as EditorState>⟧ result kept.draft
+            (environment_by H.hint_at H.verdict_at H.lights helper.entry (S.lines history.now))
+            (sure_by H.Hinter.sure H.Validator.sure (S.sure history.now) helper.entry)
+            (display_on kept.drawing
+            (W.surface out.old) (W.screen out.old) (P.raw_text prompt.now))
+            (W.failures out.old) (W.redraws out.old)
+            (out.entry.ghost_name, option_map (λ h. h.ghost_name) helper.entry) }
+    {
+        let KeptLine {
+            edited,
+            saved_line_for_history,
+            history_index,
+            hint,
+            view,
+        } = kept;
+        let mut ctx = Context::new(history);
+        ctx.set_history_index(history_index);
+        State {
+            alloc,
+            edited,
+            saved_line_for_history,
+            view: View::resume(view, out, prompt),
+            parties: Parties::new(helper, ctx),
+            hint,
+        }
+    }
+}
