@@ -1,0 +1,44 @@
+use Rattle.std.proofs.Common.{◌≡◌, ◌∙◌, Some, option_map, string_bytes, refl, sym, ap}
+use Rattle.line_buffer.specs.declared.layout.GraphemeClusterMode.TheVariants.{Unicode}
+use Rattle.line_keys.specs.Display.{Display}
+use Rattle.line_screen.specs.Measure.{measured}
+use Rattle.line_session.specs.Kept.{answers_of}
+use Rattle.line_session.proofs.KeptLemmas.{answers_back, fits_alike, lent_answers, shown_alike}
+use Rattle.line_session.proofs.desk.go_on.Goals as goal
+
+pub take_turns-turned-requires : goal.take_turns-turned-requires
+take_turns-turned-requires g c = record {
+  shown = λ off. let resumed = c.resume-state.ensures in
+      shown_alike _ _ _ _ _ _ (resumed.environment ∙ lent_answers _ _ _ _ _) resumed.display resumed.draft (c.requires.shown off);
+}
+
+pub returns-clause-answers : goal.returns-clause-answers
+returns-clause-answers g c =
+    let names = c.release-line.ensures.loan ∙ c.leave-turned.ensures.frame.loan ∙ c.take_turns-turned.ensures.keeps.frame.loan ∙ c.resume-state.ensures.loan in
+    let both : Some c.resume-arg-2-1.given ≡ Some c.unwrap-lent.result.ghost_name =
+    sym (ap (λ p. p.1) names) ∙ ap (λ o. option_map (λ h. h.ghost_name) o) c.unwrap-lent.ensures in
+    let back = c.helper-1.given.1 (cc) ∙ c.give_back.ensures.other in
+    let after = answers_back _ _ _ _ c.unwrap-lent.result _ _ _ _ c.unwrap-lent.ensures c.release-line.ensures.environment (c.leave-turned.ensures.frame.environment ∙ c.take_turns-turned.ensures.keeps.frame.environment) c.resume-state.ensures.environment in
+    ap (λ h. answers_of g.H.Hinter.hint_at g.H.Validator.verdict_at g.H.Highlighter.lights h (g.S.History.lines c.args.history.now)) back
+    ∙ sym after ∙ c.leave-turned.ensures.frame.environment ∙ c.take_turns-turned.ensures.keeps.frame.environment ∙ c.resume-state.ensures.environment ∙ lent_answers _ _ _ _ _
+
+pub returns-clause-fits : goal.returns-clause-fits
+returns-clause-fits g c =
+    let names = c.release-line.ensures.loan ∙ c.leave-turned.ensures.frame.loan ∙ c.take_turns-turned.ensures.keeps.frame.loan ∙ c.resume-state.ensures.loan in
+    let both : Some c.resume-arg-2-1.given ≡ Some c.unwrap-lent.result.ghost_name =
+    sym (ap (λ p. p.1) names) ∙ ap (λ o. option_map (λ h. h.ghost_name) o) c.unwrap-lent.ensures in
+    let back = c.helper-1.given.1 (cc) ∙ c.give_back.ensures.other in
+    let screen = c.screen-1.given.1 (sym (ap (λ p. p.0) names)) ∙ c.give_back.ensures.one in
+    let after = answers_back _ _ _ _ c.unwrap-lent.result _ _ _ _ c.unwrap-lent.ensures c.release-line.ensures.environment (c.leave-turned.ensures.frame.environment ∙ c.take_turns-turned.ensures.keeps.frame.environment) c.resume-state.ensures.environment in
+    let prompt = ap (λ (d : Display). d.prompt) c.resume-state.ensures.display in
+    fits_alike
+    (λ a. record { measure = measured a.shown.columns; columns = a.shown.columns; rows = a.shown.rows; colors = a.colors; mode = Unicode })
+    (λ a. record { position = a.shown.place; text = string_bytes a.shown.text; origin = a.shown.origin })
+    c.release-line.result.0 c.is_to_be_drawn-draws.result _ _ _ _ _ _ screen
+    (sym (c.leave-turned.ensures.frame.prompt ∙ c.take_turns-turned.ensures.keeps.frame.prompt ∙ prompt))
+    (ap (λ h. answers_of g.H.Hinter.hint_at g.H.Validator.verdict_at g.H.Highlighter.lights h (g.S.History.lines c.args.history.now)) back ∙ sym after)
+    (record {
+      left = c.release-line.ensures.left;
+      within = c.release-line.ensures.within;
+      shown = λ off. shown_alike _ _ _ _ _ _ refl (sym c.release-line.ensures.display) c.release-line.ensures.draft (c.is_to_be_drawn-draws.ensures off);
+    })

@@ -1,0 +1,231 @@
+//! What a line is edited with.
+ghost use Rattle.std.specs.Prelude.{IsCharBoundary, ◌≡◌, ◌<◌, Ok, Some, false, length, IfOk, string_bytes};
+ghost use Rattle.line_config.specs.Error.{MemoryOnly};
+ghost use Rattle.line_editor.specs.Editor.{Begins};
+ghost use Rattle.line_keys.specs.Frame.{Frame};
+ghost use Rattle.line_keys.specs.Display.{never_drawn};
+ghost use Rattle.line_keys.specs.Draft.{empty_draft};
+ghost use Rattle.line_parts.specs.Helped.{environment_by, sure_by};
+ghost use Rattle.line_session.specs.Taken.{DrawnOnce, IsShown};
+ghost use Rattle.line_session.specs.Kept.{Fits, answers_of};
+
+use crate::turns::take_turns;
+use line_buffer::{KillRing, Unit};
+use line_config::{Config, Prompt, Result};
+use line_editor::edit::State;
+use line_editor::edit::kept::KeptLine;
+use line_editor::input_state::kept::KeptInput;
+use line_editor::{Bindings, InputState, Turned};
+use line_keys::editor_state::EditorState;
+use line_parts::{Context, Helper, History};
+use line_screen::KeyQueue;
+use line_state::ScreenState;
+use line_term::Ansi;
+use std::alloc::Global;
+use std::io::Write;
+
+/// A line that has begun, between two calls.
+#[derive(Drop)]
+pub(crate) struct Begun<H: Helper> {
+    pub(crate) line: KeptLine<H>,
+    pub(crate) input: KeptInput,
+    /// Whether the line is to be drawn before the next key is read.
+    pub(crate) draws: bool,
+}
+
+/// Ends two loans.
+fn give_back<T, U>(one: &mut T, other: &mut U)
+    ensures one { one.new ≡ one.old }
+    ensures other { other.new ≡ other.old }
+{
+    let _ = one;
+    let _ = other;
+}
+
+/// Leaves the terminal's cursor below a line that has ended. Returns how it ended.
+fn leave<'out, 'prompt, O: Write + Drop, H: Helper, P: Prompt, S: History>(
+    alloc: Global,
+    turned: Result<Turned>,
+    state: &mut State<'out, 'prompt, Ansi<O, KeyQueue>, H, P, S>,
+) -> Result<Turned>
+    requires { let e = ⟦<State<'out, 'prompt, Ansi<O, KeyQueue>, H, P, S> as EditorState>⟧ in
+        IfOk turned (λ done. DrawnOnce e done state.old) }
+    ensures ended { IfOk result (λ done. turned ≡ Ok done) }
+    ensures drawn { let e = ⟦<State<'out, 'prompt, Ansi<O, KeyQueue>, H, P, S> as EditorState>⟧ in
+        result ≡ Ok Turned.NeedsMore → DrawnOnce e Turned.NeedsMore state.new }
+    ensures draft { let e = ⟦<State<'out, 'prompt, Ansi<O, KeyQueue>, H, P, S> as EditorState>⟧ in
+        e.draft state.new ≡ e.draft state.old }
+    ensures frame { let e = ⟦<State<'out, 'prompt, Ansi<O, KeyQueue>, H, P, S> as EditorState>⟧ in
+        Frame e state.old state.new }
+{
+    let done = turned?;
+    if done == Turned::NeedsMore {
+        return Ok(done);
+    }
+    state.move_cursor_to_end()?;
+    state.move_cursor_at_leftmost(&mut KeyQueue::new(alloc))?;
+    Ok(done)
+}
+
+/// Returns whether the line is to be drawn before the next key is read: unless more keys are awaited behind its own prompt.
+fn is_to_be_drawn<'out, 'prompt, O: Write + Drop, H: Helper, P: Prompt, S: History>(
+    turned: &Result<Turned>,
+    state: &State<'out, 'prompt, Ansi<O, KeyQueue>, H, P, S>,
+) -> bool
+    requires { let e = ⟦<State<'out, 'prompt, Ansi<O, KeyQueue>, H, P, S> as EditorState>⟧ in
+        turned.now ≡ Ok Turned.NeedsMore → DrawnOnce e Turned.NeedsMore state.now }
+    ensures { let e = ⟦<State<'out, 'prompt, Ansi<O, KeyQueue>, H, P, S> as EditorState>⟧ in
+        result ≡ false → IsShown e state.now }
+{
+    match turned {
+        Ok(Turned::NeedsMore) => !state.is_default_prompt(),
+        _ => true,
+    }
+}
+
+/// Begins a line behind the prompt, with these texts before and behind the cursor. It is to be drawn.
+///
+/// # Errors
+/// `Memory`.
+pub(crate) fn begin<'out, 'prompt, O: Write + Drop, H: Helper, S: History>(
+    alloc: Global,
+    screen: &'out mut Ansi<O, KeyQueue>,
+    prompt: &'prompt (String, String),
+    helper: &'out mut H,
+    history: &'out S,
+    left: &str,
+    right: &str,
+    config: &Config,
+) -> Result<Begun<H>>
+    ensures fits { IfOk result (λ begun. Fits begun.line begun.draws
+        (⟦<Ansi<O, KeyQueue> as ScreenState>⟧.surface screen.new)
+        (⟦<Ansi<O, KeyQueue> as ScreenState>⟧.screen screen.new) (string_bytes prompt.now.0)
+        (answers_of H.hint_at H.verdict_at H.lights helper.new (S.lines history.now))) }
+    ensures memory { MemoryOnly result }
+{
+    let mut text = String::from_str(alloc, left)?;
+    text.push_str(right)?;
+    let state = state_of(
+        alloc,
+        screen,
+        prompt,
+        helper,
+        history,
+        text.as_str(),
+        left.len(),
+    )?;
+    let (line, out, lent) = state.release();
+    let lent = lent.unwrap();
+    let begun = Begun {
+        line,
+        input: KeptInput::new(config),
+        draws: true,
+    };
+    give_back(out, lent);
+    Ok(begun)
+}
+
+/// Returns the state of a line that begins.
+fn state_of<'out, 'prompt, O: Write + Drop, H: Helper, P: Prompt, S: History>(
+    alloc: Global,
+    screen: &'out mut Ansi<O, KeyQueue>,
+    prompt: &'prompt P,
+    helper: &'out mut H,
+    history: &'out S,
+    text: &str,
+    cursor: usize,
+) -> Result<State<'out, 'prompt, Ansi<O, KeyQueue>, H, P, S>>
+    requires { IsCharBoundary text.now cursor }
+    ensures begins { let e = ⟦<State<'out, 'prompt, Ansi<O, KeyQueue>, H, P, S> as EditorState>⟧ in
+        let w = ⟦<Ansi<O, KeyQueue> as ScreenState>⟧ in
+        IfOk result (λ s. Begins e s
+        (record (empty_draft (length (S.lines history.now))) {
+          line = record { text = text.now; cursor = cursor };
+        })
+        (environment_by H.hint_at H.verdict_at H.lights (Some helper.entry) (S.lines history.now))
+        (sure_by H.Hinter.sure H.Validator.sure (S.sure history.now) (Some helper.entry))
+        (never_drawn (w.surface screen.entry.now) (w.screen screen.entry.now)
+        (P.raw_text prompt.now))
+        (w.failures screen.entry.now) (w.redraws screen.entry.now)
+        (screen.entry.ghost_name, Some helper.entry.ghost_name)) }
+    ensures memory { MemoryOnly result }
+{
+    let ctx = Context::new(history);
+    State::with_line(alloc, screen, prompt, Some(helper), ctx, text, cursor)
+}
+
+/// Gives the screen of a line another number of columns and of rows, draws the line, and keeps it again. Where drawing fails, the
+/// line is to be drawn.
+pub(crate) fn resized<'out, 'prompt, O: Write + Drop, H: Helper, S: History>(
+    alloc: Global,
+    begun: Begun<H>,
+    screen: &'out mut Ansi<O, KeyQueue>,
+    prompt: &'prompt (String, String),
+    helper: &'out mut H,
+    history: &'out S,
+    columns: Unit,
+    rows: Unit,
+) -> (Begun<H>, Result<()>)
+    requires columns { 0 < columns }
+    requires fits { Fits begun.line begun.draws
+        (⟦<Ansi<O, KeyQueue> as ScreenState>⟧.surface screen.old)
+        (⟦<Ansi<O, KeyQueue> as ScreenState>⟧.screen screen.old) (string_bytes prompt.now.0)
+        (answers_of H.hint_at H.verdict_at H.lights helper.old (S.lines history.now)) }
+    ensures fits { Fits result.0.line result.0.draws
+        (⟦<Ansi<O, KeyQueue> as ScreenState>⟧.surface screen.new)
+        (⟦<Ansi<O, KeyQueue> as ScreenState>⟧.screen screen.new) (string_bytes prompt.now.0)
+        (answers_of H.hint_at H.verdict_at H.lights helper.new (S.lines history.now)) }
+    ensures draft { result.0.line.draft ≡ begun.line.draft }
+    ensures input { result.0.input ≡ begun.input }
+{
+    let Begun { line, input, .. } = begun;
+    let mut state = State::resume(alloc, line, screen, prompt, Some(helper), history);
+    let drawn = state.resized(columns, rows);
+    let (line, out, lent) = state.release();
+    let lent = lent.unwrap();
+    let begun = Begun {
+        line,
+        input,
+        draws: true,
+    };
+    give_back(out, lent);
+    (begun, drawn)
+}
+
+/// Takes turns of a line, as `take_turns` does, and keeps it again.
+pub(crate) fn go_on<'out, 'prompt, O: Write + Drop, H: Helper, S: History>(
+    alloc: Global,
+    begun: Begun<H>,
+    screen: &'out mut Ansi<O, KeyQueue>,
+    prompt: &'prompt (String, String),
+    helper: &'out mut H,
+    history: &'out S,
+    bindings: &Bindings,
+    keys: &mut KeyQueue,
+    kill_ring: &mut KillRing,
+    config: &Config,
+) -> (Begun<H>, Result<Turned>)
+    requires { Fits begun.line begun.draws
+        (⟦<Ansi<O, KeyQueue> as ScreenState>⟧.surface screen.old)
+        (⟦<Ansi<O, KeyQueue> as ScreenState>⟧.screen screen.old) (string_bytes prompt.now.0)
+        (answers_of H.hint_at H.verdict_at H.lights helper.old (S.lines history.now)) }
+    ensures fits { Fits result.0.line result.0.draws
+        (⟦<Ansi<O, KeyQueue> as ScreenState>⟧.surface screen.new)
+        (⟦<Ansi<O, KeyQueue> as ScreenState>⟧.screen screen.new) (string_bytes prompt.now.0)
+        (answers_of H.hint_at H.verdict_at H.lights helper.new (S.lines history.now)) }
+    ensures answers { answers_of H.hint_at H.verdict_at H.lights helper.new (S.lines history.now)
+        ≡ answers_of H.hint_at H.verdict_at H.lights helper.old (S.lines history.now) }
+{
+    let Begun { line, input, draws } = begun;
+    let mut state = State::resume(alloc, line, screen, prompt, Some(helper), history);
+    let mut input_state = InputState::resume(input, bindings);
+    let turned = take_turns(draws, &mut state, &mut input_state, keys, kill_ring, config);
+    let turned = leave(alloc, turned, &mut state);
+    let draws = is_to_be_drawn(&turned, &state);
+    let input = input_state.release();
+    let (line, out, lent) = state.release();
+    let lent = lent.unwrap();
+    let begun = Begun { line, input, draws };
+    give_back(out, lent);
+    (begun, turned)
+}
