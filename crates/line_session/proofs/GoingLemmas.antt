@@ -1,5 +1,5 @@
 -- Facts on turns that are taken one after another.
-use Rattle.std.proofs.Common.{◌≡◌, ◌∙◌, ℕ, Bool, true, false, cond, List, [], ◌∷◌, Option, Ok, refl, sym, ap, subst, arith}
+use Rattle.std.proofs.Common.{◌≡◌, ◌∙◌, ◌⊎◌, inl, inr, ℕ, Bool, true, false, cond, List, [], ◌∷◌, Option, Ok, refl, sym, ap, subst, arith}
 use Rattle.line_buffer.specs.KillRing.{Ring}
 use Rattle.line_buffer.specs.Line.{Line}
 use Rattle.line_buffer.specs.declared.layout.GraphemeClusterMode.{GraphemeClusterMode}
@@ -18,7 +18,7 @@ use Rattle.line_parts.specs.Environment.{Environment}
 use Rattle.line_editor.specs.Binding.{Bound}
 use Rattle.line_editor.specs.Editor.{Answer, Ruler, ended, interrupted, own_ruler, proceeds, ruler_of, submitted}
 use Rattle.line_editor.specs.Input.{Input}
-use Rattle.line_editor.specs.ItemShown.{ItemShown, any_drawn, drawing_shown, kept, last_drawn, ruler_behind, shows_count, shows_line, times_drawn}
+use Rattle.line_editor.specs.ItemShown.{ItemShown, any_drawn, drawing_shown, drawn_over, kept, last_drawn, ruler_behind, shows_count, shows_line, times_drawn}
 use Rattle.line_editor.specs.Keymap.{Keymap, Source, by_binding, by_phrase, by_reader, by_table, keymap_of}
 use Rattle.line_editor.specs.Outcomes.{Advances, NeedsMoreItems, Session, TakesTurn, editor_of, session}
 use Rattle.line_editor.specs.Phrase.{IsBeginning, entered, entered_by}
@@ -28,9 +28,9 @@ use Rattle.line_editor.specs.declared.run.Turned.{Turned}
 use Rattle.line_editor.specs.declared.run.Turned.TheVariants as turned
 use Rattle.line_editor.proofs.DrawnLemmas.{frame_then, hint_trails, line_stays}
 use Rattle.line_editor.proofs.ShownLemmas.{none-last}
-use Rattle.line_session.specs.Steps.{PasteComesIn, Rules, Standing, Steps, TurnFrom, Waits}
+use Rattle.line_session.specs.Steps.{PasteComesIn, Rules, Steps, TurnFrom}
 use Rattle.line_session.specs.Steps as steps
-use Rattle.line_session.specs.Taken.{ComesTo, DrawnOnce, IsShown, KeepsRules, PutsIn, rules_of, standing_of}
+use Rattle.line_session.specs.Taken.{ComesTo, DrawnOnce, IsShown, KeepsRules, PutsIn, WaitsBehind, rules_of, standing_of}
 
 -- the first key of a phrase leaves the line and the hint
 entered_line : (source : Source) (draft : Draft) → (entered_by source draft).line ≡ draft.line
@@ -50,10 +50,20 @@ same_line keymap draft input [] = refl
 same_line keymap draft input (key first ∷ items) = entered_line _ draft
 same_line keymap draft input (paste text ∷ items) = refl
 
-same_hint : (keymap : Keymap) (draft : Draft) (input : Input) (items : List Item) → (entered keymap draft input items).hint ≡ draft.hint
+pub same_hint : (keymap : Keymap) (draft : Draft) (input : Input) (items : List Item) → (entered keymap draft input items).hint ≡ draft.hint
 same_hint keymap draft input [] = refl
 same_hint keymap draft input (key first ∷ items) = entered_hint _ draft
 same_hint keymap draft input (paste text ∷ items) = refl
+
+-- something is drawn of items, or nothing is shown last
+drawn_or_kept : (shown : List ItemShown) → (any_drawn shown ≡ true) ⊎ (last_drawn shown ≡ kept)
+drawn_or_kept [] = inr refl
+drawn_or_kept (kept ∷ more) = elim (drawn_or_kept more) [
+  | inl drawn ↦ inl drawn
+  | inr last ↦ inr (ap (λ l. drawn_over kept l) last)
+]
+drawn_or_kept (shows_count keys ∷ more) = inl refl
+drawn_or_kept (shows_line ∷ more) = inl refl
 
 module _ {X : Type 0} (e : editors.Ghosts X) (state : X) where
   -- a line that is shown, by its two parts
@@ -176,21 +186,43 @@ module _ {X Y : Type 0} (e : editors.Ghosts X) (r : readers.Ghosts Y) (indent : 
 
         -- the items are no phrase yet, and are to be read again
         pub waits : (reader : Y) → r.rest reader ≡ r.rest now.reader → NeedsMoreItems e r now next
-            → Waits (rules_of e r indent start) (standing_of e r start) (standing_of e r (session next.state next.keys reader next.kills))
+            → WaitsBehind (e.display next.state).layout.default_prompt (rules_of e r indent start) (standing_of e r start)
+            (standing_of e r (session next.state next.keys reader next.kills))
         waits reader again dry_up =
             let P : Rules → Type 0 = λ by.
             (begins : IsBeginning by.keymap by.environment (e.draft now.state) now.keys.input (r.rest now.reader))
             × CutShort by.keymap by.environment now.keys.input (r.rest now.reader) begins.shown (editor_of e now.state now.kills) (editor_of e next.state next.kills) in
             let here : P (rules_of e r indent now) = (dry_up.out.lacks, record { draft = dry_up.out.draft; kills = dry_up.kills_left }) in
-            let there = subst P same_rules here in
+            let Q : Rules → Type 0 = λ by.
+            (begins : IsBeginning by.keymap by.environment (e.draft now.state) now.keys.input (r.rest now.reader))
+            × CutShort by.keymap by.environment now.keys.input (r.rest now.reader) begins.shown (editor_of e now.state now.kills) (editor_of e next.state next.kills)
+            × ((e.display next.state).layout.default_prompt ≡ false → any_drawn begins.shown ≡ true) in
+            let there = subst Q same_rules (here.0, here.1, other_prompt) in
             record {
-              found = standing_of e r now;
-              steps = going.steps;
-              begins = there.0;
-              short = there.1;
-              input = dry_up.input_left;
-              items = again;
+              waits = record {
+                found = standing_of e r now;
+                steps = going.steps;
+                begins = there.0;
+                short = there.1;
+                input = dry_up.input_left;
+                items = again;
+              };
+              drawn = there.2;
             }
+          where
+            other_prompt : (e.display next.state).layout.default_prompt ≡ false → any_drawn dry_up.out.lacks.shown ≡ true
+            other_prompt other = elim (drawn_or_kept dry_up.out.lacks.shown) [
+              | inl drawn ↦ drawn
+              | inr last ↦ still last dry_up.out.drew
+            ]
+              where
+                still : last_drawn dry_up.out.lacks.shown ≡ kept
+                    → Drew e (times_drawn dry_up.out.lacks.shown) (drawing_shown (last_drawn dry_up.out.lacks.shown)) now.state next.state
+                    → any_drawn dry_up.out.lacks.shown ≡ true
+                still last drew =
+                    let same = subst (λ l. Drew e (times_drawn dry_up.out.lacks.shown) (drawing_shown l) now.state next.state) last drew in
+                    let own = ap (λ (d : Display). d.layout.default_prompt) same.display ∙ going.shown.own_prompt in
+                    absurd (let two : true ≡ false = sym own ∙ other in cc)
 
         abbrev keymap : Keymap
         keymap = keymap_of now.keys (r.own_binding (r.kept now.reader))
@@ -219,7 +251,7 @@ module _ {X Y : Type 0} (e : editors.Ghosts X) (r : readers.Ghosts Y) (indent : 
 
         -- turns that end otherwise: how they end
         pub stops : (done : Turned) → (done ≡ turned.Proceeds → ⊥) → (done ≡ turned.NeedsMore → ⊥) → Advances e r indent (Ok done) now next
-            → ComesTo (rules_of e r indent start) (standing_of e r start) (standing_of e r next) done
+            → ComesTo (e.display next.state).layout.default_prompt (rules_of e r indent start) (standing_of e r start) (standing_of e r next) done
         stops turned.Proceeds goes waits advances = absurd (goes refl)
         stops turned.Submitted goes waits advances = record { found = standing_of e r now; steps = going.steps; last = turn_here submitted advances.turned }
         stops turned.Ended goes waits advances = record { found = standing_of e r now; steps = going.steps; last = turn_here ended advances.turned }

@@ -1,5 +1,5 @@
 -- Facts on a line that is kept.
-use Rattle.std.proofs.Common.{◌≡◌, ℕ, Bool, List, Option, Some, refl, sym, ◌∙◌, ap, subst}
+use Rattle.std.proofs.Common.{◌≡◌, ℕ, Bool, List, Option, Some, Result, Ok, Err, IfOk, refl, sym, ◌∙◌, ap, subst}
 use Rattle.std.specs.Borrow.{MutBor}
 use Rattle.line_keys.specs.Display.{Display, Screen, Surface}
 use Rattle.line_keys.specs.Draft.{Draft}
@@ -9,8 +9,20 @@ use Rattle.line_parts.specs.Hint.{Suggestion}
 use Rattle.line_parts.specs.Shown.{Shown}
 use Rattle.line_parts.specs.Verdict.{Verdict}
 use Rattle.line_parts.specs.declared.highlight.CmdKind.{CmdKind}
+use Rattle.line_buffer.specs.KillRing.{Ring}
+use Rattle.line_keys.specs.Command.{Command}
+use Rattle.line_keys.specs.Item.{Item}
+use Rattle.line_keys.specs.declared.keys.KeyEvent.{KeyEvent}
+use Rattle.line_editor.specs.Binding.{Bound}
+use Rattle.line_editor.specs.Editor.{Ruler, own_ruler}
+use Rattle.line_editor.specs.Input.{Input}
 use Rattle.line_editor.specs.Released.{KeptDraft}
+use Rattle.line_editor.specs.declared.run.Turned.{Turned}
+use Rattle.line_editor.specs.declared.run.Turned.TheVariants as turned
 use Rattle.line_session.specs.Kept.{Fits, IsShownBy, answers_of}
+use Rattle.line_session.specs.Sitting.{standing_with, starting}
+use Rattle.line_session.specs.Steps.{Rules, Standing}
+use Rattle.line_session.specs.Taken.{ComesTo, WaitsBehind}
 
 -- a helper that is lent answers as it does
 pub lent_answers : {H : Type 0} (hint_at : H → Shown → Option Suggestion) (verdict_at : H → List ℕ → Verdict) (lights : H → List ℕ → ℕ → CmdKind → Bool) (helper : MutBor H) (lines : List (List ℕ))
@@ -40,3 +52,62 @@ fits_alike surface screen kept draws a b p p' w w' same_screen same_prompt same_
     subst (λ x. Fits kept draws (surface a) (screen a) p x) (sym same_answers)
     (subst (λ x. Fits kept draws (surface a) (screen a) x w') (sym same_prompt)
     (subst (λ x. Fits kept draws (surface x) (screen x) p' w') (sym same_screen) fits))
+
+-- those who answer alike with one history answer alike with any
+pub answers_any : {H : Type 0} (hint_at : H → Shown → Option Suggestion) (verdict_at : H → List ℕ → Verdict) (lights : H → List ℕ → ℕ → CmdKind → Bool)
+    (one other : H) (lines : List (List ℕ)) → answers_of hint_at verdict_at lights one lines ≡ answers_of hint_at verdict_at lights other lines
+    → (all : List (List ℕ)) → answers_of hint_at verdict_at lights one all ≡ answers_of hint_at verdict_at lights other all
+answers_any hint_at verdict_at lights one other lines same all = ap (λ (w : Environment). record w { lines = all }) same
+
+-- what holds of one result holds of another that is the same where it is a success
+pub on_both : {T E : Type 0} (P Q : T → Type 0) (one two : Result T E) → IfOk two (λ done. one ≡ Ok done) → IfOk one P
+    → ((done : T) → two ≡ Ok done → P done → Q done) → IfOk two Q
+on_both P Q one (Ok done) same holds then_so = then_so done refl (subst (λ r. IfOk r P) same holds)
+on_both P Q one (Err error) same holds then_so = tt
+
+-- turns come to what is equal
+pub comes_alike : (own own' : Bool) (by by' : Rules) (start start' end end' : Standing) → by ≡ by' → start ≡ start' → end ≡ end'
+    → (done : Turned) → (done ≡ turned.NeedsMore → own ≡ own') → ComesTo own by start end done → ComesTo own' by' start' end' done
+comes_alike own own' by by' start start' end end' same_rules same_start same_end done same_own comes =
+    by_done done same_own
+    (subst (λ b. ComesTo own b start' end' done) same_rules (subst (λ s. ComesTo own by s end' done) same_start (subst (λ e. ComesTo own by start e done) same_end comes)))
+  where
+    by_done : (done : Turned) → (done ≡ turned.NeedsMore → own ≡ own') → ComesTo own by' start' end' done → ComesTo own' by' start' end' done
+    by_done turned.Proceeds same_own comes = comes
+    by_done turned.Submitted same_own comes = comes
+    by_done turned.Ended same_own comes = comes
+    by_done turned.Interrupted same_own comes = comes
+    by_done turned.NeedsMore same_own comes = subst (λ o. WaitsBehind o by' start' end') (same_own refl) comes
+
+-- what turns came to of a line that was resumed, as it is kept again
+pub comes_so : {E : Type 0} (own own' : Bool) (by by' : Rules) (start start' end end' : Standing) (one two : Result Turned E)
+    → IfOk one (ComesTo own by start end) → IfOk two (λ done. one ≡ Ok done) → by ≡ by' → start ≡ start' → end ≡ end'
+    → (two ≡ Ok turned.NeedsMore → own ≡ own') → IfOk two (ComesTo own' by' start' end')
+comes_so own own' by by' start start' end end' one two comes same same_rules same_start same_end same_own =
+    on_both (ComesTo own by start end) (ComesTo own' by' start' end') one two same comes
+    (λ done is came. comes_alike own own' by by' start start' end end' same_rules same_start same_end done (λ more. same_own (is ∙ ap (λ t. Ok t) more)) came)
+
+-- what commands are read and executed by, of its parts
+abbrev pub rules_with : Bound → (KeyEvent → Option Command) → Ruler → Environment → Rules
+rules_with bound own ruler w = record { keymap = record { bound = bound; own = own }; ruler = ruler; environment = w }
+
+-- it is equal where its parts are
+pub rules_alike : (bound bound' : Bound) (own : KeyEvent → Option Command) (d d' : Display) (indent : ℕ) (w w' : Environment) → bound ≡ bound' → d ≡ d' → w ≡ w'
+    → rules_with bound own (own_ruler d indent) w ≡ rules_with bound' own (own_ruler d' indent) w'
+rules_alike bound bound' own d d' indent w w' same_bound same_display same_answers =
+    ap (λ b. rules_with b own (own_ruler d indent) w) same_bound ∙ ap (λ x. rules_with bound' own (own_ruler x indent) w) same_display
+    ∙ ap (λ x. rules_with bound' own (own_ruler d' indent) x) same_answers
+
+-- and so is where reading starts
+pub starts_alike : (draws : Bool) (draft draft' : Draft) (input input' : Input) (w w' : Environment) (items : List Item) (kills : Ring)
+    → draft ≡ draft' → input ≡ input' → w ≡ w'
+    → starting w draws (standing_with draft input items kills) ≡ starting w' draws (standing_with draft' input' items kills)
+starts_alike draws draft draft' input input' w w' items kills same_draft same_input same_answers =
+    ap (λ x. starting w draws (standing_with x input items kills)) same_draft ∙ ap (λ x. starting w draws (standing_with draft' x items kills)) same_input
+    ∙ ap (λ x. starting x draws (standing_with draft' input' items kills)) same_answers
+
+-- and where it stands
+pub stands_alike : (draft draft' : Draft) (input input' : Input) (items : List Item) (kills : Ring) → draft ≡ draft' → input ≡ input'
+    → standing_with draft input items kills ≡ standing_with draft' input' items kills
+stands_alike draft draft' input input' items kills same_draft same_input =
+    ap (λ x. standing_with x input items kills) same_draft ∙ ap (λ x. standing_with draft' x items kills) same_input

@@ -1,2 +1,5 @@
+pub mod CameLemmas
 pub mod GoingLemmas
 pub mod KeptLemmas
+pub mod ReadingLemmas
+pub mod WholeLaws

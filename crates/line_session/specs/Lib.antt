@@ -1,4 +1,6 @@
 pub mod Kept
+pub mod Pieces
+pub mod Reading
 pub mod Sitting
 pub mod Steps
 pub mod Taken

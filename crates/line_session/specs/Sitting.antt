@@ -1,15 +1,173 @@
--- What an editor keeps between two calls.
-use Rattle.std.specs.Prelude.{ℕ, List, Option}
+-- What an editor keeps between two calls, and what comes of the items that it reads.
+use Rattle.std.specs.Prelude.{◌≡◌, ◌++◌, ℕ, Bool, true, false, if◌then◌else◌, List, length, Option, Some, None, option_map, Result, Ok, string_bytes}
 use Rattle.line_buffer.specs.KillRing.{Ring}
-use Rattle.line_keys.specs.Draft.{Draft}
+use Rattle.line_buffer.specs.declared.layout.GraphemeClusterMode.TheVariants.{Unicode}
+use Rattle.line_config.specs.Settings.{Settings}
+use Rattle.line_config.specs.declared.error.ReadlineError.{ReadlineError}
+use Rattle.line_keys.specs.Display.{corner}
+use Rattle.line_keys.specs.Draft.{Draft, empty_draft, hinted}
 use Rattle.line_keys.specs.Item.{Item}
+use Rattle.line_parts.specs.Environment.{Environment}
+use Rattle.line_parts.specs.History.{HistoryRules, added}
+use Rattle.line_screen.specs.KeyQueue.{queue_binding}
+use Rattle.line_screen.specs.Measure.{measured}
+use Rattle.line_editor.specs.Binding.{Bound}
+use Rattle.line_editor.specs.Editor.{Answer, ended, interrupted, submitted}
+use Rattle.line_editor.specs.Input.{Input, first_input}
+use Rattle.line_editor.specs.ItemShown.{any_drawn}
+use Rattle.line_editor.specs.Released.{KeptDraft}
+use Rattle.line_editor.specs.declared.run.Turned.{Turned}
+use Rattle.line_editor.specs.declared.run.Turned.TheVariants as turned
 use Rattle.line_term.specs.Decoder as decoding
+use Rattle.line_session.specs.Steps.{Ends, Rules, Standing, Waits}
+use Rattle.line_session.specs.declared.editor.Fed.{Fed}
+use Rattle.line_session.specs.declared.editor.Fed.TheVariants as fed
 
--- the draft of the line that has begun, if one has; the lines of the history; the kill ring; the items that are left to read; and what the
--- bytes that came have left
-pub record Sitting : Type 0 where
-  pub draft : Option Draft
+-- a line that has begun: what is kept of it, what reading keys remembers, and whether it is drawn before the next key is read
+pub record BegunLine : Type 0 where
+  pub kept : KeptDraft
+  pub input : Input
+  pub draws : Bool
+
+-- the line that has begun, if one has; the lines of the history and which ones it takes; the kill ring; the items that are left to
+-- read, and whether the queue of them binds keys; what the bytes that came have left; the helper; the settings; and the columns
+pub record Sitting (H : Type 0) : Type 0 where
+  pub line : Option BegunLine
   pub lines : List (List ℕ)
+  pub takes : HistoryRules
   pub kills : Ring
   pub items : List Item
+  pub binds : Bool
   pub decoder : decoding.Standing
+  pub helper : H
+  pub settings : Settings
+  pub columns : ℕ
+
+-- the draft and what reading keys remembers of the line that has begun, if one has
+abbrev pub written : {H : Type 0} → Sitting H → Option (Draft × Input)
+written sitting = option_map (λ (begun : BegunLine). (begun.kept.draft, begun.input)) sitting.line
+
+-- the text of the line that has begun, if one has
+abbrev pub text_of : {H : Type 0} → Sitting H → Option (List ℕ)
+text_of sitting = option_map (λ (begun : BegunLine). begun.kept.draft.line.text) sitting.line
+
+-- whether the line goes on behind turns that ended so
+abbrev pub goes_on : Result Turned ReadlineError → Bool
+goes_on (Ok turned.Proceeds) = true
+goes_on (Ok turned.NeedsMore) = true
+goes_on _ = false
+
+-- bytes came: their items stand behind those that are left
+abbrev pub with_turn : {H : Type 0} → decoding.Turn → Sitting H → Sitting H
+with_turn turn sitting = record sitting { items = sitting.items ++ turn.items; decoder = turn.after }
+
+-- what commands are read and executed by: bindings, and whether the queue binds keys; by how many spaces a line is indented; the column
+-- where the prompt ends; and those who answer
+abbrev pub rules_for : Bound → Bool → ℕ → ℕ → Environment → Rules
+rules_for bound binds indent column environment = record {
+  keymap = record { bound = bound; own = queue_binding binds };
+  ruler = record { prompt_column = column; cluster_mode = Unicode; indent_size = indent };
+  environment = environment;
+}
+
+-- where reading stands with a draft, what is remembered of keys, the items that are left, and the kill ring
+abbrev pub standing_with : Draft → Input → List Item → Ring → Standing
+standing_with draft input items kills = record {
+  editor = record { draft = draft; kills = kills };
+  input = input;
+  items = items;
+}
+
+-- the same once the line was drawn, where it is to be drawn: its hint was asked
+abbrev pub starting : Environment → Bool → Standing → Standing
+starting environment draws start = if draws then record start {
+  editor = record start.editor { draft = hinted environment start.editor.draft };
+} else start
+
+-- the draft of a line that begins with a text before the cursor and one behind it
+abbrev pub begun_with : List ℕ → List ℕ → List (List ℕ) → Draft
+begun_with left right lines = record (empty_draft (length lines)) {
+  line = record { text = left ++ right; cursor = length left };
+}
+
+module _ {H : Type 0} where
+  -- the line has ended by this answer: it is gone, and what is left are the items and the kill ring of its end
+  pub record EndsLine (by : Rules) (start : Standing) (new : Sitting H) (answer : Answer) : Type 0 where
+    pub end : Standing
+    pub ends : Ends by start end answer
+    pub gone : new.line ≡ None
+    pub kills : new.kills ≡ end.editor.kills
+    pub items : new.items ≡ end.items
+
+  -- the line was submitted with this text, which is in the history where the settings say so
+  pub record SubmitsLine (by : Rules) (start : Standing) (old new : Sitting H) (text : List ℕ) : Type 0 where
+    pub ends : EndsLine by start new submitted
+    pub text_left : text ≡ ends.end.editor.draft.line.text
+    pub lines : new.lines ≡ (if old.settings.auto_add_history then added old.takes old.lines text else old.lines)
+
+  -- the line goes on: its items are no phrase yet, and it is drawn anew only where something was drawn of them
+  pub record GoesOn (by : Rules) (start : Standing) (new : Sitting H) : Type 0 where
+    pub left : BegunLine
+    pub line : new.line ≡ Some left
+    pub waits : Waits by start (standing_with left.kept.draft left.input new.items new.kills)
+    pub drawn : left.draws ≡ true → any_drawn waits.begins.shown ≡ true
+    pub column : left.kept.drawing.prompt_end.col ≡ by.ruler.prompt_column
+
+  -- what came of a line whose turns were taken, from where its reading stood
+  abbrev pub CameFrom : Rules → Standing → Sitting H → Sitting H → Fed → Type 0
+  CameFrom by start old new fed.More = GoesOn by start new × (new.lines ≡ old.lines)
+  CameFrom by start old new (fed.Submitted text) = SubmitsLine by start old new (string_bytes text)
+  CameFrom by start old new fed.Ended = EndsLine by start new ended × (new.lines ≡ old.lines)
+  CameFrom by start old new fed.Interrupted = EndsLine by start new interrupted × (new.lines ≡ old.lines)
+
+  -- the line that has begun ends as its last command says: it goes on; it is submitted with its text, which is in the history where the
+  -- settings say so; or it is dropped
+  abbrev pub EndsAs : Result Turned ReadlineError → Sitting H → Sitting H → Fed → Type 0
+  EndsAs done old new fed.More = (goes_on done ≡ true) × (new ≡ old)
+  EndsAs done old new (fed.Submitted text) = (done ≡ Ok turned.Submitted) × (Some (string_bytes text) ≡ text_of old) × (new ≡ record old {
+    line = None;
+    lines = if old.settings.auto_add_history then added old.takes old.lines (string_bytes text) else old.lines;
+  })
+  EndsAs done old new fed.Ended = (done ≡ Ok turned.Ended) × (new ≡ record old { line = None })
+  EndsAs done old new fed.Interrupted = (done ≡ Ok turned.Interrupted) × (new ≡ record old { line = None })
+
+  module _ (answers : H → List (List ℕ) → Environment) where
+    module _ (bound : Bound) where
+      -- what the commands of a line are read and executed by, whose prompt ends in this column
+      abbrev pub rules_at : Sitting H → ℕ → Rules
+      rules_at old column = rules_for bound old.binds old.settings.indent_size column (answers old.helper old.lines)
+
+      -- what came of the line that has begun
+      abbrev pub Came : Sitting H → BegunLine → Sitting H → Fed → Type 0
+      Came old begun = CameFrom (rules_at old begun.kept.drawing.prompt_end.col)
+          (starting (answers old.helper old.lines) begun.draws
+          (standing_with begun.kept.draft begun.input old.items old.kills)) old
+
+      -- what came of a line that began behind a prompt, with these texts before and behind the cursor
+      abbrev pub CameBegun : List ℕ → List ℕ → List ℕ → Sitting H → Sitting H → Fed → Type 0
+      CameBegun prompt left right old = CameFrom (rules_at old (measured old.columns prompt corner).col)
+          (starting (answers old.helper old.lines) true
+          (standing_with (begun_with left right old.lines) (first_input old.settings.edit_mode) old.items old.kills)) old
+
+    -- what stays while turns are taken: those who answer, the lines that the history takes, the keys that the queue binds, what the bytes
+    -- have left, the settings and the columns
+    pub record Keeps (old new : Sitting H) : Type 0 where
+      pub answers_alike : (lines : List (List ℕ)) → answers new.helper lines ≡ answers old.helper lines
+      pub takes : new.takes ≡ old.takes
+      pub own : queue_binding new.binds ≡ queue_binding old.binds
+      pub decoder : new.decoder ≡ old.decoder
+      pub settings : new.settings ≡ old.settings
+      pub columns : new.columns ≡ old.columns
+
+    -- a line begins behind a prompt, with these texts before and behind the cursor: it is to be drawn
+    pub record StartsWith (prompt left right : List ℕ) (old new : Sitting H) : Type 0 where
+      pub begun : BegunLine
+      pub line : new.line ≡ Some begun
+      pub draft : begun.kept.draft ≡ begun_with left right old.lines
+      pub input : begun.input ≡ first_input old.settings.edit_mode
+      pub draws : begun.draws ≡ true
+      pub prompt_end : begun.kept.drawing.prompt_end ≡ measured old.columns prompt corner
+      pub lines : new.lines ≡ old.lines
+      pub kills : new.kills ≡ old.kills
+      pub items : new.items ≡ old.items
+      pub keeps : Keeps old new

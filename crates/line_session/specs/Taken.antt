@@ -1,5 +1,5 @@
 -- What turns leave that were taken one after another.
-use Rattle.std.specs.Prelude.{◌≡◌, ℕ, Bool, true, if◌then◌else◌, List}
+use Rattle.std.specs.Prelude.{◌≡◌, ℕ, Bool, true, false, if◌then◌else◌, List}
 use Rattle.line_buffer.specs.KillRing.{Ring}
 use Rattle.line_keys.specs.Command.{insert}
 use Rattle.line_keys.specs.Draft.{hinted}
@@ -9,6 +9,7 @@ use Rattle.line_keys.specs.declared.editor_state.EditorState as editors
 use Rattle.line_keys.specs.declared.raw_reader.RawReader as readers
 use Rattle.line_editor.specs.Editor.{Leaves, ended, interrupted, own_ruler, proceeds, submitted}
 use Rattle.line_editor.specs.Input.{Input}
+use Rattle.line_editor.specs.ItemShown.{any_drawn}
 use Rattle.line_editor.specs.Keymap.{keymap_of}
 use Rattle.line_editor.specs.Outcomes.{Session, editor_of}
 use Rattle.line_editor.specs.Run.{ready}
@@ -18,13 +19,18 @@ use Rattle.line_editor.specs.declared.run.Turned.TheVariants as turned
 use Rattle.line_session.specs.Kept.{IsShownBy}
 use Rattle.line_session.specs.Steps.{Ends, Rules, Standing, Waits}
 
+-- reading waits for items; and another prompt than the own one is shown only where something was drawn of those that are no phrase yet
+pub record WaitsBehind (own_prompt : Bool) (by : Rules) (start left : Standing) : Type 0 where
+  pub waits : Waits by start left
+  pub drawn : own_prompt ≡ false → any_drawn waits.begins.shown ≡ true
+
 -- how turns that were taken end: with the answer of the last one; or with items that are no phrase yet
-abbrev pub ComesTo : Rules → Standing → Standing → Turned → Type 0
-ComesTo by start end turned.Proceeds = ⊥
-ComesTo by start end turned.Submitted = Ends by start end submitted
-ComesTo by start end turned.Ended = Ends by start end ended
-ComesTo by start end turned.Interrupted = Ends by start end interrupted
-ComesTo by start end turned.NeedsMore = Waits by start end
+abbrev pub ComesTo : Bool → Rules → Standing → Standing → Turned → Type 0
+ComesTo own_prompt by start end turned.Proceeds = ⊥
+ComesTo own_prompt by start end turned.Submitted = Ends by start end submitted
+ComesTo own_prompt by start end turned.Ended = Ends by start end ended
+ComesTo own_prompt by start end turned.Interrupted = Ends by start end interrupted
+ComesTo own_prompt by start end turned.NeedsMore = WaitsBehind own_prompt by start end
 
 module _ {X : Type 0} (e : editors.Ghosts X) where
   -- the line is shown, and the kept layout is right

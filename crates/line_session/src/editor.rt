@@ -1,12 +1,19 @@
 //! An editor that reads lines from a terminal: what is kept between two lines, and between two pieces of one.
-ghost use Rattle.std.specs.Prelude.{◌≡◌, ◌<◌, None, option_map, if◌then◌else◌, IfOk, OnOk, OnErr, string_bytes};
-ghost use Rattle.line_config.specs.Error.{FaultsOnly};
+ghost use Rattle.std.specs.Prelude.{◌≡◌, ◌≢◌, ◌<◌, ◌↔◌, true, [], None, Some, Ok, Err, is_some, option_map, if◌then◌else◌, IfOk, OnOk, OnErr, string_bytes};
+ghost use Rattle.line_config.specs.Error.{FaultsOnly, MemoryOnly};
+ghost use Rattle.line_config.specs.declared.error.ReadlineError.TheVariants.{Interrupted};
+ghost use Rattle.line_editor.specs.Binding.{bound_of};
 ghost use Rattle.line_parts.specs.History.{added};
-ghost use Rattle.line_term.specs.Decoder.{is_waiting};
+ghost use Rattle.line_session.specs.Kept.{answers_of};
+ghost use Rattle.line_session.specs.Reading.{HearsOnce, LooksAtNoHint, Reads};
+ghost use Rattle.line_session.specs.Sitting.{BegunLine, Came, CameBegun, EndsAs, Keeps, StartsWith, written, with_turn};
+ghost use Rattle.line_buffer.specs.KillRing.{empty_ring};
+ghost use Rattle.line_term.specs.Decoder.{finished, flushed, fresh, is_waiting, read};
 
-use crate::desk::{Begun, begin, go_on, resized};
+use crate::begun::{Begun, begin, go_on, resized};
 use line_buffer::{KillRing, Unit};
 use line_config::{ColorMode, Config, Prompt, ReadlineError, Result};
+use line_editor::binding::ConditionalEventHandler;
 use line_editor::{Bindings, Turned};
 use line_parts::{Helper, History};
 use line_screen::KeyQueue;
@@ -60,14 +67,23 @@ impl<O: Write + Drop, H: Helper + Drop, S: History + Drop> Model for Editor<O, H
     ghost use Rattle.line_session.specs.Kept.{Fits, answers_of};
     ghost use Rattle.line_session.specs.Sitting.{Sitting};
 
-    ghost Value = { Sitting };
+    ghost Value = { Sitting H };
 
     ghost view = { λ e. record {
-      draft = option_map (λ begun. begun.line.draft) e.line;
+      line = option_map (λ begun. record {
+        kept = begun.line;
+        input = begun.input;
+        draws = begun.draws;
+      }) e.line;
       lines = S.lines e.history;
+      takes = S.rules e.history;
       kills = e.kill_ring;
       items = e.keys.rest;
+      binds = e.keys.binds;
       decoder = e.decoder;
+      helper = e.helper;
+      settings = e.config;
+      columns = e.screen.shown.columns;
     } };
 
     // The line that has begun fits the screen, its prompt, and those who answer.
@@ -89,9 +105,17 @@ impl<O: Write + Drop, H: Helper + Drop, S: History + Drop> Model for Editor<O, H
 }
 
 impl<O: Write + Drop, H: Helper + Drop, S: History + Drop> Editor<O, H, S> {
-    /// Returns an editor that draws on a terminal of so many columns by writing to `out`.
+    /// Returns an editor that draws on a terminal of so many columns by writing to `out`. No line has begun.
     pub fn new(alloc: Global, config: Config, out: O, columns: Unit, helper: H, history: S) -> Self
         requires { 0 < columns }
+        ensures line { result.line ≡ None }
+        ensures lines { result.lines ≡ S.lines history }
+        ensures items { result.items ≡ [] }
+        ensures decoder { result.decoder ≡ fresh }
+        ensures kills { result.kills ≡ empty_ring 60 }
+        ensures helper { result.helper ≡ helper }
+        ensures settings { result.settings ≡ config }
+        ensures columns { result.columns ≡ columns }
     {
         let colors = config.color_mode(None) != ColorMode::Disabled;
         let synchronized = config.enable_synchronized_output();
@@ -112,7 +136,7 @@ impl<O: Write + Drop, H: Helper + Drop, S: History + Drop> Editor<O, H, S> {
     /// Returns the text of the line that has begun, if one has.
     pub fn line(&self) -> Option<&str>
         ensures { option_map (λ text. text.now) result
-            ≡ option_map (λ draft. draft.line.text) self.now.draft }
+            ≡ option_map (λ begun. begun.kept.draft.line.text) self.now.line }
     {
         match &self.line {
             Some(begun) => Some(begun.line.line()),
@@ -122,7 +146,7 @@ impl<O: Write + Drop, H: Helper + Drop, S: History + Drop> Editor<O, H, S> {
 
     /// Returns the cursor of the line that has begun, if one has: a byte offset, on a character boundary.
     pub fn pos(&self) -> Option<usize>
-        ensures { result ≡ option_map (λ draft. draft.line.cursor) self.now.draft }
+        ensures { result ≡ option_map (λ begun. begun.kept.draft.line.cursor) self.now.line }
     {
         match &self.line {
             Some(begun) => Some(begun.line.pos()),
@@ -135,6 +159,23 @@ impl<O: Write + Drop, H: Helper + Drop, S: History + Drop> Editor<O, H, S> {
         ensures { S.lines result.now ≡ self.now.lines }
     {
         &self.history
+    }
+
+    /// Returns the history, so that it may be changed; None while a line goes on, which has its place in it.
+    pub fn history_mut(&mut self) -> Option<&mut S>
+        ensures none { result ≡ None ↔ is_some self.old.line ≡ true }
+    {
+        match self.line {
+            Some(_) => None,
+            None => Some(&mut self.history),
+        }
+    }
+
+    /// Returns the helper.
+    pub fn helper(&self) -> &H
+        ensures { result.now ≡ self.now.helper }
+    {
+        &self.helper
     }
 
     /// Returns what is written to.
@@ -169,25 +210,16 @@ impl<O: Write + Drop, H: Helper + Drop, S: History + Drop> Editor<O, H, S> {
         prompt: &P,
         initial: (&str, &str),
         bindings: &Bindings,
-    ) -> Result<Fed> {
-        self.line = None;
-        let raw = String::from_str(self.alloc, prompt.raw())?;
-        let styled = String::from_str(self.alloc, prompt.styled())?;
-        self.prompt = (raw, styled);
-        if self.config.enable_bracketed_paste() {
-            self.screen.enable_bracketed_paste()?;
-        }
-        let begun = begin(
-            self.alloc,
-            &mut self.screen,
-            &self.prompt,
-            &mut self.helper,
-            &self.history,
-            initial.0,
-            initial.1,
-            &self.config,
-        )?;
-        self.line = Some(begun);
+    ) -> Result<Fed>
+        ensures came { let g = ⟦<dyn ConditionalEventHandler as ConditionalEventHandler>⟧ in
+            IfOk result (CameBegun (answers_of H.hint_at H.verdict_at H.lights)
+            (bound_of g bindings.now) (P.raw_text prompt.now)
+            initial.entry.0.now initial.entry.1.now self.old self.new) }
+        ensures keeps { OnOk result
+            (Keeps (answers_of H.hint_at H.verdict_at H.lights) self.old self.new) }
+        ensures faults { FaultsOnly result }
+    {
+        self.start(prompt, initial)?;
         self.take_turns(bindings)
     }
 
@@ -195,7 +227,14 @@ impl<O: Write + Drop, H: Helper + Drop, S: History + Drop> Editor<O, H, S> {
     ///
     /// # Errors
     /// Those of `begin_with`.
-    pub fn begin<P: Prompt>(&mut self, prompt: &P, bindings: &Bindings) -> Result<Fed> {
+    pub fn begin<P: Prompt>(&mut self, prompt: &P, bindings: &Bindings) -> Result<Fed>
+        ensures came { let g = ⟦<dyn ConditionalEventHandler as ConditionalEventHandler>⟧ in
+            IfOk result (CameBegun (answers_of H.hint_at H.verdict_at H.lights)
+            (bound_of g bindings.now) (P.raw_text prompt.now) [] [] self.old self.new) }
+        ensures keeps { OnOk result
+            (Keeps (answers_of H.hint_at H.verdict_at H.lights) self.old self.new) }
+        ensures faults { FaultsOnly result }
+    {
         self.begin_with(prompt, ("", ""), bindings)
     }
 
@@ -203,7 +242,15 @@ impl<O: Write + Drop, H: Helper + Drop, S: History + Drop> Editor<O, H, S> {
     ///
     /// # Errors
     /// `Io`, where the output or a party fails, and `Memory`. The line can be asked for, and goes on at the next call.
-    pub fn feed(&mut self, bytes: &[u8], bindings: &Bindings) -> Result<Fed> {
+    pub fn feed(&mut self, bytes: &[u8], bindings: &Bindings) -> Result<Fed>
+        ensures came { (begun : BegunLine) → self.old.line ≡ Some begun →
+            let g = ⟦<dyn ConditionalEventHandler as ConditionalEventHandler>⟧ in
+            IfOk result (Came (answers_of H.hint_at H.verdict_at H.lights) (bound_of g bindings.now)
+            (with_turn (read self.old.decoder bytes.now) self.old) begun self.new) }
+        ensures keeps { OnOk result (Keeps (answers_of H.hint_at H.verdict_at H.lights)
+            (with_turn (read self.old.decoder bytes.now) self.old) self.new) }
+        ensures faults { FaultsOnly result }
+    {
         self.decoder.feed(bytes, &mut self.keys)?;
         self.take_turns(bindings)
     }
@@ -212,7 +259,15 @@ impl<O: Write + Drop, H: Helper + Drop, S: History + Drop> Editor<O, H, S> {
     ///
     /// # Errors
     /// Those of `feed`.
-    pub fn flush(&mut self, bindings: &Bindings) -> Result<Fed> {
+    pub fn flush(&mut self, bindings: &Bindings) -> Result<Fed>
+        ensures came { (begun : BegunLine) → self.old.line ≡ Some begun →
+            let g = ⟦<dyn ConditionalEventHandler as ConditionalEventHandler>⟧ in
+            IfOk result (Came (answers_of H.hint_at H.verdict_at H.lights) (bound_of g bindings.now)
+            (with_turn (flushed self.old.decoder) self.old) begun self.new) }
+        ensures keeps { OnOk result (Keeps (answers_of H.hint_at H.verdict_at H.lights)
+            (with_turn (flushed self.old.decoder) self.old) self.new) }
+        ensures faults { FaultsOnly result }
+    {
         self.decoder.flush(&mut self.keys)?;
         self.take_turns(bindings)
     }
@@ -221,7 +276,15 @@ impl<O: Write + Drop, H: Helper + Drop, S: History + Drop> Editor<O, H, S> {
     ///
     /// # Errors
     /// Those of `feed`.
-    pub fn finish(&mut self, bindings: &Bindings) -> Result<Fed> {
+    pub fn finish(&mut self, bindings: &Bindings) -> Result<Fed>
+        ensures came { (begun : BegunLine) → self.old.line ≡ Some begun →
+            let g = ⟦<dyn ConditionalEventHandler as ConditionalEventHandler>⟧ in
+            IfOk result (Came (answers_of H.hint_at H.verdict_at H.lights) (bound_of g bindings.now)
+            (with_turn (finished self.old.decoder) self.old) begun self.new) }
+        ensures keeps { OnOk result (Keeps (answers_of H.hint_at H.verdict_at H.lights)
+            (with_turn (finished self.old.decoder) self.old) self.new) }
+        ensures faults { FaultsOnly result }
+    {
         self.decoder.finish(&mut self.keys)?;
         self.take_turns(bindings)
     }
@@ -232,7 +295,13 @@ impl<O: Write + Drop, H: Helper + Drop, S: History + Drop> Editor<O, H, S> {
     /// `Io`, where the output fails, and `Memory`. Columns and rows are the new ones then, and the line is drawn at the next call.
     pub fn resize(&mut self, columns: Unit, rows: Unit) -> Result<()>
         requires { 0 < columns }
-        ensures { self.new ≡ self.old }
+        ensures written { written self.new ≡ written self.old }
+        ensures lines { self.new.lines ≡ self.old.lines }
+        ensures kills { self.new.kills ≡ self.old.kills }
+        ensures items { self.new.items ≡ self.old.items }
+        ensures keeps { Keeps (answers_of H.hint_at H.verdict_at H.lights)
+            (record self.old { columns = columns }) self.new }
+        ensures faults { FaultsOnly result }
     {
         let Some(begun) = self.line.take() else {
             self.screen.resize(columns, rows);
@@ -264,9 +333,44 @@ impl<O: Write + Drop, H: Helper + Drop, S: History + Drop> Editor<O, H, S> {
         pauses: bool,
         prompt: &P,
         bindings: &Bindings,
-    ) -> Result<String> {
+    ) -> Result<String>
+        ensures submitted { let g = ⟦<dyn ConditionalEventHandler as ConditionalEventHandler>⟧ in
+            LooksAtNoHint (bound_of g bindings.now) → IfOk result (λ text.
+            Reads (answers_of H.hint_at H.verdict_at H.lights) (bound_of g bindings.now)
+            (P.raw_text prompt.now) [] [] self.old self.new (Fed.Submitted text)) }
+        ensures interrupted { let g = ⟦<dyn ConditionalEventHandler as ConditionalEventHandler>⟧ in
+            LooksAtNoHint (bound_of g bindings.now) → result ≡ Err Interrupted →
+            Reads (answers_of H.hint_at H.verdict_at H.lights) (bound_of g bindings.now)
+            (P.raw_text prompt.now) [] [] self.old self.new Fed.Interrupted }
+    {
+        self.readline_with_initial(input, pauses, prompt, ("", ""), bindings)
+    }
+
+    /// Reads a line as `readline` does, which begins with these texts before and behind the cursor.
+    ///
+    /// # Errors
+    /// Those of `readline`.
+    pub fn readline_with_initial<R: Read, P: Prompt>(
+        &mut self,
+        input: &mut R,
+        pauses: bool,
+        prompt: &P,
+        initial: (&str, &str),
+        bindings: &Bindings,
+    ) -> Result<String>
+        ensures submitted { let g = ⟦<dyn ConditionalEventHandler as ConditionalEventHandler>⟧ in
+            LooksAtNoHint (bound_of g bindings.now) → IfOk result (λ text.
+            Reads (answers_of H.hint_at H.verdict_at H.lights) (bound_of g bindings.now)
+            (P.raw_text prompt.now) initial.entry.0.now initial.entry.1.now
+            self.old self.new (Fed.Submitted text)) }
+        ensures interrupted { let g = ⟦<dyn ConditionalEventHandler as ConditionalEventHandler>⟧ in
+            LooksAtNoHint (bound_of g bindings.now) → result ≡ Err Interrupted →
+            Reads (answers_of H.hint_at H.verdict_at H.lights) (bound_of g bindings.now)
+            (P.raw_text prompt.now) initial.entry.0.now initial.entry.1.now
+            self.old self.new Fed.Interrupted }
+    {
         let mut buffer = [0; BUFFER_SIZE];
-        let mut fed = self.begin(prompt, bindings)?;
+        let mut fed = self.begin_with(prompt, initial, bindings)?;
         for _ in 0..u64::MAX {
             match fed {
                 Fed::More => {}
@@ -274,26 +378,105 @@ impl<O: Write + Drop, H: Helper + Drop, S: History + Drop> Editor<O, H, S> {
                 Fed::Ended => return Err(ReadlineError::Eof),
                 Fed::Interrupted => return Err(ReadlineError::Interrupted),
             }
-            fed = match input.read(&mut buffer)? {
-                0 if pauses => self.flush(bindings)?,
-                0 => return self.last(bindings),
-                count => self.feed(&buffer[..count], bindings)?,
-            };
+            fed = self.hear(input, pauses, &mut buffer, bindings)?;
         }
         Err(ReadlineError::Eof)
     }
 
-    /// Ends the input of `readline`: what bytes have begun may still submit the line.
-    fn last(&mut self, bindings: &Bindings) -> Result<String> {
-        match self.finish(bindings)? {
-            Fed::Submitted(line) => Ok(line),
-            Fed::Interrupted => Err(ReadlineError::Interrupted),
-            Fed::More | Fed::Ended => Err(ReadlineError::Eof),
+    /// Reads from the input once, and takes the turns of what came.
+    ///
+    /// # Errors
+    /// `Eof`, where the input has ended, and does not end the line; `Io`, where the input, the output or a party fails, and `Memory`.
+    fn hear<R: Read>(
+        &mut self,
+        input: &mut R,
+        pauses: bool,
+        buffer: &mut [u8],
+        bindings: &Bindings,
+    ) -> Result<Fed>
+        ensures hears { (begun : BegunLine) → self.old.line ≡ Some begun →
+            let g = ⟦<dyn ConditionalEventHandler as ConditionalEventHandler>⟧ in
+            IfOk result (HearsOnce (answers_of H.hint_at H.verdict_at H.lights)
+            (bound_of g bindings.now) self.old begun self.new) }
+        ensures errors { result ≢ Err Interrupted }
+    {
+        match input.read(buffer)? {
+            0 if pauses => self.flush(bindings),
+            0 => self.last(bindings),
+            count => self.feed(&buffer[..count], bindings),
         }
     }
 
+    /// Ends the input of `readline`: what bytes have begun may still end the line.
+    fn last(&mut self, bindings: &Bindings) -> Result<Fed>
+        ensures came { (begun : BegunLine) → self.old.line ≡ Some begun →
+            let g = ⟦<dyn ConditionalEventHandler as ConditionalEventHandler>⟧ in
+            IfOk result (Came (answers_of H.hint_at H.verdict_at H.lights) (bound_of g bindings.now)
+            (with_turn (finished self.old.decoder) self.old) begun self.new) }
+        ensures keeps { OnOk result (Keeps (answers_of H.hint_at H.verdict_at H.lights)
+            (with_turn (finished self.old.decoder) self.old) self.new) }
+        ensures errors { result ≢ Err Interrupted }
+    {
+        match self.finish(bindings)? {
+            Fed::More => Err(ReadlineError::Eof),
+            fed => Ok(fed),
+        }
+    }
+
+    /// Begins a line behind the prompt, with these texts before and behind the cursor. It is to be drawn.
+    fn start<P: Prompt>(&mut self, prompt: &P, initial: (&str, &str)) -> Result<()>
+        ensures starts { OnOk result (StartsWith (answers_of H.hint_at H.verdict_at H.lights)
+            (P.raw_text prompt.now) initial.entry.0.now initial.entry.1.now self.old self.new) }
+        ensures faults { FaultsOnly result }
+    {
+        self.ask_for_paste_marks()?;
+        self.prompt = copied_prompt(self.alloc, prompt)?;
+        self.line = None;
+        let begun = begin(
+            self.alloc,
+            &mut self.screen,
+            &self.prompt,
+            &mut self.helper,
+            &self.history,
+            initial.0,
+            initial.1,
+            &self.config,
+        )?;
+        self.line = Some(begun);
+        Ok(())
+    }
+
+    /// Asks the terminal to mark pasted texts, where the settings say so.
+    fn ask_for_paste_marks(&mut self) -> Result<()>
+        ensures stays { self.new ≡ self.old }
+        ensures faults { FaultsOnly result }
+    {
+        if !self.config.enable_bracketed_paste() {
+            return Ok(());
+        }
+        self.screen.enable_bracketed_paste()
+    }
+
+    /// Asks the terminal to mark pasted texts no more, where the settings say so.
+    fn ask_for_no_paste_marks(&mut self) -> Result<()>
+        ensures stays { self.new ≡ self.old }
+        ensures faults { FaultsOnly result }
+    {
+        if !self.config.enable_bracketed_paste() {
+            return Ok(());
+        }
+        self.screen.disable_bracketed_paste()
+    }
+
     /// Takes turns of the line that has begun, if one has.
-    fn take_turns(&mut self, bindings: &Bindings) -> Result<Fed> {
+    fn take_turns(&mut self, bindings: &Bindings) -> Result<Fed>
+        ensures came { (begun : BegunLine) → self.old.line ≡ Some begun →
+            let g = ⟦<dyn ConditionalEventHandler as ConditionalEventHandler>⟧ in
+            IfOk result (Came (answers_of H.hint_at H.verdict_at H.lights) (bound_of g bindings.now)
+            self.old begun self.new) }
+        ensures keeps { Keeps (answers_of H.hint_at H.verdict_at H.lights) self.old self.new }
+        ensures faults { FaultsOnly result }
+    {
         let Some(begun) = self.line.take() else {
             return Ok(Fed::More);
         };
@@ -310,51 +493,84 @@ impl<O: Write + Drop, H: Helper + Drop, S: History + Drop> Editor<O, H, S> {
             &self.config,
         );
         self.line = Some(begun);
+        self.end(turned)
+    }
+
+    /// Ends the line that has begun, if its last command ended it. Where that fails, the line goes on.
+    fn end(&mut self, turned: Result<Turned>) -> Result<Fed>
+        requires line { is_some self.old.line ≡ true }
+        requires faults { FaultsOnly turned }
+        ensures ends { IfOk result (EndsAs turned self.old self.new) }
+        ensures stays { self.new
+            ≡ record self.old { line = self.new.line; lines = self.new.lines } }
+        ensures kept { OnErr result (self.new ≡ self.old) }
+        ensures faults { FaultsOnly result }
+    {
         match turned? {
             Turned::Proceeds | Turned::NeedsMore => Ok(Fed::More),
             Turned::Submitted => self.submit(),
-            Turned::Ended => self.end(Fed::Ended),
-            Turned::Interrupted => self.end(Fed::Interrupted),
+            Turned::Ended => self.leave(Fed::Ended),
+            Turned::Interrupted => self.leave(Fed::Interrupted),
         }
     }
 
-    /// Ends the line that has begun.
-    fn end(&mut self, fed: Fed) -> Result<Fed> {
+    /// Drops the line that has begun. Where that fails, the line goes on.
+    fn leave(&mut self, fed: Fed) -> Result<Fed>
+        ensures answer { IfOk result (λ answer. answer ≡ fed) }
+        ensures gone { OnOk result (self.new ≡ record self.old { line = None }) }
+        ensures kept { OnErr result (self.new ≡ self.old) }
+        ensures faults { FaultsOnly result }
+    {
+        self.ask_for_no_paste_marks()?;
         self.line = None;
-        if self.config.enable_bracketed_paste() {
-            self.screen.disable_bracketed_paste()?;
-        }
         Ok(fed)
     }
 
-    /// Submits the line that has begun, and adds it to the history where the settings say so.
-    fn submit(&mut self) -> Result<Fed> {
-        let Some(begun) = self.line.take() else {
+    /// Submits the line that has begun, and adds it to the history where the settings say so. Where that fails, the line goes on.
+    fn submit(&mut self) -> Result<Fed>
+        requires { is_some self.old.line ≡ true }
+        ensures submits { IfOk result (EndsAs (Ok Turned.Submitted) self.old self.new) }
+        ensures stays { self.new
+            ≡ record self.old { line = self.new.line; lines = self.new.lines } }
+        ensures kept { OnErr result (self.new ≡ self.old) }
+        ensures faults { FaultsOnly result }
+    {
+        let Some(begun) = &self.line else {
             return Ok(Fed::More);
         };
-        let adds = self.config.auto_add_history();
-        match copied(self.alloc, begun.line.line(), adds, &mut self.history) {
-            Ok(text) => self.end(Fed::Submitted(text)),
-            Err(error) => {
-                self.line = Some(begun);
-                Err(error)
-            }
-        }
+        let text = String::from_str(self.alloc, begun.line.line())?;
+        self.ask_for_no_paste_marks()?;
+        add(
+            self.config.auto_add_history(),
+            text.as_str(),
+            &mut self.history,
+        )?;
+        self.line = None;
+        Ok(Fed::Submitted(text))
     }
 }
 
-/// Returns a copy of a line, and adds the line to the history where `adds` says so.
-fn copied<S: History>(alloc: Global, line: &str, adds: bool, history: &mut S) -> Result<String>
-    ensures text { IfOk result (λ text. string_bytes text ≡ line.now) }
+/// Returns a copy of a prompt's texts, without styles and with them.
+fn copied_prompt<P: Prompt>(alloc: Global, prompt: &P) -> Result<(String, String)>
+    ensures raw { IfOk result (λ copy. string_bytes copy.0 ≡ P.raw_text prompt.now) }
+    ensures memory { MemoryOnly result }
+{
+    let raw = String::from_str(alloc, prompt.raw())?;
+    let styled = String::from_str(alloc, prompt.styled())?;
+    Ok((raw, styled))
+}
+
+/// Adds a line to a history where `adds` says so.
+fn add<S: History>(adds: bool, line: &str, history: &mut S) -> Result<()>
     ensures added { OnOk result (S.lines history.new ≡
         (if adds then added (S.rules history.old) (S.lines history.old) line.now
         else S.lines history.old)) }
     ensures kept { OnErr result (S.lines history.new ≡ S.lines history.old) }
+    ensures rules { S.rules history.new ≡ S.rules history.old }
     ensures faults { FaultsOnly result }
 {
-    let text = String::from_str(alloc, line)?;
     if adds {
         history.add(line)?;
     }
-    Ok(text)
+    Ok(())
 }

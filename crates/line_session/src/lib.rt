@@ -1,6 +1,8 @@
 //! Reads a line from a terminal.
 #![tactic(auto)]
 
-mod desk;
+mod begun;
 pub mod editor;
+pub mod laws;
+pub mod parts;
 mod turns;

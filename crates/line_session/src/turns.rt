@@ -1,12 +1,8 @@
 //! Turns that are taken one after another, for as long as there are items.
-ghost use Rattle.std.specs.Prelude.{◌≡◌, false, true, IfOk, OnOk, string_bytes};
+ghost use Rattle.std.specs.Prelude.{◌≡◌, false, IfOk, OnOk, string_bytes};
 ghost use Rattle.line_config.specs.Error.{FaultsOnly};
-ghost use Rattle.line_editor.specs.Editor.{Leaves, own_ruler, proceeds};
 ghost use Rattle.line_editor.specs.InputState.{input_of, keys_of};
-ghost use Rattle.line_editor.specs.Outcomes.{editor_of, session};
-ghost use Rattle.line_editor.specs.Run.{ready};
-ghost use Rattle.line_editor.specs.Step.{step};
-ghost use Rattle.line_keys.specs.Command.{insert};
+ghost use Rattle.line_editor.specs.Outcomes.{session};
 ghost use Rattle.line_keys.specs.Frame.{Frame};
 ghost use Rattle.line_session.specs.Taken.{ComesTo, DrawnOnce, IsShown, KeepsRules, PutsIn, rules_of, standing_of, start_of};
 
@@ -47,7 +43,8 @@ pub(crate) fn take_turns<'out, 'prompt, O: Write + Drop, H: Helper, P: Prompt, S
         let r = ⟦<KeyQueue as RawReader>⟧ in
         let before = session state.old (k input_state.old) keys.old kill_ring.old in
         let after = session state.new (k input_state.new) keys.new kill_ring.new in
-        IfOk result (ComesTo (rules_of e r config.now.indent_size before)
+        IfOk result (ComesTo (e.display state.new).layout.default_prompt
+        (rules_of e r config.now.indent_size before)
         (start_of e r draws before) (standing_of e r after)) }
     ensures drawn { let e = ⟦<State<'out, 'prompt, Ansi<O, KeyQueue>, H, P, S> as EditorState>⟧ in
         IfOk result (λ turned. DrawnOnce e turned state.new) }
@@ -81,7 +78,8 @@ fn turns<'out, 'prompt, O: Write + Drop, H: Helper, P: Prompt, S: History>(
         let r = ⟦<KeyQueue as RawReader>⟧ in
         let before = session state.old (k input_state.old) keys.old kill_ring.old in
         let after = session state.new (k input_state.new) keys.new kill_ring.new in
-        IfOk result (ComesTo (rules_of e r config.now.indent_size before)
+        IfOk result (ComesTo (e.display state.new).layout.default_prompt
+        (rules_of e r config.now.indent_size before)
         (standing_of e r before) (standing_of e r after)) }
     ensures drawn { let e = ⟦<State<'out, 'prompt, Ansi<O, KeyQueue>, H, P, S> as EditorState>⟧ in
         IfOk result (λ turned. DrawnOnce e turned state.new) }

@@ -1,17 +1,22 @@
-//! What a line is edited with.
-ghost use Rattle.std.specs.Prelude.{IsCharBoundary, ◌≡◌, ◌<◌, Ok, Some, false, length, IfOk, string_bytes};
-ghost use Rattle.line_config.specs.Error.{MemoryOnly};
+//! A line that has begun, and is kept between two calls.
+ghost use Rattle.std.specs.Prelude.{IsCharBoundary, ◌≡◌, ◌<◌, ℕ, List, Ok, Some, false, true, length, not, IfOk, string_bytes};
+ghost use Rattle.line_config.specs.Error.{FaultsOnly, MemoryOnly};
+ghost use Rattle.line_editor.specs.Binding.{bound_of};
 ghost use Rattle.line_editor.specs.Editor.{Begins};
+ghost use Rattle.line_editor.specs.Input.{first_input};
 ghost use Rattle.line_keys.specs.Frame.{Frame};
-ghost use Rattle.line_keys.specs.Display.{never_drawn};
+ghost use Rattle.line_keys.specs.Display.{corner, never_drawn};
 ghost use Rattle.line_keys.specs.Draft.{empty_draft};
 ghost use Rattle.line_parts.specs.Helped.{environment_by, sure_by};
-ghost use Rattle.line_session.specs.Taken.{DrawnOnce, IsShown};
+ghost use Rattle.line_screen.specs.KeyQueue.{queue_binding};
 ghost use Rattle.line_session.specs.Kept.{Fits, answers_of};
+ghost use Rattle.line_session.specs.Sitting.{begun_with, rules_for, standing_with, starting};
+ghost use Rattle.line_session.specs.Taken.{ComesTo, DrawnOnce, IsShown};
 
 use crate::turns::take_turns;
 use line_buffer::{KillRing, Unit};
 use line_config::{Config, Prompt, Result};
+use line_editor::binding::ConditionalEventHandler;
 use line_editor::edit::State;
 use line_editor::edit::kept::KeptLine;
 use line_editor::input_state::kept::KeptInput;
@@ -53,10 +58,13 @@ fn leave<'out, 'prompt, O: Write + Drop, H: Helper, P: Prompt, S: History>(
     ensures ended { IfOk result (λ done. turned ≡ Ok done) }
     ensures drawn { let e = ⟦<State<'out, 'prompt, Ansi<O, KeyQueue>, H, P, S> as EditorState>⟧ in
         result ≡ Ok Turned.NeedsMore → DrawnOnce e Turned.NeedsMore state.new }
+    ensures prompt { let e = ⟦<State<'out, 'prompt, Ansi<O, KeyQueue>, H, P, S> as EditorState>⟧ in
+        result ≡ Ok Turned.NeedsMore → e.display state.new ≡ e.display state.old }
     ensures draft { let e = ⟦<State<'out, 'prompt, Ansi<O, KeyQueue>, H, P, S> as EditorState>⟧ in
         e.draft state.new ≡ e.draft state.old }
     ensures frame { let e = ⟦<State<'out, 'prompt, Ansi<O, KeyQueue>, H, P, S> as EditorState>⟧ in
         Frame e state.old state.new }
+    ensures faults { FaultsOnly turned → FaultsOnly result }
 {
     let done = turned?;
     if done == Turned::NeedsMore {
@@ -74,8 +82,11 @@ fn is_to_be_drawn<'out, 'prompt, O: Write + Drop, H: Helper, P: Prompt, S: Histo
 ) -> bool
     requires { let e = ⟦<State<'out, 'prompt, Ansi<O, KeyQueue>, H, P, S> as EditorState>⟧ in
         turned.now ≡ Ok Turned.NeedsMore → DrawnOnce e Turned.NeedsMore state.now }
-    ensures { let e = ⟦<State<'out, 'prompt, Ansi<O, KeyQueue>, H, P, S> as EditorState>⟧ in
+    ensures shown { let e = ⟦<State<'out, 'prompt, Ansi<O, KeyQueue>, H, P, S> as EditorState>⟧ in
         result ≡ false → IsShown e state.now }
+    ensures prompt { let e = ⟦<State<'out, 'prompt, Ansi<O, KeyQueue>, H, P, S> as EditorState>⟧ in
+        turned.now ≡ Ok Turned.NeedsMore
+        → not result ≡ (e.display state.now).layout.default_prompt }
 {
     match turned {
         Ok(Turned::NeedsMore) => !state.is_default_prompt(),
@@ -101,6 +112,18 @@ pub(crate) fn begin<'out, 'prompt, O: Write + Drop, H: Helper, S: History>(
         (⟦<Ansi<O, KeyQueue> as ScreenState>⟧.surface screen.new)
         (⟦<Ansi<O, KeyQueue> as ScreenState>⟧.screen screen.new) (string_bytes prompt.now.0)
         (answers_of H.hint_at H.verdict_at H.lights helper.new (S.lines history.now))) }
+    ensures draft { IfOk result (λ begun.
+        begun.line.draft ≡ begun_with left.now right.now (S.lines history.now)) }
+    ensures input { IfOk result (λ begun. begun.input ≡ first_input config.now.edit_mode) }
+    ensures draws { IfOk result (λ begun. begun.draws ≡ true) }
+    ensures prompt { IfOk result (λ begun. begun.line.drawing.prompt_end
+        ≡ (⟦<Ansi<O, KeyQueue> as ScreenState>⟧.surface screen.old).measure
+        (string_bytes prompt.now.0) corner) }
+    ensures surface { IfOk result (λ _. ⟦<Ansi<O, KeyQueue> as ScreenState>⟧.surface screen.new
+        ≡ ⟦<Ansi<O, KeyQueue> as ScreenState>⟧.surface screen.old) }
+    ensures answers { IfOk result (λ _. (lines : List (List ℕ))
+        → answers_of H.hint_at H.verdict_at H.lights helper.new lines
+        ≡ answers_of H.hint_at H.verdict_at H.lights helper.old lines) }
     ensures memory { MemoryOnly result }
 {
     let mut text = String::from_str(alloc, left)?;
@@ -177,6 +200,11 @@ pub(crate) fn resized<'out, 'prompt, O: Write + Drop, H: Helper, S: History>(
         (answers_of H.hint_at H.verdict_at H.lights helper.new (S.lines history.now)) }
     ensures draft { result.0.line.draft ≡ begun.line.draft }
     ensures input { result.0.input ≡ begun.input }
+    ensures columns { (⟦<Ansi<O, KeyQueue> as ScreenState>⟧.surface screen.new).columns ≡ columns }
+    ensures answers { (lines : List (List ℕ))
+        → answers_of H.hint_at H.verdict_at H.lights helper.new lines
+        ≡ answers_of H.hint_at H.verdict_at H.lights helper.old lines }
+    ensures faults { FaultsOnly result.1 }
 {
     let Begun { line, input, .. } = begun;
     let mut state = State::resume(alloc, line, screen, prompt, Some(helper), history);
@@ -213,8 +241,22 @@ pub(crate) fn go_on<'out, 'prompt, O: Write + Drop, H: Helper, S: History>(
         (⟦<Ansi<O, KeyQueue> as ScreenState>⟧.surface screen.new)
         (⟦<Ansi<O, KeyQueue> as ScreenState>⟧.screen screen.new) (string_bytes prompt.now.0)
         (answers_of H.hint_at H.verdict_at H.lights helper.new (S.lines history.now)) }
-    ensures answers { answers_of H.hint_at H.verdict_at H.lights helper.new (S.lines history.now)
-        ≡ answers_of H.hint_at H.verdict_at H.lights helper.old (S.lines history.now) }
+    ensures comes { let g = ⟦<dyn ConditionalEventHandler as ConditionalEventHandler>⟧ in
+        let asked = answers_of H.hint_at H.verdict_at H.lights helper.old (S.lines history.now) in
+        IfOk result.1 (ComesTo (not result.0.draws)
+        (rules_for (bound_of g bindings.now) keys.old.binds
+        config.now.indent_size begun.line.drawing.prompt_end.col asked)
+        (starting asked begun.draws
+        (standing_with begun.line.draft begun.input keys.old.rest kill_ring.old))
+        (standing_with result.0.line.draft result.0.input keys.new.rest kill_ring.new)) }
+    ensures surface { ⟦<Ansi<O, KeyQueue> as ScreenState>⟧.surface screen.new
+        ≡ ⟦<Ansi<O, KeyQueue> as ScreenState>⟧.surface screen.old }
+    ensures prompt { result.0.line.drawing.prompt_end ≡ begun.line.drawing.prompt_end }
+    ensures own { queue_binding keys.new.binds ≡ queue_binding keys.old.binds }
+    ensures answers { (lines : List (List ℕ))
+        → answers_of H.hint_at H.verdict_at H.lights helper.new lines
+        ≡ answers_of H.hint_at H.verdict_at H.lights helper.old lines }
+    ensures faults { FaultsOnly result.1 }
 {
     let Begun { line, input, draws } = begun;
     let mut state = State::resume(alloc, line, screen, prompt, Some(helper), history);

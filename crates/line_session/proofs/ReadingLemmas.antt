@@ -1,0 +1,175 @@
+-- Facts on a line that is read piece by piece.
+use Rattle.std.proofs.Common.{◌≡◌, ◌∙◌, inl, inr, ℕ, Bool, true, false, List, [], ◌++◌, Option, Result, Ok, Err, IfOk, OnOk, refl, sym, ap, subst}
+use Rattle.std.proofs.lemmas.List.{append-nil}
+use Rattle.line_buffer.specs.declared.layout.GraphemeClusterMode.TheVariants.{Unicode}
+use Rattle.line_config.specs.Settings.{Settings}
+use Rattle.line_config.specs.declared.error.ReadlineError.{ReadlineError}
+use Rattle.line_keys.specs.Command.{Command}
+use Rattle.line_keys.specs.Display.{corner}
+use Rattle.line_keys.specs.Item.{Item}
+use Rattle.line_keys.specs.declared.keys.KeyEvent.{KeyEvent}
+use Rattle.line_parts.specs.Environment.{Environment}
+use Rattle.line_screen.specs.Measure.{measured}
+use Rattle.line_editor.specs.Binding.{Bound}
+use Rattle.line_editor.specs.Editor.{Answer, ended, interrupted, submitted}
+use Rattle.line_editor.specs.Input.{first_input}
+use Rattle.line_editor.specs.ItemShown.{any_drawn}
+use Rattle.line_term.specs.Decoder as decoding
+use Rattle.line_session.specs.Pieces.{GoesOnFrom, drawn_anew, with_more}
+use Rattle.line_session.specs.Pieces as pieces
+use Rattle.line_session.specs.Reading.{CameOver, Heard, HearsOnce, LooksAtNoHint, Reads}
+use Rattle.line_session.specs.Reading as reading
+use Rattle.line_session.specs.Sitting.{BegunLine, Came, CameBegun, CameFrom, EndsLine, Keeps, Sitting, begun_with, rules_at, rules_for, standing_with, starting, with_turn}
+use Rattle.line_session.specs.Steps.{Rules, Standing}
+use Rattle.line_session.specs.declared.editor.Fed.{Fed}
+use Rattle.line_session.specs.declared.editor.Fed.TheVariants as fed
+use Rattle.line_session.proofs.CameLemmas.{came_alike}
+use Rattle.line_session.proofs.WholeLaws.{ends-same}
+
+module _ {H : Type 0} (answers : H → List (List ℕ) → Environment) (bound : Bound) (prompt before behind : List ℕ) (old : Sitting H) where
+  abbrev by : Rules
+  by = rules_at answers bound old (measured old.columns prompt corner).col
+
+  abbrev start : Standing
+  start = starting (answers old.helper old.lines) true
+      (standing_with (begun_with before behind old.lines) (first_input old.settings.edit_mode) old.items old.kills)
+
+  -- the line has begun
+  pub reads_begun : (now : Sitting H) (came : Fed) → CameBegun answers bound prompt before behind old now came → Keeps answers old now
+      → Reads answers bound prompt before behind old now came
+  reads_begun now came begun keeps = record {
+    items = [];
+    heard = subst (λ d. Heard old.decoder [] d) (sym keeps.decoder) reading.nothing;
+    over = by_fed came begun;
+    keeps = record {
+      answers_alike = keeps.answers_alike;
+      takes = keeps.takes;
+      own = keeps.own;
+      decoder = refl;
+      settings = keeps.settings;
+      columns = keeps.columns;
+    };
+  }
+    where
+      whole : start ≡ with_more [] start
+      whole = ap (λ i. record start { items = i }) (sym (append-nil start.items))
+
+      by_fed : (came : Fed) → CameFrom by start old now came → CameOver by start [] old now came
+      by_fed fed.More begun = (
+        record {
+          left = begun.0.left;
+          line = begun.0.line;
+          drawn = any_drawn begun.0.waits.begins.shown;
+          waited = pieces.first begun.0.waits;
+          draws = begun.0.drawn;
+          column = begun.0.column;
+        },
+        begun.1,
+      )
+      by_fed (fed.Submitted text) begun = subst (λ s. CameFrom by s old now (fed.Submitted text)) whole begun
+      by_fed fed.Ended begun = subst (λ s. CameFrom by s old now fed.Ended) whole begun
+      by_fed fed.Interrupted begun = subst (λ s. CameFrom by s old now fed.Interrupted) whole begun
+
+  module _ (no_hint : LooksAtNoHint bound) (now : Sitting H) (reads : Reads answers bound prompt before behind old now fed.More) where
+    abbrev left : BegunLine
+    left = reads.over.0.left
+
+    abbrev waiting : Standing
+    waiting = standing_with left.kept.draft left.input now.items now.kills
+
+    -- those who answer, answer as they did
+    asked : answers now.helper now.lines ≡ answers old.helper old.lines
+    asked = reads.keeps.answers_alike now.lines ∙ ap (λ l. answers old.helper l) reads.over.1
+
+    -- where reading goes on
+    record GoesOnAt (piece : List Item) : Type 0 where
+      next : Standing
+      goes : GoesOnFrom by waiting reads.over.0.drawn next
+      is : starting (answers now.helper now.lines) left.draws (standing_with left.kept.draft left.input (now.items ++ piece) now.kills) ≡ with_more piece next
+
+    goes_on_at : (piece : List Item) → GoesOnAt piece
+    goes_on_at piece = by_draws left.draws refl
+      where
+        by_draws : (draws : Bool) → left.draws ≡ draws → GoesOnAt piece
+        by_draws false is = record {
+          next = waiting;
+          goes = inl refl;
+          is = ap (λ b. starting (answers now.helper now.lines) b (standing_with left.kept.draft left.input (now.items ++ piece) now.kills)) is;
+        }
+        by_draws true is = record {
+          next = drawn_anew by waiting;
+          goes = inr (reads.over.0.draws is, refl);
+          is = ap (λ b. starting (answers now.helper now.lines) b (standing_with left.kept.draft left.input (now.items ++ piece) now.kills)) is
+              ∙ ap (λ w. starting w true (standing_with left.kept.draft left.input (now.items ++ piece) now.kills)) asked;
+        }
+
+    -- more was heard, and this came of it
+    pub reads_on : (new : Sitting H) (came : Fed) → HearsOnce answers bound now left new came → Reads answers bound prompt before behind old new came
+    reads_on new came hears =
+        let turn = hears.turn in
+        let here = goes_on_at turn.items in
+        let own_to : (KeyEvent → Option Command) → Rules = λ o. record { keymap = record { bound = bound; own = o }; ruler = record { prompt_column = left.kept.drawing.prompt_end.col; cluster_mode = Unicode; indent_size = now.settings.indent_size }; environment = answers now.helper now.lines } in
+        let same_rules : rules_at answers bound (with_turn turn now) left.kept.drawing.prompt_end.col ≡ by =
+        ap own_to reads.keeps.own
+        ∙ ap (λ (s : Settings). rules_for bound old.binds s.indent_size left.kept.drawing.prompt_end.col (answers now.helper now.lines)) reads.keeps.settings
+        ∙ ap (λ c. rules_for bound old.binds old.settings.indent_size c (answers now.helper now.lines)) reads.over.0.column
+        ∙ ap (λ w. rules_for bound old.binds old.settings.indent_size (measured old.columns prompt corner).col w) asked in
+        let came_here : CameFrom by (with_more turn.items here.next) old new came =
+        came_alike _ _ _ _ (with_turn turn now) old new same_rules here.is reads.over.1 reads.keeps.takes reads.keeps.settings came hears.came in
+        record {
+          items = reads.items ++ turn.items;
+          heard = subst (λ d. Heard old.decoder (reads.items ++ turn.items) d) (sym hears.keeps.decoder) (hears.heard reads.heard);
+          over = by_fed turn.items here came came_here;
+          keeps = record {
+            answers_alike = λ lines. hears.keeps.answers_alike lines ∙ reads.keeps.answers_alike lines;
+            takes = hears.keeps.takes ∙ reads.keeps.takes;
+            own = hears.keeps.own ∙ reads.keeps.own;
+            decoder = refl;
+            settings = hears.keeps.settings ∙ reads.keeps.settings;
+            columns = hears.keeps.columns ∙ reads.keeps.columns;
+          };
+        }
+      where
+        ends_over : (piece : List Item) (here : GoesOnAt piece) (answer : Answer) → EndsLine by (with_more piece here.next) new answer
+            → EndsLine by (with_more (reads.items ++ piece) start) new answer
+        ends_over piece here answer ends = record {
+          end = ends.end;
+          ends = ends-same by start waiting here.next ends.end reads.items piece reads.over.0.drawn answer no_hint reads.over.0.waited here.goes ends.ends;
+          gone = ends.gone;
+          kills = ends.kills;
+          items = ends.items;
+        }
+
+        by_fed : (piece : List Item) (here : GoesOnAt piece) (came : Fed) → CameFrom by (with_more piece here.next) old new came
+            → CameOver by start (reads.items ++ piece) old new came
+        by_fed piece here fed.More came = (
+          record {
+            left = came.0.left;
+            line = came.0.line;
+            drawn = any_drawn came.0.waits.begins.shown;
+            waited = pieces.again piece reads.over.0.waited here.goes came.0.waits;
+            draws = came.0.drawn;
+            column = came.0.column;
+          },
+          came.1,
+        )
+        by_fed piece here (fed.Submitted text) came = record {
+          ends = ends_over piece here submitted came.ends;
+          text_left = came.text_left;
+          lines = came.lines;
+        }
+        by_fed piece here fed.Ended came = (ends_over piece here ended came.0, came.1)
+        by_fed piece here fed.Interrupted came = (ends_over piece here interrupted came.0, came.1)
+
+-- a turn of the bytes that was heard, and what came of it
+pub hears_turn : {H : Type 0} (answers : H → List (List ℕ) → Environment) (bound : Bound) (old new : Sitting H) (begun : BegunLine) (turn : decoding.Turn) (result : Result Fed ReadlineError)
+    → ((before : decoding.Standing) (items : List Item) → Heard before items old.decoder → Heard before (items ++ turn.items) turn.after)
+    → IfOk result (Came answers bound (with_turn turn old) begun new) → OnOk result (Keeps answers (with_turn turn old) new)
+    → IfOk result (HearsOnce answers bound old begun new)
+hears_turn answers bound old new begun turn (Ok f) heard came keeps = record {
+  turn = turn;
+  heard = λ {before} {items} h. heard before items h;
+  came = came;
+  keeps = keeps;
+}
+hears_turn answers bound old new begun turn (Err error) heard came keeps = tt

@@ -1,0 +1,10 @@
+use Rattle.line_session.proofs.CameLemmas.{begun_so, kept_so}
+use Rattle.line_session.proofs.editor.Editor.begin_with.Goals as goal
+
+pub returns-clause-came : goal.returns-clause-came
+returns-clause-came g c =
+    let starts = c.in_ok-start.ensures.starts in
+    begun_so _ _ _ _ _ _ _ _ _ starts (c.take_turns.ensures.came starts.begun starts.line)
+
+pub returns-clause-keeps : goal.returns-clause-keeps
+returns-clause-keeps g c = kept_so _ _ _ _ _ c.in_ok-start.ensures.starts.keeps c.take_turns.ensures.keeps

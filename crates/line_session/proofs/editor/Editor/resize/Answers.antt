@@ -1,0 +1,28 @@
+use Rattle.std.proofs.Common.{Some, option_map, refl, subst}
+use Rattle.line_session.specs.Kept.{answers_of}
+use Rattle.line_session.specs.Sitting.{Keeps, Sitting}
+use Rattle.line_session.proofs.editor.Editor.resize.Goals as goal
+
+pub returns-clause-keeps : goal.returns-clause-keeps
+returns-clause-keeps g c =
+    let asked = answers_of g.H.Hinter.hint_at g.H.Validator.verdict_at g.H.Highlighter.lights in
+    let resized = c.resized-begun in
+    let old : Sitting g.row.H.Denot = record {
+      line = option_map (λ b. record { kept = b.line; input = b.input; draws = b.draws }) c.self.inside.line;
+      lines = g.S.History.lines c.self.inside.history;
+      takes = g.S.History.rules c.self.inside.history;
+      kills = c.self.inside.kill_ring;
+      items = c.self.inside.keys.rest;
+      binds = c.self.inside.keys.binds;
+      decoder = c.self.inside.decoder;
+      helper = c.self.inside.helper;
+      settings = c.self.inside.config;
+      columns = c.self.inside.screen.shown.columns;
+    } in
+    let new : Sitting g.row.H.Denot = record old {
+      line = Some (record { kept = resized.result.0.line; input = resized.result.0.input; draws = resized.result.0.draws });
+      helper = resized.new.helper;
+      columns = resized.new.screen.shown.columns;
+    } in
+    subst (λ o. Keeps asked (record o { columns = c.args.columns }) new) c.self.view_is
+    (record { answers_alike = resized.ensures.answers; takes = refl; own = refl; decoder = refl; settings = refl; columns = resized.ensures.columns })

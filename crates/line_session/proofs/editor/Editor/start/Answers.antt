@@ -1,0 +1,27 @@
+use Rattle.std.proofs.Common.{◌∙◌, option_map, refl, ap}
+use Rattle.line_keys.specs.Display.{Surface}
+use Rattle.line_session.specs.Kept.{answers_of}
+use Rattle.line_session.specs.Sitting.{BegunLine, Sitting}
+use Rattle.line_session.proofs.CameLemmas.{starts_so}
+use Rattle.line_session.proofs.editor.Editor.start.Goals as goal
+
+pub returns-clause-starts : goal.returns-clause-starts
+returns-clause-starts g c =
+    let asked = answers_of g.H.Hinter.hint_at g.H.Validator.verdict_at g.H.Highlighter.lights in
+    let made = c.in_ok-begun in
+    let begun : BegunLine = record { kept = made.begun.line; input = made.begun.input; draws = made.begun.draws } in
+    let columns = ap (λ (s : Surface). s.columns) made.ensures.surface in
+    let mid : Sitting g.row.H.Denot = record {
+      line = option_map (λ b. record { kept = b.line; input = b.input; draws = b.draws }) c.self.inside.line;
+      lines = g.S.History.lines c.self.inside.history;
+      takes = g.S.History.rules c.self.inside.history;
+      kills = c.self.inside.kill_ring;
+      items = c.self.inside.keys.rest;
+      binds = c.self.inside.keys.binds;
+      decoder = c.self.inside.decoder;
+      helper = c.self.inside.helper;
+      settings = c.self.inside.config;
+      columns = c.self.inside.screen.shown.columns;
+    } in
+    starts_so asked _ _ _ _ _ mid _ begun (c.self.view_is ∙ c.in_ok-ask_for_paste_marks.ensures.stays) refl made.ensures.draft made.ensures.input made.ensures.draws made.ensures.prompt
+    c.in_ok-self-inside.ensures.raw refl columns made.ensures.answers

@@ -1,0 +1,196 @@
+//! A helper that is put together from parts.
+ghost use Rattle.std.specs.Prelude.{◌≡◌};
+
+use line_buffer::{Changeset, LineBuffer};
+use line_config::{CompletionType, Result};
+use line_parts::{
+    CmdKind, Completer, Context, Helper, Highlighter, Hinter, History, MatchingBracketHighlighter,
+    ValidationContext, ValidationResult, Validator,
+};
+use std::alloc::Global;
+use std::borrow::CowStr;
+
+/// A highlighter whose `highlight_char` answers alike, whatever it remembers.
+pub trait SteadyHighlighter: Highlighter {
+    // Two values that differ only in what `highlight_char` may change answer alike.
+    ghost lights_steady: { (one other : Self) → Self.steady one ≡ Self.steady other
+        → Self.lights one ≡ Self.lights other };
+}
+
+impl SteadyHighlighter for () {
+    ghost use Rattle.std.proofs.Common.{refl};
+
+    ghost lights_steady = { λ _ _ _. refl };
+}
+
+impl SteadyHighlighter for MatchingBracketHighlighter {
+    ghost use Rattle.std.proofs.Common.{refl};
+
+    ghost lights_steady = { λ _ _ _. refl };
+}
+
+/// A helper of four parts, each of which does what it does alone. Where one is `()`, nothing is completed, hinted at, lit or
+/// refused.
+#[derive(Drop)]
+pub struct Parts<
+    C: Completer + Drop,
+    N: Hinter + Drop,
+    L: SteadyHighlighter + Drop,
+    V: Validator + Drop,
+> {
+    /// Completes a part of the line.
+    pub completer: C,
+    /// Gives the hints.
+    pub hinter: N,
+    /// Gives the colors.
+    pub highlighter: L,
+    /// Says whether a line may be submitted.
+    pub validator: V,
+}
+
+impl<
+    C: Completer + Drop,
+    N: Hinter + Drop,
+    L: SteadyHighlighter + Drop,
+    V: Validator + Drop,
+> Completer for Parts<C, N, L, V> {
+    type Candidate = C::Candidate;
+
+    ghost sure = { λ parts. C.sure parts.completer };
+
+    ghost own_completion = { λ parts. C.own_completion parts.completer };
+
+    ghost own_update = { λ parts. C.own_update parts.completer };
+
+    fn complete<S: History>(
+        &self,
+        alloc: Global,
+        line: &str,
+        pos: usize,
+        ctx: &Context<'_, S>,
+    ) -> Result<(usize, Vec<C::Candidate>)> {
+        self.completer.complete(alloc, line, pos, ctx)
+    }
+
+    fn update(
+        &self,
+        line: &mut LineBuffer,
+        start: usize,
+        elected: &str,
+        changes: &mut Changeset,
+    ) -> Result<()> {
+        self.completer.update(line, start, elected, changes)
+    }
+}
+
+impl<C: Completer + Drop, N: Hinter + Drop, L: SteadyHighlighter + Drop, V: Validator + Drop> Hinter
+    for Parts<C, N, L, V> {
+    type Hint = N::Hint;
+
+    ghost sure = { λ parts. N.sure parts.hinter };
+
+    ghost hint_at = { λ parts. N.hint_at parts.hinter };
+
+    fn hint<S: History>(
+        &self,
+        alloc: Global,
+        line: &str,
+        pos: usize,
+        ctx: &Context<'_, S>,
+    ) -> Result<Option<N::Hint>> {
+        self.hinter.hint(alloc, line, pos, ctx)
+    }
+}
+
+impl<
+    C: Completer + Drop,
+    N: Hinter + Drop,
+    L: SteadyHighlighter + Drop,
+    V: Validator + Drop,
+> Highlighter for Parts<C, N, L, V> {
+    ghost sure = { λ parts. L.sure parts.highlighter };
+
+    ghost own_line = { λ parts. L.own_line parts.highlighter };
+
+    ghost own_prompt = { λ parts. L.own_prompt parts.highlighter };
+
+    ghost own_hint = { λ parts. L.own_hint parts.highlighter };
+
+    ghost own_candidate = { λ parts. L.own_candidate parts.highlighter };
+
+    ghost lights = { λ parts. L.lights parts.highlighter };
+
+    ghost steady = { λ parts. record parts { highlighter = L.steady parts.highlighter } };
+
+    fn highlight<'l>(&self, alloc: Global, line: &'l str, pos: usize) -> Result<CowStr<'l>> {
+        self.highlighter.highlight(alloc, line, pos)
+    }
+
+    fn highlight_prompt<'b, 's: 'b, 'p: 'b>(
+        &'s self,
+        alloc: Global,
+        prompt: &'p str,
+        default: bool,
+    ) -> Result<CowStr<'b>> {
+        self.highlighter.highlight_prompt(alloc, prompt, default)
+    }
+
+    fn highlight_hint<'h>(&self, alloc: Global, hint: &'h str) -> Result<CowStr<'h>> {
+        self.highlighter.highlight_hint(alloc, hint)
+    }
+
+    fn highlight_candidate<'c>(
+        &self,
+        alloc: Global,
+        candidate: &'c str,
+        completion: CompletionType,
+    ) -> Result<CowStr<'c>> {
+        self.highlighter
+            .highlight_candidate(alloc, candidate, completion)
+    }
+
+    fn highlight_char(&mut self, line: &str, pos: usize, kind: CmdKind) -> bool {
+        self.highlighter.highlight_char(line, pos, kind)
+    }
+}
+
+impl<
+    C: Completer + Drop,
+    N: Hinter + Drop,
+    L: SteadyHighlighter + Drop,
+    V: Validator + Drop,
+> Validator for Parts<C, N, L, V> {
+    ghost sure = { λ parts. V.sure parts.validator };
+
+    ghost verdict_at = { λ parts. V.verdict_at parts.validator };
+
+    ghost checks_typing = { λ parts. V.checks_typing parts.validator };
+
+    fn validate(&self, alloc: Global, ctx: &ValidationContext<'_>) -> Result<ValidationResult> {
+        self.validator.validate(alloc, ctx)
+    }
+
+    fn validate_while_typing(&self) -> bool {
+        self.validator.validate_while_typing()
+    }
+}
+
+impl<C: Completer + Drop, N: Hinter + Drop, L: SteadyHighlighter + Drop, V: Validator + Drop> Helper
+    for Parts<C, N, L, V> {
+    ghost use Rattle.std.proofs.Common.{ap};
+
+    ghost hints_kept = { λ _ _ same. ap (λ parts. N.hint_at parts.hinter) same };
+
+    ghost verdicts_kept = { λ _ _ same. ap (λ parts. V.verdict_at parts.validator) same };
+
+    ghost lights_kept = { λ one other same. L.lights_steady one.highlighter other.highlighter
+        (ap (λ parts. parts.highlighter) same) };
+
+    ghost completions_kept = { λ _ _ same. ap (λ parts. C.own_completion parts.completer) same };
+
+    ghost hinter_kept = { λ _ _ same. ap (λ parts. N.sure parts.hinter) same };
+
+    ghost validator_kept = { λ _ _ same. ap (λ parts. V.sure parts.validator) same };
+
+    ghost completer_kept = { λ _ _ same. ap (λ parts. C.sure parts.completer) same };
+}
