@@ -1,0 +1,9 @@
+pub mod Dim
+pub mod Expression
+pub mod Grammar
+pub mod Line
+pub mod Names
+pub mod Parts
+pub mod Refusals
+pub mod Spelling
+pub mod Tokens

@@ -1,0 +1,92 @@
+//! Lines of a terminal, and their answers.
+
+use crate::answers::answer_to;
+use crate::arithmetic::Names;
+use crate::history_file::keep;
+use crate::watch::{BUFFER_SIZE, LineEditor, Watch};
+use line_config::Result;
+use line_editor::Bindings;
+use line_session::editor::Fed;
+use line_term::Size;
+use std::alloc::Global;
+use std::io::{Read, Write};
+
+/// The prompt, without styles and with them.
+const PROMPT: (&str, &str) = ("> ", "\x1b[1;32m> \x1b[0m");
+
+/// What is said first.
+const WELCOME: &str = "Comvizga: :keys lists the keys, C-d ends.";
+
+/// Reads lines and answers them, until the input ends. A line is in the file before it is answered.
+///
+/// # Errors
+/// `Io`, where the input, the output or the file fails, and `Memory`.
+pub(crate) fn converse<R: Read, W: Write, O: Write + Drop, F: Write>(
+    alloc: Global,
+    input: &mut R,
+    out: &mut W,
+    editor: &mut LineEditor<O>,
+    file: &mut Option<F>,
+    size: Size,
+    vi: bool,
+) -> Result<()> {
+    let bindings = Bindings::new(alloc);
+    let mut watch = Watch::new(size);
+    let mut names = Names::new(alloc);
+    write_lines(out, WELCOME)?;
+    for _ in 0..u64::MAX {
+        match read_line(input, out, editor, &bindings, &mut watch)? {
+            Fed::Submitted(line) => {
+                if let Some(history) = editor.history_mut() {
+                    keep(history, file)?;
+                }
+                if let Some(answer) = answer_to(alloc, line.as_str(), &mut names, vi)? {
+                    write_lines(out, answer.as_str())?;
+                }
+            }
+            Fed::Ended => return watch.settle(input, editor, &bindings),
+            Fed::More | Fed::Interrupted => {}
+        }
+    }
+    Ok(())
+}
+
+/// Reads a line. A read of no bytes is a pause.
+fn read_line<R: Read, W: Write, O: Write + Drop>(
+    input: &mut R,
+    out: &mut W,
+    editor: &mut LineEditor<O>,
+    bindings: &Bindings,
+    watch: &mut Watch,
+) -> Result<Fed> {
+    let mut buffer = [0; BUFFER_SIZE];
+    watch.ask(out)?;
+    let mut fed = editor.begin(&PROMPT, bindings)?;
+    for _ in 0..u64::MAX {
+        if fed != Fed::More {
+            return Ok(fed);
+        }
+        fed = match input.read(&mut buffer)? {
+            0 => {
+                watch.pause(out)?;
+                editor.flush(bindings)?
+            }
+            count => {
+                let fed = editor.feed(&buffer[..count], bindings)?;
+                watch.follow(editor)?;
+                fed
+            }
+        };
+    }
+    Ok(fed)
+}
+
+/// Writes the lines of a text, each with the end that a raw terminal needs.
+fn write_lines<W: Write>(out: &mut W, text: &str) -> Result<()> {
+    for line in text.lines() {
+        out.write_all(line.as_bytes())?;
+        out.write_all(b"\r\n")?;
+    }
+    out.flush()?;
+    Ok(())
+}
