@@ -1,5 +1,6 @@
 -- Facts on what comes of a line.
 use Rattle.std.proofs.Common.{◌≡◌, ◌∙◌, ℕ, true, not, cond, List, ◌++◌, Option, Some, None, Result, Ok, Err, IfOk, OnOk, refl, sym, ap, subst, option_map, string_bytes, if◌then◌else◌}
+use Rattle.line_buffer.specs.KillRing.{other, with_last}
 use Rattle.line_buffer.specs.declared.layout.GraphemeClusterMode.TheVariants.{Unicode}
 use Rattle.line_buffer.specs.declared.layout.Position.{Position}
 use Rattle.line_config.specs.Settings.{Settings}
@@ -155,9 +156,9 @@ module _ {H : Type 0} where
     pub starts_so : (prompt left right raw : List ℕ) (old mid new : Sitting H) (begun : BegunLine) → mid ≡ old → new.line ≡ Some begun
         → begun.kept.draft ≡ begun_with left right mid.lines → begun.input ≡ first_input mid.settings.edit_mode → begun.draws ≡ true
         → begun.kept.drawing.prompt_end ≡ measured mid.columns raw corner → raw ≡ prompt
-        → new ≡ record mid { line = new.line; helper = new.helper; columns = new.columns } → new.columns ≡ mid.columns
+        → new ≡ record mid { line = new.line; helper = new.helper; columns = new.columns; kills = new.kills } → new.kills ≡ with_last mid.kills other → new.columns ≡ mid.columns
         → ((lines : List (List ℕ)) → answers new.helper lines ≡ answers mid.helper lines) → StartsWith answers prompt left right old new
-    starts_so prompt left right raw old mid new begun same line draft input draws prompt_end text stays columns alike =
+    starts_so prompt left right raw old mid new begun same line draft input draws prompt_end text stays reset columns alike =
         subst (λ o. StartsWith answers prompt left right o new) same (record {
           begun = begun;
           line = line;
@@ -166,7 +167,7 @@ module _ {H : Type 0} where
           draws = draws;
           prompt_end = prompt_end ∙ ap (λ r. measured mid.columns r corner) text;
           lines = ap (λ (s : Sitting H). s.lines) stays;
-          kills = ap (λ (s : Sitting H). s.kills) stays;
+          kills = reset;
           items = ap (λ (s : Sitting H). s.items) stays;
           keeps = record {
             answers_alike = alike;
@@ -210,3 +211,10 @@ module _ {H : Type 0} where
         → OnOk result (Keeps answers (with_turn turn old) new)
     fed_kept old mid new turn (Ok f) same keeps = subst (λ m. Keeps answers m new) same keeps
     fed_kept old mid new turn (Err error) same keeps = tt
+
+-- nothing comes of a turn of the bytes where no line has begun
+pub fed_idle : {H : Type 0} (old mid new : Sitting H) (turn : decoding.Turn) (result : Result Fed ReadlineError) → mid ≡ with_turn turn old
+    → (mid.line ≡ None → IfOk result (λ f. (f ≡ fed.More) × (new ≡ mid)))
+    → old.line ≡ None → IfOk result (λ f. (f ≡ fed.More) × (new ≡ with_turn turn old))
+fed_idle {H} old mid new turn result same idle =
+    subst (λ (m : Sitting H). m.line ≡ None → IfOk result (λ f. (f ≡ fed.More) × (new ≡ m))) same idle

@@ -1,7 +1,11 @@
 -- Facts on a line that is read piece by piece.
-use Rattle.std.proofs.Common.{◌≡◌, ◌∙◌, inl, inr, ℕ, Bool, true, false, List, [], ◌++◌, Option, Result, Ok, Err, IfOk, OnOk, refl, sym, ap, subst}
+use Rattle.std.proofs.Common.{◌≡◌, ◌∙◌, inl, inr, ℕ, Bool, true, false, List, [], ◌++◌, Option, refl, sym, ap, subst, None, Result, Ok, Err}
 use Rattle.std.proofs.lemmas.List.{append-nil}
 use Rattle.line_buffer.specs.declared.layout.GraphemeClusterMode.TheVariants.{Unicode}
+use Rattle.std.specs.Io.KnownBytes.{IsAtEnd}
+use Rattle.std.specs.declared.alloc.Global.{Global}
+use Rattle.std.specs.declared.string.String.{String}
+use Rattle.line_config.specs.Error.{UnlessFault}
 use Rattle.line_config.specs.Settings.{Settings}
 use Rattle.line_config.specs.declared.error.ReadlineError.{ReadlineError}
 use Rattle.line_keys.specs.Command.{Command}
@@ -12,34 +16,32 @@ use Rattle.line_parts.specs.Environment.{Environment}
 use Rattle.line_screen.specs.Measure.{measured}
 use Rattle.line_editor.specs.Binding.{Bound}
 use Rattle.line_editor.specs.Editor.{Answer, ended, interrupted, submitted}
-use Rattle.line_editor.specs.Input.{first_input}
 use Rattle.line_editor.specs.ItemShown.{any_drawn}
 use Rattle.line_term.specs.Decoder as decoding
 use Rattle.line_session.specs.Pieces.{GoesOnFrom, drawn_anew, with_more}
 use Rattle.line_session.specs.Pieces as pieces
-use Rattle.line_session.specs.Reading.{CameOver, Heard, HearsOnce, LooksAtNoHint, Reads}
+use Rattle.line_session.specs.Reading.{BindingsLookAtNoHint, CameOver, Heard, HearsOnce, Reads, ReadsLine, answer_of}
 use Rattle.line_session.specs.Reading as reading
-use Rattle.line_session.specs.Sitting.{BegunLine, Came, CameBegun, CameFrom, EndsLine, Keeps, Sitting, begun_with, rules_at, rules_for, standing_with, starting, with_turn}
+use Rattle.line_session.specs.Sitting.{BegunLine, Came, CameBegun, CameFrom, EndsLine, Keeps, Sitting, first_standing, rules_at, rules_for, standing_with, starting, with_turn}
 use Rattle.line_session.specs.Steps.{Rules, Standing}
 use Rattle.line_session.specs.declared.editor.Fed.{Fed}
 use Rattle.line_session.specs.declared.editor.Fed.TheVariants as fed
 use Rattle.line_session.proofs.CameLemmas.{came_alike}
 use Rattle.line_session.proofs.WholeLaws.{ends-same}
 
-module _ {H : Type 0} (answers : H → List (List ℕ) → Environment) (bound : Bound) (prompt before behind : List ℕ) (old : Sitting H) where
+module _ {H : Type 0} (answers : H → List (List ℕ) → Environment) (bound : Bound) (pauses : Bool) (input : Option (List ℕ)) (prompt before behind : List ℕ) (old : Sitting H) where
   abbrev by : Rules
   by = rules_at answers bound old (measured old.columns prompt corner).col
 
   abbrev start : Standing
-  start = starting (answers old.helper old.lines) true
-      (standing_with (begun_with before behind old.lines) (first_input old.settings.edit_mode) old.items old.kills)
+  start = starting (answers old.helper old.lines) true (first_standing before behind old)
 
   -- the line has begun
   pub reads_begun : (now : Sitting H) (came : Fed) → CameBegun answers bound prompt before behind old now came → Keeps answers old now
-      → Reads answers bound prompt before behind old now came
+      → Reads answers bound pauses input input prompt before behind old now came
   reads_begun now came begun keeps = record {
     items = [];
-    heard = subst (λ d. Heard old.decoder [] d) (sym keeps.decoder) reading.nothing;
+    heard = subst (λ d. Heard pauses input old.decoder input [] d) (sym keeps.decoder) reading.nothing;
     over = by_fed came begun;
     keeps = record {
       answers_alike = keeps.answers_alike;
@@ -70,7 +72,7 @@ module _ {H : Type 0} (answers : H → List (List ℕ) → Environment) (bound :
       by_fed fed.Ended begun = subst (λ s. CameFrom by s old now fed.Ended) whole begun
       by_fed fed.Interrupted begun = subst (λ s. CameFrom by s old now fed.Interrupted) whole begun
 
-  module _ (no_hint : LooksAtNoHint bound) (now : Sitting H) (reads : Reads answers bound prompt before behind old now fed.More) where
+  module _ (no_hint : BindingsLookAtNoHint bound) (now : Sitting H) (at : Option (List ℕ)) (reads : Reads answers bound pauses input at prompt before behind old now fed.More) where
     abbrev left : BegunLine
     left = reads.over.0.left
 
@@ -104,8 +106,8 @@ module _ {H : Type 0} (answers : H → List (List ℕ) → Environment) (bound :
         }
 
     -- more was heard, and this came of it
-    pub reads_on : (new : Sitting H) (came : Fed) → HearsOnce answers bound now left new came → Reads answers bound prompt before behind old new came
-    reads_on new came hears =
+    pub reads_on : (new : Sitting H) (later : Option (List ℕ)) (came : Fed) → HearsOnce answers bound pauses at later now left new came → Reads answers bound pauses input later prompt before behind old new came
+    reads_on new later came hears =
         let turn = hears.turn in
         let here = goes_on_at turn.items in
         let own_to : (KeyEvent → Option Command) → Rules = λ o. record { keymap = record { bound = bound; own = o }; ruler = record { prompt_column = left.kept.drawing.prompt_end.col; cluster_mode = Unicode; indent_size = now.settings.indent_size }; environment = answers now.helper now.lines } in
@@ -118,7 +120,7 @@ module _ {H : Type 0} (answers : H → List (List ℕ) → Environment) (bound :
         came_alike _ _ _ _ (with_turn turn now) old new same_rules here.is reads.over.1 reads.keeps.takes reads.keeps.settings came hears.came in
         record {
           items = reads.items ++ turn.items;
-          heard = subst (λ d. Heard old.decoder (reads.items ++ turn.items) d) (sym hears.keeps.decoder) (hears.heard reads.heard);
+          heard = subst (λ d. Heard pauses input old.decoder later (reads.items ++ turn.items) d) (sym hears.keeps.decoder) (hears.heard reads.heard);
           over = by_fed turn.items here came came_here;
           keeps = record {
             answers_alike = λ lines. hears.keeps.answers_alike lines ∙ reads.keeps.answers_alike lines;
@@ -162,14 +164,23 @@ module _ {H : Type 0} (answers : H → List (List ℕ) → Environment) (bound :
         by_fed piece here fed.Interrupted came = (ends_over piece here interrupted came.0, came.1)
 
 -- a turn of the bytes that was heard, and what came of it
-pub hears_turn : {H : Type 0} (answers : H → List (List ℕ) → Environment) (bound : Bound) (old new : Sitting H) (begun : BegunLine) (turn : decoding.Turn) (result : Result Fed ReadlineError)
-    → ((before : decoding.Standing) (items : List Item) → Heard before items old.decoder → Heard before (items ++ turn.items) turn.after)
-    → IfOk result (Came answers bound (with_turn turn old) begun new) → OnOk result (Keeps answers (with_turn turn old) new)
-    → IfOk result (HearsOnce answers bound old begun new)
-hears_turn answers bound old new begun turn (Ok f) heard came keeps = record {
+pub hears_turn : {H : Type 0} (answers : H → List (List ℕ) → Environment) (bound : Bound) (pauses : Bool) (input input' : Option (List ℕ)) (old new : Sitting H) (begun : BegunLine) (turn : decoding.Turn) (came : Fed)
+    → ((first : Option (List ℕ)) (before : decoding.Standing) (items : List Item) → Heard pauses first before input items old.decoder
+    → Heard pauses first before input' (items ++ turn.items) turn.after)
+    → Came answers bound (with_turn turn old) begun new came → Keeps answers (with_turn turn old) new → HearsOnce answers bound pauses input input' old begun new came
+hears_turn answers bound pauses input input' old new begun turn came heard comes keeps = record {
   turn = turn;
-  heard = λ {before} {items} h. heard before items h;
-  came = came;
+  heard = λ {first} {before} {items} h. heard first before items h;
+  came = comes;
   keeps = keeps;
 }
-hears_turn answers bound old new begun turn (Err error) heard came keeps = tt
+
+-- what is answered of a line that was read, once no line goes on
+pub answers_line : {H : Type 0} (answers : H → List (List ℕ) → Environment) (bound : Bound) (pauses : Bool) (input input' : Option (List ℕ)) (prompt before behind : List ℕ) (old last new : Sitting H) (came : Fed)
+    (result : Result (String Global) ReadlineError) → Reads answers bound pauses input input' prompt before behind old last came → (came ≡ fed.More → IsAtEnd input')
+    → UnlessFault result ((result ≡ answer_of came) × (new ≡ record last { line = None }))
+    → UnlessFault result (ReadsLine answers bound pauses input input' prompt before behind old new result)
+answers_line answers bound pauses input input' prompt before behind old last new came (Ok text) reads at_end told =
+    record { came = came; last = last; told = told.0; reads = reads; ended = at_end; gone = told.1 }
+answers_line answers bound pauses input input' prompt before behind old last new came (Err error) reads at_end told = λ no_fault.
+    record { came = came; last = last; told = (told no_fault).0; reads = reads; ended = at_end; gone = (told no_fault).1 }

@@ -56,7 +56,7 @@ entered_more keymap draft input (key first ∷ items) more some = refl
 entered_more keymap draft input (paste text ∷ items) more some = refl
 
 -- no phrase begins with a pasted text
-no_paste : (keymap : Keymap) (environment : Environment) (draft : Draft) (input : Input) (text : List ℕ) (items : List Item) (read : Read)
+pub no_paste : (keymap : Keymap) (environment : Environment) (draft : Draft) (input : Input) (text : List ℕ) (items : List Item) (read : Read)
     → Phrase keymap environment draft input (paste text ∷ items) read → ⊥
 no_paste keymap environment draft input text items read (of_mode spelled) = by_typed spelled.typed spelled.cut
   where

@@ -1,9 +1,9 @@
 -- A line whose items come in pieces.
-use Rattle.std.specs.Prelude.{◌≡◌, ◌⊎◌, Bool, true, List, [], ◌++◌}
+use Rattle.std.specs.Prelude.{◌≡◌, ◌≢◌, ◌⊎◌, Bool, true, List, [], ◌++◌}
 use Rattle.line_keys.specs.Draft.{hinted}
 use Rattle.line_keys.specs.Item.{Item}
 use Rattle.line_keys.specs.declared.keys.KeyEvent.{KeyEvent}
-use Rattle.line_editor.specs.Editor.{Answer}
+use Rattle.line_editor.specs.Editor.{Answer, proceeds}
 use Rattle.line_editor.specs.ItemShown.{any_drawn}
 use Rattle.line_editor.specs.Keymap.{KeyLooksAtNoHint}
 use Rattle.line_session.specs.Steps.{Ends, Rules, Standing, Waits}
@@ -36,3 +36,8 @@ EndsTheSame = (by : Rules) (start left next end : Standing) (items piece : List 
     → ((typed : KeyEvent) → KeyLooksAtNoHint by.keymap.bound typed)
     → Waited by start items left drawn → GoesOnFrom by left drawn next → Ends by (with_more piece next) end answer
     → Ends by (with_more (items ++ piece) start) end answer
+
+-- from one start a line ends once: its end and the answer are one
+abbrev pub EndsOnce : Type 0
+EndsOnce = (by : Rules) (start end end' : Standing) (answer answer' : Answer) → answer ≢ proceeds → answer' ≢ proceeds
+    → Ends by start end answer → Ends by start end' answer' → (end ≡ end') × (answer ≡ answer')

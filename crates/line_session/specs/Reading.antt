@@ -1,33 +1,48 @@
 -- A line that is read from an input, piece by piece.
-use Rattle.std.specs.Prelude.{◌≡◌, ◌++◌, ℕ, Bool, true, List, [], Some}
+use Rattle.std.specs.Prelude.{◌≡◌, ◌++◌, ℕ, Bool, true, false, List, [], Option, Some, None, Result, Ok, Err}
+use Rattle.std.specs.Io.KnownBytes.{Consumes, IsAtEnd}
+use Rattle.std.specs.declared.alloc.Global.{Global}
+use Rattle.std.specs.declared.string.String.{String}
+use Rattle.line_config.specs.declared.error.ReadlineError.{ReadlineError}
+use Rattle.line_config.specs.declared.error.ReadlineError.TheVariants as errors
 use Rattle.line_keys.specs.Display.{corner}
 use Rattle.line_keys.specs.Item.{Item}
 use Rattle.line_keys.specs.declared.keys.KeyEvent.{KeyEvent}
 use Rattle.line_parts.specs.Environment.{Environment}
 use Rattle.line_screen.specs.Measure.{measured}
 use Rattle.line_editor.specs.Binding.{Bound}
-use Rattle.line_editor.specs.Input.{first_input}
 use Rattle.line_editor.specs.Keymap.{KeyLooksAtNoHint}
 use Rattle.line_term.specs.Decoder as decoding
 use Rattle.line_session.specs.Pieces.{Waited, with_more}
-use Rattle.line_session.specs.Sitting.{BegunLine, Came, CameFrom, Keeps, Sitting, begun_with, rules_at, standing_with, starting, with_turn}
+use Rattle.line_session.specs.Sitting.{BegunLine, Came, CameFrom, Keeps, Sitting, first_standing, rules_at, standing_with, starting, with_turn}
 use Rattle.line_session.specs.Steps.{Rules, Standing}
 use Rattle.line_session.specs.declared.editor.Fed.{Fed}
 use Rattle.line_session.specs.declared.editor.Fed.TheVariants as fed
 
--- bytes came one piece after another, with pauses, and perhaps the end, between them: these are their items, and what they leave
-pub data Heard (before : decoding.Standing) : List Item → decoding.Standing → Type 0 where
-  nothing : Heard before [] before
-  bytes : {items : List Item} {now : decoding.Standing} → Heard before items now → (piece : List ℕ)
-      → Heard before (items ++ (decoding.read now piece).items) (decoding.read now piece).after
-  pause : {items : List Item} {now : decoding.Standing} → Heard before items now
-      → Heard before (items ++ (decoding.flushed now).items) (decoding.flushed now).after
-  end : {items : List Item} {now : decoding.Standing} → Heard before items now
-      → Heard before (items ++ (decoding.finished now).items) (decoding.finished now).after
+-- an input was read again and again: each time it gave bytes, or none as it paused, or none as it has ended; these are the items of all that
+-- was read, what the bytes leave, and what the input has left, where that is known
+pub data Heard (pauses : Bool) (input : Option (List ℕ)) (before : decoding.Standing) : Option (List ℕ) → List Item → decoding.Standing → Type 0 where
+  nothing : Heard pauses input before input [] before
+  bytes : {at next : Option (List ℕ)} {items : List Item} {now : decoding.Standing} → Heard pauses input before at items now
+      → (piece : List ℕ) → Consumes at next piece
+      → Heard pauses input before next (items ++ (decoding.read now piece).items) (decoding.read now piece).after
+  pause : {at next : Option (List ℕ)} {items : List Item} {now : decoding.Standing} → Heard pauses input before at items now
+      → pauses ≡ true → Consumes at next []
+      → Heard pauses input before next (items ++ (decoding.flushed now).items) (decoding.flushed now).after
+  end : {at next : Option (List ℕ)} {items : List Item} {now : decoding.Standing} → Heard pauses input before at items now
+      → pauses ≡ false → Consumes at next [] → IsAtEnd next
+      → Heard pauses input before next (items ++ (decoding.finished now).items) (decoding.finished now).after
 
 -- no binding looks at the hint
-abbrev pub LooksAtNoHint : Bound → Type 0
-LooksAtNoHint bound = (typed : KeyEvent) → KeyLooksAtNoHint bound typed
+abbrev pub BindingsLookAtNoHint : Bound → Type 0
+BindingsLookAtNoHint bound = (typed : KeyEvent) → KeyLooksAtNoHint bound typed
+
+-- what a line is answered with: itself, where it was submitted; that the person interrupted; or that the end of the input came, by a key or
+-- while the line goes on
+abbrev pub answer_of : Fed → Result (String Global) ReadlineError
+answer_of (fed.Submitted text) = Ok text
+answer_of fed.Interrupted = Err errors.Interrupted
+answer_of _ = Err errors.Eof
 
 module _ {H : Type 0} where
   -- the line goes on behind all these items: they came in pieces, and are no phrase yet
@@ -44,19 +59,29 @@ module _ {H : Type 0} where
   CameOver by start items old now fed.More = GoesOnOver by start items now × (now.lines ≡ old.lines)
   CameOver by start items old now ended = CameFrom by (with_more items start) old now ended
 
-  module _ (answers : H → List (List ℕ) → Environment) (bound : Bound) where
-    -- what came of a line that began behind a prompt, with these texts before and behind the cursor, over all that was heard then
-    pub record Reads (prompt left right : List ℕ) (old now : Sitting H) (came : Fed) : Type 0 where
+  module _ (answers : H → List (List ℕ) → Environment) (bound : Bound) (pauses : Bool) where
+    -- what came of a line that began behind a prompt, with these texts before and behind the cursor, over all that was read of the input
+    pub record Reads (input input' : Option (List ℕ)) (prompt left right : List ℕ) (old now : Sitting H) (came : Fed) : Type 0 where
       pub items : List Item
-      pub heard : Heard old.decoder items now.decoder
+      pub heard : Heard pauses input old.decoder input' items now.decoder
       pub over : CameOver (rules_at answers bound old (measured old.columns prompt corner).col)
-          (starting (answers old.helper old.lines) true
-          (standing_with (begun_with left right old.lines) (first_input old.settings.edit_mode) old.items old.kills)) items old now came
+          (starting (answers old.helper old.lines) true (first_standing left right old)) items old now came
       pub keeps : Keeps answers (record old { decoder = now.decoder }) now
 
-    -- bytes or a pause were heard, or the end, and this came of the line that had begun
-    pub record HearsOnce (old : Sitting H) (begun : BegunLine) (new : Sitting H) (told : Fed) : Type 0 where
+    -- a line was read of the input, and this is answered: the line; that the person interrupted; or the end of the input, by a key or as it
+    -- has ended while the line goes on. No line goes on then
+    pub record ReadsLine (input input' : Option (List ℕ)) (prompt left right : List ℕ) (old new : Sitting H) (result : Result (String Global) ReadlineError) : Type 0 where
+      pub came : Fed
+      pub last : Sitting H
+      pub told : result ≡ answer_of came
+      pub reads : Reads input input' prompt left right old last came
+      pub ended : came ≡ fed.More → IsAtEnd input'
+      pub gone : new ≡ record last { line = None }
+
+    -- the input was read once, and this came of the line that had begun
+    pub record HearsOnce (input input' : Option (List ℕ)) (old : Sitting H) (begun : BegunLine) (new : Sitting H) (told : Fed) : Type 0 where
       pub turn : decoding.Turn
-      pub heard : {before : decoding.Standing} {items : List Item} → Heard before items old.decoder → Heard before (items ++ turn.items) turn.after
+      pub heard : {first : Option (List ℕ)} {before : decoding.Standing} {items : List Item} → Heard pauses first before input items old.decoder
+          → Heard pauses first before input' (items ++ turn.items) turn.after
       pub came : Came answers bound (with_turn turn old) begun new told
       pub keeps : Keeps answers (with_turn turn old) new

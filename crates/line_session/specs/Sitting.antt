@@ -1,6 +1,6 @@
 -- What an editor keeps between two calls, and what comes of the items that it reads.
-use Rattle.std.specs.Prelude.{◌≡◌, ◌++◌, ℕ, Bool, true, false, if◌then◌else◌, List, length, Option, Some, None, option_map, Result, Ok, string_bytes}
-use Rattle.line_buffer.specs.KillRing.{Ring}
+use Rattle.std.specs.Prelude.{◌≡◌, ◌++◌, ℕ, Bool, true, false, if◌then◌else◌, List, length, Option, Some, None, is_some, option_map, Result, Ok, string_bytes}
+use Rattle.line_buffer.specs.KillRing.{Ring, other, with_last}
 use Rattle.line_buffer.specs.declared.layout.GraphemeClusterMode.TheVariants.{Unicode}
 use Rattle.line_config.specs.Settings.{Settings}
 use Rattle.line_config.specs.declared.error.ReadlineError.{ReadlineError}
@@ -44,8 +44,13 @@ pub record Sitting (H : Type 0) : Type 0 where
   pub columns : ℕ
 
 -- the draft and what reading keys remembers of the line that has begun, if one has
-abbrev pub written : {H : Type 0} → Sitting H → Option (Draft × Input)
-written sitting = option_map (λ (begun : BegunLine). (begun.kept.draft, begun.input)) sitting.line
+abbrev pub draft_and_input : {H : Type 0} → Sitting H → Option (Draft × Input)
+draft_and_input sitting = option_map (λ (begun : BegunLine). (begun.kept.draft, begun.input)) sitting.line
+
+-- nothing is lost where a call fails: the line that had begun is there, if one had, and so are the lines of the history
+pub record LosesNothing {H : Type 0} (old new : Sitting H) : Type 0 where
+  pub line : is_some new.line ≡ is_some old.line
+  pub lines : new.lines ≡ old.lines
 
 -- the text of the line that has begun, if one has
 abbrev pub text_of : {H : Type 0} → Sitting H → Option (List ℕ)
@@ -57,7 +62,7 @@ goes_on (Ok turned.Proceeds) = true
 goes_on (Ok turned.NeedsMore) = true
 goes_on _ = false
 
--- bytes came: their items stand behind those that are left
+-- a turn of the bytes, a pause or the end among them: its items stand behind those that are left
 abbrev pub with_turn : {H : Type 0} → decoding.Turn → Sitting H → Sitting H
 with_turn turn sitting = record sitting { items = sitting.items ++ turn.items; decoder = turn.after }
 
@@ -89,6 +94,10 @@ abbrev pub begun_with : List ℕ → List ℕ → List (List ℕ) → Draft
 begun_with left right lines = record (empty_draft (length lines)) {
   line = record { text = left ++ right; cursor = length left };
 }
+
+-- where reading stands of a line that begins: nothing is remembered of keys, and a kill joins none of those before
+abbrev pub first_standing : {H : Type 0} → List ℕ → List ℕ → Sitting H → Standing
+first_standing left right old = standing_with (begun_with left right old.lines) (first_input old.settings.edit_mode) old.items (with_last old.kills other)
 
 module _ {H : Type 0} where
   -- the line has ended by this answer: it is gone, and what is left are the items and the kill ring of its end
@@ -146,8 +155,7 @@ module _ {H : Type 0} where
       -- what came of a line that began behind a prompt, with these texts before and behind the cursor
       abbrev pub CameBegun : List ℕ → List ℕ → List ℕ → Sitting H → Sitting H → Fed → Type 0
       CameBegun prompt left right old = CameFrom (rules_at old (measured old.columns prompt corner).col)
-          (starting (answers old.helper old.lines) true
-          (standing_with (begun_with left right old.lines) (first_input old.settings.edit_mode) old.items old.kills)) old
+          (starting (answers old.helper old.lines) true (first_standing left right old)) old
 
     -- what stays while turns are taken: those who answer, the lines that the history takes, the keys that the queue binds, what the bytes
     -- have left, the settings and the columns
@@ -168,6 +176,6 @@ module _ {H : Type 0} where
       pub draws : begun.draws ≡ true
       pub prompt_end : begun.kept.drawing.prompt_end ≡ measured old.columns prompt corner
       pub lines : new.lines ≡ old.lines
-      pub kills : new.kills ≡ old.kills
+      pub kills : new.kills ≡ with_last old.kills other
       pub items : new.items ≡ old.items
       pub keeps : Keeps old new

@@ -1,12 +1,12 @@
 //! An editor that reads lines from a terminal: what is kept between two lines, and between two pieces of one.
-ghost use Rattle.std.specs.Prelude.{◌≡◌, ◌≢◌, ◌<◌, ◌↔◌, true, [], None, Some, Ok, Err, is_some, option_map, if◌then◌else◌, IfOk, OnOk, OnErr, string_bytes};
-ghost use Rattle.line_config.specs.Error.{FaultsOnly, MemoryOnly};
-ghost use Rattle.line_config.specs.declared.error.ReadlineError.TheVariants.{Interrupted};
+ghost use Rattle.std.specs.Prelude.{◌≡◌, ◌<◌, ◌↔◌, true, false, [], length, None, Some, Ok, is_some, option_map, IfSome, if◌then◌else◌, IfOk, OnOk, OnErr, string_bytes};
+ghost use Rattle.std.specs.Io.KnownBytes.{IsAtEnd};
+ghost use Rattle.line_config.specs.Error.{FaultsOnly, MemoryOnly, UnlessFault};
 ghost use Rattle.line_editor.specs.Binding.{bound_of};
-ghost use Rattle.line_parts.specs.History.{added};
+ghost use Rattle.line_parts.specs.History.{TellsTaken, added};
 ghost use Rattle.line_session.specs.Kept.{answers_of};
-ghost use Rattle.line_session.specs.Reading.{HearsOnce, LooksAtNoHint, Reads};
-ghost use Rattle.line_session.specs.Sitting.{BegunLine, Came, CameBegun, EndsAs, Keeps, StartsWith, written, with_turn};
+ghost use Rattle.line_session.specs.Reading.{BindingsLookAtNoHint, HearsOnce, ReadsLine, answer_of};
+ghost use Rattle.line_session.specs.Sitting.{BegunLine, Came, CameBegun, EndsAs, Keeps, LosesNothing, StartsWith, draft_and_input, with_turn};
 ghost use Rattle.line_buffer.specs.KillRing.{empty_ring};
 ghost use Rattle.line_term.specs.Decoder.{finished, flushed, fresh, is_waiting, read};
 
@@ -20,7 +20,7 @@ use line_screen::KeyQueue;
 use line_state::Renderer;
 use line_term::{Ansi, Decoder, Size};
 use std::alloc::Global;
-use std::io::{Read, Write};
+use std::io::{self, Read, Write};
 use std::marker::Model;
 
 /// The slots of the kill ring.
@@ -40,6 +40,19 @@ pub enum Fed {
     Ended,
     /// The person interrupted.
     Interrupted,
+}
+
+impl Fed {
+    /// Returns whether the line goes on, with an input that does or does not.
+    fn awaits_more(&self, input_goes_on: bool) -> bool
+        ensures yes { result ≡ true → (self.now ≡ Fed.More) × (input_goes_on ≡ true) }
+        ensures no { result ≡ false → self.now ≡ Fed.More → input_goes_on ≡ false }
+    {
+        match self {
+            Fed::More => input_goes_on,
+            _ => false,
+        }
+    }
 }
 
 /// An editor that reads lines from a terminal, and draws them by writing to `O`.
@@ -110,6 +123,8 @@ impl<O: Write + Drop, H: Helper + Drop, S: History + Drop> Editor<O, H, S> {
         requires { 0 < columns }
         ensures line { result.line ≡ None }
         ensures lines { result.lines ≡ S.lines history }
+        ensures takes { result.takes ≡ S.rules history }
+        ensures binds { result.binds ≡ true }
         ensures items { result.items ≡ [] }
         ensures decoder { result.decoder ≡ fresh }
         ensures kills { result.kills ≡ empty_ring 60 }
@@ -156,7 +171,8 @@ impl<O: Write + Drop, H: Helper + Drop, S: History + Drop> Editor<O, H, S> {
 
     /// Returns the history.
     pub fn history(&self) -> &S
-        ensures { S.lines result.now ≡ self.now.lines }
+        ensures lines { S.lines result.now ≡ self.now.lines }
+        ensures takes { S.rules result.now ≡ self.now.takes }
     {
         &self.history
     }
@@ -164,10 +180,50 @@ impl<O: Write + Drop, H: Helper + Drop, S: History + Drop> Editor<O, H, S> {
     /// Returns the history, so that it may be changed; None while a line goes on, which has its place in it.
     pub fn history_mut(&mut self) -> Option<&mut S>
         ensures none { result ≡ None ↔ is_some self.old.line ≡ true }
+        ensures lines { IfSome result (λ history. S.lines history.now ≡ self.old.lines) }
+        ensures takes { IfSome result (λ history. S.rules history.now ≡ self.old.takes) }
     {
         match self.line {
             Some(_) => None,
             None => Some(&mut self.history),
+        }
+    }
+
+    /// Adds a line to the history as the newest one, by its rules, while no line goes on. Returns whether it was added.
+    ///
+    /// # Errors
+    /// `Io`, where the history fails, and `Memory`. Nothing has changed then.
+    pub fn add_history_entry(&mut self, line: &str) -> Result<bool>
+        ensures answer { self.old.line ≡ None
+            → TellsTaken result self.old.takes self.old.lines line.now }
+        ensures added { self.old.line ≡ None → OnOk result (self.new
+            ≡ record self.old { lines = added self.old.takes self.old.lines line.now }) }
+        ensures refused { is_some self.old.line ≡ true → IfOk result (λ added. added ≡ false) }
+        ensures kept { is_some self.old.line ≡ true → self.new ≡ self.old }
+        ensures failed { OnErr result (self.new ≡ self.old) }
+        ensures faults { FaultsOnly result }
+    {
+        if self.line.is_some() {
+            return Ok(false);
+        }
+        self.history.add(line)
+    }
+
+    /// Forgets what was killed, and keeps so many killed texts from now on.
+    pub fn set_kill_ring_size(&mut self, size: usize)
+        ensures { self.new ≡ record self.old { kills = empty_ring size } }
+    {
+        self.kill_ring = KillRing::new(self.alloc, size);
+    }
+
+    /// Returns the helper, so that it may be changed; None while a line goes on, which shows its hint and colors.
+    pub fn helper_mut(&mut self) -> Option<&mut H>
+        ensures none { result ≡ None ↔ is_some self.old.line ≡ true }
+        ensures helper { IfSome result (λ helper. helper.now ≡ self.old.helper) }
+    {
+        match self.line {
+            Some(_) => None,
+            None => Some(&mut self.helper),
         }
     }
 
@@ -204,7 +260,7 @@ impl<O: Write + Drop, H: Helper + Drop, S: History + Drop> Editor<O, H, S> {
     ///
     /// # Errors
     /// `Io`, where the output or a party fails, and `Memory`. Where the line had begun by then, it can be asked for, and goes on
-    /// at the next call.
+    /// at the next call. Where it had not, the one before goes on, or none.
     pub fn begin_with<P: Prompt>(
         &mut self,
         prompt: &P,
@@ -217,6 +273,7 @@ impl<O: Write + Drop, H: Helper + Drop, S: History + Drop> Editor<O, H, S> {
             initial.entry.0.now initial.entry.1.now self.old self.new) }
         ensures keeps { OnOk result
             (Keeps (answers_of H.hint_at H.verdict_at H.lights) self.old self.new) }
+        ensures lines { OnErr result (self.new.lines ≡ self.old.lines) }
         ensures faults { FaultsOnly result }
     {
         self.start(prompt, initial)?;
@@ -233,6 +290,7 @@ impl<O: Write + Drop, H: Helper + Drop, S: History + Drop> Editor<O, H, S> {
             (bound_of g bindings.now) (P.raw_text prompt.now) [] [] self.old self.new) }
         ensures keeps { OnOk result
             (Keeps (answers_of H.hint_at H.verdict_at H.lights) self.old self.new) }
+        ensures lines { OnErr result (self.new.lines ≡ self.old.lines) }
         ensures faults { FaultsOnly result }
     {
         self.begin_with(prompt, ("", ""), bindings)
@@ -249,6 +307,9 @@ impl<O: Write + Drop, H: Helper + Drop, S: History + Drop> Editor<O, H, S> {
             (with_turn (read self.old.decoder bytes.now) self.old) begun self.new) }
         ensures keeps { OnOk result (Keeps (answers_of H.hint_at H.verdict_at H.lights)
             (with_turn (read self.old.decoder bytes.now) self.old) self.new) }
+        ensures idle { self.old.line ≡ None → IfOk result (λ fed. (fed ≡ Fed.More)
+            × (self.new ≡ with_turn (read self.old.decoder bytes.now) self.old)) }
+        ensures left { OnErr result (LosesNothing self.old self.new) }
         ensures faults { FaultsOnly result }
     {
         self.decoder.feed(bytes, &mut self.keys)?;
@@ -266,6 +327,9 @@ impl<O: Write + Drop, H: Helper + Drop, S: History + Drop> Editor<O, H, S> {
             (with_turn (flushed self.old.decoder) self.old) begun self.new) }
         ensures keeps { OnOk result (Keeps (answers_of H.hint_at H.verdict_at H.lights)
             (with_turn (flushed self.old.decoder) self.old) self.new) }
+        ensures idle { self.old.line ≡ None → IfOk result (λ fed. (fed ≡ Fed.More)
+            × (self.new ≡ with_turn (flushed self.old.decoder) self.old)) }
+        ensures left { OnErr result (LosesNothing self.old self.new) }
         ensures faults { FaultsOnly result }
     {
         self.decoder.flush(&mut self.keys)?;
@@ -283,6 +347,9 @@ impl<O: Write + Drop, H: Helper + Drop, S: History + Drop> Editor<O, H, S> {
             (with_turn (finished self.old.decoder) self.old) begun self.new) }
         ensures keeps { OnOk result (Keeps (answers_of H.hint_at H.verdict_at H.lights)
             (with_turn (finished self.old.decoder) self.old) self.new) }
+        ensures idle { self.old.line ≡ None → IfOk result (λ fed. (fed ≡ Fed.More)
+            × (self.new ≡ with_turn (finished self.old.decoder) self.old)) }
+        ensures left { OnErr result (LosesNothing self.old self.new) }
         ensures faults { FaultsOnly result }
     {
         self.decoder.finish(&mut self.keys)?;
@@ -295,7 +362,7 @@ impl<O: Write + Drop, H: Helper + Drop, S: History + Drop> Editor<O, H, S> {
     /// `Io`, where the output fails, and `Memory`. Columns and rows are the new ones then, and the line is drawn at the next call.
     pub fn resize(&mut self, columns: Unit, rows: Unit) -> Result<()>
         requires { 0 < columns }
-        ensures written { written self.new ≡ written self.old }
+        ensures written { draft_and_input self.new ≡ draft_and_input self.old }
         ensures lines { self.new.lines ≡ self.old.lines }
         ensures kills { self.new.kills ≡ self.old.kills }
         ensures items { self.new.items ≡ self.old.items }
@@ -325,8 +392,9 @@ impl<O: Write + Drop, H: Helper + Drop, S: History + Drop> Editor<O, H, S> {
     /// waits only for a while, and else the end of the input.
     ///
     /// # Errors
-    /// `Eof`, where the input ends, or by a command on an empty line; `Interrupted`, where the person interrupts; `Io`, where the
-    /// input, the output or a party fails, and `Memory`. After the last two the line can be asked for.
+    /// `Eof`, where the input ends, or by a command on an empty line; `Interrupted`, where the person interrupts: no line goes on
+    /// then. `Io`, where the input, the output or a party fails, and `Memory`: the line can be asked for then, and handed to
+    /// `begin_with`.
     pub fn readline<R: Read, P: Prompt>(
         &mut self,
         input: &mut R,
@@ -334,14 +402,11 @@ impl<O: Write + Drop, H: Helper + Drop, S: History + Drop> Editor<O, H, S> {
         prompt: &P,
         bindings: &Bindings,
     ) -> Result<String>
-        ensures submitted { let g = ⟦<dyn ConditionalEventHandler as ConditionalEventHandler>⟧ in
-            LooksAtNoHint (bound_of g bindings.now) → IfOk result (λ text.
-            Reads (answers_of H.hint_at H.verdict_at H.lights) (bound_of g bindings.now)
-            (P.raw_text prompt.now) [] [] self.old self.new (Fed.Submitted text)) }
-        ensures interrupted { let g = ⟦<dyn ConditionalEventHandler as ConditionalEventHandler>⟧ in
-            LooksAtNoHint (bound_of g bindings.now) → result ≡ Err Interrupted →
-            Reads (answers_of H.hint_at H.verdict_at H.lights) (bound_of g bindings.now)
-            (P.raw_text prompt.now) [] [] self.old self.new Fed.Interrupted }
+        ensures reads { let g = ⟦<dyn ConditionalEventHandler as ConditionalEventHandler>⟧ in
+            BindingsLookAtNoHint (bound_of g bindings.now) → UnlessFault result
+            (ReadsLine (answers_of H.hint_at H.verdict_at H.lights) (bound_of g bindings.now)
+            pauses (R.remaining input.old) (R.remaining input.new)
+            (P.raw_text prompt.now) [] [] self.old self.new result) }
     {
         self.readline_with_initial(input, pauses, prompt, ("", ""), bindings)
     }
@@ -358,68 +423,70 @@ impl<O: Write + Drop, H: Helper + Drop, S: History + Drop> Editor<O, H, S> {
         initial: (&str, &str),
         bindings: &Bindings,
     ) -> Result<String>
-        ensures submitted { let g = ⟦<dyn ConditionalEventHandler as ConditionalEventHandler>⟧ in
-            LooksAtNoHint (bound_of g bindings.now) → IfOk result (λ text.
-            Reads (answers_of H.hint_at H.verdict_at H.lights) (bound_of g bindings.now)
+        ensures reads { let g = ⟦<dyn ConditionalEventHandler as ConditionalEventHandler>⟧ in
+            BindingsLookAtNoHint (bound_of g bindings.now) → UnlessFault result
+            (ReadsLine (answers_of H.hint_at H.verdict_at H.lights) (bound_of g bindings.now)
+            pauses (R.remaining input.old) (R.remaining input.new)
             (P.raw_text prompt.now) initial.entry.0.now initial.entry.1.now
-            self.old self.new (Fed.Submitted text)) }
-        ensures interrupted { let g = ⟦<dyn ConditionalEventHandler as ConditionalEventHandler>⟧ in
-            LooksAtNoHint (bound_of g bindings.now) → result ≡ Err Interrupted →
-            Reads (answers_of H.hint_at H.verdict_at H.lights) (bound_of g bindings.now)
-            (P.raw_text prompt.now) initial.entry.0.now initial.entry.1.now
-            self.old self.new Fed.Interrupted }
+            self.old self.new result) }
     {
         let mut buffer = [0; BUFFER_SIZE];
         let mut fed = self.begin_with(prompt, initial, bindings)?;
+        let mut goes_on = true;
         for _ in 0..u64::MAX {
-            match fed {
-                Fed::More => {}
-                Fed::Submitted(line) => return Ok(line),
-                Fed::Ended => return Err(ReadlineError::Eof),
-                Fed::Interrupted => return Err(ReadlineError::Interrupted),
+            if !fed.awaits_more(goes_on) {
+                return self.answered(fed);
             }
-            fed = self.hear(input, pauses, &mut buffer, bindings)?;
+            (fed, goes_on) = self.hear(input, pauses, &mut buffer, bindings)?;
         }
-        Err(ReadlineError::Eof)
+        Err(io::Error::from(io::ErrorKind::Other).into())
     }
 
-    /// Reads from the input once, and takes the turns of what came.
+    /// Returns what a line is answered with. No line goes on then.
     ///
     /// # Errors
-    /// `Eof`, where the input has ended, and does not end the line; `Io`, where the input, the output or a party fails, and `Memory`.
+    /// `Eof`, where the line goes on or ended; `Interrupted`; and `Io` and `Memory`, where bracketed paste cannot be turned off. The
+    /// line then goes on.
+    fn answered(&mut self, fed: Fed) -> Result<String>
+        ensures { UnlessFault result ((result ≡ answer_of fed)
+            × (self.new ≡ record self.old { line = None })) }
+    {
+        match fed {
+            Fed::More => {
+                self.leave(Fed::Ended)?;
+                Err(ReadlineError::Eof)
+            }
+            fed => {
+                self.line = None;
+                answer_of(fed)
+            }
+        }
+    }
+
+    /// Reads from the input once, and takes the turns of what came. Returns what came of it, and whether the input goes on.
+    ///
+    /// # Errors
+    /// `Io`, where the input, the output or a party fails, and `Memory`.
     fn hear<R: Read>(
         &mut self,
         input: &mut R,
         pauses: bool,
         buffer: &mut [u8],
         bindings: &Bindings,
-    ) -> Result<Fed>
+    ) -> Result<(Fed, bool)>
+        requires { 0 < length buffer.old }
         ensures hears { (begun : BegunLine) → self.old.line ≡ Some begun →
             let g = ⟦<dyn ConditionalEventHandler as ConditionalEventHandler>⟧ in
-            IfOk result (HearsOnce (answers_of H.hint_at H.verdict_at H.lights)
-            (bound_of g bindings.now) self.old begun self.new) }
-        ensures errors { result ≢ Err Interrupted }
+            IfOk result (λ told. HearsOnce (answers_of H.hint_at H.verdict_at H.lights)
+            (bound_of g bindings.now) pauses (R.remaining input.old) (R.remaining input.new)
+            self.old begun self.new told.0) }
+        ensures end { IfOk result (λ told. told.1 ≡ false → IsAtEnd (R.remaining input.new)) }
+        ensures faults { FaultsOnly result }
     {
         match input.read(buffer)? {
-            0 if pauses => self.flush(bindings),
-            0 => self.last(bindings),
-            count => self.feed(&buffer[..count], bindings),
-        }
-    }
-
-    /// Ends the input of `readline`: what bytes have begun may still end the line.
-    fn last(&mut self, bindings: &Bindings) -> Result<Fed>
-        ensures came { (begun : BegunLine) → self.old.line ≡ Some begun →
-            let g = ⟦<dyn ConditionalEventHandler as ConditionalEventHandler>⟧ in
-            IfOk result (Came (answers_of H.hint_at H.verdict_at H.lights) (bound_of g bindings.now)
-            (with_turn (finished self.old.decoder) self.old) begun self.new) }
-        ensures keeps { OnOk result (Keeps (answers_of H.hint_at H.verdict_at H.lights)
-            (with_turn (finished self.old.decoder) self.old) self.new) }
-        ensures errors { result ≢ Err Interrupted }
-    {
-        match self.finish(bindings)? {
-            Fed::More => Err(ReadlineError::Eof),
-            fed => Ok(fed),
+            0 if pauses => Ok((self.flush(bindings)?, true)),
+            0 => Ok((self.finish(bindings)?, false)),
+            count => Ok((self.feed(&buffer[..count], bindings)?, true)),
         }
     }
 
@@ -427,11 +494,13 @@ impl<O: Write + Drop, H: Helper + Drop, S: History + Drop> Editor<O, H, S> {
     fn start<P: Prompt>(&mut self, prompt: &P, initial: (&str, &str)) -> Result<()>
         ensures starts { OnOk result (StartsWith (answers_of H.hint_at H.verdict_at H.lights)
             (P.raw_text prompt.now) initial.entry.0.now initial.entry.1.now self.old self.new) }
+        ensures lines { OnErr result (self.new.lines ≡ self.old.lines) }
         ensures faults { FaultsOnly result }
     {
         self.ask_for_paste_marks()?;
         self.prompt = copied_prompt(self.alloc, prompt)?;
         self.line = None;
+        self.kill_ring.reset();
         let begun = begin(
             self.alloc,
             &mut self.screen,
@@ -475,6 +544,9 @@ impl<O: Write + Drop, H: Helper + Drop, S: History + Drop> Editor<O, H, S> {
             IfOk result (Came (answers_of H.hint_at H.verdict_at H.lights) (bound_of g bindings.now)
             self.old begun self.new) }
         ensures keeps { Keeps (answers_of H.hint_at H.verdict_at H.lights) self.old self.new }
+        ensures idle { self.old.line ≡ None
+            → IfOk result (λ fed. (fed ≡ Fed.More) × (self.new ≡ self.old)) }
+        ensures left { OnErr result (LosesNothing self.old self.new) }
         ensures faults { FaultsOnly result }
     {
         let Some(begun) = self.line.take() else {
@@ -547,6 +619,17 @@ impl<O: Write + Drop, H: Helper + Drop, S: History + Drop> Editor<O, H, S> {
         )?;
         self.line = None;
         Ok(Fed::Submitted(text))
+    }
+}
+
+/// Returns what a line is answered with.
+fn answer_of(fed: Fed) -> Result<String>
+    ensures { result ≡ answer_of fed }
+{
+    match fed {
+        Fed::Submitted(line) => Ok(line),
+        Fed::Interrupted => Err(ReadlineError::Interrupted),
+        Fed::Ended | Fed::More => Err(ReadlineError::Eof),
     }
 }
 

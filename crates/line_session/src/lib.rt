@@ -3,6 +3,7 @@
 
 mod begun;
 pub mod editor;
+pub mod iter;
 pub mod laws;
 pub mod parts;
 mod turns;

@@ -1,16 +1,21 @@
-use Rattle.line_session.proofs.ReadingLemmas.{reads_begun, reads_on}
+use Rattle.std.proofs.Common.{refl}
+use Rattle.line_session.proofs.ReadingLemmas.{answers_line, reads_begun, reads_on}
 use Rattle.line_session.proofs.editor.Editor.readline_with_initial.Goals as goal
 
 pub loop-init : goal.loop-init
-loop-init g c = λ no_hint. reads_begun _ _ _ _ _ _ _ _ c.in_ok-fed.ensures.came c.in_ok-fed.ensures.keeps
+loop-init g c = (λ no_hint. reads_begun _ _ _ _ _ _ _ _ _ _ c.in_ok-fed.ensures.came c.in_ok-fed.ensures.keeps, λ no. absurd (cc))
 
 pub loop-preserved : goal.loop-preserved
-loop-preserved g c = λ no_hint.
-    let reads = rw c.in-More.is at (c.loop.invariant no_hint) in
-    reads_on _ _ _ _ _ _ no_hint _ reads _ _ (c.in_ok-fed-2.ensures.hears reads.over.0.left reads.over.0.line)
+loop-preserved g c =
+    let more = c.if-not-awaits_more.ensures.yes refl in (
+      λ no_hint.
+          let reads = rw more.0 at (c.loop.invariant.0 no_hint) in
+          reads_on _ _ _ _ _ _ _ _ no_hint _ _ reads _ _ _ (c.in_ok-fed-2.ensures.hears reads.over.0.left reads.over.0.line),
+      c.in_ok-fed-2.ensures.end,
+    )
 
-pub returns-in-Submitted-clause-submitted : goal.returns-in-Submitted-clause-submitted
-returns-in-Submitted-clause-submitted g c = λ no_hint. rw c.in-Submitted.is at (c.loop.invariant no_hint)
-
-pub returns-in-Interrupted-clause-interrupted : goal.returns-in-Interrupted-clause-interrupted
-returns-in-Interrupted-clause-interrupted g c = λ no_hint is. rw c.in-Interrupted.is at (c.loop.invariant no_hint)
+pub returns-then-not-awaits_more : goal.returns-then-not-awaits_more
+returns-then-not-awaits_more g c = record {
+  reads = λ no_hint. answers_line _ _ _ _ _ _ _ _ _ _ _ _ _ (c.loop.invariant.0 no_hint)
+      (λ more. c.loop.invariant.1 (c.if-not-awaits_more.ensures.no refl more)) c.answered.ensures;
+}

@@ -24,4 +24,4 @@ returns-clause-starts g c =
       columns = c.self.inside.screen.shown.columns;
     } in
     starts_so asked _ _ _ _ _ mid _ begun (c.self.view_is ∙ c.in_ok-ask_for_paste_marks.ensures.stays) refl made.ensures.draft made.ensures.input made.ensures.draws made.ensures.prompt
-    c.in_ok-self-inside.ensures.raw refl columns made.ensures.answers
+    c.in_ok-self-inside.ensures.raw refl c.reset.ensures columns made.ensures.answers

@@ -1,0 +1,78 @@
+//! The lines of an input, one after another.
+ghost use Rattle.std.specs.Iterator.{at_most};
+
+use crate::editor::Editor;
+use line_config::{Prompt, ReadlineError, Result};
+use line_editor::Bindings;
+use line_parts::{Helper, History};
+use std::io::{Read, Write};
+
+/// Reads a line of an input each time, as `readline` does, until the input ends.
+pub struct Iter<'a, O: Write + Drop, H: Helper + Drop, S: History + Drop, R: Read, P: Prompt> {
+    editor: &'a mut Editor<O, H, S>,
+    input: &'a mut R,
+    pauses: bool,
+    prompt: &'a P,
+    bindings: &'a Bindings,
+    /// How many lines are read at most.
+    turns: u64,
+}
+
+impl<O: Write + Drop, H: Helper + Drop, S: History + Drop, R: Read, P: Prompt> Drop
+    for Iter<'_, O, H, S, R, P> {
+    fn drop(self) {
+        let Iter {
+            editor: _,
+            input: _,
+            pauses: _,
+            prompt: _,
+            bindings: _,
+            turns: _,
+        } = self;
+    }
+}
+
+impl<O: Write + Drop, H: Helper + Drop, S: History + Drop> Editor<O, H, S> {
+    /// Returns the lines of an input, each of which is read behind the prompt when it is asked for.
+    pub fn iter<'a, R: Read, P: Prompt>(
+        &'a mut self,
+        input: &'a mut R,
+        pauses: bool,
+        prompt: &'a P,
+        bindings: &'a Bindings,
+    ) -> Iter<'a, O, H, S, R, P> {
+        Iter {
+            editor: self,
+            input,
+            pauses,
+            prompt,
+            bindings,
+            turns: u64::MAX,
+        }
+    }
+}
+
+impl<'a, O: Write + Drop, H: Helper + Drop, S: History + Drop, R: Read, P: Prompt> Iterator
+    for Iter<'a, O, H, S, R, P> {
+    type Item = Result<String>;
+
+    ghost remaining = { λ s. at_most s.turns };
+
+    /// Returns the next line, or why there is none; None where the input or the line has ended, and from then on.
+    fn next(&mut self) -> Option<Result<String>> {
+        if self.turns == 0 {
+            return None;
+        }
+        self.turns -= 1;
+        match self
+            .editor
+            .readline(self.input, self.pauses, self.prompt, self.bindings)
+        {
+            Err(ReadlineError::Eof) => {
+                self.turns = 0;
+                None
+            }
+            line => Some(line),
+        }
+    }
+}
