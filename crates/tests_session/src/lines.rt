@@ -257,22 +257,28 @@ fn gives_the_line_in_whatever_pieces(rt: HostRuntime) -> Result<()> {
     Ok(())
 }
 
-/// What each line comes to that is read of an input.
-const LINES: &[Option<&str>] = &[Some("abc"), Some("de"), None, None];
+/// What each line comes to that is read of an input: its text, or an interrupt.
+const LINES: &[Option<&str>] = &[Some("abc"), Some("de"), None];
 
 #[test]
 fn reads_lines_of_an_input(rt: HostRuntime) -> Result<()> {
     let bindings = Bindings::new(rt.alloc());
     let mut session = editor(rt.alloc(), EditMode::Emacs)?;
     let mut input: &[u8] = b"abc\rde\x02\rf\x03g";
-    for (number, line) in LINES.iter().enumerate() {
-        let is_so = match session.readline(&mut input, false, &"> ", &bindings) {
-            Ok(read) => *line == Some(read.as_str()),
-            Err(ReadlineError::Interrupted) => number == 2,
-            Err(ReadlineError::Eof) => number == 3 && session.line() == Some("g"),
-            Err(_) => false,
+    let mut lines = 0usize;
+    for (number, read) in session
+        .iter(&mut input, false, &"> ", &bindings)
+        .enumerate()
+    {
+        let is_so = match (LINES.get(number), read) {
+            (Some(Some(line)), Ok(read)) => *line == read.as_str(),
+            (Some(None), Err(ReadlineError::Interrupted)) => true,
+            _ => false,
         };
         holds(&rt, is_so, "a line", number);
+        lines = number.saturating_add(1);
     }
+    let has_ended = lines == LINES.len() && session.line().is_none();
+    holds(&rt, has_ended, "the end", lines);
     Ok(())
 }
