@@ -8,8 +8,11 @@ use std::fs::{self, OpenOptions};
 use std::io::{ErrorKind, Write};
 use std::rt::Files;
 
-/// How many lines are kept.
+/// How many lines of the file are there to go back to.
 const LINES_KEPT: usize = 1000;
+
+/// The first line of the file.
+const HEADER: &str = "#V3\n";
 
 /// Returns the settings of the console, with the keys of Vi or of Emacs.
 pub(crate) fn settings(vi: bool) -> Result<Config> {
@@ -23,32 +26,27 @@ pub(crate) fn settings(vi: bool) -> Result<Config> {
     Ok(builder.build())
 }
 
-/// Loads the history of a file, if there is one. Returns the file, to which new lines are appended.
-///
-/// The lines that are kept are written to a file beside it, which then takes its place: so whenever the program is killed, the one
-/// or the other is whole.
+/// Loads the history of a file, or begins it with its header. Returns the file, to which new lines are appended; no other line of it
+/// is ever written.
 ///
 /// # Errors
-/// `Io`, where a file cannot be read, written or put in place, or is no text; and `Memory`. The file is then as it was, or has the
-/// lines that were loaded.
+/// `Io`, where the file cannot be read or written, or where it has another header, with the kind `InvalidData`; and `Memory`. The
+/// file is then as it was.
 pub(crate) fn open<R: Files + AllocGlobal>(
     rt: &R,
     path: &str,
     history: &mut FileHistory,
 ) -> Result<R::File> {
-    match fs::open(rt, path) {
-        Ok(file) => {
-            history.load_from(file)?;
-        }
-        Err(cause) if cause.kind() == ErrorKind::NotFound => {}
-        Err(cause) => return Err(cause.into()),
+    let mut file = OpenOptions::new().append(true).create(true).open(rt, path)?;
+    let text = fs::read_to_string(rt, path)?;
+    if text.is_empty() {
+        history.save_v3_to(&mut file, false)?;
+    } else if text.starts_with(HEADER) {
+        history.load_from(text.as_bytes())?;
+    } else {
+        return Err(ErrorKind::InvalidData.into());
     }
-    let beside = format!(in rt.alloc(); "{path}.new")?;
-    let mut file = fs::create(rt, beside.as_str())?;
-    history.save_v3_to(&mut file, false)?;
-    drop(file);
-    fs::rename(rt, beside.as_str(), path)?;
-    Ok(OpenOptions::new().append(true).open(rt, path)?)
+    Ok(file)
 }
 
 /// Appends the lines of the history that are not in its file yet.

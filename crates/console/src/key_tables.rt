@@ -12,7 +12,6 @@ C-d on an empty line    ends the console
 C-u C-w                 kills to the start, to the last blank
 C-y                     puts back what was killed last
 C-t                     changes two characters round
-C-v C-q and a key       types the key itself
 C-_                     takes the last change back
 ";
 

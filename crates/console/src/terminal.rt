@@ -67,6 +67,7 @@ fn read_line<R: Read, W: Write, O: Write + Drop>(
             return Ok(fed);
         }
         fed = match input.read(&mut buffer)? {
+            0 if watch.is_silent() => Fed::Ended,
             0 => {
                 watch.pause(out)?;
                 editor.flush(bindings)?

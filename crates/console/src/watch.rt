@@ -14,6 +14,12 @@ const SIZE_WANTED: &[u8] = b"\x1b[18t";
 /// At every which pause the size is asked for; a pause is a tenth of a second.
 const PAUSES_BETWEEN: u32 = 10;
 
+/// How many pauses are waited for an answer before the size is asked for again.
+const PAUSES_UNANSWERED: u32 = 50;
+
+/// After how many pauses the input counts as ended: eleven days of a terminal, and seconds of an input that is at its end.
+const PAUSES_AT_MOST: u32 = 10_000_000;
+
 /// How often is read at the end for an answer that has not come yet.
 const READS_AT_END: usize = 5;
 
@@ -27,7 +33,7 @@ pub(crate) type LineEditor<O> = Editor<O, ConsoleHelper, FileHistory>;
 #[derive(Drop)]
 pub(crate) struct Watch {
     size: Size,
-    /// Whether it takes rows for columns in its answers, as tmux 3.3 does; known from its first answer on.
+    /// Whether it takes rows for columns in its answers, as tmux 3.3 does; known from its first answer on in which they differ.
     exchanges: Option<bool>,
     /// Whether an answer has not come yet.
     asked: bool,
@@ -53,14 +59,21 @@ impl Watch {
         Ok(())
     }
 
-    /// Takes a pause: asks for the size at the first one, and then at every so many.
+    /// Takes a pause: asks for the size at the first one, and then at every so many, unless an answer is awaited.
     pub(crate) fn pause<W: Write>(&mut self, out: &mut W) -> Result<()> {
         let pauses = self.pauses;
-        self.pauses = pauses.wrapping_add(1);
-        if pauses % PAUSES_BETWEEN != 0 {
-            return Ok(());
-        }
-        self.ask(out)
+        self.pauses = pauses.saturating_add(1);
+        let is_due = if self.asked {
+            self.pauses % PAUSES_UNANSWERED == 0
+        } else {
+            pauses % PAUSES_BETWEEN == 0
+        };
+        if is_due { self.ask(out) } else { Ok(()) }
+    }
+
+    /// Returns whether nothing was typed for so long that the input counts as ended.
+    pub(crate) fn is_silent(&self) -> bool {
+        self.pauses >= PAUSES_AT_MOST
     }
 
     /// Gives the editor the size that the terminal reported behind what was read, if it did and it is another one.
@@ -84,9 +97,10 @@ impl Watch {
             columns: answer.rows,
         };
         self.asked = false;
-        let exchanges = self
-            .exchanges
-            .unwrap_or(other == self.size && other != answer);
+        if other == answer {
+            return answer;
+        }
+        let exchanges = self.exchanges.unwrap_or(other == self.size);
         self.exchanges = Some(exchanges);
         if exchanges { other } else { answer }
     }
