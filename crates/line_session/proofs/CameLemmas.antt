@@ -106,6 +106,7 @@ module _ {H : Type 0} where
       decoder = next.decoder ∙ first.decoder;
       settings = next.settings ∙ first.settings;
       columns = next.columns ∙ first.columns;
+      rows = next.rows ∙ first.rows;
     }
 
     -- what came of a line that was begun
@@ -141,24 +142,25 @@ module _ {H : Type 0} where
 
     -- what stays where a line ends
     pub keeps_so : (old mid new : Sitting H) → new ≡ record mid { line = new.line; lines = new.lines } → ((lines : List (List ℕ)) → answers mid.helper lines ≡ answers old.helper lines)
-        → mid.takes ≡ old.takes → queue_binding mid.binds ≡ queue_binding old.binds → mid.decoder ≡ old.decoder → mid.settings ≡ old.settings → mid.columns ≡ old.columns
+        → mid.takes ≡ old.takes → queue_binding mid.binds ≡ queue_binding old.binds → mid.decoder ≡ old.decoder → mid.settings ≡ old.settings → mid.columns ≡ old.columns → mid.rows ≡ old.rows
         → Keeps answers old new
-    keeps_so old mid new stays alike takes own decoder settings columns = record {
+    keeps_so old mid new stays alike takes own decoder settings columns rows = record {
       answers_alike = λ lines. ap (λ (s : Sitting H). answers s.helper lines) stays ∙ alike lines;
       takes = ap (λ (s : Sitting H). s.takes) stays ∙ takes;
       own = ap (λ (s : Sitting H). queue_binding s.binds) stays ∙ own;
       decoder = ap (λ (s : Sitting H). s.decoder) stays ∙ decoder;
       settings = ap (λ (s : Sitting H). s.settings) stays ∙ settings;
       columns = ap (λ (s : Sitting H). s.columns) stays ∙ columns;
+      rows = ap (λ (s : Sitting H). s.rows) stays ∙ rows;
     }
 
     -- a line that begins, where another had begun or none
     pub starts_so : (prompt left right raw : List ℕ) (old mid new : Sitting H) (begun : BegunLine) → mid ≡ old → new.line ≡ Some begun
         → begun.kept.draft ≡ begun_with left right mid.lines → begun.input ≡ first_input mid.settings.edit_mode → begun.draws ≡ true
         → begun.kept.drawing.prompt_end ≡ measured mid.columns raw corner → raw ≡ prompt
-        → new ≡ record mid { line = new.line; helper = new.helper; columns = new.columns; kills = new.kills } → new.kills ≡ with_last mid.kills other → new.columns ≡ mid.columns
+        → new ≡ record mid { line = new.line; helper = new.helper; columns = new.columns; rows = new.rows; kills = new.kills } → new.kills ≡ with_last mid.kills other → new.columns ≡ mid.columns → new.rows ≡ mid.rows
         → ((lines : List (List ℕ)) → answers new.helper lines ≡ answers mid.helper lines) → StartsWith answers prompt left right old new
-    starts_so prompt left right raw old mid new begun same line draft input draws prompt_end text stays reset columns alike =
+    starts_so prompt left right raw old mid new begun same line draft input draws prompt_end text stays reset columns rows alike =
         subst (λ o. StartsWith answers prompt left right o new) same (record {
           begun = begun;
           line = line;
@@ -176,6 +178,7 @@ module _ {H : Type 0} where
             decoder = ap (λ (s : Sitting H). s.decoder) stays;
             settings = ap (λ (s : Sitting H). s.settings) stays;
             columns = columns;
+            rows = rows;
           };
         })
 

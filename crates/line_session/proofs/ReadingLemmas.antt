@@ -50,6 +50,7 @@ module _ {H : Type 0} (answers : H → List (List ℕ) → Environment) (bound :
       decoder = refl;
       settings = keeps.settings;
       columns = keeps.columns;
+      rows = keeps.rows;
     };
   }
     where
@@ -129,6 +130,7 @@ module _ {H : Type 0} (answers : H → List (List ℕ) → Environment) (bound :
             decoder = refl;
             settings = hears.keeps.settings ∙ reads.keeps.settings;
             columns = hears.keeps.columns ∙ reads.keeps.columns;
+            rows = hears.keeps.rows ∙ reads.keeps.rows;
           };
         }
       where

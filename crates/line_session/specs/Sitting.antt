@@ -30,7 +30,7 @@ pub record BegunLine : Type 0 where
   pub draws : Bool
 
 -- the line that has begun, if one has; the lines of the history and which ones it takes; the kill ring; the items that are left to
--- read, and whether the queue of them binds keys; what the bytes that came have left; the helper; the settings; and the columns
+-- read, and whether the queue of them binds keys; what the bytes that came have left; the helper; the settings; and the columns and the rows
 pub record Sitting (H : Type 0) : Type 0 where
   pub line : Option BegunLine
   pub lines : List (List ℕ)
@@ -42,6 +42,7 @@ pub record Sitting (H : Type 0) : Type 0 where
   pub helper : H
   pub settings : Settings
   pub columns : ℕ
+  pub rows : ℕ
 
 -- the draft and what reading keys remembers of the line that has begun, if one has
 abbrev pub draft_and_input : {H : Type 0} → Sitting H → Option (Draft × Input)
@@ -158,7 +159,7 @@ module _ {H : Type 0} where
           (starting (answers old.helper old.lines) true (first_standing left right old)) old
 
     -- what stays while turns are taken: those who answer, the lines that the history takes, the keys that the queue binds, what the bytes
-    -- have left, the settings and the columns
+    -- have left, the settings, the columns and the rows
     pub record Keeps (old new : Sitting H) : Type 0 where
       pub answers_alike : (lines : List (List ℕ)) → answers new.helper lines ≡ answers old.helper lines
       pub takes : new.takes ≡ old.takes
@@ -166,6 +167,7 @@ module _ {H : Type 0} where
       pub decoder : new.decoder ≡ old.decoder
       pub settings : new.settings ≡ old.settings
       pub columns : new.columns ≡ old.columns
+      pub rows : new.rows ≡ old.rows
 
     -- a line begins behind a prompt, with these texts before and behind the cursor: it is to be drawn
     pub record StartsWith (prompt left right : List ℕ) (old new : Sitting H) : Type 0 where

@@ -201,6 +201,7 @@ pub(crate) fn resized<'out, 'prompt, O: Write + Drop, H: Helper, S: History>(
     ensures draft { result.0.line.draft ≡ begun.line.draft }
     ensures input { result.0.input ≡ begun.input }
     ensures columns { (⟦<Ansi<O, KeyQueue> as ScreenState>⟧.surface screen.new).columns ≡ columns }
+    ensures rows { (⟦<Ansi<O, KeyQueue> as ScreenState>⟧.surface screen.new).rows ≡ rows }
     ensures answers { (lines : List (List ℕ))
         → answers_of H.hint_at H.verdict_at H.lights helper.new lines
         ≡ answers_of H.hint_at H.verdict_at H.lights helper.old lines }

@@ -97,6 +97,7 @@ impl<O: Write + Drop, H: Helper + Drop, S: History + Drop> Model for Editor<O, H
       helper = e.helper;
       settings = e.config;
       columns = e.screen.shown.columns;
+      rows = e.screen.shown.rows;
     } };
 
     // The line that has begun fits the screen, its prompt, and those who answer.
@@ -118,7 +119,7 @@ impl<O: Write + Drop, H: Helper + Drop, S: History + Drop> Model for Editor<O, H
 }
 
 impl<O: Write + Drop, H: Helper + Drop, S: History + Drop> Editor<O, H, S> {
-    /// Returns an editor that draws on a terminal of so many columns by writing to `out`. No line has begun.
+    /// Returns an editor that draws on a terminal of so many columns and of 24 rows by writing to `out`. No line has begun.
     pub fn new(alloc: Global, config: Config, out: O, columns: Unit, helper: H, history: S) -> Self
         requires { 0 < columns }
         ensures line { result.line ≡ None }
@@ -131,6 +132,7 @@ impl<O: Write + Drop, H: Helper + Drop, S: History + Drop> Editor<O, H, S> {
         ensures helper { result.helper ≡ helper }
         ensures settings { result.settings ≡ config }
         ensures columns { result.columns ≡ columns }
+        ensures rows { result.rows ≡ 24 }
     {
         let colors = config.color_mode(None) != ColorMode::Disabled;
         let synchronized = config.enable_synchronized_output();
@@ -367,7 +369,7 @@ impl<O: Write + Drop, H: Helper + Drop, S: History + Drop> Editor<O, H, S> {
         ensures kills { self.new.kills ≡ self.old.kills }
         ensures items { self.new.items ≡ self.old.items }
         ensures keeps { Keeps (answers_of H.hint_at H.verdict_at H.lights)
-            (record self.old { columns = columns }) self.new }
+            (record self.old { columns = columns; rows = rows }) self.new }
         ensures faults { FaultsOnly result }
     {
         let Some(begun) = self.line.take() else {

@@ -23,6 +23,7 @@ returns-clause-came g c =
       helper = c.self.inside.helper;
       settings = c.self.inside.config;
       columns = c.self.inside.screen.shown.columns;
+      rows = c.self.inside.screen.shown.rows;
     } in
     let mid : Sitting g.row.H.Denot = record old { items = c.flush.new.keys.rest; binds = c.flush.new.keys.binds; decoder = c.flush.new.self } in
     let turned = turn_so asked old mid _ _ _ _ c.in_ok-flush.ensures.flushed refl refl refl in
@@ -43,6 +44,7 @@ returns-clause-keeps g c =
       helper = c.self.inside.helper;
       settings = c.self.inside.config;
       columns = c.self.inside.screen.shown.columns;
+      rows = c.self.inside.screen.shown.rows;
     } in
     let mid : Sitting g.row.H.Denot = record old { items = c.flush.new.keys.rest; binds = c.flush.new.keys.binds; decoder = c.flush.new.self } in
     let turned = turn_so asked old mid _ _ _ _ c.in_ok-flush.ensures.flushed refl refl refl in
@@ -63,6 +65,7 @@ returns-clause-idle g c =
       helper = c.self.inside.helper;
       settings = c.self.inside.config;
       columns = c.self.inside.screen.shown.columns;
+      rows = c.self.inside.screen.shown.rows;
     } in
     let mid : Sitting g.row.H.Denot = record old { items = c.flush.new.keys.rest; binds = c.flush.new.keys.binds; decoder = c.flush.new.self } in
     let turned = turn_so asked old mid _ _ _ _ c.in_ok-flush.ensures.flushed refl refl refl in

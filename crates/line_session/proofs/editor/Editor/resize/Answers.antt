@@ -18,11 +18,13 @@ returns-clause-keeps g c =
       helper = c.self.inside.helper;
       settings = c.self.inside.config;
       columns = c.self.inside.screen.shown.columns;
+      rows = c.self.inside.screen.shown.rows;
     } in
     let new : Sitting g.row.H.Denot = record old {
       line = Some (record { kept = resized.result.0.line; input = resized.result.0.input; draws = resized.result.0.draws });
       helper = resized.new.helper;
       columns = resized.new.screen.shown.columns;
+      rows = resized.new.screen.shown.rows;
     } in
-    subst (λ o. Keeps asked (record o { columns = c.args.columns }) new) c.self.view_is
-    (record { answers_alike = resized.ensures.answers; takes = refl; own = refl; decoder = refl; settings = refl; columns = resized.ensures.columns })
+    subst (λ o. Keeps asked (record o { columns = c.args.columns; rows = c.args.rows }) new) c.self.view_is
+    (record { answers_alike = resized.ensures.answers; takes = refl; own = refl; decoder = refl; settings = refl; columns = resized.ensures.columns; rows = resized.ensures.rows })

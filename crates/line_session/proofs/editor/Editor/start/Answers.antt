@@ -11,6 +11,7 @@ returns-clause-starts g c =
     let made = c.in_ok-begun in
     let begun : BegunLine = record { kept = made.begun.line; input = made.begun.input; draws = made.begun.draws } in
     let columns = ap (λ (s : Surface). s.columns) made.ensures.surface in
+    let rows = ap (λ (s : Surface). s.rows) made.ensures.surface in
     let mid : Sitting g.row.H.Denot = record {
       line = option_map (λ b. record { kept = b.line; input = b.input; draws = b.draws }) c.self.inside.line;
       lines = g.S.History.lines c.self.inside.history;
@@ -22,6 +23,7 @@ returns-clause-starts g c =
       helper = c.self.inside.helper;
       settings = c.self.inside.config;
       columns = c.self.inside.screen.shown.columns;
+      rows = c.self.inside.screen.shown.rows;
     } in
     starts_so asked _ _ _ _ _ mid _ begun (c.self.view_is ∙ c.in_ok-ask_for_paste_marks.ensures.stays) refl made.ensures.draft made.ensures.input made.ensures.draws made.ensures.prompt
-    c.in_ok-self-inside.ensures.raw refl c.reset.ensures columns made.ensures.answers
+    c.in_ok-self-inside.ensures.raw refl c.reset.ensures columns rows made.ensures.answers

@@ -22,6 +22,7 @@ returns-clause-came g c =
       helper = c.self.inside.helper;
       settings = c.self.inside.config;
       columns = c.self.inside.screen.shown.columns;
+      rows = c.self.inside.screen.shown.rows;
     } in
     subst (λ o. (begun : BegunLine) → o.line ≡ Some begun → IfOk c.end.result (Came asked bound o begun c.end.new.self)) c.self.view_is
     (λ begun line.
@@ -36,6 +37,7 @@ pub returns-clause-keeps : goal.returns-clause-keeps
 returns-clause-keeps g c =
     let asked = answers_of g.H.Hinter.hint_at g.H.Validator.verdict_at g.H.Highlighter.lights in
     let columns = ap (λ (s : Surface). s.columns) c.go_on-begun.ensures.surface in
+    let rows = ap (λ (s : Surface). s.rows) c.go_on-begun.ensures.surface in
     let old : Sitting g.row.H.Denot = record {
       line = option_map (λ b. record { kept = b.line; input = b.input; draws = b.draws }) c.self.inside.line;
       lines = g.S.History.lines c.self.inside.history;
@@ -47,6 +49,7 @@ returns-clause-keeps g c =
       helper = c.self.inside.helper;
       settings = c.self.inside.config;
       columns = c.self.inside.screen.shown.columns;
+      rows = c.self.inside.screen.shown.rows;
     } in
     let mid : Sitting g.row.H.Denot = record old {
       kills = c.go_on-begun.new.kill_ring;
@@ -54,6 +57,7 @@ returns-clause-keeps g c =
       binds = c.go_on-begun.new.keys.binds;
       helper = c.go_on-begun.new.helper;
       columns = c.go_on-begun.new.screen.shown.columns;
+      rows = c.go_on-begun.new.screen.shown.rows;
     } in
     subst (λ o. Keeps asked o c.end.new.self) c.self.view_is
-    (keeps_so asked old mid _ c.end.ensures.stays c.go_on-begun.ensures.answers refl c.go_on-begun.ensures.own refl refl columns)
+    (keeps_so asked old mid _ c.end.ensures.stays c.go_on-begun.ensures.answers refl c.go_on-begun.ensures.own refl refl columns rows)
