@@ -193,16 +193,6 @@ module _ {H : Type 0} where
     kept_so old mid new (Ok f) first next = keeps_then old mid new first next
     kept_so old mid new (Err error) first next = tt
 
-    -- the items of a turn were appended to those of a line
-    pub turn_so : (old mid : Sitting H) (turn : decoding.Turn) (left : decoding.Standing) (before after : Queued) → Gives turn left before after
-        → mid ≡ record old { items = after.rest; binds = after.binds; decoder = left } → old.items ≡ before.rest → old.binds ≡ before.binds
-        → mid ≡ with_turn turn old
-    turn_so old mid turn left before after gives is items binds =
-        is ∙ ap (λ (q : Queued). record old { items = q.rest; binds = q.binds; decoder = left }) gives.items
-        ∙ ap (λ d. record old { items = before.rest ++ turn.items; binds = before.binds; decoder = d }) gives.left
-        ∙ ap (λ b. record old { items = before.rest ++ turn.items; binds = b; decoder = turn.after }) (sym binds)
-        ∙ ap (λ i. record old { items = i ++ turn.items; decoder = turn.after }) (sym items)
-
     -- what came of them
     pub fed_so : (bound : Bound) (old mid new : Sitting H) (turn : decoding.Turn) (result : Result Fed ReadlineError) → mid ≡ with_turn turn old
         → ((begun : BegunLine) → mid.line ≡ Some begun → IfOk result (Came answers bound mid begun new))
@@ -221,3 +211,14 @@ pub fed_idle : {H : Type 0} (old mid new : Sitting H) (turn : decoding.Turn) (re
     → old.line ≡ None → IfOk result (λ f. (f ≡ fed.More) × (new ≡ with_turn turn old))
 fed_idle {H} old mid new turn result same idle =
     subst (λ (m : Sitting H). m.line ≡ None → IfOk result (λ f. (f ≡ fed.More) × (new ≡ m))) same idle
+
+-- the items of a turn were appended to those of a line
+pub turn_so : {H : Type 0} (old mid : Sitting H) (turn : decoding.Turn) (left : decoding.Standing) (before after : Queued) (result : Result (Unit {0}) ReadlineError) → OnOk result (Gives turn left before after)
+    → mid ≡ record old { items = after.rest; binds = after.binds; decoder = left } → old.items ≡ before.rest → old.binds ≡ before.binds
+    → OnOk result (mid ≡ with_turn turn old)
+turn_so old mid turn left before after (Ok done) gives is items binds =
+    is ∙ ap (λ (q : Queued). record old { items = q.rest; binds = q.binds; decoder = left }) gives.items
+    ∙ ap (λ d. record old { items = before.rest ++ turn.items; binds = before.binds; decoder = d }) gives.left
+    ∙ ap (λ b. record old { items = before.rest ++ turn.items; binds = b; decoder = turn.after }) (sym binds)
+    ∙ ap (λ i. record old { items = i ++ turn.items; decoder = turn.after }) (sym items)
+turn_so old mid turn left before after (Err error) gives is items binds = tt

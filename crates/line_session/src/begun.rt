@@ -30,12 +30,21 @@ use std::alloc::Global;
 use std::io::Write;
 
 /// A line that has begun, between two calls.
-#[derive(Drop)]
 pub(crate) struct Begun<H: Helper> {
     pub(crate) line: KeptLine<H>,
     pub(crate) input: KeptInput,
     /// Whether the line is to be drawn before the next key is read.
     pub(crate) draws: bool,
+}
+
+impl<H: Helper> Drop for Begun<H> {
+    fn drop(self) {
+        let Begun {
+            line: _,
+            input: _,
+            draws: _,
+        } = self;
+    }
 }
 
 /// Ends two loans.
@@ -177,98 +186,107 @@ fn state_of<'out, 'prompt, O: Write + Drop, H: Helper, P: Prompt, S: History>(
     State::with_line(alloc, screen, prompt, Some(helper), ctx, text, cursor)
 }
 
-/// Gives the screen of a line another number of columns and of rows, draws the line, and keeps it again. Where drawing fails, the
-/// line is to be drawn.
-pub(crate) fn resized<'out, 'prompt, O: Write + Drop, H: Helper, S: History>(
-    alloc: Global,
-    begun: Begun<H>,
-    screen: &'out mut Ansi<O, KeyQueue>,
-    prompt: &'prompt (String, String),
-    helper: &'out mut H,
-    history: &'out S,
-    columns: Unit,
-    rows: Unit,
-) -> (Begun<H>, Result<()>)
-    requires columns { 0 < columns }
-    requires fits { Fits begun.line begun.draws
-        (⟦<Ansi<O, KeyQueue> as ScreenState>⟧.surface screen.old)
-        (⟦<Ansi<O, KeyQueue> as ScreenState>⟧.screen screen.old) (string_bytes prompt.now.0)
-        (answers_of H.hint_at H.verdict_at H.lights helper.old (S.lines history.now)) }
-    ensures fits { Fits result.0.line result.0.draws
-        (⟦<Ansi<O, KeyQueue> as ScreenState>⟧.surface screen.new)
-        (⟦<Ansi<O, KeyQueue> as ScreenState>⟧.screen screen.new) (string_bytes prompt.now.0)
-        (answers_of H.hint_at H.verdict_at H.lights helper.new (S.lines history.now)) }
-    ensures draft { result.0.line.draft ≡ begun.line.draft }
-    ensures input { result.0.input ≡ begun.input }
-    ensures columns { (⟦<Ansi<O, KeyQueue> as ScreenState>⟧.surface screen.new).columns ≡ columns }
-    ensures rows { (⟦<Ansi<O, KeyQueue> as ScreenState>⟧.surface screen.new).rows ≡ rows }
-    ensures answers { (lines : List (List ℕ))
-        → answers_of H.hint_at H.verdict_at H.lights helper.new lines
-        ≡ answers_of H.hint_at H.verdict_at H.lights helper.old lines }
-    ensures faults { FaultsOnly result.1 }
-{
-    let Begun { line, input, .. } = begun;
-    let mut state = State::resume(alloc, line, screen, prompt, Some(helper), history);
-    let drawn = state.resized(columns, rows);
-    let (line, out, lent) = state.release();
-    let lent = lent.unwrap();
-    let begun = Begun {
-        line,
-        input,
-        draws: true,
-    };
-    give_back(out, lent);
-    (begun, drawn)
-}
+impl<H: Helper> Begun<H> {
+    /// Gives the screen of a line another number of columns and of rows, draws the line, and keeps it again. Where drawing fails, the
+    /// line is to be drawn.
+    pub(crate) fn resized<'out, 'prompt, O: Write + Drop, S: History>(
+        self,
+        alloc: Global,
+        screen: &'out mut Ansi<O, KeyQueue>,
+        prompt: &'prompt (String, String),
+        helper: &'out mut H,
+        history: &'out S,
+        columns: Unit,
+        rows: Unit,
+    ) -> (Begun<H>, Result<()>)
+        requires columns { 0 < columns }
+        requires fits { Fits self.line self.draws
+            (⟦<Ansi<O, KeyQueue> as ScreenState>⟧.surface screen.old)
+            (⟦<Ansi<O, KeyQueue> as ScreenState>⟧.screen screen.old) (string_bytes prompt.now.0)
+            (answers_of H.hint_at H.verdict_at H.lights helper.old (S.lines history.now)) }
+        ensures fits { Fits result.0.line result.0.draws
+            (⟦<Ansi<O, KeyQueue> as ScreenState>⟧.surface screen.new)
+            (⟦<Ansi<O, KeyQueue> as ScreenState>⟧.screen screen.new) (string_bytes prompt.now.0)
+            (answers_of H.hint_at H.verdict_at H.lights helper.new (S.lines history.now)) }
+        ensures draft { result.0.line.draft ≡ self.line.draft }
+        ensures input { result.0.input ≡ self.input }
+        ensures columns { let w = ⟦<Ansi<O, KeyQueue> as ScreenState>⟧ in
+            (w.surface screen.new).columns ≡ columns }
+        ensures rows { let w = ⟦<Ansi<O, KeyQueue> as ScreenState>⟧ in
+            (w.surface screen.new).rows ≡ rows }
+        ensures answers { (lines : List (List ℕ))
+            → answers_of H.hint_at H.verdict_at H.lights helper.new lines
+            ≡ answers_of H.hint_at H.verdict_at H.lights helper.old lines }
+        ensures faults { FaultsOnly result.1 }
+    {
+        let Begun {
+            line,
+            input,
+            draws: _,
+        } = self;
+        let mut state = State::resume(alloc, line, screen, prompt, Some(helper), history);
+        let drawn = state.resized(columns, rows);
+        let (line, out, lent) = state.release();
+        let lent = lent.unwrap();
+        let begun = Begun {
+            line,
+            input,
+            draws: true,
+        };
+        give_back(out, lent);
+        (begun, drawn)
+    }
 
-/// Takes turns of a line, as `take_turns` does, and keeps it again.
-pub(crate) fn go_on<'out, 'prompt, O: Write + Drop, H: Helper, S: History>(
-    alloc: Global,
-    begun: Begun<H>,
-    screen: &'out mut Ansi<O, KeyQueue>,
-    prompt: &'prompt (String, String),
-    helper: &'out mut H,
-    history: &'out S,
-    bindings: &Bindings,
-    keys: &mut KeyQueue,
-    kill_ring: &mut KillRing,
-    config: &Config,
-) -> (Begun<H>, Result<Turned>)
-    requires { Fits begun.line begun.draws
-        (⟦<Ansi<O, KeyQueue> as ScreenState>⟧.surface screen.old)
-        (⟦<Ansi<O, KeyQueue> as ScreenState>⟧.screen screen.old) (string_bytes prompt.now.0)
-        (answers_of H.hint_at H.verdict_at H.lights helper.old (S.lines history.now)) }
-    ensures fits { Fits result.0.line result.0.draws
-        (⟦<Ansi<O, KeyQueue> as ScreenState>⟧.surface screen.new)
-        (⟦<Ansi<O, KeyQueue> as ScreenState>⟧.screen screen.new) (string_bytes prompt.now.0)
-        (answers_of H.hint_at H.verdict_at H.lights helper.new (S.lines history.now)) }
-    ensures comes { let g = ⟦<dyn ConditionalEventHandler as ConditionalEventHandler>⟧ in
-        let asked = answers_of H.hint_at H.verdict_at H.lights helper.old (S.lines history.now) in
-        IfOk result.1 (ComesTo (not result.0.draws)
-        (rules_for (bound_of g bindings.now) keys.old.binds
-        config.now.indent_size begun.line.drawing.prompt_end.col asked)
-        (starting asked begun.draws
-        (standing_with begun.line.draft begun.input keys.old.rest kill_ring.old))
-        (standing_with result.0.line.draft result.0.input keys.new.rest kill_ring.new)) }
-    ensures surface { ⟦<Ansi<O, KeyQueue> as ScreenState>⟧.surface screen.new
-        ≡ ⟦<Ansi<O, KeyQueue> as ScreenState>⟧.surface screen.old }
-    ensures prompt { result.0.line.drawing.prompt_end ≡ begun.line.drawing.prompt_end }
-    ensures own { queue_binding keys.new.binds ≡ queue_binding keys.old.binds }
-    ensures answers { (lines : List (List ℕ))
-        → answers_of H.hint_at H.verdict_at H.lights helper.new lines
-        ≡ answers_of H.hint_at H.verdict_at H.lights helper.old lines }
-    ensures faults { FaultsOnly result.1 }
-{
-    let Begun { line, input, draws } = begun;
-    let mut state = State::resume(alloc, line, screen, prompt, Some(helper), history);
-    let mut input_state = InputState::resume(input, bindings);
-    let turned = take_turns(draws, &mut state, &mut input_state, keys, kill_ring, config);
-    let turned = leave(alloc, turned, &mut state);
-    let draws = is_to_be_drawn(&turned, &state);
-    let input = input_state.release();
-    let (line, out, lent) = state.release();
-    let lent = lent.unwrap();
-    let begun = Begun { line, input, draws };
-    give_back(out, lent);
-    (begun, turned)
+    /// Takes turns of a line, as `take_turns` does, and keeps it again.
+    pub(crate) fn go_on<'out, 'prompt, O: Write + Drop, S: History>(
+        self,
+        alloc: Global,
+        screen: &'out mut Ansi<O, KeyQueue>,
+        prompt: &'prompt (String, String),
+        helper: &'out mut H,
+        history: &'out S,
+        bindings: &Bindings,
+        keys: &mut KeyQueue,
+        kill_ring: &mut KillRing,
+        config: &Config,
+    ) -> (Begun<H>, Result<Turned>)
+        requires { Fits self.line self.draws
+            (⟦<Ansi<O, KeyQueue> as ScreenState>⟧.surface screen.old)
+            (⟦<Ansi<O, KeyQueue> as ScreenState>⟧.screen screen.old) (string_bytes prompt.now.0)
+            (answers_of H.hint_at H.verdict_at H.lights helper.old (S.lines history.now)) }
+        ensures fits { Fits result.0.line result.0.draws
+            (⟦<Ansi<O, KeyQueue> as ScreenState>⟧.surface screen.new)
+            (⟦<Ansi<O, KeyQueue> as ScreenState>⟧.screen screen.new) (string_bytes prompt.now.0)
+            (answers_of H.hint_at H.verdict_at H.lights helper.new (S.lines history.now)) }
+        ensures comes { let g = ⟦<dyn ConditionalEventHandler as ConditionalEventHandler>⟧ in
+            let lines = S.lines history.now in
+            let asked = answers_of H.hint_at H.verdict_at H.lights helper.old lines in
+            IfOk result.1 (ComesTo (not result.0.draws)
+            (rules_for (bound_of g bindings.now) keys.old.binds
+            config.now.indent_size self.line.drawing.prompt_end.col asked)
+            (starting asked self.draws
+            (standing_with self.line.draft self.input keys.old.rest kill_ring.old))
+            (standing_with result.0.line.draft result.0.input keys.new.rest kill_ring.new)) }
+        ensures surface { ⟦<Ansi<O, KeyQueue> as ScreenState>⟧.surface screen.new
+            ≡ ⟦<Ansi<O, KeyQueue> as ScreenState>⟧.surface screen.old }
+        ensures prompt { result.0.line.drawing.prompt_end ≡ self.line.drawing.prompt_end }
+        ensures own { queue_binding keys.new.binds ≡ queue_binding keys.old.binds }
+        ensures answers { (lines : List (List ℕ))
+            → answers_of H.hint_at H.verdict_at H.lights helper.new lines
+            ≡ answers_of H.hint_at H.verdict_at H.lights helper.old lines }
+        ensures faults { FaultsOnly result.1 }
+    {
+        let Begun { line, input, draws } = self;
+        let mut state = State::resume(alloc, line, screen, prompt, Some(helper), history);
+        let mut input_state = InputState::resume(input, bindings);
+        let turned = take_turns(draws, &mut state, &mut input_state, keys, kill_ring, config);
+        let turned = leave(alloc, turned, &mut state);
+        let draws = is_to_be_drawn(&turned, &state);
+        let input = input_state.release();
+        let (line, out, lent) = state.release();
+        let lent = lent.unwrap();
+        let begun = Begun { line, input, draws };
+        give_back(out, lent);
+        (begun, turned)
+    }
 }

@@ -10,7 +10,7 @@ ghost use Rattle.line_session.specs.Sitting.{BegunLine, Came, CameBegun, EndsAs,
 ghost use Rattle.line_buffer.specs.KillRing.{empty_ring};
 ghost use Rattle.line_term.specs.Decoder.{finished, flushed, fresh, is_waiting, read};
 
-use crate::begun::{Begun, begin, go_on, resized};
+use crate::begun::{Begun, begin};
 use line_buffer::{KillRing, Unit};
 use line_config::{ColorMode, Config, Prompt, ReadlineError, Result};
 use line_editor::binding::ConditionalEventHandler;
@@ -59,7 +59,6 @@ impl Fed {
 ///
 /// A program with a loop of its own begins a line, feeds it the bytes that come, and flushes it when none have come for a
 /// moment, until the line is submitted or ends.
-#[derive(Drop)]
 pub struct Editor<O: Write + Drop, H: Helper + Drop, S: History + Drop> {
     alloc: Global,
     config: Config,
@@ -71,6 +70,23 @@ pub struct Editor<O: Write + Drop, H: Helper + Drop, S: History + Drop> {
     keys: KeyQueue,
     prompt: (String, String),
     line: Option<Begun<H>>,
+}
+
+impl<O: Write + Drop, H: Helper + Drop, S: History + Drop> Drop for Editor<O, H, S> {
+    fn drop(self) {
+        let Editor {
+            alloc: _,
+            config: _,
+            screen: _,
+            helper: _,
+            history: _,
+            kill_ring: _,
+            decoder: _,
+            keys: _,
+            prompt: _,
+            line: _,
+        } = self;
+    }
 }
 
 impl<O: Write + Drop, H: Helper + Drop, S: History + Drop> Model for Editor<O, H, S> {
@@ -314,7 +330,7 @@ impl<O: Write + Drop, H: Helper + Drop, S: History + Drop> Editor<O, H, S> {
         ensures left { OnErr result (LosesNothing self.old self.new) }
         ensures faults { FaultsOnly result }
     {
-        self.decoder.feed(bytes, &mut self.keys)?;
+        self.read(bytes)?;
         self.take_turns(bindings)
     }
 
@@ -334,7 +350,7 @@ impl<O: Write + Drop, H: Helper + Drop, S: History + Drop> Editor<O, H, S> {
         ensures left { OnErr result (LosesNothing self.old self.new) }
         ensures faults { FaultsOnly result }
     {
-        self.decoder.flush(&mut self.keys)?;
+        self.read_pause()?;
         self.take_turns(bindings)
     }
 
@@ -354,7 +370,7 @@ impl<O: Write + Drop, H: Helper + Drop, S: History + Drop> Editor<O, H, S> {
         ensures left { OnErr result (LosesNothing self.old self.new) }
         ensures faults { FaultsOnly result }
     {
-        self.decoder.finish(&mut self.keys)?;
+        self.read_end()?;
         self.take_turns(bindings)
     }
 
@@ -376,9 +392,8 @@ impl<O: Write + Drop, H: Helper + Drop, S: History + Drop> Editor<O, H, S> {
             self.screen.resize(columns, rows);
             return Ok(());
         };
-        let (begun, drawn) = resized(
+        let (begun, drawn) = begun.resized(
             self.alloc,
-            begun,
             &mut self.screen,
             &self.prompt,
             &mut self.helper,
@@ -539,6 +554,34 @@ impl<O: Write + Drop, H: Helper + Drop, S: History + Drop> Editor<O, H, S> {
         self.screen.disable_bracketed_paste()
     }
 
+    /// Appends the items of bytes to those that are left.
+    fn read(&mut self, bytes: &[u8]) -> Result<()>
+        ensures reads { OnOk result
+            (self.new ≡ with_turn (read self.old.decoder bytes.now) self.old) }
+        ensures left { OnErr result (LosesNothing self.old self.new) }
+        ensures faults { FaultsOnly result }
+    {
+        self.decoder.feed(bytes, &mut self.keys)
+    }
+
+    /// Appends the items of a pause to those that are left.
+    fn read_pause(&mut self) -> Result<()>
+        ensures reads { OnOk result (self.new ≡ with_turn (flushed self.old.decoder) self.old) }
+        ensures left { OnErr result (LosesNothing self.old self.new) }
+        ensures faults { FaultsOnly result }
+    {
+        self.decoder.flush(&mut self.keys)
+    }
+
+    /// Appends the items of the end of all bytes to those that are left.
+    fn read_end(&mut self) -> Result<()>
+        ensures reads { OnOk result (self.new ≡ with_turn (finished self.old.decoder) self.old) }
+        ensures left { OnErr result (LosesNothing self.old self.new) }
+        ensures faults { FaultsOnly result }
+    {
+        self.decoder.finish(&mut self.keys)
+    }
+
     /// Takes turns of the line that has begun, if one has.
     fn take_turns(&mut self, bindings: &Bindings) -> Result<Fed>
         ensures came { (begun : BegunLine) → self.old.line ≡ Some begun →
@@ -554,9 +597,8 @@ impl<O: Write + Drop, H: Helper + Drop, S: History + Drop> Editor<O, H, S> {
         let Some(begun) = self.line.take() else {
             return Ok(Fed::More);
         };
-        let (begun, turned) = go_on(
+        let (begun, turned) = begun.go_on(
             self.alloc,
-            begun,
             &mut self.screen,
             &self.prompt,
             &mut self.helper,

@@ -4,7 +4,7 @@ use Rattle.line_keys.specs.Display.{Display}
 use Rattle.line_screen.specs.Measure.{measured}
 use Rattle.line_session.specs.Kept.{answers_of}
 use Rattle.line_session.proofs.KeptLemmas.{answers_any, answers_back, comes_so, fits_alike, lent_answers, rules_alike, shown_alike, stands_alike, starts_alike}
-use Rattle.line_session.proofs.begun.go_on.Goals as goal
+use Rattle.line_session.proofs.begun.Begun.go_on.Goals as goal
 
 pub take_turns-turned-requires : goal.take_turns-turned-requires
 take_turns-turned-requires g c = record {

@@ -1,7 +1,7 @@
 use Rattle.std.proofs.Common.{◌≡◌, ◌∙◌, Some, option_map, sym, ap}
 use Rattle.line_session.specs.Kept.{answers_of}
 use Rattle.line_session.proofs.KeptLemmas.{answers_any, answers_back, lent_answers}
-use Rattle.line_session.proofs.begun.resized.Goals as goal
+use Rattle.line_session.proofs.begun.Begun.resized.Goals as goal
 
 pub returns-clause-answers : goal.returns-clause-answers
 returns-clause-answers g c =

@@ -1,0 +1,25 @@
+use Rattle.std.proofs.Common.{◌≡◌, option_map, refl, subst}
+use Rattle.std.specs.Prelude.{OnOk}
+use Rattle.line_term.specs.Decoder.{finished}
+use Rattle.line_session.specs.Sitting.{Sitting, with_turn}
+use Rattle.line_session.proofs.CameLemmas.{turn_so}
+use Rattle.line_session.proofs.editor.Editor.read_end.Goals as goal
+
+pub returns-clause-reads : goal.returns-clause-reads
+returns-clause-reads g c =
+    let old : Sitting g.row.H.Denot = record {
+      line = option_map (λ b. record { kept = b.line; input = b.input; draws = b.draws }) c.self.inside.line;
+      lines = g.S.History.lines c.self.inside.history;
+      takes = g.S.History.rules c.self.inside.history;
+      kills = c.self.inside.kill_ring;
+      items = c.self.inside.keys.rest;
+      binds = c.self.inside.keys.binds;
+      decoder = c.self.inside.decoder;
+      helper = c.self.inside.helper;
+      settings = c.self.inside.config;
+      columns = c.self.inside.screen.shown.columns;
+      rows = c.self.inside.screen.shown.rows;
+    } in
+    let mid : Sitting g.row.H.Denot = record old { items = c.finish.new.keys.rest; binds = c.finish.new.keys.binds; decoder = c.finish.new.self } in
+    subst (λ o. OnOk c.finish.result (mid ≡ with_turn (finished o.decoder) o)) c.self.view_is
+    (turn_so old mid (finished old.decoder) c.finish.new.self c.self.inside.keys c.finish.new.keys c.finish.result c.finish.ensures.finished refl refl refl)
