@@ -30,23 +30,38 @@ pub(crate) fn converse<R: Read, W: Write, O: Write + Drop, F: Write>(
     size: Size,
     vi: bool,
 ) -> Result<()> {
+    write_lines(out, WELCOME)?;
     let bindings = Bindings::new(alloc);
     let mut watch = Watch::new(size);
     let mut names = Names::new(alloc);
-    write_lines(out, WELCOME)?;
     for _ in 0..u64::MAX {
-        match read_line(input, out, editor, &bindings, &mut watch)? {
-            Fed::Submitted(line) => {
-                if let Some(history) = editor.history_mut() {
-                    keep(history, file)?;
-                }
-                if let Some(answer) = answer_to(alloc, line.as_str(), &mut names, vi)? {
-                    write_lines(out, answer.as_str())?;
-                }
-            }
-            Fed::Ended => return watch.settle(input, editor, &bindings),
-            Fed::More | Fed::Interrupted => {}
+        let fed = read_line(input, out, editor, &bindings, &mut watch)?;
+        if fed == Fed::Ended {
+            return watch.settle(input, editor, &bindings);
         }
+        answer(alloc, fed, out, editor, file, &mut names, vi)?;
+    }
+    Ok(())
+}
+
+/// Answers a line that was submitted, once it is in the file.
+fn answer<W: Write, O: Write + Drop, F: Write>(
+    alloc: Global,
+    fed: Fed,
+    out: &mut W,
+    editor: &mut LineEditor<O>,
+    file: &mut Option<F>,
+    names: &mut Names,
+    vi: bool,
+) -> Result<()> {
+    let Fed::Submitted(line) = fed else {
+        return Ok(());
+    };
+    if let Some(history) = editor.history_mut() {
+        keep(history, file)?;
+    }
+    if let Some(answer) = answer_to(alloc, line.as_str(), names, vi)? {
+        write_lines(out, answer.as_str())?;
     }
     Ok(())
 }

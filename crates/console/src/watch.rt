@@ -52,8 +52,11 @@ impl Watch {
         }
     }
 
-    /// Asks for the size.
+    /// Asks for the size, unless an answer is awaited.
     pub(crate) fn ask<W: Write>(&mut self, out: &mut W) -> Result<()> {
+        if self.asked {
+            return Ok(());
+        }
         out.write_all(SIZE_WANTED)?;
         self.asked = true;
         Ok(())
@@ -63,12 +66,13 @@ impl Watch {
     pub(crate) fn pause<W: Write>(&mut self, out: &mut W) -> Result<()> {
         let pauses = self.pauses;
         self.pauses = pauses.saturating_add(1);
-        let is_due = if self.asked {
-            self.pauses % PAUSES_UNANSWERED == 0
-        } else {
-            pauses % PAUSES_BETWEEN == 0
-        };
-        if is_due { self.ask(out) } else { Ok(()) }
+        if self.pauses % PAUSES_UNANSWERED == 0 {
+            self.asked = false;
+        }
+        if pauses % PAUSES_BETWEEN != 0 {
+            return Ok(());
+        }
+        self.ask(out)
     }
 
     /// Returns whether nothing was typed for so long that the input counts as ended.
