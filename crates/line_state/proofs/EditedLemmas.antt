@@ -1,13 +1,13 @@
 -- Facts on a line with its changes.
-use Rattle.std.proofs.Common.{◌≡◌, Bool, true, false, List, ℕ, [], ◌∷◌, Option, Some, None, is_some, Result, Ok, Err, IfOk, OnOk, refl, sym, ap, ◌∙◌}
+use Rattle.std.proofs.Common.{◌≡◌, Bool, true, false, List, ℕ, [], ◌∷◌, Option, Some, None, is_some, Result, Ok, Err, IfOk, OnOk, OnErr, ◌⊎◌, inl, inr, refl, sym, ap, ◌∙◌}
 use Rattle.std.specs.List.{list_any}
 use Rattle.line_buffer.proofs.TellsLemmas.{told_kept, told_kept_anywhere}
-use Rattle.line_buffer.specs.Changes.{Changes, Entry, begins, begun, deleted, ended, ends, inserted, replaced}
+use Rattle.line_buffer.specs.Changes.{Changes, Entry, begins, begun, deleted, ended, ends, inserted, no_changes, replaced}
 use Rattle.line_buffer.specs.Cluster.{place_back}
 use Rattle.line_buffer.specs.Edit.{Edits}
 use Rattle.line_buffer.specs.Line.{Line, moved_to}
 use Rattle.line_buffer.specs.Range.{from_cursor}
-use Rattle.line_buffer.specs.Undo.{KeepsTold, KeepsToldAnywhere, StillTells, TellTheSame, Tells, TellsOf, all_taken_back, first_text, is_change, taken_back, text_before}
+use Rattle.line_buffer.specs.Undo.{KeepsTold, KeepsToldAnywhere, StillTells, StillTellsOrGone, TellTheSame, Tells, TellsOf, all_taken_back, first_text, is_change, taken_back, text_before}
 use Rattle.line_state.specs.Edited.{Edited, EditsTo, in_one_group, with_copies, with_copies_to, with_place, without_range}
 
 -- entries that tell how a text came from another give that one when all are taken back
@@ -47,6 +47,28 @@ pub first_stays : (old new : Changes) (line line' : Line) → StillTells old.ent
     → Tells old.entries line.text → (all_taken_back new.entries line').text ≡ (all_taken_back old.entries line).text
 first_stays old new line line' k h =
     all_back new.entries line' h.start (k.tells h.start h.told) ∙ sym (all_back old.entries line h.start h.told)
+
+-- the same of a call after whose error there may be no changes
+pub told_or_gone : {T E : Type 0} (r : Result T E) (old new : Changes) (line line' : Line) → StillTellsOrGone r old line new line'
+    → Tells old.entries line.text → Tells new.entries line'.text
+told_or_gone (Ok x) old new line line' k h = record { start = h.start; told = k.tells.tells h.start h.told }
+told_or_gone (Err e) old new line line' k h = elim k.err [
+  | inl still ↦ record { start = h.start; told = still.tells h.start h.told }
+  | inr gone ↦ rw gone (record { start = line'.text; told = refl })
+]
+
+pub first_told : {T E : Type 0} (r : Result T E) (old new : Changes) (line line' : Line) → StillTellsOrGone r old line new line'
+    → Tells old.entries line.text → OnOk r ((all_taken_back new.entries line').text ≡ (all_taken_back old.entries line).text)
+first_told (Ok x) old new line line' k h = first_stays old new line line' k.tells h
+first_told (Err e) old new line line' k h = tt
+
+pub first_or_gone : {T E : Type 0} (r : Result T E) (old new : Changes) (line line' : Line) → StillTellsOrGone r old line new line'
+    → Tells old.entries line.text → OnErr r (((all_taken_back new.entries line').text ≡ (all_taken_back old.entries line).text) ⊎ (new ≡ no_changes))
+first_or_gone (Ok x) old new line line' k h = tt
+first_or_gone (Err e) old new line line' k h = elim k.err [
+  | inl still ↦ inl (first_stays old new line line' still h)
+  | inr gone ↦ inr gone
+]
 
 -- what all changes taken back give is a matter of the text, and not of the cursor
 same_text_back : (entries : List Entry) (l l' : Line) → l'.text ≡ l.text → (all_taken_back entries l').text ≡ (all_taken_back entries l).text

@@ -14,7 +14,9 @@ use Rattle.line_buffer.specs.Undo.{all_taken_back, first_text, newest_steps, wit
 use Rattle.line_buffer.specs.Yank.{can_pop, line_yank_popped, line_yanked, with_yank, with_yank_pop}
 use Rattle.line_buffer.specs.declared.movement.Movement.{Movement}
 use Rattle.line_buffer.specs.declared.line_buffer.WordAction.{WordAction}
+use Rattle.line_config.specs.Usual.{IsUsualOrOwn}
 use Rattle.line_parts.specs.BracketMatch.{matching_bracket}
+use Rattle.line_parts.specs.Written.{Written, put_to_cursor, written_as}
 
 -- a line, and the changes that led to it
 pub record Edited : Type 0 where
@@ -179,6 +181,12 @@ pub record GoesTo (found : Bool) (old new : Edited) (place : Option ℕ) : Type 
 pub record GoesToByte (moved : Bool) (old new : Edited) (byte : ℕ) : Type 0 where
   pub answer : moved ≡ not (byte == old.line.cursor)
   pub line : new ≡ record old { line = with_cursor old.line byte }
+
+-- an elected text came in place of what stands from a byte offset to the cursor, or as the completer puts it in by itself
+abbrev pub IsElected : (Written → ℕ → List ℕ → Option Written) → ℕ → List ℕ → Edited → Edited → Type 0
+IsElected own_update start text old new =
+    let written = written_as old.line old.changes in
+    IsUsualOrOwn (put_to_cursor written start text) (own_update written start text) (written_as new.line new.changes)
 
 -- taking all changes back gives the same text
 abbrev pub KeepsFirst : Edited → Edited → Type 0

@@ -10,6 +10,7 @@ ghost use Rattle.line_buffer.specs.Undo.{is_change, newest_steps};
 ghost use Rattle.line_state.specs.Edited.{EditsTo, Finds, undone, with_copies, without_range};
 
 mod brackets;
+mod elections;
 mod moves;
 mod replacements;
 mod yanks;
