@@ -4,6 +4,7 @@ pub mod Editor
 pub mod BracketLaws
 pub mod DraftEdits
 pub mod HistoryMoves
+pub mod Released
 pub mod Event
 pub mod Moment
 pub mod Info
@@ -23,8 +24,8 @@ pub mod Tail
 pub mod DrawnVerdict
 pub mod Run
 pub mod Drawings
-pub mod Released
 pub mod Resized
+pub mod Left
 pub mod Outcomes
 pub mod Status
 pub mod Step

@@ -1,5 +1,5 @@
 -- Commands, turns and runs of a program's state, input state, reader and kill ring.
-use Rattle.std.specs.Prelude.{◌≡◌, ◌⊎◌, true, ℕ, ◌+◌, ◌-◌, ◌*◌, ◌<◌, List, [], length, Result, IfErr, IfOk, Ok, Err, ◌++◌}
+use Rattle.std.specs.Prelude.{◌≡◌, ◌⊎◌, true, ℕ, ◌+◌, ◌-◌, ◌*◌, ◌<◌, List, [], length, Option, Result, IfErr, IfOk, Ok, Err, ◌++◌}
 use Rattle.line_buffer.specs.KillRing.{Ring, killed, with_last}
 use Rattle.line_config.specs.Error.{FaultsOnly, IoOnlyIf, UnlessFault, is_fault, is_io, is_memory}
 use Rattle.line_config.specs.Failures.{UnlessIo}
@@ -21,6 +21,7 @@ use Rattle.line_editor.specs.Drawings.{asked_of, drawing_of, draws_in_part, edit
 use Rattle.line_editor.specs.Editor.{Answer, Editor, Leaves, Ruler, Step, ended, grouped, interrupted, own_ruler, proceeds, ruler_of, submitted}
 use Rattle.line_editor.specs.Input.{Input}
 use Rattle.line_editor.specs.Keymap.{KeyState, keymap_of}
+use Rattle.line_editor.specs.Left.{left_by}
 use Rattle.line_editor.specs.Read.{Read}
 use Rattle.line_editor.specs.Reading.{FailsByReading, KeepsReading, LeftByCut, OutOfItems, PhraseHere, StopsWithin, entered_here}
 use Rattle.line_editor.specs.Run.{End, Run, Turn, Turns, dry, kills_before, stopped}
@@ -28,6 +29,7 @@ use Rattle.line_editor.specs.ItemShown.{DrewCounts, ruler_behind}
 use Rattle.line_editor.specs.Status.{ComesTo}
 use Rattle.line_editor.specs.Step.{draft_behind, edited_by, edited_halfway, editor_behind, halfway_of, step}
 use Rattle.line_editor.specs.declared.command.Status.{Status}
+use Rattle.line_editor.specs.declared.left.Left.{Left}
 use Rattle.line_editor.specs.declared.run.Turned.{Turned}
 use Rattle.line_editor.specs.declared.run.Turned.TheVariants as turned
 
@@ -70,6 +72,11 @@ LeavesOneMoment (Err error) environment before halfway left editor = OneMomentLe
 abbrev pub EditedOnIo : {T : Type 0} → Result T ReadlineError → Environment → Draft → Draft → Draft → Type 0
 EditedOnIo (Ok _) environment before left draft = Unit {0}
 EditedOnIo (Err error) environment before left draft = is_io error ≡ true → IsOf environment before before left draft
+
+-- how a turn ended that also tells what its command left to the program
+abbrev pub ended_so : Result (Turned × Option Left) ReadlineError → Result Turned ReadlineError
+ended_so (Ok told) = Ok told.0
+ended_so (Err error) = Err error
 
 -- a session of these four
 abbrev pub session : {X Y : Type 0} → X → KeyState → Y → Ring → Session X Y
@@ -266,6 +273,11 @@ module _ {X Y : Type 0} (e : editors.Ghosts X) (r : readers.Ghosts Y) where
     pub wrong : IfErr result (λ error. FailsInTurn indent error before after)
     pub stays : Stays result before after
     pub faults : FaultsOnly result
+
+  -- a turn that proceeds tells what its command leaves to the program
+  pub record TellsLeft (result : Result (Turned × Option Left) ReadlineError) (before after : Session X Y) : Type 0 where
+    pub told : (left : Option Left) → result ≡ Ok (turned.Proceeds, left) → (ruler : Ruler) (turn : LeadsTo ruler before after proceeds)
+        → left ≡ left_by turn.read.command
 
   -- turns that proceed lead from a session to another: each begins with the session that the one before it left, and counts no failure
   pub data TakesTurns (indent : ℕ) : Session X Y → Session X Y → Type 0 where

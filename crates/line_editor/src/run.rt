@@ -3,13 +3,14 @@ ghost use Rattle.std.specs.Prelude.{◌≡◌};
 ghost use Rattle.line_editor.specs.InputState.{keys_of};
 ghost use Rattle.line_editor.specs.Reading.{BeforeKey};
 ghost use Rattle.line_editor.specs.Run.{kills_before};
-ghost use Rattle.line_editor.specs.Outcomes.{Advances, Runs, session};
+ghost use Rattle.line_editor.specs.Outcomes.{Advances, Runs, TellsLeft, ended_so, session};
 ghost use Rattle.line_keys.specs.Command.{command_of};
 
 use crate::binding::ConditionalEventHandler;
 use crate::command::{Status, execute};
 use crate::edit::State;
 use crate::input_state::InputState;
+use crate::left::Left;
 use line_buffer::KillRing;
 use line_config::{Config, Prompt, ReadlineError, Result};
 use line_keys::cmd::Cmd;
@@ -71,49 +72,81 @@ pub fn advance<'out, 'prompt, W: Renderer, H: Helper, P: Prompt, S: History>(
         (session state.new (k input_state.new) rdr.new kill_ring.new) }
     ensures ring { kill_ring.new.size ≡ kill_ring.old.size }
 {
+    let (turned, _) = take_turn(state, input_state, rdr, kill_ring, config)?;
+    Ok(turned)
+}
+
+/// Reads one command and executes it, as `advance` does. Returns how the turn ended, and, where it proceeds, what its command
+/// leaves to the program.
+///
+/// # Errors
+/// Those of `advance`.
+pub fn take_turn<'out, 'prompt, W: Renderer, H: Helper, P: Prompt, S: History>(
+    state: &mut State<'out, 'prompt, W, H, P, S>,
+    input_state: &mut InputState<'_>,
+    rdr: &mut W::Reader,
+    kill_ring: &mut KillRing,
+    config: &Config,
+) -> Result<(Turned, Option<Left>)>
+    ensures advances { let k = keys_of ⟦<dyn ConditionalEventHandler as ConditionalEventHandler>⟧ in
+        Advances ⟦<State<'out, 'prompt, W, H, P, S> as EditorState>⟧ W.Reader.RawReader
+        config.now.indent_size (ended_so result)
+        (session state.old (k input_state.old) rdr.old kill_ring.old)
+        (session state.new (k input_state.new) rdr.new kill_ring.new) }
+    ensures left { let k = keys_of ⟦<dyn ConditionalEventHandler as ConditionalEventHandler>⟧ in
+        TellsLeft ⟦<State<'out, 'prompt, W, H, P, S> as EditorState>⟧ W.Reader.RawReader result
+        (session state.old (k input_state.old) rdr.old kill_ring.old)
+        (session state.new (k input_state.new) rdr.new kill_ring.new) }
+    ensures ring { kill_ring.new.size ≡ kill_ring.old.size }
+{
     let first = match rdr.next_key(false) {
         Ok(first) => first,
-        Err(ReadlineError::Eof) => return Ok(Turned::NeedsMore),
+        Err(ReadlineError::Eof) => return Ok((Turned::NeedsMore, None)),
         Err(error) => return Err(error),
     };
     let Some(c) = input_state.typed_by(rdr, first) else {
-        return advance_from(first, state, input_state, rdr, kill_ring, config);
+        return take_turn_from(first, state, input_state, rdr, kill_ring, config);
     };
     kill_ring.reset();
     state.edit_insert(c, 1)?;
-    Ok(Turned::Proceeds)
+    Ok((Turned::Proceeds, None))
 }
 
 // Takes a turn whose first key was read.
-fn advance_from<'out, 'prompt, W: Renderer, H: Helper, P: Prompt, S: History>(
+fn take_turn_from<'out, 'prompt, W: Renderer, H: Helper, P: Prompt, S: History>(
     first: KeyEvent,
     state: &mut State<'out, 'prompt, W, H, P, S>,
     input_state: &mut InputState<'_>,
     rdr: &mut W::Reader,
     kill_ring: &mut KillRing,
     config: &Config,
-) -> Result<Turned>
+) -> Result<(Turned, Option<Left>)>
     ensures advances { let k = keys_of ⟦<dyn ConditionalEventHandler as ConditionalEventHandler>⟧ in
         BeforeKey W.Reader.RawReader first rdr.old (λ reader.
         Advances ⟦<State<'out, 'prompt, W, H, P, S> as EditorState>⟧ W.Reader.RawReader
-        config.now.indent_size result
+        config.now.indent_size (ended_so result)
+        (session state.old (k input_state.old) reader kill_ring.old)
+        (session state.new (k input_state.new) rdr.new kill_ring.new)) }
+    ensures left { let k = keys_of ⟦<dyn ConditionalEventHandler as ConditionalEventHandler>⟧ in
+        BeforeKey W.Reader.RawReader first rdr.old (λ reader.
+        TellsLeft ⟦<State<'out, 'prompt, W, H, P, S> as EditorState>⟧ W.Reader.RawReader result
         (session state.old (k input_state.old) reader kill_ring.old)
         (session state.new (k input_state.new) rdr.new kill_ring.new)) }
     ensures ring { kill_ring.new.size ≡ kill_ring.old.size }
 {
     let command = match state.cmd_from(input_state, rdr, first) {
         Ok(command) => command,
-        Err(ReadlineError::Eof) => return Ok(Turned::NeedsMore),
+        Err(ReadlineError::Eof) => return Ok((Turned::NeedsMore, None)),
         Err(error) => return Err(error),
     };
     reset_kills(&command, kill_ring);
+    let left = Left::by(&command);
     match execute(command, state, input_state, kill_ring, config) {
-        Ok(Status::Proceed) => Ok(Turned::Proceeds),
-        Ok(Status::Submit) => Ok(Turned::Submitted),
-        Err(ReadlineError::Eof) => Ok(Turned::Ended),
-        Err(ReadlineError::Interrupted) => Ok(Turned::Interrupted),
-        Err(ReadlineError::Io(cause)) => Err(ReadlineError::Io(cause)),
-        Err(ReadlineError::Memory) => Err(ReadlineError::Memory),
+        Ok(Status::Proceed) => Ok((Turned::Proceeds, left)),
+        Ok(Status::Submit) => Ok((Turned::Submitted, None)),
+        Err(ReadlineError::Eof) => Ok((Turned::Ended, None)),
+        Err(ReadlineError::Interrupted) => Ok((Turned::Interrupted, None)),
+        Err(error) => Err(error),
     }
 }
 

@@ -189,8 +189,11 @@ impl<'out, 'prompt, W: Renderer, H: Helper, P: Prompt, S: History> State<
         self.come_back()
     }
 
-    // Beeps. Nothing is drawn.
-    pub(crate) fn beep(&mut self) -> Result<()>
+    /// Beeps: tells the person that nothing could be done. Nothing is drawn.
+    ///
+    /// # Errors
+    /// Those of the renderer.
+    pub fn beep(&mut self) -> Result<()>
         ensures drew { DrewNothing ⟦<Self as EditorState>⟧ self.old self.new }
         ensures paints { Paints ⟦<Self as EditorState>⟧ false result self.old self.new }
     {

@@ -4,6 +4,8 @@ ghost use Rattle.line_editor.specs.Editor.{Begins};
 ghost use Rattle.line_parts.specs.Helped.{environment_by, sure_by};
 ghost use Rattle.line_state.specs.Kept.{IsLeftOn, display_on};
 
+mod edits;
+
 use crate::edit::State;
 use line_buffer::LineBuffer;
 use line_config::Prompt;
