@@ -19,11 +19,12 @@ use Rattle.line_editor.specs.declared.run.Turned.{Turned}
 use Rattle.line_editor.specs.declared.run.Turned.TheVariants as turned
 use Rattle.line_term.specs.Decoder as decoding
 use Rattle.line_term.specs.Decoder.{Gives}
-use Rattle.line_session.specs.Sitting.{BegunLine, Came, CameBegun, CameFrom, EndsAs, Keeps, Sitting, StartsWith, begun_with, goes_on, rules_at, rules_for, standing_with, starting, with_turn}
-use Rattle.line_session.specs.Steps.{Ends, Rules, Standing}
+use Rattle.line_session.specs.Sitting.{BegunLine, Came, CameBegun, CameFrom, EndsAs, Keeps, Sitting, StartsWith, begun_with, goes_on, rules_at, rules_for, standing_with, with_turn}
+use Rattle.line_session.specs.Steps.{Ends, Rules, Standing, starting}
 use Rattle.line_session.specs.Taken.{ComesTo}
 use Rattle.line_session.specs.declared.editor.Fed.{Fed}
 use Rattle.line_session.specs.declared.editor.Fed.TheVariants as fed
+use Rattle.line_session.specs.declared.mode.Mode.TheVariants.{Editing}
 
 module _ {H : Type 0} where
   -- what came of a line, by what is equal
@@ -51,13 +52,13 @@ module _ {H : Type 0} where
   -- what came of a line whose last command is known, and which ended as it says
   pub came_of : (by : Rules) (start : Standing) (old mid new : Sitting H) (left : BegunLine) (done : Result Turned ReadlineError) (f : Fed)
       → mid.line ≡ Some left → left.kept.drawing.prompt_end.col ≡ by.ruler.prompt_column → mid.lines ≡ old.lines → mid.takes ≡ old.takes → mid.settings ≡ old.settings
-      → IfOk done (ComesTo (not left.draws) by start (standing_with left.kept.draft left.input mid.items mid.kills)) → EndsAs done mid new f
+      → IfOk done (ComesTo (not left.draws) by start (standing_with left.kept.draft left.input left.mode mid.items mid.kills)) → EndsAs done mid new f
       → CameFrom by start old new f
   came_of by start old mid new left done f line column lines takes settings comes ends =
       came_alike by by start start mid old new refl refl lines takes settings f (by_fed f done comes ends)
     where
       Comes : Result Turned ReadlineError → Type 0
-      Comes done = IfOk done (ComesTo (not left.draws) by start (standing_with left.kept.draft left.input mid.items mid.kills))
+      Comes done = IfOk done (ComesTo (not left.draws) by start (standing_with left.kept.draft left.input left.mode mid.items mid.kills))
 
       goes : (done : Result Turned ReadlineError) → Comes done → goes_on done ≡ true → CameFrom by start mid mid fed.More
       goes (Ok turned.Proceeds) comes on = absurd comes
@@ -72,28 +73,28 @@ module _ {H : Type 0} where
       by_fed fed.More done comes ends = subst (λ n. CameFrom by start mid n fed.More) (sym ends.1) (goes done comes ends.0)
       by_fed (fed.Submitted text) done comes ends =
           let P : Sitting H → Type 0 = λ n. CameFrom by start mid n (fed.Submitted text) in
-          let there : Ends by start (standing_with left.kept.draft left.input mid.items mid.kills) submitted = subst (λ d. Comes d) ends.0 comes in
+          let there : Ends by start (standing_with left.kept.draft left.input left.mode mid.items mid.kills) submitted = subst (λ d. Comes d) ends.0 comes in
           let texts : Some (string_bytes text) ≡ Some left.kept.draft.line.text = ends.1 ∙ ap (λ o. option_map (λ (b : BegunLine). b.kept.draft.line.text) o) line in
           let here : P (record mid {
             line = None;
             lines = if mid.settings.auto_add_history then added mid.takes mid.lines (string_bytes text) else mid.lines;
           }) = record {
-            ends = record { end = standing_with left.kept.draft left.input mid.items mid.kills; ends = there; gone = refl; kills = refl; items = refl };
+            ends = record { end = standing_with left.kept.draft left.input left.mode mid.items mid.kills; ends = there; gone = refl; kills = refl; items = refl };
             text_left = (let same = texts in cc);
             lines = refl;
           } in
           subst P (sym ends.2) here
       by_fed fed.Ended done comes ends =
           let P : Sitting H → Type 0 = λ n. CameFrom by start mid n fed.Ended in
-          let there : Ends by start (standing_with left.kept.draft left.input mid.items mid.kills) ended = subst (λ d. Comes d) ends.0 comes in
+          let there : Ends by start (standing_with left.kept.draft left.input left.mode mid.items mid.kills) ended = subst (λ d. Comes d) ends.0 comes in
           let here : P (record mid { line = None }) =
-          (record { end = standing_with left.kept.draft left.input mid.items mid.kills; ends = there; gone = refl; kills = refl; items = refl }, refl) in
+          (record { end = standing_with left.kept.draft left.input left.mode mid.items mid.kills; ends = there; gone = refl; kills = refl; items = refl }, refl) in
           subst P (sym ends.1) here
       by_fed fed.Interrupted done comes ends =
           let P : Sitting H → Type 0 = λ n. CameFrom by start mid n fed.Interrupted in
-          let there : Ends by start (standing_with left.kept.draft left.input mid.items mid.kills) interrupted = subst (λ d. Comes d) ends.0 comes in
+          let there : Ends by start (standing_with left.kept.draft left.input left.mode mid.items mid.kills) interrupted = subst (λ d. Comes d) ends.0 comes in
           let here : P (record mid { line = None }) =
-          (record { end = standing_with left.kept.draft left.input mid.items mid.kills; ends = there; gone = refl; kills = refl; items = refl }, refl) in
+          (record { end = standing_with left.kept.draft left.input left.mode mid.items mid.kills; ends = there; gone = refl; kills = refl; items = refl }, refl) in
           subst P (sym ends.1) here
 
   module _ (answers : H → List (List ℕ) → Environment) where
@@ -120,12 +121,13 @@ module _ {H : Type 0} where
         ∙ ap (λ (s : Settings). rules_for bound old.binds s.indent_size starts.begun.kept.drawing.prompt_end.col (answers mid.helper mid.lines)) starts.keeps.settings
         ∙ ap (λ (p : Position). rules_for bound old.binds old.settings.indent_size p.col (answers mid.helper mid.lines)) starts.prompt_end
         ∙ ap (λ w. rules_for bound old.binds old.settings.indent_size (measured old.columns prompt corner).col w) asked in
-        let same_start = ap (λ w. starting w starts.begun.draws (standing_with starts.begun.kept.draft starts.begun.input mid.items mid.kills)) asked
-        ∙ ap (λ b. starting (answers old.helper old.lines) b (standing_with starts.begun.kept.draft starts.begun.input mid.items mid.kills)) starts.draws
-        ∙ ap (λ d. starting (answers old.helper old.lines) true (standing_with d starts.begun.input mid.items mid.kills)) starts.draft
-        ∙ ap (λ i. starting (answers old.helper old.lines) true (standing_with (begun_with left right old.lines) i mid.items mid.kills)) starts.input
-        ∙ ap (λ i. starting (answers old.helper old.lines) true (standing_with (begun_with left right old.lines) (first_input old.settings.edit_mode) i mid.kills)) starts.items
-        ∙ ap (λ k. starting (answers old.helper old.lines) true (standing_with (begun_with left right old.lines) (first_input old.settings.edit_mode) old.items k)) starts.kills in
+        let same_start = ap (λ w. starting w starts.begun.draws (standing_with starts.begun.kept.draft starts.begun.input starts.begun.mode mid.items mid.kills)) asked
+        ∙ ap (λ b. starting (answers old.helper old.lines) b (standing_with starts.begun.kept.draft starts.begun.input starts.begun.mode mid.items mid.kills)) starts.draws
+        ∙ ap (λ d. starting (answers old.helper old.lines) true (standing_with d starts.begun.input starts.begun.mode mid.items mid.kills)) starts.draft
+        ∙ ap (λ i. starting (answers old.helper old.lines) true (standing_with (begun_with left right old.lines) i starts.begun.mode mid.items mid.kills)) starts.input
+        ∙ ap (λ m. starting (answers old.helper old.lines) true (standing_with (begun_with left right old.lines) (first_input old.settings.edit_mode) m mid.items mid.kills)) starts.mode
+        ∙ ap (λ i. starting (answers old.helper old.lines) true (standing_with (begun_with left right old.lines) (first_input old.settings.edit_mode) Editing i mid.kills)) starts.items
+        ∙ ap (λ k. starting (answers old.helper old.lines) true (standing_with (begun_with left right old.lines) (first_input old.settings.edit_mode) Editing old.items k)) starts.kills in
         came_alike _ _ _ _ mid old new same_rules same_start starts.lines starts.keeps.takes starts.keeps.settings f came
 
     -- what came of the line that had begun, of which this is left before it ends
@@ -133,8 +135,8 @@ module _ {H : Type 0} where
         → IfOk result (EndsAs done mid new)
         → mid.line ≡ Some left → left.kept.drawing.prompt_end ≡ begun.kept.drawing.prompt_end → mid.lines ≡ old.lines → mid.takes ≡ old.takes → mid.settings ≡ old.settings
         → IfOk done (ComesTo (not left.draws) (rules_at answers bound old begun.kept.drawing.prompt_end.col)
-        (starting (answers old.helper old.lines) begun.draws (standing_with begun.kept.draft begun.input old.items old.kills))
-        (standing_with left.kept.draft left.input mid.items mid.kills))
+        (starting (answers old.helper old.lines) begun.draws (standing_with begun.kept.draft begun.input begun.mode old.items old.kills))
+        (standing_with left.kept.draft left.input left.mode mid.items mid.kills))
         → IfOk result (Came answers bound old begun new)
     came_so bound old mid new begun left done (Ok f) ends line prompt lines takes settings comes =
         came_of _ _ old mid new left done f line (ap (λ (p : Position). p.col) prompt) lines takes settings comes ends
@@ -156,16 +158,17 @@ module _ {H : Type 0} where
 
     -- a line that begins, where another had begun or none
     pub starts_so : (prompt left right raw : List ℕ) (old mid new : Sitting H) (begun : BegunLine) → mid ≡ old → new.line ≡ Some begun
-        → begun.kept.draft ≡ begun_with left right mid.lines → begun.input ≡ first_input mid.settings.edit_mode → begun.draws ≡ true
+        → begun.kept.draft ≡ begun_with left right mid.lines → begun.input ≡ first_input mid.settings.edit_mode → begun.mode ≡ Editing → begun.draws ≡ true
         → begun.kept.drawing.prompt_end ≡ measured mid.columns raw corner → raw ≡ prompt
         → new ≡ record mid { line = new.line; helper = new.helper; columns = new.columns; rows = new.rows; kills = new.kills } → new.kills ≡ with_last mid.kills other → new.columns ≡ mid.columns → new.rows ≡ mid.rows
         → ((lines : List (List ℕ)) → answers new.helper lines ≡ answers mid.helper lines) → StartsWith answers prompt left right old new
-    starts_so prompt left right raw old mid new begun same line draft input draws prompt_end text stays reset columns rows alike =
+    starts_so prompt left right raw old mid new begun same line draft input mode draws prompt_end text stays reset columns rows alike =
         subst (λ o. StartsWith answers prompt left right o new) same (record {
           begun = begun;
           line = line;
           draft = draft;
           input = input;
+          mode = mode;
           draws = draws;
           prompt_end = prompt_end ∙ ap (λ r. measured mid.columns r corner) text;
           lines = ap (λ (s : Sitting H). s.lines) stays;

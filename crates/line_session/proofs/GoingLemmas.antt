@@ -1,6 +1,7 @@
 -- Facts on turns that are taken one after another.
-use Rattle.std.proofs.Common.{◌≡◌, ◌∙◌, ◌⊎◌, inl, inr, ℕ, Bool, true, false, cond, List, [], ◌∷◌, Option, Ok, refl, sym, ap, subst, arith}
-use Rattle.line_buffer.specs.KillRing.{Ring}
+use Rattle.std.proofs.Common.{◌≡◌, ◌∙◌, ◌⊎◌, inl, inr, ℕ, Bool, true, false, cond, List, [], ◌∷◌, Option, Some, None, Ok, refl, sym, ap, subst, arith}
+use Rattle.line_buffer.specs.KillRing.{Ring, with_last}
+use Rattle.line_buffer.specs.KillRing as rings
 use Rattle.line_buffer.specs.Line.{Line}
 use Rattle.line_buffer.specs.declared.layout.GraphemeClusterMode.{GraphemeClusterMode}
 use Rattle.line_buffer.specs.declared.layout.Position.{Position}
@@ -16,21 +17,27 @@ use Rattle.line_keys.specs.declared.raw_reader.RawReader as readers
 use Rattle.line_keys.specs.Command.{Command}
 use Rattle.line_parts.specs.Environment.{Environment}
 use Rattle.line_editor.specs.Binding.{Bound}
-use Rattle.line_editor.specs.Editor.{Answer, Ruler, ended, interrupted, own_ruler, proceeds, ruler_of, submitted}
+use Rattle.line_editor.specs.Editor.{Answer, Editor, Leaves, Ruler, ended, interrupted, own_ruler, proceeds, ruler_of, submitted}
 use Rattle.line_editor.specs.Input.{Input}
 use Rattle.line_editor.specs.ItemShown.{ItemShown, any_drawn, drawing_shown, drawn_over, kept, last_drawn, ruler_behind, shows_count, shows_line, times_drawn}
 use Rattle.line_editor.specs.Keymap.{Keymap, Source, by_binding, by_phrase, by_reader, by_table, keymap_of}
-use Rattle.line_editor.specs.Outcomes.{Advances, NeedsMoreItems, Session, TakesTurn, editor_of, session}
+use Rattle.line_editor.specs.Outcomes.{Advances, DrawnAfter, Executed, LeadsTo, NeedsMoreItems, Session, TakesTurn, TellsLeft, editor_of, session}
 use Rattle.line_editor.specs.Phrase.{IsBeginning, entered, entered_by}
 use Rattle.line_editor.specs.Reading.{KeepsReading}
-use Rattle.line_editor.specs.Run.{CutShort, Turn}
+use Rattle.line_editor.specs.Run.{CutShort, ready}
+use Rattle.line_editor.specs.Step.{step}
 use Rattle.line_editor.specs.declared.run.Turned.{Turned}
 use Rattle.line_editor.specs.declared.run.Turned.TheVariants as turned
 use Rattle.line_editor.proofs.DrawnLemmas.{frame_then, hint_trails, line_stays}
 use Rattle.line_editor.proofs.ShownLemmas.{none-last}
-use Rattle.line_session.specs.Steps.{PasteComesIn, Rules, Steps, TurnFrom}
+use Rattle.line_editor.specs.Left.{left_by}
+use Rattle.line_editor.specs.declared.left.Left.{Left}
+use Rattle.line_session.specs.Kept.{IsShownBy}
+use Rattle.line_session.specs.Steps.{ItemComesIn, Rules, Steps, TurnFrom, as_it_is, character_of, comes_in, mode_after, mode_behind, typing}
 use Rattle.line_session.specs.Steps as steps
-use Rattle.line_session.specs.Taken.{ComesTo, DrawnOnce, IsShown, KeepsRules, PutsIn, WaitsBehind, rules_of, standing_of}
+use Rattle.line_session.specs.Taken.{Beeps, ComesTo, DrawnOnce, IsShown, KeepsRules, PutsIn, WaitsBehind, rules_of, standing_of}
+use Rattle.line_session.specs.declared.mode.Mode.{Mode}
+use Rattle.line_session.specs.declared.mode.Mode.TheVariants as modes
 
 -- the first key of a phrase leaves the line and the hint
 entered_line : (source : Source) (draft : Draft) → (entered_by source draft).line ≡ draft.line
@@ -83,16 +90,78 @@ module _ {X : Type 0} (e : editors.Ghosts X) (state : X) where
     trails = shown.trails;
   }
 
+-- of two modes it is the one, where it is not the other
+pub edits : (m : Mode) → (m ≡ modes.Quoting → ⊥) → m ≡ modes.Editing
+edits modes.Editing other = refl
+edits modes.Quoting other = absurd (other refl)
+
+pub quoting : (m : Mode) → (m ≡ modes.Editing → ⊥) → m ≡ modes.Quoting
+quoting modes.Editing other = absurd (other refl)
+quoting modes.Quoting other = refl
+
+-- behind a quoted insert each item comes in as it is: where the next one does not, there is none
+pub none_left : (m : Mode) → m ≡ modes.Quoting → (items : List Item) → ((item : Item) (more : List Item) → items ≡ item ∷ more → comes_in m item ≡ false) → items ≡ []
+none_left m quotes [] stays = refl
+none_left m quotes (item ∷ more) stays = absurd (let two : true ≡ false = subst (λ n. comes_in n item ≡ false) quotes (stays item more refl) in cc)
+
+-- the command that puts an item in proceeds, opens no group, and a kill joins none of those before
+typing_ready : (typed : Option ℕ) (draft : Draft) (kills : Ring) → ready (typing typed) draft kills ≡ record { draft = draft; kills = with_last kills rings.other }
+typing_ready (Some c) draft kills = refl
+typing_ready None draft kills = refl
+
+as_it_is_ready : (item : Item) (draft : Draft) (kills : Ring) → ready (as_it_is item) draft kills ≡ record { draft = draft; kills = with_last kills rings.other }
+as_it_is_ready (key typed) draft kills = typing_ready (character_of typed) draft kills
+as_it_is_ready (paste text) draft kills = refl
+
+typing_proceeds : (typed : Option ℕ) (ruler : Ruler) (environment : Environment) (input : Input) (editor : Editor) → (step ruler environment input editor (typing typed)).answer ≡ proceeds
+typing_proceeds (Some c) ruler environment input editor = refl
+typing_proceeds None ruler environment input editor = refl
+
+as_it_is_proceeds : (item : Item) (ruler : Ruler) (environment : Environment) (input : Input) (editor : Editor) → (step ruler environment input editor (as_it_is item)).answer ≡ proceeds
+as_it_is_proceeds (key typed) ruler environment input editor = typing_proceeds (character_of typed) ruler environment input editor
+as_it_is_proceeds (paste text) ruler environment input editor = refl
+
+module _ {X : Type 0} (e : editors.Ghosts X) (old new : X) (input : Input) (indent : ℕ) (kills reset kills' : Ring) (item : Item) (command : Command) (answer : Answer)
+    (is : command ≡ as_it_is item) (was_reset : reset ≡ with_last kills rings.other) (shown : IsShown e old) (done : Executed e old input indent reset command new kills' answer) where
+  -- behind the own prompt the ruler is the own one
+  own : ruler_of (e.display old) indent ≡ own_ruler (e.display old) indent
+  own =
+      let column : Position → Ruler = λ p. record { prompt_column = p.col; cluster_mode = (e.display old).layout.grapheme_cluster_mode; indent_size = indent } in
+      let mode : GraphemeClusterMode → Ruler = λ m. record { prompt_column = (e.display old).prompt_end.col; cluster_mode = m; indent_size = indent } in
+      ap column shown.right.drawn.prompt ∙ ap mode shown.right.drawn.mode
+
+  proceeded : answer ≡ proceeds
+  proceeded = sym done.steps.answered
+      ∙ ap (λ c. (step (ruler_of (e.display old) indent) (e.environment old) input (record { draft = e.draft old; kills = reset }) c).answer) is
+      ∙ as_it_is_proceeds item (ruler_of (e.display old) indent) (e.environment old) input (record { draft = e.draft old; kills = reset })
+
+  -- an item was put in: its command was executed
+  pub puts_so : PutsIn e indent input item old kills new kills'
+  puts_so = record {
+    editor = done.steps.editor
+        ∙ ap (λ c. (step (ruler_of (e.display old) indent) (e.environment old) input (record { draft = e.draft old; kills = reset }) c).editor) is
+        ∙ ap (λ k. (step (ruler_of (e.display old) indent) (e.environment old) input (record { draft = e.draft old; kills = k }) (as_it_is item)).editor) was_reset
+        ∙ ap (λ r. (step r (e.environment old) input (record { draft = e.draft old; kills = with_last kills rings.other }) (as_it_is item)).editor) own
+        ∙ ap (λ ed. (step (own_ruler (e.display old) indent) (e.environment old) input ed (as_it_is item)).editor) (sym (as_it_is_ready item (e.draft old) kills));
+    answered = as_it_is_proceeds item (own_ruler (e.display old) indent) (e.environment old) input (ready (as_it_is item) (e.draft old) kills);
+  }
+
+  -- and the line is shown
+  pub shows_so : IsShown e new
+  shows_so =
+      let drawn : DrawnAfter e proceeds old new = subst (λ a. DrawnAfter e a old new) proceeded done.drawn in
+      shown_by e new (drawn.right shown.right) (drawn.line (line_by e old shown))
+
 module _ {X Y : Type 0} (e : editors.Ghosts X) (r : readers.Ghosts Y) (indent : ℕ) where
-  module _ (start : Session X Y) where
+  module _ (first : Mode) (start : Session X Y) where
     -- turns are being taken: steps lead here, and the line is shown
-    pub record Going (now : Session X Y) : Type 0 where
-      pub steps : Steps (rules_of e r indent start) (standing_of e r start) (standing_of e r now)
+    pub record Going (mode : Mode) (now : Session X Y) : Type 0 where
+      pub steps : Steps (rules_of e r indent start) (standing_of e r first start) (standing_of e r mode now)
       pub keeps : KeepsRules e r start now
       pub shown : IsShown e now.state
 
     -- they begin where the line is shown
-    pub begins_shown : IsShown e start.state → Going start
+    pub begins_shown : IsShown e start.state → Going first start
     begins_shown shown = record {
       steps = steps.none;
       keeps = record {
@@ -103,7 +172,7 @@ module _ {X Y : Type 0} (e : editors.Ghosts X) (r : readers.Ghosts Y) (indent : 
       shown = shown;
     }
 
-    module _ (now : Session X Y) (going : Going now) where
+    module _ (mode : Mode) (now : Session X Y) (going : Going mode now) where
       -- commands are read and executed by the same all the way
       same_rules : rules_of e r indent now ≡ rules_of e r indent start
       same_rules =
@@ -128,26 +197,48 @@ module _ {X Y : Type 0} (e : editors.Ghosts X) (r : readers.Ghosts Y) (indent : 
 
       -- the reader stands elsewhere, with the same items before it
       pub marked : (reader : Y) → r.rest reader ≡ r.rest now.reader → r.own_binding (r.kept reader) ≡ r.own_binding (r.kept now.reader)
-          → Going (session now.state now.keys reader now.kills)
+          → Going mode (session now.state now.keys reader now.kills)
       marked reader rest own =
-          let P : List Item → Type 0 = λ items. Steps (rules_of e r indent start) (standing_of e r start)
-          (record { editor = editor_of e now.state now.kills; input = now.keys.input; items = items }) in
+          let P : List Item → Type 0 = λ items. Steps (rules_of e r indent start) (standing_of e r first start)
+          (record { editor = editor_of e now.state now.kills; input = now.keys.input; items = items; mode = mode }) in
           record {
             steps = subst P (sym rest) going.steps;
             keeps = record { frame = going.keeps.frame; own = own ∙ going.keeps.own; bound = going.keeps.bound };
             shown = going.shown;
           }
 
-      -- a pasted text that stood alone was put in
-      pub puts_on : (text : List ℕ) (state : X) (reader : Y) (kills : Ring) → PutsIn e indent now.keys.input text now.state now.kills state kills
-          → IsShown e state → Frame e now.state state → r.rest now.reader ≡ paste text ∷ r.rest reader
-          → r.own_binding (r.kept reader) ≡ r.own_binding (r.kept now.reader)
-          → Going (session state now.keys reader kills)
-      puts_on text state reader kills puts shown frame cut own =
-          let P : Rules → Type 0 = λ by. PasteComesIn by (standing_of e r now) (standing_of e r (session state now.keys reader kills)) in
-          let here : P (rules_of e r indent now) = record { text = text; cut = cut; input = refl; leaves = puts } in
+      -- the same in a mode that is equal
+      pub goes_in : (other : Mode) → other ≡ mode → Going other now
+      goes_in other same = subst (λ m. Going m now) (sym same) going
+
+      -- a beep was asked for
+      pub beeped : (state : X) → Beeps e now.state state → Going mode (session state now.keys now.reader now.kills)
+      beeped state beeps =
+          let P : Draft → Type 0 = λ draft. Steps (rules_of e r indent start) (standing_of e r first start)
+          (record { editor = record { draft = draft; kills = now.kills }; input = now.keys.input; items = r.rest now.reader; mode = mode }) in
+          let A : Environment → Type 0 = λ w. IsShownBy w (e.display state) (e.draft state) in
+          let B : Display → Type 0 = λ d. IsShownBy (e.environment now.state) d (e.draft state) in
+          let C : Draft → Type 0 = λ d. IsShownBy (e.environment now.state) (e.display now.state) d in
           record {
-            steps = steps.pasted going.steps (subst P same_rules here);
+            steps = subst P (sym beeps.draft) going.steps;
+            keeps = record {
+              frame = frame_then e start.state now.state state going.keeps.frame beeps.frame;
+              own = going.keeps.own;
+              bound = going.keeps.bound;
+            };
+            shown = subst A (sym beeps.frame.environment) (subst B (sym beeps.drew.display) (subst C (sym beeps.draft) going.shown));
+          }
+
+      -- an item was put in as it is
+      pub puts_on : (item : Item) (state : X) (reader : Y) (kills : Ring) → PutsIn e indent now.keys.input item now.state now.kills state kills
+          → IsShown e state → Frame e now.state state → r.rest now.reader ≡ item ∷ r.rest reader → comes_in mode item ≡ true
+          → r.own_binding (r.kept reader) ≡ r.own_binding (r.kept now.reader)
+          → Going modes.Editing (session state now.keys reader kills)
+      puts_on item state reader kills puts shown frame cut comes own =
+          let P : Rules → Type 0 = λ by. ItemComesIn by (standing_of e r mode now) (standing_of e r modes.Editing (session state now.keys reader kills)) in
+          let here : P (rules_of e r indent now) = record { item = item; comes = comes; cut = cut; input = refl; next = refl; leaves = puts } in
+          record {
+            steps = steps.item going.steps (subst P same_rules here);
             keeps = record {
               frame = frame_then e start.state now.state state going.keeps.frame frame;
               own = own ∙ going.keeps.own;
@@ -155,6 +246,22 @@ module _ {X Y : Type 0} (e : editors.Ghosts X) (r : readers.Ghosts Y) (indent : 
             };
             shown = shown;
           }
+
+      -- behind a quoted insert no item is left
+      pub waits_quoted : mode ≡ modes.Quoting → r.rest now.reader ≡ []
+          → WaitsBehind (e.display now.state).layout.default_prompt (rules_of e r indent start) (standing_of e r first start) (standing_of e r mode now)
+      waits_quoted quotes none = record {
+        waits = record {
+          found = standing_of e r mode now;
+          steps = going.steps;
+          shown = [];
+          waits = steps.quoted quotes none refl;
+          input = refl;
+          items = refl;
+          mode = refl;
+        };
+        drawn = λ other. absurd (let two : true ≡ false = sym going.shown.own_prompt ∙ other in cc);
+      }
 
       module _ (next : Session X Y) where
         -- what stays to here and in a turn stays
@@ -166,29 +273,45 @@ module _ {X Y : Type 0} (e : editors.Ghosts X) (r : readers.Ghosts Y) (indent : 
         }
 
         -- a turn that was made
-        pub turn_here : (answer : Answer) → TakesTurn e r indent now next answer
-            → TurnFrom (rules_of e r indent start) (standing_of e r now) (standing_of e r next) answer
-        turn_here answer turn =
-            let P : Rules → Type 0 = λ by. TurnFrom by (standing_of e r now) (standing_of e r next) answer in
-            let Q : Ruler → Type 0 = λ ruler. Turn (keymap_of now.keys (r.own_binding (r.kept now.reader))) ruler (e.environment now.state)
-            (editor_of e now.state now.kills) now.keys.input (r.rest now.reader) (editor_of e next.state next.kills) next.keys.input (r.rest next.reader) answer in
-            subst P same_rules (subst Q (turn_ruler turn.turn.read.shown turn.ruler turn.measured) turn.turn)
+        pub turn_here : (answer : Answer) (then : Mode) → mode ≡ modes.Editing → (turn : TakesTurn e r indent now next answer)
+            → then ≡ mode_after answer (left_by turn.turn.read.command)
+            → TurnFrom (rules_of e r indent start) (standing_of e r mode now) (standing_of e r then next) answer
+        turn_here answer then editing turn same =
+            let P : Rules → Type 0 = λ by. TurnFrom by (standing_of e r mode now) (standing_of e r then next) answer in
+            subst P same_rules (moved turn.ruler turn.turn (turn_ruler turn.turn.read.shown turn.ruler turn.measured) same)
+          where
+            moved : (ruler : Ruler) (made : LeadsTo e r ruler now next answer) → ruler ≡ own_ruler (e.display now.state) indent
+                → then ≡ mode_after answer (left_by made.read.command)
+                → TurnFrom (rules_of e r indent now) (standing_of e r mode now) (standing_of e r then next) answer
+            moved ruler made is same = record {
+              editing = editing;
+              turn = record {
+                phrase = made.phrase;
+                read = made.read;
+                cut = made.cut;
+                reads = made.reads;
+                input_left = made.input_left;
+                leaves = subst (λ u. Leaves (step u (e.environment now.state) made.read.input (ready made.read.command made.read.draft now.kills) made.read.command) (editor_of e next.state next.kills) answer) is made.leaves;
+              };
+              next = same;
+            }
 
         -- a turn that proceeds
-        pub proceeds_on : Advances e r indent (Ok turned.Proceeds) now next → Going next
-        proceeds_on advances =
+        pub proceeds_on : (left : Option Left) → mode ≡ modes.Editing → Advances e r indent (Ok turned.Proceeds) now next
+            → TellsLeft e r (Ok (turned.Proceeds, left)) now next → Going (mode_behind left) next
+        proceeds_on left editing advances tells =
             let turn : TakesTurn e r indent now next proceeds = advances.turned in
             record {
-              steps = steps.turn going.steps (turn_here proceeds turn);
+              steps = steps.turn going.steps (turn_here proceeds (mode_behind left) editing turn (ap mode_behind (tells.told left refl turn.ruler turn.turn)));
               keeps = keeps_on advances.stays.keeps;
               shown = shown_by e next.state (turn.drawn.right going.shown.right) (turn.drawn.line (line_by e now.state going.shown));
             }
 
         -- the items are no phrase yet, and are to be read again
-        pub waits : (reader : Y) → r.rest reader ≡ r.rest now.reader → NeedsMoreItems e r now next
-            → WaitsBehind (e.display next.state).layout.default_prompt (rules_of e r indent start) (standing_of e r start)
-            (standing_of e r (session next.state next.keys reader next.kills))
-        waits reader again dry_up =
+        pub waits : (reader : Y) → mode ≡ modes.Editing → r.rest reader ≡ r.rest now.reader → NeedsMoreItems e r now next
+            → WaitsBehind (e.display next.state).layout.default_prompt (rules_of e r indent start) (standing_of e r first start)
+            (standing_of e r mode (session next.state next.keys reader next.kills))
+        waits reader editing again dry_up =
             let P : Rules → Type 0 = λ by.
             (begins : IsBeginning by.keymap by.environment (e.draft now.state) now.keys.input (r.rest now.reader))
             × CutShort by.keymap by.environment now.keys.input (r.rest now.reader) begins.shown (editor_of e now.state now.kills) (editor_of e next.state next.kills) in
@@ -200,12 +323,13 @@ module _ {X Y : Type 0} (e : editors.Ghosts X) (r : readers.Ghosts Y) (indent : 
             let there = subst Q same_rules (here.0, here.1, other_prompt) in
             record {
               waits = record {
-                found = standing_of e r now;
+                found = standing_of e r mode now;
                 steps = going.steps;
-                begins = there.0;
-                short = there.1;
+                shown = there.0.shown;
+                waits = steps.phrase editing there.0 there.1;
                 input = dry_up.input_left;
                 items = again;
+                mode = refl;
               };
               drawn = there.2;
             }
@@ -250,13 +374,13 @@ module _ {X Y : Type 0} (e : editors.Ghosts X) (r : readers.Ghosts Y) (indent : 
                 (line_stays e now.state next.state frame.environment (ap (λ (l : Line). l.text) line) hint drew line (line_by e now.state going.shown))
 
         -- turns that end otherwise: how they end
-        pub stops : (done : Turned) → (done ≡ turned.Proceeds → ⊥) → (done ≡ turned.NeedsMore → ⊥) → Advances e r indent (Ok done) now next
-            → ComesTo (e.display next.state).layout.default_prompt (rules_of e r indent start) (standing_of e r start) (standing_of e r next) done
-        stops turned.Proceeds goes waits advances = absurd (goes refl)
-        stops turned.Submitted goes waits advances = record { found = standing_of e r now; steps = going.steps; last = turn_here submitted advances.turned }
-        stops turned.Ended goes waits advances = record { found = standing_of e r now; steps = going.steps; last = turn_here ended advances.turned }
-        stops turned.Interrupted goes waits advances = record { found = standing_of e r now; steps = going.steps; last = turn_here interrupted advances.turned }
-        stops turned.NeedsMore goes waits advances = absurd (waits refl)
+        pub stops : mode ≡ modes.Editing → (done : Turned) → (done ≡ turned.Proceeds → ⊥) → (done ≡ turned.NeedsMore → ⊥) → Advances e r indent (Ok done) now next
+            → ComesTo (e.display next.state).layout.default_prompt (rules_of e r indent start) (standing_of e r first start) (standing_of e r mode next) done
+        stops editing turned.Proceeds goes waits advances = absurd (goes refl)
+        stops editing turned.Submitted goes waits advances = record { found = standing_of e r mode now; steps = going.steps; last = turn_here submitted mode editing advances.turned editing }
+        stops editing turned.Ended goes waits advances = record { found = standing_of e r mode now; steps = going.steps; last = turn_here ended mode editing advances.turned editing }
+        stops editing turned.Interrupted goes waits advances = record { found = standing_of e r mode now; steps = going.steps; last = turn_here interrupted mode editing advances.turned editing }
+        stops editing turned.NeedsMore goes waits advances = absurd (waits refl)
 
         -- and what is drawn then
         pub stops_drawn : (done : Turned) → (done ≡ turned.Proceeds → ⊥) → (done ≡ turned.NeedsMore → ⊥) → Advances e r indent (Ok done) now next → DrawnOnce e done next.state

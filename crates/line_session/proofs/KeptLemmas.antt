@@ -20,9 +20,10 @@ use Rattle.line_editor.specs.Released.{KeptDraft}
 use Rattle.line_editor.specs.declared.run.Turned.{Turned}
 use Rattle.line_editor.specs.declared.run.Turned.TheVariants as turned
 use Rattle.line_session.specs.Kept.{Fits, IsShownBy, answers_of}
-use Rattle.line_session.specs.Sitting.{standing_with, starting}
-use Rattle.line_session.specs.Steps.{Rules, Standing}
+use Rattle.line_session.specs.Sitting.{standing_with}
+use Rattle.line_session.specs.Steps.{Rules, Standing, starting}
 use Rattle.line_session.specs.Taken.{ComesTo, WaitsBehind}
+use Rattle.line_session.specs.declared.mode.Mode.{Mode}
 
 -- a helper that is lent answers as it does
 pub lent_answers : {H : Type 0} (hint_at : H → Shown → Option Suggestion) (verdict_at : H → List ℕ → Verdict) (lights : H → List ℕ → ℕ → CmdKind → Bool) (helper : MutBor H) (lines : List (List ℕ))
@@ -99,15 +100,15 @@ rules_alike bound bound' own d d' indent w w' same_bound same_display same_answe
     ∙ ap (λ x. rules_with bound' own (own_ruler d' indent) x) same_answers
 
 -- and so is where reading starts
-pub starts_alike : (draws : Bool) (draft draft' : Draft) (input input' : Input) (w w' : Environment) (items : List Item) (kills : Ring)
+pub starts_alike : (draws : Bool) (draft draft' : Draft) (input input' : Input) (w w' : Environment) (mode : Mode) (items : List Item) (kills : Ring)
     → draft ≡ draft' → input ≡ input' → w ≡ w'
-    → starting w draws (standing_with draft input items kills) ≡ starting w' draws (standing_with draft' input' items kills)
-starts_alike draws draft draft' input input' w w' items kills same_draft same_input same_answers =
-    ap (λ x. starting w draws (standing_with x input items kills)) same_draft ∙ ap (λ x. starting w draws (standing_with draft' x items kills)) same_input
-    ∙ ap (λ x. starting x draws (standing_with draft' input' items kills)) same_answers
+    → starting w draws (standing_with draft input mode items kills) ≡ starting w' draws (standing_with draft' input' mode items kills)
+starts_alike draws draft draft' input input' w w' mode items kills same_draft same_input same_answers =
+    ap (λ x. starting w draws (standing_with x input mode items kills)) same_draft ∙ ap (λ x. starting w draws (standing_with draft' x mode items kills)) same_input
+    ∙ ap (λ x. starting x draws (standing_with draft' input' mode items kills)) same_answers
 
 -- and where it stands
-pub stands_alike : (draft draft' : Draft) (input input' : Input) (items : List Item) (kills : Ring) → draft ≡ draft' → input ≡ input'
-    → standing_with draft input items kills ≡ standing_with draft' input' items kills
-stands_alike draft draft' input input' items kills same_draft same_input =
-    ap (λ x. standing_with x input items kills) same_draft ∙ ap (λ x. standing_with draft' x items kills) same_input
+pub stands_alike : (draft draft' : Draft) (input input' : Input) (mode : Mode) (items : List Item) (kills : Ring) → draft ≡ draft' → input ≡ input'
+    → standing_with draft input mode items kills ≡ standing_with draft' input' mode items kills
+stands_alike draft draft' input input' mode items kills same_draft same_input =
+    ap (λ x. standing_with x input mode items kills) same_draft ∙ ap (λ x. standing_with draft' x mode items kills) same_input

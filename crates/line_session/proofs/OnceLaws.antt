@@ -1,35 +1,23 @@
 -- A line ends once.
-use Rattle.std.proofs.Common.{◌≡◌, ◌≢◌, ◌∙◌, ◌⊎◌, inl, inr, List, [], ◌∷◌, ◌++◌, map, refl, sym, ap, subst}
-use Rattle.line_keys.specs.Command.{insert}
+use Rattle.std.proofs.Common.{◌≡◌, ◌≢◌, ◌∙◌, ◌⊎◌, inl, inr, List, [], ◌∷◌, ◌++◌, map, refl, sym, ap, subst, ℕ, true}
 use Rattle.line_keys.specs.Draft.{Draft}
 use Rattle.line_keys.specs.Item.{Item, key, paste}
 use Rattle.line_keys.specs.declared.keys.KeyEvent.{KeyEvent}
 use Rattle.line_parts.specs.Environment.{Environment}
-use Rattle.line_editor.specs.Editor.{Answer, Step, proceeds}
+use Rattle.line_editor.specs.Editor.{Answer, proceeds}
 use Rattle.line_editor.specs.Input.{Input}
 use Rattle.line_editor.specs.Keymap.{Keymap}
 use Rattle.line_editor.specs.Phrase.{Phrase, behind_key, of_mode}
 use Rattle.line_editor.specs.Read.{Read}
 use Rattle.line_editor.specs.Run.{ready}
 use Rattle.line_editor.specs.Step.{step}
-use Rattle.line_editor.proofs.PhraseLemmas.{phrases-fit}
+use Rattle.line_editor.specs.Left.{left_by}
+use Rattle.line_editor.proofs.RunLaws.{one-phrase, one-turn}
 use Rattle.line_session.specs.Pieces.{EndsOnce}
-use Rattle.line_session.specs.Steps.{PasteComesIn, Rules, Standing, Steps, TurnFrom}
+use Rattle.line_session.specs.Steps.{ItemComesIn, Rules, Standing, Steps, TurnFrom, as_it_is, comes_in, mode_after}
 use Rattle.line_session.specs.Steps as steps
+use Rattle.line_session.specs.declared.mode.Mode.TheVariants as modes
 use Rattle.line_session.proofs.WholeLaws.{no_paste}
-
--- of two fronts of one list the one begins the other
-fronts : {A : Type 0} (p q m n : List A) → p ++ m ≡ q ++ n
-    → ((d : List A) × (q ≡ p ++ d) × (m ≡ d ++ n)) ⊎ ((d : List A) × (p ≡ q ++ d) × (n ≡ d ++ m))
-fronts [] q m n e = inl (q, refl, e)
-fronts (x ∷ p) [] m n e = inr (x ∷ p, refl, sym e)
-fronts (x ∷ p) (y ∷ q) m n e =
-    let head : x ≡ y = cc in
-    let tail : p ++ m ≡ q ++ n = cc in
-    elim (fronts p q m n tail) [
-      | inl f ↦ inl (f.0, ap (λ r. y ∷ r) f.1 ∙ ap (λ h. h ∷ p ++ f.0) (sym head), f.2)
-      | inr f ↦ inr (f.0, ap (λ h. h ∷ p) head ∙ ap (λ r. y ∷ r) f.1, f.2)
-    ]
 
 -- no phrase is empty
 some_phrase : (keymap : Keymap) (environment : Environment) (draft : Draft) (input : Input) (read : Read) → Phrase keymap environment draft input [] read → ⊥
@@ -41,63 +29,57 @@ some_phrase keymap environment draft input read (of_mode spelled) = by_typed spe
 some_phrase keymap environment draft input read (behind_key nested) = absurd (let cut = nested.cut in cc)
 
 module _ (by : Rules) where
-  -- two phrases at the front of one list are the same
-  one_phrase : (draft : Draft) (input : Input) (p q m n : List Item) (read read' : Read)
-      → Phrase by.keymap by.environment draft input p read → Phrase by.keymap by.environment draft input q read' → p ++ m ≡ q ++ n → (m ≡ n) × (read ≡ read')
-  one_phrase draft input p q m n read read' one other e = elim (fronts p q m n e) [
-    | inl f ↦ fits p q m n read read' one other f.0 f.1 f.2
-    | inr f ↦ let same = fits q p n m read' read other one f.0 f.1 f.2 in (sym same.0, sym same.1)
-  ]
-    where
-      fits : (p q m n : List Item) (read read' : Read) → Phrase by.keymap by.environment draft input p read → Phrase by.keymap by.environment draft input q read'
-          → (d : List Item) → q ≡ p ++ d → m ≡ d ++ n → (m ≡ n) × (read ≡ read')
-      fits p q m n read read' one other d front rest =
-          let fit = phrases-fit by.keymap by.environment draft input p d read read' one (subst (λ x. Phrase by.keymap by.environment draft input x read') front other) in
-          (rest ∙ ap (λ x. x ++ n) fit.0, fit.1)
+  -- a standing of its parts
+  stands : (to to' : Standing) → to.editor ≡ to'.editor → to.input ≡ to'.input → to.items ≡ to'.items → to.mode ≡ to'.mode → to ≡ to'
+  stands to to' editor input items mode =
+      ap (λ e. record { editor = e; input = to.input; items = to.items; mode = to.mode }) editor
+      ∙ ap (λ i. record { editor = to'.editor; input = i; items = to.items; mode = to.mode }) input
+      ∙ ap (λ i. record { editor = to'.editor; input = to'.input; items = i; mode = to.mode }) items
+      ∙ ap (λ m. record { editor = to'.editor; input = to'.input; items = to'.items; mode = m }) mode
 
   -- two turns from one standing are the same
   one_turn : (from to to' : Standing) (answer answer' : Answer) → TurnFrom by from to answer → TurnFrom by from to' answer' → (to ≡ to') × (answer ≡ answer')
   one_turn from to to' answer answer' one other =
-      let s = one_phrase from.editor.draft from.input one.phrase other.phrase to.items to'.items one.read other.read one.reads other.reads (sym one.cut ∙ other.cut) in
-      let done : Read → Step = λ read. step by.ruler by.environment read.input (ready read.command read.draft from.editor.kills) read.command in
-      let same : done one.read ≡ done other.read = ap done s.1 in
-      let editor : to.editor ≡ to'.editor = one.leaves.editor ∙ ap (λ (d : Step). d.editor) same ∙ sym other.leaves.editor in
-      let input : to.input ≡ to'.input = one.input_left ∙ ap (λ (r : Read). r.input) s.1 ∙ sym other.input_left in (
-        ap (λ e. record { editor = e; input = to.input; items = to.items }) editor ∙ ap (λ i. record { editor = to'.editor; input = i; items = to.items }) input
-            ∙ ap (λ i. record { editor = to'.editor; input = to'.input; items = i }) s.0,
-        sym one.leaves.answered ∙ ap (λ (d : Step). d.answer) same ∙ other.leaves.answered,
-      )
+      let same = one-turn by.keymap by.ruler by.environment from.editor to.editor to'.editor from.input to.input to'.input from.items to.items to'.items answer answer' one.turn other.turn in
+      let read = one-phrase by.keymap by.ruler by.environment from.editor.draft from.input one.turn.phrase other.turn.phrase to.items to'.items one.turn.read other.turn.read one.turn.reads other.turn.reads
+      (sym one.turn.cut ∙ other.turn.cut) in
+      let mode : to.mode ≡ to'.mode = one.next ∙ ap (λ (r : Read). mode_after answer (left_by r.command)) read.1
+      ∙ ap (λ a. mode_after a (left_by other.turn.read.command)) same.answer ∙ sym other.next in
+      (stands to to' same.editor same.input same.more mode, same.answer)
 
-  -- a pasted text that stands alone begins no turn
-  paste_alone : {B : Type 0} (from to to' : Standing) (answer : Answer) → TurnFrom by from to answer → PasteComesIn by from to' → B
-  paste_alone from to to' answer turn puts = by_phrase turn.phrase turn.reads (sym turn.cut ∙ puts.cut)
+  -- an item that comes in as it is begins no turn
+  item_alone : {B : Type 0} (from to to' : Standing) (answer : Answer) → TurnFrom by from to answer → ItemComesIn by from to' → B
+  item_alone from to to' answer turn puts =
+      by_item puts.item (subst (λ m. comes_in m puts.item ≡ true) turn.editing puts.comes) (sym turn.turn.cut ∙ puts.cut)
     where
-      by_phrase : {B : Type 0} (phrase : List Item) → Phrase by.keymap by.environment from.editor.draft from.input phrase turn.read → phrase ++ to.items ≡ paste puts.text ∷ to'.items → B
-      by_phrase [] reads cut = absurd (some_phrase by.keymap by.environment from.editor.draft from.input turn.read reads)
-      by_phrase (paste text ∷ items) reads cut = absurd (no_paste by.keymap by.environment from.editor.draft from.input text items turn.read reads)
-      by_phrase (key first ∷ items) reads cut = absurd (cc)
+      by_phrase : {B : Type 0} (text : List ℕ) (phrase : List Item) → Phrase by.keymap by.environment from.editor.draft from.input phrase turn.turn.read → phrase ++ to.items ≡ paste text ∷ to'.items → B
+      by_phrase text [] reads cut = absurd (some_phrase by.keymap by.environment from.editor.draft from.input turn.turn.read reads)
+      by_phrase text (paste other ∷ items) reads cut = absurd (no_paste by.keymap by.environment from.editor.draft from.input other items turn.turn.read reads)
+      by_phrase text (key first ∷ items) reads cut = absurd (cc)
 
-  -- two pasted texts that come in from one standing are the same
-  one_paste : (from to to' : Standing) → PasteComesIn by from to → PasteComesIn by from to' → to ≡ to'
-  one_paste from to to' one other =
-      let cut : paste one.text ∷ to.items ≡ paste other.text ∷ to'.items = sym one.cut ∙ other.cut in
+      by_item : {B : Type 0} (item : Item) → comes_in modes.Editing item ≡ true → turn.turn.phrase ++ to.items ≡ item ∷ to'.items → B
+      by_item (key typed) comes cut = absurd (cc)
+      by_item (paste text) comes cut = by_phrase text turn.turn.phrase turn.turn.reads cut
+
+  -- two items that come in from one standing are the same
+  one_item : (from to to' : Standing) → ItemComesIn by from to → ItemComesIn by from to' → to ≡ to'
+  one_item from to to' one other =
+      let cut : one.item ∷ to.items ≡ other.item ∷ to'.items = sym one.cut ∙ other.cut in
       let items : to.items ≡ to'.items = cc in
-      let first : paste one.text ≡ paste other.text = cc in
-      let text : one.text ≡ other.text = cc in
+      let item : one.item ≡ other.item = cc in
       let editor : to.editor ≡ to'.editor = one.leaves.editor
-      ∙ ap (λ t. (step by.ruler by.environment from.input (ready (insert 1 t) from.editor.draft from.editor.kills) (insert 1 t)).editor) text ∙ sym other.leaves.editor in
-      ap (λ e. record { editor = e; input = to.input; items = to.items }) editor ∙ ap (λ i. record { editor = to'.editor; input = i; items = to.items }) (one.input ∙ sym other.input)
-      ∙ ap (λ i. record { editor = to'.editor; input = to'.input; items = i }) items
+      ∙ ap (λ t. (step by.ruler by.environment from.input (ready (as_it_is t) from.editor.draft from.editor.kills) (as_it_is t)).editor) item ∙ sym other.leaves.editor in
+      stands to to' editor (one.input ∙ sym other.input) items (one.next ∙ sym other.next)
 
-  -- one step: a turn that proceeds, or a pasted text
+  -- one step: a turn that proceeds, or an item that comes in as it is
   abbrev OneStep : Standing → Standing → Type 0
-  OneStep from to = TurnFrom by from to proceeds ⊎ PasteComesIn by from to
+  OneStep from to = TurnFrom by from to proceeds ⊎ ItemComesIn by from to
 
   one_step : (from to to' : Standing) → OneStep from to → OneStep from to' → to ≡ to'
   one_step from to to' (inl one) (inl other) = (one_turn from to to' proceeds proceeds one other).0
-  one_step from to to' (inl one) (inr other) = paste_alone from to to' proceeds one other
-  one_step from to to' (inr one) (inl other) = paste_alone from to' to proceeds other one
-  one_step from to to' (inr one) (inr other) = one_paste from to to' one other
+  one_step from to to' (inl one) (inr other) = item_alone from to to' proceeds one other
+  one_step from to to' (inr one) (inl other) = item_alone from to' to proceeds other one
+  one_step from to to' (inr one) (inr other) = one_item from to to' one other
 
   -- steps are none, or a first one and others
   record First (from to : Standing) : Type 0 where
@@ -111,9 +93,9 @@ module _ (by : Rules) where
     | inl is ↦ inr (record { next = to; one = inl (subst (λ s. TurnFrom by s to proceeds) is turn); rest = steps.none })
     | inr f ↦ inr (record { next = f.next; one = f.one; rest = steps.turn f.rest turn })
   ]
-  first_of from to (steps.pasted {found} {next} before puts) = elim (first_of from found before) [
-    | inl is ↦ inr (record { next = to; one = inr (subst (λ s. PasteComesIn by s to) is puts); rest = steps.none })
-    | inr f ↦ inr (record { next = f.next; one = f.one; rest = steps.pasted f.rest puts })
+  first_of from to (steps.item {found} {next} before puts) = elim (first_of from found before) [
+    | inl is ↦ inr (record { next = to; one = inr (subst (λ s. ItemComesIn by s to) is puts); rest = steps.none })
+    | inr f ↦ inr (record { next = f.next; one = f.one; rest = steps.item f.rest puts })
   ]
 
   -- of steps from one start the one goes on with the other
@@ -122,11 +104,11 @@ module _ (by : Rules) where
 
   step_on : (from to : Standing) → OneStep from to → Steps by from to
   step_on from to (inl turn) = steps.turn steps.none turn
-  step_on from to (inr puts) = steps.pasted steps.none puts
+  step_on from to (inr puts) = steps.item steps.none puts
 
   steps_then : (from mid to : Standing) → Steps by from mid → OneStep mid to → Steps by from to
   steps_then from mid to before (inl turn) = steps.turn before turn
-  steps_then from mid to before (inr puts) = steps.pasted before puts
+  steps_then from mid to before (inr puts) = steps.item before puts
 
   extend : (one other next : Standing) → OneStep other next → OnEach one other → OnEach one next
   extend one other next last (inl on) = inl (steps_then one other next on last)
@@ -138,7 +120,7 @@ module _ (by : Rules) where
   on_each : (start one other : Standing) → Steps by start one → Steps by start other → OnEach one other
   on_each start one other first steps.none = inr first
   on_each start one other first (steps.turn {found} {next} before turn) = extend one found other (inl turn) (on_each start one found first before)
-  on_each start one other first (steps.pasted {found} {next} before puts) = extend one found other (inr puts) (on_each start one found first before)
+  on_each start one other first (steps.item {found} {next} before puts) = extend one found other (inr puts) (on_each start one found first before)
 
   -- where a turn ends the line no steps go on
   last_turn : (found end to : Standing) (answer : Answer) → answer ≢ proceeds → TurnFrom by found end answer → Steps by found to → to ≡ found
@@ -146,7 +128,7 @@ module _ (by : Rules) where
     | inl is ↦ is
     | inr f ↦ elim f.one [
       | inl goes ↦ absurd (ends (one_turn found end f.next answer proceeds turn goes).1)
-      | inr puts ↦ paste_alone found end f.next answer turn puts
+      | inr puts ↦ item_alone found end f.next answer turn puts
     ]
   ]
 

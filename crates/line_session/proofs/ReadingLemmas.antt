@@ -22,8 +22,8 @@ use Rattle.line_session.specs.Pieces.{GoesOnFrom, drawn_anew, with_more}
 use Rattle.line_session.specs.Pieces as pieces
 use Rattle.line_session.specs.Reading.{BindingsLookAtNoHint, CameOver, Heard, HearsOnce, Reads, ReadsLine, answer_of}
 use Rattle.line_session.specs.Reading as reading
-use Rattle.line_session.specs.Sitting.{BegunLine, Came, CameBegun, CameFrom, EndsLine, Keeps, Sitting, first_standing, rules_at, rules_for, standing_with, starting, with_turn}
-use Rattle.line_session.specs.Steps.{Rules, Standing}
+use Rattle.line_session.specs.Sitting.{BegunLine, Came, CameBegun, CameFrom, EndsLine, Keeps, Sitting, first_standing, rules_at, rules_for, standing_with, with_turn}
+use Rattle.line_session.specs.Steps.{Rules, Standing, starting}
 use Rattle.line_session.specs.declared.editor.Fed.{Fed}
 use Rattle.line_session.specs.declared.editor.Fed.TheVariants as fed
 use Rattle.line_session.proofs.CameLemmas.{came_alike}
@@ -62,7 +62,7 @@ module _ {H : Type 0} (answers : H → List (List ℕ) → Environment) (bound :
         record {
           left = begun.0.left;
           line = begun.0.line;
-          drawn = any_drawn begun.0.waits.begins.shown;
+          drawn = any_drawn begun.0.waits.shown;
           waited = pieces.first begun.0.waits;
           draws = begun.0.drawn;
           column = begun.0.column;
@@ -78,7 +78,7 @@ module _ {H : Type 0} (answers : H → List (List ℕ) → Environment) (bound :
     left = reads.over.0.left
 
     abbrev waiting : Standing
-    waiting = standing_with left.kept.draft left.input now.items now.kills
+    waiting = standing_with left.kept.draft left.input left.mode now.items now.kills
 
     -- those who answer, answer as they did
     asked : answers now.helper now.lines ≡ answers old.helper old.lines
@@ -88,7 +88,7 @@ module _ {H : Type 0} (answers : H → List (List ℕ) → Environment) (bound :
     record GoesOnAt (piece : List Item) : Type 0 where
       next : Standing
       goes : GoesOnFrom by waiting reads.over.0.drawn next
-      is : starting (answers now.helper now.lines) left.draws (standing_with left.kept.draft left.input (now.items ++ piece) now.kills) ≡ with_more piece next
+      is : starting (answers now.helper now.lines) left.draws (standing_with left.kept.draft left.input left.mode (now.items ++ piece) now.kills) ≡ with_more piece next
 
     goes_on_at : (piece : List Item) → GoesOnAt piece
     goes_on_at piece = by_draws left.draws refl
@@ -97,13 +97,13 @@ module _ {H : Type 0} (answers : H → List (List ℕ) → Environment) (bound :
         by_draws false is = record {
           next = waiting;
           goes = inl refl;
-          is = ap (λ b. starting (answers now.helper now.lines) b (standing_with left.kept.draft left.input (now.items ++ piece) now.kills)) is;
+          is = ap (λ b. starting (answers now.helper now.lines) b (standing_with left.kept.draft left.input left.mode (now.items ++ piece) now.kills)) is;
         }
         by_draws true is = record {
           next = drawn_anew by waiting;
           goes = inr (reads.over.0.draws is, refl);
-          is = ap (λ b. starting (answers now.helper now.lines) b (standing_with left.kept.draft left.input (now.items ++ piece) now.kills)) is
-              ∙ ap (λ w. starting w true (standing_with left.kept.draft left.input (now.items ++ piece) now.kills)) asked;
+          is = ap (λ b. starting (answers now.helper now.lines) b (standing_with left.kept.draft left.input left.mode (now.items ++ piece) now.kills)) is
+              ∙ ap (λ w. starting w true (standing_with left.kept.draft left.input left.mode (now.items ++ piece) now.kills)) asked;
         }
 
     -- more was heard, and this came of it
@@ -150,7 +150,7 @@ module _ {H : Type 0} (answers : H → List (List ℕ) → Environment) (bound :
           record {
             left = came.0.left;
             line = came.0.line;
-            drawn = any_drawn came.0.waits.begins.shown;
+            drawn = any_drawn came.0.waits.shown;
             waited = pieces.again piece reads.over.0.waited here.goes came.0.waits;
             draws = came.0.drawn;
             column = came.0.column;

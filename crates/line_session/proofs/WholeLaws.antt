@@ -8,36 +8,44 @@ use Rattle.line_editor.specs.Editor.{Answer, proceeds}
 use Rattle.line_editor.specs.Input.{Input}
 use Rattle.line_editor.specs.ItemShown.{ItemShown, any_drawn}
 use Rattle.line_editor.specs.Keymap.{KeyLooksAtNoHint, Keymap}
-use Rattle.line_editor.specs.Laws.{FirstLooksAtNoHint}
-use Rattle.line_editor.specs.Phrase.{IsBeginning, Phrase, behind_key, entered, of_mode}
+use Rattle.line_editor.specs.Laws.{FirstLooksAtNoHint, HintMakesNoDifference}
+use Rattle.line_editor.specs.Phrase.{IsBeginning, Phrase, behind_key, count_in_front, entered, of_mode}
 use Rattle.line_editor.specs.Read.{Read}
 use Rattle.line_editor.specs.Reading.{LeftByCut}
-use Rattle.line_editor.proofs.AgainLaws.{read-again}
+use Rattle.line_editor.specs.Run.{CutShort}
+use Rattle.line_editor.proofs.AgainLaws.{phrase-first}
 use Rattle.line_editor.proofs.DrawnAgainLaws.{drawn-again}
 use Rattle.line_parts.specs.Environment.{Environment}
 use Rattle.line_session.specs.Pieces.{EndsTheSame, GoesOnFrom, drawn_anew, with_more}
 use Rattle.line_session.specs.Pieces as pieces
-use Rattle.line_session.specs.Steps.{Ends, PasteComesIn, Rules, Standing, Steps, TurnFrom, Waits}
+use Rattle.line_session.specs.Steps.{Ends, ItemComesIn, Rules, Standing, Steps, TurnFrom, Waits, WaitsIn, comes_in}
 use Rattle.line_session.specs.Steps as steps
+use Rattle.line_session.specs.declared.mode.Mode.TheVariants as modes
 use Rattle.line_session.proofs.GoingLemmas.{same_hint}
 
 -- more items stay behind a turn
 turn_more : (by : Rules) (from to : Standing) (answer : Answer) (more : List Item) → TurnFrom by from to answer
     → TurnFrom by (with_more more from) (with_more more to) answer
 turn_more by from to answer more turn = record {
-  phrase = turn.phrase;
-  read = turn.read;
-  cut = ap (λ i. i ++ more) turn.cut ∙ append_assoc turn.phrase to.items more;
-  reads = turn.reads;
-  input_left = turn.input_left;
-  leaves = turn.leaves;
+  editing = turn.editing;
+  turn = record {
+    phrase = turn.turn.phrase;
+    read = turn.turn.read;
+    cut = ap (λ i. i ++ more) turn.turn.cut ∙ append_assoc turn.turn.phrase to.items more;
+    reads = turn.turn.reads;
+    input_left = turn.turn.input_left;
+    leaves = turn.turn.leaves;
+  };
+  next = turn.next;
 }
 
-paste_more : (by : Rules) (from to : Standing) (more : List Item) → PasteComesIn by from to → PasteComesIn by (with_more more from) (with_more more to)
-paste_more by from to more puts = record {
-  text = puts.text;
+item_more : (by : Rules) (from to : Standing) (more : List Item) → ItemComesIn by from to → ItemComesIn by (with_more more from) (with_more more to)
+item_more by from to more puts = record {
+  item = puts.item;
+  comes = puts.comes;
   cut = ap (λ i. i ++ more) puts.cut;
   input = puts.input;
+  next = puts.next;
   leaves = puts.leaves;
 }
 
@@ -45,8 +53,8 @@ steps_more : (by : Rules) (start found : Standing) (more : List Item) → Steps 
 steps_more by start to more steps.none = steps.none
 steps_more by start to more (steps.turn {found} {next} before turn) =
     steps.turn (steps_more by start found more before) (turn_more by found to proceeds more turn)
-steps_more by start to more (steps.pasted {found} {next} before puts) =
-    steps.pasted (steps_more by start found more before) (paste_more by found to more puts)
+steps_more by start to more (steps.item {found} {next} before puts) =
+    steps.item (steps_more by start found more before) (item_more by found to more puts)
 
 -- the draft that the first key leaves is that of the same items with more behind them
 entered_more : (keymap : Keymap) (draft : Draft) (input : Input) (items more : List Item) → (items ≡ [] → ⊥)
@@ -77,7 +85,7 @@ record IsCut (by : Rules) (found : Standing) (drawn : Bool) (cut : Draft) : Type
 
 -- where reading goes on that waited: with a draft that a cut left
 abbrev cut_at : Standing → Draft → Standing
-cut_at found cut = record { editor = record { draft = cut; kills = found.editor.kills }; input = found.input; items = found.items }
+cut_at found cut = record { editor = record { draft = cut; kills = found.editor.kills }; input = found.input; items = found.items; mode = found.mode }
 
 record GoesOn (by : Rules) (found : Standing) (drawn : Bool) (next : Standing) : Type 0 where
   cut : Draft
@@ -90,14 +98,22 @@ cut_by : (by : Rules) (found : Standing) (drawn : Bool) (cut : Draft)
 cut_by by found true cut is = record { kept = λ no. absurd (cc); asked = λ _. is }
 cut_by by found false cut is = record { kept = λ _. is; asked = λ no. absurd (cc) }
 
-goes_on : (by : Rules) (start left : Standing) (waits : Waits by start left) (next : Standing) → GoesOnFrom by left (any_drawn waits.begins.shown) next
-    → GoesOn by waits.found (any_drawn waits.begins.shown) next
-goes_on by start left waits next goes =
-    let whole : left ≡ cut_at waits.found left.editor.draft =
-    ap (λ k. record { editor = record { draft = left.editor.draft; kills = k }; input = left.input; items = left.items }) waits.short.kills
-    ∙ ap (λ i. record { editor = record { draft = left.editor.draft; kills = waits.found.editor.kills }; input = i; items = left.items }) waits.input
-    ∙ ap (λ i. record { editor = record { draft = left.editor.draft; kills = waits.found.editor.kills }; input = waits.found.input; items = i }) waits.items in
-    let there = cut_by by waits.found (any_drawn waits.begins.shown) left.editor.draft waits.short.draft in
+-- a standing of its parts
+stands : (one other : Standing) → one.editor ≡ other.editor → one.input ≡ other.input → one.items ≡ other.items → one.mode ≡ other.mode → one ≡ other
+stands one other editor input items mode =
+    ap (λ e. record { editor = e; input = one.input; items = one.items; mode = one.mode }) editor
+    ∙ ap (λ i. record { editor = other.editor; input = i; items = one.items; mode = one.mode }) input
+    ∙ ap (λ i. record { editor = other.editor; input = other.input; items = i; mode = one.mode }) items
+    ∙ ap (λ m. record { editor = other.editor; input = other.input; items = other.items; mode = m }) mode
+
+goes_on : (by : Rules) (found left next : Standing) (begins : IsBeginning by.keymap by.environment found.editor.draft found.input found.items)
+    → CutShort by.keymap by.environment found.input found.items begins.shown found.editor left.editor
+    → left.input ≡ found.input → left.items ≡ found.items → left.mode ≡ found.mode → GoesOnFrom by left (any_drawn begins.shown) next
+    → GoesOn by found (any_drawn begins.shown) next
+goes_on by found left next begins short input items mode goes =
+    let whole : left ≡ cut_at found left.editor.draft =
+    stands left (cut_at found left.editor.draft) (ap (λ k. record { draft = left.editor.draft; kills = k }) short.kills) input items mode in
+    let there = cut_by by found (any_drawn begins.shown) left.editor.draft short.draft in
     elim goes [
       | inl same ↦ record { cut = left.editor.draft; is = same ∙ whole; left = there }
       | inr anew ↦ record {
@@ -111,13 +127,32 @@ goes_on by start left waits next goes =
     ]
 
 module _ (by : Rules) (no_hint : (typed : KeyEvent) → KeyLooksAtNoHint by.keymap.bound typed) (found : Standing) (more : List Item)
-    (begins : IsBeginning by.keymap by.environment found.editor.draft found.input found.items) (cut : Draft) (left : IsCut by found (any_drawn begins.shown) cut) where
+    (editing : found.mode ≡ modes.Editing) (begins : IsBeginning by.keymap by.environment found.editor.draft found.input found.items) (cut : Draft)
+    (left : IsCut by found (any_drawn begins.shown) cut) where
   first_looks : (items : List Item) → FirstLooksAtNoHint by.keymap.bound found.input items
   first_looks items = λ first rest is. (no_hint first, λ plain stands. no_hint plain)
 
   -- of no items the cut left the draft as it was
   as_it_was : found.items ≡ [] → cut ≡ found.editor.draft
   as_it_was none = left.kept (none_drawn begins.shown found.items begins.each none) ∙ ap (λ i. entered by.keymap found.editor.draft found.input i) none
+
+  -- a turn that is read again is the one from before the cut
+  turn_again : (to : Standing) (answer : Answer) (turn : TurnFrom by (with_more more (cut_at found cut)) to answer)
+      → LeftByCut by.environment (entered by.keymap found.editor.draft found.input (found.items ++ more)) cut
+      → HintMakesNoDifference by.keymap found.input (found.items ++ more) found.editor.draft cut (count_in_front turn.turn.reads) turn.turn.read
+      → TurnFrom by (with_more more found) to answer
+  turn_again to answer turn short as_before = record {
+    editing = turn.editing;
+    turn = record {
+      phrase = turn.turn.phrase;
+      read = turn.turn.read;
+      cut = turn.turn.cut;
+      reads = phrase-first by.keymap by.environment found.editor.draft cut found.input (found.items ++ more) turn.turn.phrase to.items turn.turn.read turn.turn.cut short turn.turn.reads as_before;
+      input_left = turn.turn.input_left;
+      leaves = turn.turn.leaves;
+    };
+    next = turn.next;
+  }
 
   -- a turn that is read from the cut is one from where the items are read whole
   turn_whole : (to : Standing) (answer : Answer) → TurnFrom by (with_more more (cut_at found cut)) to answer → TurnFrom by (with_more more found) to answer
@@ -128,28 +163,29 @@ module _ (by : Rules) (no_hint : (typed : KeyEvent) → KeyLooksAtNoHint by.keym
           let short : LeftByCut by.environment (entered by.keymap found.editor.draft found.input found.items) cut = inr (left.asked drawn) in
           let whole : LeftByCut by.environment (entered by.keymap found.editor.draft found.input (found.items ++ more)) cut =
           subst (λ d. LeftByCut by.environment d cut) (sym (entered_more by.keymap found.editor.draft found.input found.items more some)) short in
-          let within = drawn-again by.keymap by.environment found.editor.draft cut found.input found.items more turn.phrase to.items turn.read begins drawn short (first_looks found.items) turn.cut turn.reads in
-          read-again by.keymap by.ruler by.environment found.editor to.editor cut found.input to.input (found.items ++ more) to.items answer whole turn
-          (inr (inr (within.whole, first_looks (found.items ++ more))))
+          let within = drawn-again by.keymap by.environment found.editor.draft cut found.input found.items more turn.turn.phrase to.items turn.turn.read begins drawn short (first_looks found.items) turn.turn.cut turn.turn.reads in
+          turn_again to answer turn whole (inr (inr (within.whole, first_looks (found.items ++ more))))
       by_drawn false drawn some =
           let is = left.kept drawn in
           let whole : LeftByCut by.environment (entered by.keymap found.editor.draft found.input (found.items ++ more)) cut =
           inl (is ∙ sym (entered_more by.keymap found.editor.draft found.input found.items more some)) in
-          read-again by.keymap by.ruler by.environment found.editor to.editor cut found.input to.input (found.items ++ more) to.items answer whole turn
-          (inl (ap (λ (d : Draft). d.hint) is ∙ same_hint by.keymap found.editor.draft found.input found.items))
+          turn_again to answer turn whole (inl (ap (λ (d : Draft). d.hint) is ∙ same_hint by.keymap found.editor.draft found.input found.items))
 
       by_items : (items : List Item) → found.items ≡ items → TurnFrom by (with_more more found) to answer
       by_items [] none = subst (λ d. TurnFrom by (with_more more (cut_at found d)) to answer) (as_it_was none) turn
       by_items (first ∷ rest) some = by_drawn (any_drawn begins.shown) refl (λ none. absurd (let two : first ∷ rest ≡ [] = sym some ∙ none in cc))
 
-  -- and so is a pasted text that stands alone
-  paste_whole : (to : Standing) → PasteComesIn by (with_more more (cut_at found cut)) to → PasteComesIn by (with_more more found) to
-  paste_whole to puts = by_items found.items refl
+  -- and so is an item that comes in as it is
+  item_whole : (to : Standing) → ItemComesIn by (with_more more (cut_at found cut)) to → ItemComesIn by (with_more more found) to
+  item_whole to puts = by_items found.items refl
     where
-      by_items : (items : List Item) → found.items ≡ items → PasteComesIn by (with_more more found) to
-      by_items [] none = subst (λ d. PasteComesIn by (with_more more (cut_at found d)) to) (as_it_was none) puts
+      by_items : (items : List Item) → found.items ≡ items → ItemComesIn by (with_more more found) to
+      by_items [] none = subst (λ d. ItemComesIn by (with_more more (cut_at found d)) to) (as_it_was none) puts
       by_items (key first ∷ rest) is =
-          absurd (let two : key first ∷ rest ++ more ≡ paste puts.text ∷ to.items = ap (λ i. i ++ more) (sym is) ∙ puts.cut in cc)
+          let front : key first ∷ rest ++ more ≡ puts.item ∷ to.items = ap (λ i. i ++ more) (sym is) ∙ puts.cut in
+          let item : key first ≡ puts.item = cc in
+          let comes : comes_in modes.Editing (key first) ≡ true = subst (λ m. comes_in m (key first) ≡ true) editing (subst (λ i. comes_in found.mode i ≡ true) (sym item) puts.comes) in
+          absurd (cc)
       by_items (paste text ∷ rest) is =
           let comes = subst (λ i. Phrase by.keymap by.environment found.editor.draft found.input (i ++ begins.rest) begins.read) is begins.comes in
           absurd (no_paste by.keymap by.environment found.editor.draft found.input text (rest ++ begins.rest) begins.read comes)
@@ -162,9 +198,9 @@ module _ (by : Rules) (no_hint : (typed : KeyEvent) → KeyLooksAtNoHint by.keym
     | inl is ↦ steps.turn front (turn_whole to proceeds (subst (λ s. TurnFrom by s to proceeds) is turn))
     | inr there ↦ steps.turn there turn
   ])
-  steps_whole start to front (steps.pasted {found = middle} {next} before puts) = inr (elim (steps_whole start middle front before) [
-    | inl is ↦ steps.pasted front (paste_whole to (subst (λ s. PasteComesIn by s to) is puts))
-    | inr there ↦ steps.pasted there puts
+  steps_whole start to front (steps.item {found = middle} {next} before puts) = inr (elim (steps_whole start middle front before) [
+    | inl is ↦ steps.item front (item_whole to (subst (λ s. ItemComesIn by s to) is puts))
+    | inr there ↦ steps.item there puts
   ])
 
   ends_whole : (start end : Standing) (answer : Answer) → Steps by start (with_more more found) → Ends by (with_more more (cut_at found cut)) end answer
@@ -178,16 +214,34 @@ module _ (by : Rules) (no_hint : (typed : KeyEvent) → KeyLooksAtNoHint by.keym
     | inr there ↦ record { found = ends.found; steps = there; last = ends.last }
   ]
 
+-- steps, and then steps
+steps_then : (by : Rules) (start mid to : Standing) → Steps by start mid → Steps by mid to → Steps by start to
+steps_then by start mid to front steps.none = front
+steps_then by start mid to front (steps.turn {found} {next} before turn) = steps.turn (steps_then by start mid found front before) turn
+steps_then by start mid to front (steps.item {found} {next} before puts) = steps.item (steps_then by start mid found front before) puts
+
 -- where reading waited once
 ends_once : (by : Rules) (start left next end : Standing) (piece : List Item) (answer : Answer)
     → ((typed : KeyEvent) → KeyLooksAtNoHint by.keymap.bound typed)
-    → (waits : Waits by start left) → GoesOnFrom by left (any_drawn waits.begins.shown) next → Ends by (with_more piece next) end answer
+    → (waits : Waits by start left) → GoesOnFrom by left (any_drawn waits.shown) next → Ends by (with_more piece next) end answer
     → Ends by (with_more piece start) end answer
-ends_once by start left next end piece answer no_hint waits goes ends =
-    let here = goes_on by start left waits next goes in
-    ends_whole by no_hint waits.found piece waits.begins here.cut here.left (with_more piece start) end answer
-    (steps_more by start waits.found piece waits.steps)
-    (subst (λ s. Ends by (with_more piece s) end answer) here.is ends)
+ends_once by start left next end piece answer no_hint waits goes ends = by_kind waits.shown waits.waits goes
+  where
+    by_kind : (shown : List ItemShown) → WaitsIn by waits.found left.editor shown → GoesOnFrom by left (any_drawn shown) next → Ends by (with_more piece start) end answer
+    by_kind _ (steps.phrase editing begins short) goes =
+        let here = goes_on by waits.found left next begins short waits.input waits.items waits.mode goes in
+        ends_whole by no_hint waits.found piece editing begins here.cut here.left (with_more piece start) end answer
+        (steps_more by start waits.found piece waits.steps)
+        (subst (λ s. Ends by (with_more piece s) end answer) here.is ends)
+    by_kind _ (steps.quoted quotes none same) (inr anew) = absurd (let no = anew.0 in cc)
+    by_kind _ (steps.quoted quotes none same) (inl is) =
+        let there : next ≡ waits.found = is ∙ stands left waits.found same waits.input waits.items waits.mode in
+        let ends_there = subst (λ s. Ends by (with_more piece s) end answer) there ends in
+        record {
+          found = ends_there.found;
+          steps = steps_then by (with_more piece start) (with_more piece waits.found) ends_there.found (steps_more by start waits.found piece waits.steps) ends_there.steps;
+          last = ends_there.last;
+        }
 
 pub ends-same : EndsTheSame
 ends-same by start left next end items piece drawn answer no_hint (pieces.first waits) goes ends =

@@ -1,12 +1,11 @@
 -- A line whose items come in pieces.
 use Rattle.std.specs.Prelude.{◌≡◌, ◌≢◌, ◌⊎◌, Bool, true, List, [], ◌++◌}
-use Rattle.line_keys.specs.Draft.{hinted}
 use Rattle.line_keys.specs.Item.{Item}
 use Rattle.line_keys.specs.declared.keys.KeyEvent.{KeyEvent}
 use Rattle.line_editor.specs.Editor.{Answer, proceeds}
 use Rattle.line_editor.specs.ItemShown.{any_drawn}
 use Rattle.line_editor.specs.Keymap.{KeyLooksAtNoHint}
-use Rattle.line_session.specs.Steps.{Ends, Rules, Standing, Waits}
+use Rattle.line_session.specs.Steps.{Ends, Rules, Standing, Waits, starting}
 
 -- the same with more items behind those that are left
 abbrev pub with_more : List Item → Standing → Standing
@@ -14,9 +13,7 @@ with_more more standing = record standing { items = standing.items ++ more }
 
 -- the same once the line was drawn: its hint was asked
 abbrev pub drawn_anew : Rules → Standing → Standing
-drawn_anew by standing = record standing {
-  editor = record standing.editor { draft = hinted by.environment standing.editor.draft };
-}
+drawn_anew by standing = starting by.environment true standing
 
 -- reading goes on where it waited; or, where something was drawn of the items that are no phrase yet, once the line was drawn anew
 abbrev pub GoesOnFrom : Rules → Standing → Bool → Standing → Type 0
@@ -25,10 +22,10 @@ GoesOnFrom by left drawn next = (next ≡ left) ⊎ ((drawn ≡ true) × (next �
 -- from a start reading waited for a piece of items behind those that were there, was handed it, and waits again, as often as there are
 -- pieces; these are all their items, this is how it is left, and whether something was drawn of items that are no phrase yet
 pub data Waited (by : Rules) (start : Standing) : List Item → Standing → Bool → Type 0 where
-  first : {left : Standing} → (waits : Waits by start left) → Waited by start [] left (any_drawn waits.begins.shown)
+  first : {left : Standing} → (waits : Waits by start left) → Waited by start [] left (any_drawn waits.shown)
   again : {items : List Item} {left next later : Standing} {drawn : Bool} → (piece : List Item)
       → Waited by start items left drawn → GoesOnFrom by left drawn next → (waits : Waits by (with_more piece next) later)
-      → Waited by start (items ++ piece) later (any_drawn waits.begins.shown)
+      → Waited by start (items ++ piece) later (any_drawn waits.shown)
 
 -- a line that ends ends the same however its items come, where no binding looks at the hint: in pieces as all at once
 abbrev pub EndsTheSame : Type 0

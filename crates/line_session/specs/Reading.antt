@@ -14,8 +14,8 @@ use Rattle.line_editor.specs.Binding.{Bound}
 use Rattle.line_editor.specs.Keymap.{KeyLooksAtNoHint}
 use Rattle.line_term.specs.Decoder as decoding
 use Rattle.line_session.specs.Pieces.{Waited, with_more}
-use Rattle.line_session.specs.Sitting.{BegunLine, Came, CameFrom, Keeps, Sitting, first_standing, rules_at, standing_with, starting, with_turn}
-use Rattle.line_session.specs.Steps.{Rules, Standing}
+use Rattle.line_session.specs.Sitting.{BegunLine, Came, CameFrom, Keeps, Sitting, first_standing, rules_at, standing_with, with_turn}
+use Rattle.line_session.specs.Steps.{Rules, Standing, starting}
 use Rattle.line_session.specs.declared.editor.Fed.{Fed}
 use Rattle.line_session.specs.declared.editor.Fed.TheVariants as fed
 
@@ -45,12 +45,12 @@ answer_of fed.Interrupted = Err errors.Interrupted
 answer_of _ = Err errors.Eof
 
 module _ {H : Type 0} where
-  -- the line goes on behind all these items: they came in pieces, and are no phrase yet
+  -- the line goes on behind all these items: they came in pieces, and more are awaited
   pub record GoesOnOver (by : Rules) (start : Standing) (items : List Item) (now : Sitting H) : Type 0 where
     pub left : BegunLine
     pub line : now.line ≡ Some left
     pub drawn : Bool
-    pub waited : Waited by start items (standing_with left.kept.draft left.input now.items now.kills) drawn
+    pub waited : Waited by start items (standing_with left.kept.draft left.input left.mode now.items now.kills) drawn
     pub draws : left.draws ≡ true → drawn ≡ true
     pub column : left.kept.drawing.prompt_end.col ≡ by.ruler.prompt_column
 

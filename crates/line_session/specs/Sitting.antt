@@ -5,7 +5,7 @@ use Rattle.line_buffer.specs.declared.layout.GraphemeClusterMode.TheVariants.{Un
 use Rattle.line_config.specs.Settings.{Settings}
 use Rattle.line_config.specs.declared.error.ReadlineError.{ReadlineError}
 use Rattle.line_keys.specs.Display.{corner}
-use Rattle.line_keys.specs.Draft.{Draft, empty_draft, hinted}
+use Rattle.line_keys.specs.Draft.{Draft, empty_draft}
 use Rattle.line_keys.specs.Item.{Item}
 use Rattle.line_parts.specs.Environment.{Environment}
 use Rattle.line_parts.specs.History.{HistoryRules, added}
@@ -19,14 +19,18 @@ use Rattle.line_editor.specs.Released.{KeptDraft}
 use Rattle.line_editor.specs.declared.run.Turned.{Turned}
 use Rattle.line_editor.specs.declared.run.Turned.TheVariants as turned
 use Rattle.line_term.specs.Decoder as decoding
-use Rattle.line_session.specs.Steps.{Ends, Rules, Standing, Waits}
+use Rattle.line_session.specs.Steps.{Ends, Rules, Standing, Waits, starting}
 use Rattle.line_session.specs.declared.editor.Fed.{Fed}
 use Rattle.line_session.specs.declared.editor.Fed.TheVariants as fed
+use Rattle.line_session.specs.declared.mode.Mode.{Mode}
+use Rattle.line_session.specs.declared.mode.Mode.TheVariants.{Editing}
 
--- a line that has begun: what is kept of it, what reading keys remembers, and whether it is drawn before the next key is read
+-- a line that has begun: what is kept of it, what reading keys remembers, what they are read as, and whether the line is drawn before the
+-- next key is read
 pub record BegunLine : Type 0 where
   pub kept : KeptDraft
   pub input : Input
+  pub mode : Mode
   pub draws : Bool
 
 -- the line that has begun, if one has; the lines of the history and which ones it takes; the kill ring; the items that are left to
@@ -44,9 +48,9 @@ pub record Sitting (H : Type 0) : Type 0 where
   pub columns : ℕ
   pub rows : ℕ
 
--- the draft and what reading keys remembers of the line that has begun, if one has
-abbrev pub draft_and_input : {H : Type 0} → Sitting H → Option (Draft × Input)
-draft_and_input sitting = option_map (λ (begun : BegunLine). (begun.kept.draft, begun.input)) sitting.line
+-- the draft of the line that has begun, what reading keys remembers, and what they are read as, if one has
+abbrev pub written_so_far : {H : Type 0} → Sitting H → Option (Draft × Input × Mode)
+written_so_far sitting = option_map (λ (begun : BegunLine). (begun.kept.draft, begun.input, begun.mode)) sitting.line
 
 -- nothing is lost where a call fails: the line that had begun is there, if one had, and so are the lines of the history
 pub record LosesNothing {H : Type 0} (old new : Sitting H) : Type 0 where
@@ -76,19 +80,14 @@ rules_for bound binds indent column environment = record {
   environment = environment;
 }
 
--- where reading stands with a draft, what is remembered of keys, the items that are left, and the kill ring
-abbrev pub standing_with : Draft → Input → List Item → Ring → Standing
-standing_with draft input items kills = record {
+-- where reading stands with a draft, what is remembered of keys, what items are read as, those that are left, and the kill ring
+abbrev pub standing_with : Draft → Input → Mode → List Item → Ring → Standing
+standing_with draft input mode items kills = record {
   editor = record { draft = draft; kills = kills };
   input = input;
   items = items;
+  mode = mode;
 }
-
--- the same once the line was drawn, where it is to be drawn: its hint was asked
-abbrev pub starting : Environment → Bool → Standing → Standing
-starting environment draws start = if draws then record start {
-  editor = record start.editor { draft = hinted environment start.editor.draft };
-} else start
 
 -- the draft of a line that begins with a text before the cursor and one behind it
 abbrev pub begun_with : List ℕ → List ℕ → List (List ℕ) → Draft
@@ -96,9 +95,9 @@ begun_with left right lines = record (empty_draft (length lines)) {
   line = record { text = left ++ right; cursor = length left };
 }
 
--- where reading stands of a line that begins: nothing is remembered of keys, and a kill joins none of those before
+-- where reading stands of a line that begins: nothing is remembered of keys, commands are read, and a kill joins none of those before
 abbrev pub first_standing : {H : Type 0} → List ℕ → List ℕ → Sitting H → Standing
-first_standing left right old = standing_with (begun_with left right old.lines) (first_input old.settings.edit_mode) old.items (with_last old.kills other)
+first_standing left right old = standing_with (begun_with left right old.lines) (first_input old.settings.edit_mode) Editing old.items (with_last old.kills other)
 
 module _ {H : Type 0} where
   -- the line has ended by this answer: it is gone, and what is left are the items and the kill ring of its end
@@ -115,12 +114,12 @@ module _ {H : Type 0} where
     pub text_left : text ≡ ends.end.editor.draft.line.text
     pub lines : new.lines ≡ (if old.settings.auto_add_history then added old.takes old.lines text else old.lines)
 
-  -- the line goes on: its items are no phrase yet, and it is drawn anew only where something was drawn of them
+  -- the line goes on: more items are awaited, and it is drawn anew only where something was drawn of those that are no phrase yet
   pub record GoesOn (by : Rules) (start : Standing) (new : Sitting H) : Type 0 where
     pub left : BegunLine
     pub line : new.line ≡ Some left
-    pub waits : Waits by start (standing_with left.kept.draft left.input new.items new.kills)
-    pub drawn : left.draws ≡ true → any_drawn waits.begins.shown ≡ true
+    pub waits : Waits by start (standing_with left.kept.draft left.input left.mode new.items new.kills)
+    pub drawn : left.draws ≡ true → any_drawn waits.shown ≡ true
     pub column : left.kept.drawing.prompt_end.col ≡ by.ruler.prompt_column
 
   -- what came of a line whose turns were taken, from where its reading stood
@@ -151,7 +150,7 @@ module _ {H : Type 0} where
       abbrev pub Came : Sitting H → BegunLine → Sitting H → Fed → Type 0
       Came old begun = CameFrom (rules_at old begun.kept.drawing.prompt_end.col)
           (starting (answers old.helper old.lines) begun.draws
-          (standing_with begun.kept.draft begun.input old.items old.kills)) old
+          (standing_with begun.kept.draft begun.input begun.mode old.items old.kills)) old
 
       -- what came of a line that began behind a prompt, with these texts before and behind the cursor
       abbrev pub CameBegun : List ℕ → List ℕ → List ℕ → Sitting H → Sitting H → Fed → Type 0
@@ -175,6 +174,7 @@ module _ {H : Type 0} where
       pub line : new.line ≡ Some begun
       pub draft : begun.kept.draft ≡ begun_with left right old.lines
       pub input : begun.input ≡ first_input old.settings.edit_mode
+      pub mode : begun.mode ≡ Editing
       pub draws : begun.draws ≡ true
       pub prompt_end : begun.kept.drawing.prompt_end ≡ measured old.columns prompt corner
       pub lines : new.lines ≡ old.lines

@@ -1,14 +1,26 @@
--- Steps of reading: commands that are read and executed, from the items that are there to those that are left.
-use Rattle.std.specs.Prelude.{◌≡◌, ℕ, ◌∷◌, List}
-use Rattle.line_keys.specs.Command.{insert}
-use Rattle.line_keys.specs.Item.{Item, paste}
+-- Steps of reading: commands that are read and executed, and items that come in as they are, from the items that are there to those that are left.
+use Rattle.std.specs.Prelude.{◌≡◌, ℕ, ◌-◌, ◌==◌, ◌&&◌, nat_le, Bool, true, false, if◌then◌else◌, [], ◌∷◌, List, Option, Some, None}
+use Rattle.line_keys.specs.Command.{Command, insert, self_insert, unknown}
+use Rattle.line_keys.specs.Draft.{hinted}
+use Rattle.line_keys.specs.Item.{Item, key, paste}
+use Rattle.line_keys.specs.Key.{bits_of}
+use Rattle.line_keys.specs.declared.keys.KeyCode.{KeyCode}
+use Rattle.line_keys.specs.declared.keys.KeyCode.TheVariants as codes
+use Rattle.line_keys.specs.declared.keys.KeyEvent.{KeyEvent}
+use Rattle.line_keys.specs.declared.keys.TheConstants.Modifiers.{CTRL, NONE}
 use Rattle.line_parts.specs.Environment.{Environment}
 use Rattle.line_editor.specs.Editor.{Answer, Editor, Leaves, Ruler, proceeds}
 use Rattle.line_editor.specs.Input.{Input}
+use Rattle.line_editor.specs.ItemShown.{ItemShown}
 use Rattle.line_editor.specs.Keymap.{Keymap}
+use Rattle.line_editor.specs.Left.{left_by}
 use Rattle.line_editor.specs.Phrase.{IsBeginning}
 use Rattle.line_editor.specs.Run.{CutShort, Turn, ready}
 use Rattle.line_editor.specs.Step.{step}
+use Rattle.line_editor.specs.declared.left.Left.{Left}
+use Rattle.line_editor.specs.declared.left.Left.TheVariants as lefts
+use Rattle.line_session.specs.declared.mode.Mode.{Mode}
+use Rattle.line_session.specs.declared.mode.Mode.TheVariants as modes
 
 -- what commands are read and executed by
 pub record Rules : Type 0 where
@@ -16,29 +28,91 @@ pub record Rules : Type 0 where
   pub ruler : Ruler
   pub environment : Environment
 
--- where reading stands: the editor, what is remembered of keys, and the items that are left
+-- where reading stands: the editor, what is remembered of keys, the items that are left, and what these are read as
 pub record Standing : Type 0 where
   pub editor : Editor
   pub input : Input
   pub items : List Item
+  pub mode : Mode
+
+-- the same once the line was drawn, where it is to be drawn: its hint was asked
+abbrev pub starting : Environment → Bool → Standing → Standing
+starting environment draws start = if draws then record start {
+  editor = record start.editor { draft = hinted environment start.editor.draft };
+} else start
+
+-- what items are read as behind a command: behind a quoted insert the next one comes in as it is
+abbrev pub mode_behind : Option Left → Mode
+mode_behind (Some lefts.QuotedInsert) = modes.Quoting
+mode_behind _ = modes.Editing
+
+-- and behind a turn with this answer
+abbrev pub mode_after : Answer → Option Left → Mode
+mode_after proceeds told = mode_behind told
+mode_after _ told = modes.Editing
 
 -- a turn leads from one standing to another, with this answer
-abbrev pub TurnFrom : Rules → Standing → Standing → Answer → Type 0
-TurnFrom by from to answer =
-    Turn by.keymap by.ruler by.environment from.editor from.input from.items to.editor to.input to.items answer
+pub record TurnFrom (by : Rules) (from to : Standing) (answer : Answer) : Type 0 where
+  pub editing : from.mode ≡ modes.Editing
+  pub turn : Turn by.keymap by.ruler by.environment from.editor from.input from.items to.editor to.input to.items answer
+  pub next : to.mode ≡ mode_after answer (left_by turn.read.command)
 
--- a pasted text that stands alone, as the key before it was read as the key of something else, comes in as any pasted text does
-pub record PasteComesIn (by : Rules) (from to : Standing) : Type 0 where
-  pub text : List ℕ
-  pub cut : from.items ≡ paste text ∷ to.items
+-- the control character that a key with Ctrl stands for, by the character that it is named for: 64 places before it
+abbrev pub control_character : ℕ → Option ℕ
+control_character c = if nat_le 64 c && nat_le c 95 then Some (c - 64) else None
+
+-- the character of a key without modifiers, if it stands for one
+abbrev pub plain_character : KeyCode → Option ℕ
+plain_character (codes.Char c) = Some c
+plain_character codes.Backspace = Some 127
+plain_character codes.Enter = Some 13
+plain_character codes.Esc = Some 27
+plain_character codes.Tab = Some 9
+plain_character _ = None
+
+-- the character of a key with Ctrl, if it stands for one
+abbrev pub with_control : KeyCode → Option ℕ
+with_control (codes.Char c) = control_character c
+with_control _ = None
+
+-- the character of a key, if it stands for one
+abbrev pub character_of : KeyEvent → Option ℕ
+character_of typed =
+    if bits_of typed.1 == bits_of NONE then plain_character typed.0
+    else if bits_of typed.1 == bits_of CTRL then with_control typed.0
+    else None
+
+-- the command that puts a character in, if there is one
+abbrev pub typing : Option ℕ → Command
+typing (Some c) = self_insert 1 c
+typing None = unknown
+
+-- the command that puts an item in as it is
+abbrev pub as_it_is : Item → Command
+as_it_is (key typed) = typing (character_of typed)
+as_it_is (paste text) = insert 1 text
+
+-- whether an item comes in as it is: any one behind a quoted insert; and a pasted text that stands alone, as the key before it was read as
+-- the key of something else
+abbrev pub comes_in : Mode → Item → Bool
+comes_in modes.Quoting item = true
+comes_in modes.Editing (key typed) = false
+comes_in modes.Editing (paste text) = true
+
+-- an item comes in as it is
+pub record ItemComesIn (by : Rules) (from to : Standing) : Type 0 where
+  pub item : Item
+  pub comes : comes_in from.mode item ≡ true
+  pub cut : from.items ≡ item ∷ to.items
   pub input : to.input ≡ from.input
-  pub leaves : Leaves (step by.ruler by.environment from.input (ready (insert 1 text) from.editor.draft from.editor.kills) (insert 1 text)) to.editor proceeds
+  pub next : to.mode ≡ modes.Editing
+  pub leaves : Leaves (step by.ruler by.environment from.input (ready (as_it_is item) from.editor.draft from.editor.kills) (as_it_is item)) to.editor proceeds
 
--- steps lead from a start to a standing: turns that proceed, and pasted texts that stand alone
+-- steps lead from a start to a standing: turns that proceed, and items that come in as they are
 pub data Steps (by : Rules) (start : Standing) : Standing → Type 0 where
   none : Steps by start start
   turn : {found next : Standing} → Steps by start found → TurnFrom by found next proceeds → Steps by start next
-  pasted : {found next : Standing} → Steps by start found → PasteComesIn by found next → Steps by start next
+  item : {found next : Standing} → Steps by start found → ItemComesIn by found next → Steps by start next
 
 -- steps, and behind them a turn with this answer, lead from a start to an end
 pub record Ends (by : Rules) (start end : Standing) (answer : Answer) : Type 0 where
@@ -46,12 +120,19 @@ pub record Ends (by : Rules) (start end : Standing) (answer : Answer) : Type 0 w
   pub steps : Steps by start found
   pub last : TurnFrom by found end answer
 
--- steps lead from a start to items that are no phrase yet, or to no items; these items stay, and the editor is left as one whose items
--- were cut short
+-- what reading waits in, with what is drawn of the items: in items that are no phrase yet, which leave an editor as one whose items were
+-- cut short; or behind a quoted insert, where no item is left
+pub data WaitsIn (by : Rules) (found : Standing) (left : Editor) : List ItemShown → Type 0 where
+  phrase : found.mode ≡ modes.Editing → (begins : IsBeginning by.keymap by.environment found.editor.draft found.input found.items)
+      → CutShort by.keymap by.environment found.input found.items begins.shown found.editor left → WaitsIn by found left begins.shown
+  quoted : found.mode ≡ modes.Quoting → found.items ≡ [] → left ≡ found.editor → WaitsIn by found left []
+
+-- steps lead from a start to where reading waits for items; those that are there stay
 pub record Waits (by : Rules) (start left : Standing) : Type 0 where
   pub found : Standing
   pub steps : Steps by start found
-  pub begins : IsBeginning by.keymap by.environment found.editor.draft found.input found.items
-  pub short : CutShort by.keymap by.environment found.input found.items begins.shown found.editor left.editor
+  pub shown : List ItemShown
+  pub waits : WaitsIn by found left.editor shown
   pub input : left.input ≡ found.input
   pub items : left.items ≡ found.items
+  pub mode : left.mode ≡ found.mode

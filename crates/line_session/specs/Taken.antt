@@ -1,9 +1,9 @@
 -- What turns leave that were taken one after another.
-use Rattle.std.specs.Prelude.{◌≡◌, ℕ, Bool, true, false, if◌then◌else◌, List}
+use Rattle.std.specs.Prelude.{◌≡◌, ℕ, Bool, true, false, List, ◌∷◌, Option, Some, None, string_bytes}
 use Rattle.line_buffer.specs.KillRing.{Ring}
-use Rattle.line_keys.specs.Command.{insert}
-use Rattle.line_keys.specs.Draft.{hinted}
+use Rattle.line_keys.specs.Drawing.{DrewNothing}
 use Rattle.line_keys.specs.Frame.{Frame}
+use Rattle.line_keys.specs.Item.{Item, key, paste}
 use Rattle.line_keys.specs.ShownLine.{HasRightLayout, HasShownEnd, IsAtEnd, IsInPlace, ShowsNoHint}
 use Rattle.line_keys.specs.declared.editor_state.EditorState as editors
 use Rattle.line_keys.specs.declared.raw_reader.RawReader as readers
@@ -17,14 +17,17 @@ use Rattle.line_editor.specs.Step.{step}
 use Rattle.line_editor.specs.declared.run.Turned.{Turned}
 use Rattle.line_editor.specs.declared.run.Turned.TheVariants as turned
 use Rattle.line_session.specs.Kept.{IsShownBy}
-use Rattle.line_session.specs.Steps.{Ends, Rules, Standing, Waits}
+use Rattle.line_session.specs.Steps.{Ends, Rules, Standing, Waits, as_it_is, comes_in, starting}
+use Rattle.line_session.specs.declared.mode.AsItIs.{AsItIs}
+use Rattle.line_session.specs.declared.mode.AsItIs.TheVariants as as_is
+use Rattle.line_session.specs.declared.mode.Mode.{Mode}
 
 -- reading waits for items; and another prompt than the own one is shown only where something was drawn of those that are no phrase yet
 pub record WaitsBehind (own_prompt : Bool) (by : Rules) (start left : Standing) : Type 0 where
   pub waits : Waits by start left
-  pub drawn : own_prompt ≡ false → any_drawn waits.begins.shown ≡ true
+  pub drawn : own_prompt ≡ false → any_drawn waits.shown ≡ true
 
--- how turns that were taken end: with the answer of the last one; or with items that are no phrase yet
+-- how turns that were taken end: with the answer of the last one; or where more items are awaited
 abbrev pub ComesTo : Bool → Rules → Standing → Standing → Turned → Type 0
 ComesTo own_prompt by start end turned.Proceeds = ⊥
 ComesTo own_prompt by start end turned.Submitted = Ends by start end submitted
@@ -32,7 +35,23 @@ ComesTo own_prompt by start end turned.Ended = Ends by start end ended
 ComesTo own_prompt by start end turned.Interrupted = Ends by start end interrupted
 ComesTo own_prompt by start end turned.NeedsMore = WaitsBehind own_prompt by start end
 
+-- an item that comes in as it is, as the reader gives it
+abbrev pub item_of : AsItIs → Item
+item_of (as_is.Key typed) = key typed
+item_of (as_is.Text text) = paste (string_bytes text)
+
+-- the next item was taken, where it comes in as it is; and none where it is read as part of a command, or nothing is left
+abbrev pub TakesAsItIs : Mode → Option Item → List Item → List Item → Type 0
+TakesAsItIs mode (Some item) old new = (old ≡ item ∷ new) × (comes_in mode item ≡ true)
+TakesAsItIs mode None old new = ((item : Item) (more : List Item) → old ≡ item ∷ more → comes_in mode item ≡ false) × (new ≡ old)
+
 module _ {X : Type 0} (e : editors.Ghosts X) where
+  -- at most a beep was asked for
+  pub record Beeps (old new : X) : Type 0 where
+    pub draft : e.draft new ≡ e.draft old
+    pub drew : DrewNothing e old new
+    pub frame : Frame e old new
+
   -- the line is shown, and the kept layout is right
   abbrev pub IsShown : X → Type 0
   IsShown state = IsShownBy (e.environment state) (e.display state) (e.draft state)
@@ -46,10 +65,10 @@ module _ {X : Type 0} (e : editors.Ghosts X) where
   DrawnOnce turned.Interrupted state = IsAtEnd e state × IsInPlace e state × HasShownEnd e state
   DrawnOnce turned.NeedsMore state = (e.display state).layout.default_prompt ≡ true → IsShown state
 
-  -- a pasted text was put in, behind the own prompt
-  abbrev pub PutsIn : ℕ → Input → List ℕ → X → Ring → X → Ring → Type 0
-  PutsIn indent input text old kills new kills' =
-      Leaves (step (own_ruler (e.display old) indent) (e.environment old) input (ready (insert 1 text) (e.draft old) kills) (insert 1 text))
+  -- an item was put in as it is, behind the own prompt
+  abbrev pub PutsIn : ℕ → Input → Item → X → Ring → X → Ring → Type 0
+  PutsIn indent input item old kills new kills' =
+      Leaves (step (own_ruler (e.display old) indent) (e.environment old) input (ready (as_it_is item) (e.draft old) kills) (as_it_is item))
       (editor_of e new kills') proceeds
 
 module _ {X Y : Type 0} (e : editors.Ghosts X) (r : readers.Ghosts Y) where
@@ -67,16 +86,15 @@ module _ {X Y : Type 0} (e : editors.Ghosts X) (r : readers.Ghosts Y) where
     pub own : r.own_binding (r.kept after.reader) ≡ r.own_binding (r.kept before.reader)
     pub bound : after.keys.bound ≡ before.keys.bound
 
-  -- where the reading of a session stands
-  abbrev pub standing_of : Session X Y → Standing
-  standing_of session = record {
+  -- where the reading of a session stands, whose items are read so
+  abbrev pub standing_of : Mode → Session X Y → Standing
+  standing_of mode session = record {
     editor = editor_of e session.state session.kills;
     input = session.keys.input;
     items = r.rest session.reader;
+    mode = mode;
   }
 
   -- the same once the line was drawn, where it is to be drawn: its hint was asked
-  abbrev pub start_of : Bool → Session X Y → Standing
-  start_of draws session = if draws then record (standing_of session) {
-    editor = record (editor_of e session.state session.kills) { draft = hinted (e.environment session.state) (e.draft session.state) };
-  } else standing_of session
+  abbrev pub start_of : Bool → Mode → Session X Y → Standing
+  start_of draws mode session = starting (e.environment session.state) draws (standing_of mode session)

@@ -10,9 +10,11 @@ ghost use Rattle.line_keys.specs.Draft.{empty_draft};
 ghost use Rattle.line_parts.specs.Helped.{environment_by, sure_by};
 ghost use Rattle.line_screen.specs.KeyQueue.{queue_binding};
 ghost use Rattle.line_session.specs.Kept.{Fits, answers_of};
-ghost use Rattle.line_session.specs.Sitting.{begun_with, rules_for, standing_with, starting};
+ghost use Rattle.line_session.specs.Sitting.{begun_with, rules_for, standing_with};
+ghost use Rattle.line_session.specs.Steps.{starting};
 ghost use Rattle.line_session.specs.Taken.{ComesTo, DrawnOnce, IsShown};
 
+use crate::mode::Mode;
 use crate::turns::take_turns;
 use line_buffer::{KillRing, Unit};
 use line_config::{Config, Prompt, Result};
@@ -33,6 +35,8 @@ use std::io::Write;
 pub(crate) struct Begun<H: Helper> {
     pub(crate) line: KeptLine<H>,
     pub(crate) input: KeptInput,
+    /// What the next item is read as.
+    pub(crate) mode: Mode,
     /// Whether the line is to be drawn before the next key is read.
     pub(crate) draws: bool,
 }
@@ -42,6 +46,7 @@ impl<H: Helper> Drop for Begun<H> {
         let Begun {
             line: _,
             input: _,
+            mode: _,
             draws: _,
         } = self;
     }
@@ -124,6 +129,7 @@ pub(crate) fn begin<'out, 'prompt, O: Write + Drop, H: Helper, S: History>(
     ensures draft { IfOk result (λ begun.
         begun.line.draft ≡ begun_with left.now right.now (S.lines history.now)) }
     ensures input { IfOk result (λ begun. begun.input ≡ first_input config.now.edit_mode) }
+    ensures mode { IfOk result (λ begun. begun.mode ≡ Mode.Editing) }
     ensures draws { IfOk result (λ begun. begun.draws ≡ true) }
     ensures prompt { IfOk result (λ begun. begun.line.drawing.prompt_end
         ≡ (⟦<Ansi<O, KeyQueue> as ScreenState>⟧.surface screen.old).measure
@@ -151,6 +157,7 @@ pub(crate) fn begin<'out, 'prompt, O: Write + Drop, H: Helper, S: History>(
     let begun = Begun {
         line,
         input: KeptInput::new(config),
+        mode: Mode::Editing,
         draws: true,
     };
     give_back(out, lent);
@@ -210,6 +217,7 @@ impl<H: Helper> Begun<H> {
             (answers_of H.hint_at H.verdict_at H.lights helper.new (S.lines history.now)) }
         ensures draft { result.0.line.draft ≡ self.line.draft }
         ensures input { result.0.input ≡ self.input }
+        ensures mode { result.0.mode ≡ self.mode }
         ensures columns { let w = ⟦<Ansi<O, KeyQueue> as ScreenState>⟧ in
             (w.surface screen.new).columns ≡ columns }
         ensures rows { let w = ⟦<Ansi<O, KeyQueue> as ScreenState>⟧ in
@@ -222,6 +230,7 @@ impl<H: Helper> Begun<H> {
         let Begun {
             line,
             input,
+            mode,
             draws: _,
         } = self;
         let mut state = State::resume(alloc, line, screen, prompt, Some(helper), history);
@@ -231,6 +240,7 @@ impl<H: Helper> Begun<H> {
         let begun = Begun {
             line,
             input,
+            mode,
             draws: true,
         };
         give_back(out, lent);
@@ -265,8 +275,9 @@ impl<H: Helper> Begun<H> {
             (rules_for (bound_of g bindings.now) keys.old.binds
             config.now.indent_size self.line.drawing.prompt_end.col asked)
             (starting asked self.draws
-            (standing_with self.line.draft self.input keys.old.rest kill_ring.old))
-            (standing_with result.0.line.draft result.0.input keys.new.rest kill_ring.new)) }
+            (standing_with self.line.draft self.input self.mode keys.old.rest kill_ring.old))
+            (standing_with result.0.line.draft result.0.input result.0.mode
+            keys.new.rest kill_ring.new)) }
         ensures surface { ⟦<Ansi<O, KeyQueue> as ScreenState>⟧.surface screen.new
             ≡ ⟦<Ansi<O, KeyQueue> as ScreenState>⟧.surface screen.old }
         ensures prompt { result.0.line.drawing.prompt_end ≡ self.line.drawing.prompt_end }
@@ -276,16 +287,34 @@ impl<H: Helper> Begun<H> {
             ≡ answers_of H.hint_at H.verdict_at H.lights helper.old lines }
         ensures faults { FaultsOnly result.1 }
     {
-        let Begun { line, input, draws } = self;
+        let Begun {
+            line,
+            input,
+            mut mode,
+            draws,
+        } = self;
         let mut state = State::resume(alloc, line, screen, prompt, Some(helper), history);
         let mut input_state = InputState::resume(input, bindings);
-        let turned = take_turns(draws, &mut state, &mut input_state, keys, kill_ring, config);
+        let turned = take_turns(
+            draws,
+            &mut mode,
+            &mut state,
+            &mut input_state,
+            keys,
+            kill_ring,
+            config,
+        );
         let turned = leave(alloc, turned, &mut state);
         let draws = is_to_be_drawn(&turned, &state);
         let input = input_state.release();
         let (line, out, lent) = state.release();
         let lent = lent.unwrap();
-        let begun = Begun { line, input, draws };
+        let begun = Begun {
+            line,
+            input,
+            mode,
+            draws,
+        };
         give_back(out, lent);
         (begun, turned)
     }

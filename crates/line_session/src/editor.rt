@@ -6,7 +6,7 @@ ghost use Rattle.line_editor.specs.Binding.{bound_of};
 ghost use Rattle.line_parts.specs.History.{TellsTaken, added};
 ghost use Rattle.line_session.specs.Kept.{answers_of};
 ghost use Rattle.line_session.specs.Reading.{BindingsLookAtNoHint, HearsOnce, ReadsLine, answer_of};
-ghost use Rattle.line_session.specs.Sitting.{BegunLine, Came, CameBegun, EndsAs, Keeps, LosesNothing, StartsWith, draft_and_input, with_turn};
+ghost use Rattle.line_session.specs.Sitting.{BegunLine, Came, CameBegun, EndsAs, Keeps, LosesNothing, StartsWith, written_so_far, with_turn};
 ghost use Rattle.line_buffer.specs.KillRing.{empty_ring};
 ghost use Rattle.line_term.specs.Decoder.{finished, flushed, fresh, is_waiting, read};
 
@@ -102,6 +102,7 @@ impl<O: Write + Drop, H: Helper + Drop, S: History + Drop> Model for Editor<O, H
       line = option_map (λ begun. record {
         kept = begun.line;
         input = begun.input;
+        mode = begun.mode;
         draws = begun.draws;
       }) e.line;
       lines = S.lines e.history;
@@ -380,7 +381,7 @@ impl<O: Write + Drop, H: Helper + Drop, S: History + Drop> Editor<O, H, S> {
     /// `Io`, where the output fails, and `Memory`. Columns and rows are the new ones then, and the line is drawn at the next call.
     pub fn resize(&mut self, columns: Unit, rows: Unit) -> Result<()>
         requires { 0 < columns }
-        ensures written { draft_and_input self.new ≡ draft_and_input self.old }
+        ensures written { written_so_far self.new ≡ written_so_far self.old }
         ensures lines { self.new.lines ≡ self.old.lines }
         ensures kills { self.new.kills ≡ self.old.kills }
         ensures items { self.new.items ≡ self.old.items }

@@ -5,5 +5,6 @@ mod begun;
 pub mod editor;
 pub mod iter;
 pub mod laws;
+pub mod mode;
 pub mod parts;
 mod turns;

@@ -1,17 +1,18 @@
 //! Turns that are taken one after another, for as long as there are items.
-ghost use Rattle.std.specs.Prelude.{◌≡◌, false, IfOk, OnOk, string_bytes};
+ghost use Rattle.std.specs.Prelude.{◌≡◌, false, IfOk, None, OnErr, OnOk, option_map};
 ghost use Rattle.line_config.specs.Error.{FaultsOnly};
 ghost use Rattle.line_editor.specs.InputState.{input_of, keys_of};
 ghost use Rattle.line_editor.specs.Outcomes.{session};
 ghost use Rattle.line_keys.specs.Frame.{Frame};
-ghost use Rattle.line_session.specs.Taken.{ComesTo, DrawnOnce, IsShown, KeepsRules, PutsIn, rules_of, standing_of, start_of};
+ghost use Rattle.line_session.specs.Steps.{mode_behind};
+ghost use Rattle.line_session.specs.Taken.{Beeps, ComesTo, DrawnOnce, IsShown, KeepsRules, PutsIn, TakesAsItIs, item_of, rules_of, standing_of, start_of};
 
+use crate::mode::{AsItIs, Mode};
 use line_buffer::KillRing;
-use line_config::{Config, Prompt, Result};
+use line_config::{Config, Prompt, ReadlineError, Result};
 use line_editor::binding::ConditionalEventHandler;
 use line_editor::edit::State;
-use line_editor::{InputState, Turned, advance, execute};
-use line_keys::cmd::Cmd;
+use line_editor::{InputState, Left, Turned, execute, take_turn};
 use line_keys::editor_state::EditorState;
 use line_keys::raw_reader::RawReader;
 use line_keys::refresher::Refresher;
@@ -20,16 +21,18 @@ use line_screen::KeyQueue;
 use line_term::Ansi;
 use std::io::Write;
 
-/// Takes turns until the line ends, or the items that are left are no phrase yet; these are left to be read again, with more
-/// behind them. Where `draws` says so, the line is drawn first. Returns how the last turn ended, which is never `Proceeds`.
+/// Takes turns until the line ends, or more items are awaited: where those that are left are no phrase yet, they are left to be
+/// read again, with more behind them; and behind a quoted insert none is left. Where `draws` says so, the line is drawn first.
+/// Returns how the last turn ended, which is never `Proceeds`.
 ///
-/// A pasted text that stands alone comes in as any pasted text does: the key before it was read as the key of something else,
-/// as the motion of an operator.
+/// Behind a quoted insert an item comes in as it is: a key as its character, if it has one. A pasted text that stands alone comes
+/// in as any pasted text does: the key before it was read as the key of something else, as the motion of an operator.
 ///
 /// # Errors
-/// Those of `advance` and of drawing the line.
+/// Those of `take_turn` and of drawing the line. An item that was taken to come in as it is, is not taken again.
 pub(crate) fn take_turns<'out, 'prompt, O: Write + Drop, H: Helper, P: Prompt, S: History>(
     draws: bool,
+    mode: &mut Mode,
     state: &mut State<'out, 'prompt, Ansi<O, KeyQueue>, H, P, S>,
     input_state: &mut InputState<'_>,
     keys: &mut KeyQueue,
@@ -45,7 +48,7 @@ pub(crate) fn take_turns<'out, 'prompt, O: Write + Drop, H: Helper, P: Prompt, S
         let after = session state.new (k input_state.new) keys.new kill_ring.new in
         IfOk result (ComesTo (e.display state.new).layout.default_prompt
         (rules_of e r config.now.indent_size before)
-        (start_of e r draws before) (standing_of e r after)) }
+        (start_of e r draws mode.old before) (standing_of e r mode.new after)) }
     ensures drawn { let e = ⟦<State<'out, 'prompt, Ansi<O, KeyQueue>, H, P, S> as EditorState>⟧ in
         IfOk result (λ turned. DrawnOnce e turned state.new) }
     ensures keeps { let k = keys_of ⟦<dyn ConditionalEventHandler as ConditionalEventHandler>⟧ in
@@ -57,14 +60,15 @@ pub(crate) fn take_turns<'out, 'prompt, O: Write + Drop, H: Helper, P: Prompt, S
     ensures ring { kill_ring.new.size ≡ kill_ring.old.size }
 {
     if !draws {
-        return turns(state, input_state, keys, kill_ring, config);
+        return turns(mode, state, input_state, keys, kill_ring, config);
     }
     state.refresh_line()?;
-    turns(state, input_state, keys, kill_ring, config)
+    turns(mode, state, input_state, keys, kill_ring, config)
 }
 
 /// Takes turns as `take_turns` does, of a line that is shown.
 fn turns<'out, 'prompt, O: Write + Drop, H: Helper, P: Prompt, S: History>(
+    mode: &mut Mode,
     state: &mut State<'out, 'prompt, Ansi<O, KeyQueue>, H, P, S>,
     input_state: &mut InputState<'_>,
     keys: &mut KeyQueue,
@@ -80,7 +84,7 @@ fn turns<'out, 'prompt, O: Write + Drop, H: Helper, P: Prompt, S: History>(
         let after = session state.new (k input_state.new) keys.new kill_ring.new in
         IfOk result (ComesTo (e.display state.new).layout.default_prompt
         (rules_of e r config.now.indent_size before)
-        (standing_of e r before) (standing_of e r after)) }
+        (standing_of e r mode.old before) (standing_of e r mode.new after)) }
     ensures drawn { let e = ⟦<State<'out, 'prompt, Ansi<O, KeyQueue>, H, P, S> as EditorState>⟧ in
         IfOk result (λ turned. DrawnOnce e turned state.new) }
     ensures keeps { let k = keys_of ⟦<dyn ConditionalEventHandler as ConditionalEventHandler>⟧ in
@@ -93,24 +97,78 @@ fn turns<'out, 'prompt, O: Write + Drop, H: Helper, P: Prompt, S: History>(
 {
     'turns: loop {
         keys.mark();
-        if let Some(text) = keys.next_paste()? {
-            put_in(text, state, input_state, kill_ring, config)?;
+        if let Some(item) = next_as_it_is(*mode, keys)? {
+            *mode = Mode::Editing;
+            put_in(item, state, input_state, kill_ring, config)?;
             continue;
         }
-        match advance(state, input_state, keys, kill_ring, config)? {
-            Turned::Proceeds => {}
+        if *mode == Mode::Quoting {
+            return Ok(Turned::NeedsMore);
+        }
+        let (turned, left) = take_turn(state, input_state, keys, kill_ring, config)?;
+        match turned {
+            Turned::Proceeds => *mode = answered(left, state)?,
             Turned::NeedsMore => {
                 keys.rewind();
                 return Ok(Turned::NeedsMore);
             }
-            turned => return Ok(turned),
+            _ => return Ok(turned),
         }
     }
 }
 
-/// Puts in a pasted text that stands alone.
+/// Takes the next item and returns it, where it comes in as it is. Returns None, and takes nothing, where it is read as part of a
+/// command, or nothing is left.
+///
+/// # Errors
+/// `Memory`.
+fn next_as_it_is(mode: Mode, keys: &mut KeyQueue) -> Result<Option<AsItIs>>
+    ensures takes { IfOk result (λ taken.
+        TakesAsItIs mode (option_map item_of taken) keys.old.rest keys.new.rest) }
+    ensures none { IfOk result (λ taken. taken ≡ None → keys.new ≡ keys.old) }
+    ensures err { OnErr result (keys.new.rest ≡ keys.old.rest) }
+    ensures binds { keys.new.binds ≡ keys.old.binds }
+    ensures faults { FaultsOnly result }
+{
+    if let Some(text) = keys.next_paste()? {
+        return Ok(Some(AsItIs::Text(text)));
+    }
+    if mode == Mode::Editing {
+        return Ok(None);
+    }
+    match keys.next_key(false) {
+        Ok(key) => Ok(Some(AsItIs::Key(key))),
+        Err(ReadlineError::Eof) => Ok(None),
+        Err(error) => Err(error),
+    }
+}
+
+/// Beeps behind a command that would give something up: nothing has begun. Returns what the next item is read as behind a command
+/// that left this to the program.
+///
+/// # Errors
+/// `Io`, where the output fails, and `Memory`.
+fn answered<'out, 'prompt, O: Write + Drop, H: Helper, P: Prompt, S: History>(
+    left: Option<Left>,
+    state: &mut State<'out, 'prompt, Ansi<O, KeyQueue>, H, P, S>,
+) -> Result<Mode>
+    ensures mode { IfOk result (λ mode. mode ≡ mode_behind left) }
+    ensures beeps { Beeps ⟦<State<'out, 'prompt, Ansi<O, KeyQueue>, H, P, S> as EditorState>⟧
+        state.old state.new }
+    ensures faults { FaultsOnly result }
+{
+    if left == Some(Left::Abort) {
+        state.beep()?;
+    }
+    Ok(Mode::behind(left))
+}
+
+/// Puts in an item as it is.
+///
+/// # Errors
+/// Those of `execute`.
 fn put_in<'out, 'prompt, O: Write + Drop, H: Helper, P: Prompt, S: History>(
-    text: String,
+    item: AsItIs,
     state: &mut State<'out, 'prompt, Ansi<O, KeyQueue>, H, P, S>,
     input_state: &InputState<'_>,
     kill_ring: &mut KillRing,
@@ -120,7 +178,7 @@ fn put_in<'out, 'prompt, O: Write + Drop, H: Helper, P: Prompt, S: History>(
         IsShown e state.old }
     ensures puts { let e = ⟦<State<'out, 'prompt, Ansi<O, KeyQueue>, H, P, S> as EditorState>⟧ in
         OnOk result (PutsIn e config.now.indent_size (input_of input_state.now)
-        (string_bytes text) state.old kill_ring.old state.new kill_ring.new) }
+        (item_of item) state.old kill_ring.old state.new kill_ring.new) }
     ensures shown { let e = ⟦<State<'out, 'prompt, Ansi<O, KeyQueue>, H, P, S> as EditorState>⟧ in
         OnOk result (IsShown e state.new) }
     ensures frame { let e = ⟦<State<'out, 'prompt, Ansi<O, KeyQueue>, H, P, S> as EditorState>⟧ in
@@ -129,6 +187,6 @@ fn put_in<'out, 'prompt, O: Write + Drop, H: Helper, P: Prompt, S: History>(
     ensures ring { kill_ring.new.size ≡ kill_ring.old.size }
 {
     kill_ring.reset();
-    execute(Cmd::Insert(1, text), state, input_state, kill_ring, config)?;
+    execute(item.command(), state, input_state, kill_ring, config)?;
     Ok(())
 }

@@ -55,8 +55,8 @@ invariant-turns g l =
       failures = λ s. s.view.out.now.failures;
       redraws = λ s. s.view.out.now.redraws;
     } in
-    Going e reader l.fn.config.indent_size (session l.fn.state (k l.fn.input_state) l.fn.keys l.fn.kill_ring)
-    (session l.state (k l.input_state) l.keys l.kill_ring)
+    Going e reader l.fn.config.indent_size l.fn.mode (session l.fn.state (k l.fn.input_state) l.fn.keys l.fn.kill_ring)
+    l.mode (session l.state (k l.input_state) l.keys l.kill_ring)
     × (l.kill_ring.size ≡ l.fn.kill_ring.size)
 
 abbrev pub decreases-turns : goal.decreases-turns

@@ -28,8 +28,8 @@ returns-clause-comes g c =
     let asked = c.resume-state.ensures.environment ∙ lent_answers _ _ _ _ _ in
     comes_so _ _ _ _ _ _ _ _ _ _ c.take_turns-turned.ensures.comes c.leave-turned.ensures.ended
     (rules_alike _ _ _ _ _ _ _ _ c.resume-input_state.ensures.bindings c.resume-state.ensures.display asked)
-    (starts_alike _ _ _ _ _ _ _ _ _ c.resume-state.ensures.draft c.resume-input_state.ensures.input asked)
-    (stands_alike _ _ _ _ _ _ (sym (c.release-line.ensures.draft ∙ c.leave-turned.ensures.draft)) (sym c.release-input.ensures))
+    (starts_alike _ _ _ _ _ _ _ _ _ _ c.resume-state.ensures.draft c.resume-input_state.ensures.input asked)
+    (stands_alike _ _ _ _ _ _ _ (sym (c.release-line.ensures.draft ∙ c.leave-turned.ensures.draft)) (sym c.release-input.ensures))
     (λ short. ap (λ (d : Display). d.layout.default_prompt) (sym (c.leave-turned.ensures.prompt short)) ∙ sym (c.is_to_be_drawn-draws.ensures.prompt short))
 
 pub returns-clause-fits : goal.returns-clause-fits

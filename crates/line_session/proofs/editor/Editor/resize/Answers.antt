@@ -8,7 +8,7 @@ returns-clause-keeps g c =
     let asked = answers_of g.H.Hinter.hint_at g.H.Validator.verdict_at g.H.Highlighter.lights in
     let resized = c.resized-begun in
     let old : Sitting g.row.H.Denot = record {
-      line = option_map (λ b. record { kept = b.line; input = b.input; draws = b.draws }) c.self.inside.line;
+      line = option_map (λ b. record { kept = b.line; input = b.input; mode = b.mode; draws = b.draws }) c.self.inside.line;
       lines = g.S.History.lines c.self.inside.history;
       takes = g.S.History.rules c.self.inside.history;
       kills = c.self.inside.kill_ring;
@@ -21,7 +21,7 @@ returns-clause-keeps g c =
       rows = c.self.inside.screen.shown.rows;
     } in
     let new : Sitting g.row.H.Denot = record old {
-      line = Some (record { kept = resized.result.0.line; input = resized.result.0.input; draws = resized.result.0.draws });
+      line = Some (record { kept = resized.result.0.line; input = resized.result.0.input; mode = resized.result.0.mode; draws = resized.result.0.draws });
       helper = resized.new.helper;
       columns = resized.new.screen.shown.columns;
       rows = resized.new.screen.shown.rows;

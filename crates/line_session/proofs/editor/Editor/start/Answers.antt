@@ -9,11 +9,11 @@ pub returns-clause-starts : goal.returns-clause-starts
 returns-clause-starts g c =
     let asked = answers_of g.H.Hinter.hint_at g.H.Validator.verdict_at g.H.Highlighter.lights in
     let made = c.in_ok-begun in
-    let begun : BegunLine = record { kept = made.begun.line; input = made.begun.input; draws = made.begun.draws } in
+    let begun : BegunLine = record { kept = made.begun.line; input = made.begun.input; mode = made.begun.mode; draws = made.begun.draws } in
     let columns = ap (λ (s : Surface). s.columns) made.ensures.surface in
     let rows = ap (λ (s : Surface). s.rows) made.ensures.surface in
     let mid : Sitting g.row.H.Denot = record {
-      line = option_map (λ b. record { kept = b.line; input = b.input; draws = b.draws }) c.self.inside.line;
+      line = option_map (λ b. record { kept = b.line; input = b.input; mode = b.mode; draws = b.draws }) c.self.inside.line;
       lines = g.S.History.lines c.self.inside.history;
       takes = g.S.History.rules c.self.inside.history;
       kills = c.self.inside.kill_ring;
@@ -25,5 +25,5 @@ returns-clause-starts g c =
       columns = c.self.inside.screen.shown.columns;
       rows = c.self.inside.screen.shown.rows;
     } in
-    starts_so asked _ _ _ _ _ mid _ begun (c.self.view_is ∙ c.in_ok-ask_for_paste_marks.ensures.stays) refl made.ensures.draft made.ensures.input made.ensures.draws made.ensures.prompt
+    starts_so asked _ _ _ _ _ mid _ begun (c.self.view_is ∙ c.in_ok-ask_for_paste_marks.ensures.stays) refl made.ensures.draft made.ensures.input made.ensures.mode made.ensures.draws made.ensures.prompt
     c.in_ok-self-inside.ensures.raw refl c.reset.ensures columns rows made.ensures.answers

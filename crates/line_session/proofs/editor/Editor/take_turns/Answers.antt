@@ -12,7 +12,7 @@ returns-clause-came g c =
     let asked = answers_of g.H.Hinter.hint_at g.H.Validator.verdict_at g.H.Highlighter.lights in
     let bound = bound_of (λ vtable. (g.dyn-1.0.entry vtable).1) c.args.bindings.now in
     let old : Sitting g.row.H.Denot = record {
-      line = option_map (λ b. record { kept = b.line; input = b.input; draws = b.draws }) c.self.inside.line;
+      line = option_map (λ b. record { kept = b.line; input = b.input; mode = b.mode; draws = b.draws }) c.self.inside.line;
       lines = g.S.History.lines c.self.inside.history;
       takes = g.S.History.rules c.self.inside.history;
       kills = c.self.inside.kill_ring;
@@ -26,8 +26,8 @@ returns-clause-came g c =
     } in
     subst (λ o. (begun : BegunLine) → o.line ≡ Some begun → IfOk c.end.result (Came asked bound o begun c.end.new.self)) c.self.view_is
     (λ begun line.
-    let taken : BegunLine = record { kept = c.in-Some.begun.line; input = c.in-Some.begun.input; draws = c.in-Some.begun.draws } in
-    let kept : BegunLine = record { kept = c.go_on-begun.result.0.line; input = c.go_on-begun.result.0.input; draws = c.go_on-begun.result.0.draws } in
+    let taken : BegunLine = record { kept = c.in-Some.begun.line; input = c.in-Some.begun.input; mode = c.in-Some.begun.mode; draws = c.in-Some.begun.draws } in
+    let kept : BegunLine = record { kept = c.go_on-begun.result.0.line; input = c.go_on-begun.result.0.input; mode = c.go_on-begun.result.0.mode; draws = c.go_on-begun.result.0.draws } in
     let same : Some taken ≡ Some begun = search rules in
     let is : taken ≡ begun = (cc) in
     subst (λ b. IfOk c.end.result (Came asked bound old b c.end.new.self)) is
@@ -39,7 +39,7 @@ returns-clause-keeps g c =
     let columns = ap (λ (s : Surface). s.columns) c.go_on-begun.ensures.surface in
     let rows = ap (λ (s : Surface). s.rows) c.go_on-begun.ensures.surface in
     let old : Sitting g.row.H.Denot = record {
-      line = option_map (λ b. record { kept = b.line; input = b.input; draws = b.draws }) c.self.inside.line;
+      line = option_map (λ b. record { kept = b.line; input = b.input; mode = b.mode; draws = b.draws }) c.self.inside.line;
       lines = g.S.History.lines c.self.inside.history;
       takes = g.S.History.rules c.self.inside.history;
       kills = c.self.inside.kill_ring;
