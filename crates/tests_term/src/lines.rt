@@ -199,6 +199,43 @@ const CASES: &[(EditMode, &[Step], Want)] = &[
         ],
         Want::Submitted("axyb"),
     ),
+    // behind a quoted insert the next item comes in as it is: a key's character, if it has one, or a pasted text
+    (
+        EditMode::Emacs,
+        &[BEGIN, Step::Feed("a\x16\tb\x11\x01\r")],
+        Want::Submitted("a\tb\x01"),
+    ),
+    (
+        EditMode::Emacs,
+        &[BEGIN, Step::Feed("a\x16\rb\x16\x7f")],
+        Want::More("a\rb\x7f", 4),
+    ),
+    (
+        EditMode::Emacs,
+        &[BEGIN, Step::Feed("a\x16\x1b"), Step::Flush, Step::Feed("b")],
+        Want::More("a\x1bb", 3),
+    ),
+    (
+        EditMode::Emacs,
+        &[BEGIN, Step::Feed("ab\x16\x1b[Dc")],
+        Want::More("abc", 3),
+    ),
+    (
+        EditMode::Emacs,
+        &[BEGIN, Step::Feed("a\x16\x1b[200~x\x1b[201~\x16\x16\r")],
+        Want::Submitted("ax\x16"),
+    ),
+    (
+        EditMode::Vi,
+        &[BEGIN, Step::Feed("a\x16\x03b\r")],
+        Want::Submitted("a\x03b"),
+    ),
+    // what cannot be given up stays
+    (
+        EditMode::Emacs,
+        &[BEGIN, Step::Feed("ab\x07c")],
+        Want::More("abc", 3),
+    ),
     // what is typed before a line begins and behind its end is kept
     (EditMode::Emacs, &[Step::Feed("a")], Want::NoLine),
     (
