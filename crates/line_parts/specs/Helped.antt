@@ -2,10 +2,13 @@
 use Rattle.std.specs.Prelude.{ℕ, Bool, true, false, ◌&&◌, List, Option, Some, None}
 use Rattle.std.specs.Borrow.{MutBor}
 use Rattle.line_parts.specs.Asks.{Sureness}
+use Rattle.line_parts.specs.Candidate.{Completion}
 use Rattle.line_parts.specs.Environment.{Environment}
 use Rattle.line_parts.specs.Hint.{Suggestion}
 use Rattle.line_parts.specs.Shown.{Shown}
 use Rattle.line_parts.specs.Verdict.{Verdict}
+use Rattle.line_parts.specs.Written.{Written}
+use Rattle.line_parts.specs.declared.completion.Completer as completers
 use Rattle.line_parts.specs.declared.highlight.CmdKind.{CmdKind}
 
 -- the hints of a helper; without one there are none
@@ -44,12 +47,26 @@ sure_by hinter validator history helper = record {
   history = history;
 }
 
+-- a helper's own completions; without one there are none
+unfoldable pub completion_by : {H : Type 0} → (H → Shown → Option Completion) → Option (MutBor H)
+    → Shown → Option Completion
+completion_by own_completion None shown = None
+completion_by own_completion (Some helper) shown = own_completion helper.now shown
+
+-- what a helper makes of an elected text by itself; without one the line stays
+unfoldable pub update_by : {H : Type 0} → (H → Written → ℕ → List ℕ → Option Written) → Option (MutBor H)
+    → Written → ℕ → List ℕ → Option Written
+update_by own_update None written start text = Some written
+update_by own_update (Some helper) written start text = own_update helper.now written start text
+
 -- what answers for a line: a helper, if there is one, and the lines of a history
-abbrev pub environment_by : {H : Type 0} → (H → Shown → Option Suggestion) → (H → List ℕ → Verdict)
-    → (H → List ℕ → ℕ → CmdKind → Bool) → Option (MutBor H) → List (List ℕ) → Environment
-environment_by hint_at verdict_at lights helper lines = record {
+abbrev pub environment_by : {H C : Type 0} → (H → Shown → Option Suggestion) → (H → List ℕ → Verdict)
+    → (H → List ℕ → ℕ → CmdKind → Bool) → completers.Ghosts H C → Option (MutBor H) → List (List ℕ) → Environment
+environment_by hint_at verdict_at lights completer helper lines = record {
   hint_at = hint_by hint_at helper;
   verdict_at = verdict_by verdict_at helper;
   lights = lights_by lights helper;
+  own_completion = completion_by completer.own_completion helper;
+  own_update = update_by completer.own_update helper;
   lines = lines;
 }

@@ -7,7 +7,8 @@ use crate::hint::Hinter;
 use crate::validate::Validator;
 
 /// Completes, hints, highlights and validates. A call of `highlight_char` may change what the
-/// helper remembers, but no hint, no verdict, no completion and no later answer of that call.
+/// helper remembers, but no hint, no verdict, no completion, nothing that it makes of an elected
+/// text by itself, and no later answer of that call.
 pub trait Helper: Completer + Hinter + Highlighter + Validator {
     // Two values that differ only in what `highlight_char` may change answer alike.
     ghost hints_kept: { (one other : Self) → Self.steady one ≡ Self.steady other
@@ -21,6 +22,9 @@ pub trait Helper: Completer + Hinter + Highlighter + Validator {
 
     ghost completions_kept: { (one other : Self) → Self.steady one ≡ Self.steady other
         → Self.own_completion one ≡ Self.own_completion other };
+
+    ghost updates_kept: { (one other : Self) → Self.steady one ≡ Self.steady other
+        → Self.own_update one ≡ Self.own_update other };
 
     ghost hinter_kept: { (one other : Self) → Self.steady one ≡ Self.steady other
         → Self.Hinter.sure one ≡ Self.Hinter.sure other };
@@ -40,6 +44,8 @@ impl Helper for () {
     ghost lights_kept = { λ _ _ _. refl };
 
     ghost completions_kept = { λ _ _ _. refl };
+
+    ghost updates_kept = { λ _ _ _. refl };
 
     ghost hinter_kept = { λ _ _ _. refl };
 

@@ -1,14 +1,17 @@
 //! The parties that are asked about a line: the helper, if there is one, and the history.
 ghost use Rattle.std.specs.Prelude.{◌≡◌, ◌≤◌, ◌&&◌, true, false};
-ghost use Rattle.std.specs.Prelude.{is_some, length, option_map, IfOk, IfSome, Some};
+ghost use Rattle.std.specs.Prelude.{is_some, length, map, option_map, IfOk, IfSome, MatchOption, Some};
+ghost use Rattle.line_config.specs.Usual.{IsUsualOrOwn};
 ghost use Rattle.line_config.specs.Error.{FaultsOnly, IoOnlyIf};
 ghost use Rattle.line_parts.specs.Asks.{for_hint, for_look_up, for_verdict, is_sure};
 ghost use Rattle.line_parts.specs.Consulted.{Unchanged};
-ghost use Rattle.line_parts.specs.Environment.{hint_for, verdict_on};
+ghost use Rattle.line_parts.specs.Candidate.{BeginsIn, no_completion, offer_of};
+ghost use Rattle.line_parts.specs.Environment.{hint_for, shown_at, verdict_on};
 ghost use Rattle.line_parts.specs.Helped.{environment_by, sure_by};
 ghost use Rattle.line_parts.specs.Hint.{Suggests, suggestion_of, visible};
 ghost use Rattle.line_parts.specs.Verdict.{verdict_of};
 
+use crate::completion::Completer;
 use crate::consulted::Consulted;
 use crate::context::Context;
 use crate::helper::Helper;
@@ -34,8 +37,8 @@ impl<H: Helper, S: History> Drop for Parties<'_, H, S> {
 }
 
 impl<'out, H: Helper, S: History> Consulted for Parties<'out, H, S> {
-    ghost environment = { λ p.
-        environment_by H.hint_at H.verdict_at H.lights p.helper (S.lines p.ctx.history) };
+    ghost environment = { λ p. environment_by H.hint_at H.verdict_at H.lights H.Completer
+        p.helper (S.lines p.ctx.history) };
 
     ghost index = { λ p. p.ctx.index };
 
@@ -60,7 +63,7 @@ impl<'out, H: Helper, S: History> Parties<'out, H, S> {
     /// Returns the parties that are asked about a line at the position `ctx` in the history.
     pub fn new(helper: Option<&'out mut H>, ctx: Context<'out, S>) -> Self
         ensures environment { ⟦<Self as Consulted>⟧.environment result ≡ environment_by
-            H.hint_at H.verdict_at H.lights helper.entry (S.lines ctx.entry.history) }
+            H.hint_at H.verdict_at H.lights H.Completer helper.entry (S.lines ctx.entry.history) }
         ensures index { ⟦<Self as Consulted>⟧.index result ≡ ctx.entry.index }
         ensures sure { ⟦<Self as Consulted>⟧.sure result ≡ sure_by H.Hinter.sure H.Validator.sure
             (S.sure ctx.entry.history) helper.entry }
@@ -73,7 +76,7 @@ impl<'out, H: Helper, S: History> Parties<'out, H, S> {
     /// Returns the helper, if there is one, and the position in the history, which answer as they did.
     pub fn release(self) -> (Option<&'out mut H>, Context<'out, S>)
         ensures environment { ⟦<Self as Consulted>⟧.environment self.entry ≡ environment_by
-            H.hint_at H.verdict_at H.lights result.0 (S.lines result.1.history) }
+            H.hint_at H.verdict_at H.lights H.Completer result.0 (S.lines result.1.history) }
         ensures index { result.1.index ≡ ⟦<Self as Consulted>⟧.index self.entry }
         ensures sure { ⟦<Self as Consulted>⟧.sure self.entry ≡ sure_by
             H.Hinter.sure H.Validator.sure (S.sure result.1.history) result.0 }
@@ -100,6 +103,27 @@ impl<'out, H: Helper, S: History> Parties<'out, H, S> {
         match &self.helper {
             Some(h) => Ok(visible_hint(h.hint(alloc, line.as_str(), line.pos(), &self.ctx)?)),
             None => Ok(None),
+        }
+    }
+
+    /// Returns where the part of `line` that can be completed begins, which ends at the cursor, and
+    /// the helper's candidates for it. Without a helper there are none.
+    ///
+    /// # Errors
+    /// Those of the helper: `Io` and `Memory`.
+    #[tactic(auto, unfolding(crate::specs::Helped::completion_by))]
+    pub fn complete(&self, alloc: Global, line: &LineBuffer) -> Result<(usize, Vec<H::Candidate>)>
+        ensures start { IfOk result (λ r. BeginsIn line.now.text line.now.cursor r.0) }
+        ensures answer { let p = ⟦<Self as Consulted>⟧ in let w = p.environment self.now in
+            IfOk result (λ r. IsUsualOrOwn no_completion (w.own_completion
+            (shown_at w line.now.text line.now.cursor (p.index self.now)))
+            (record { start = r.0; offers = map (offer_of H.Candidate.Candidate) r.1.items })) }
+        ensures faults { FaultsOnly result }
+    {
+        let text = line.as_str();
+        match &self.helper {
+            Some(h) => h.complete(alloc, text, line.pos(), &self.ctx),
+            None => Ok((0, Vec::new(alloc))),
         }
     }
 
@@ -132,7 +156,7 @@ impl<'out, H: Helper, S: History> Parties<'out, H, S> {
     /// Returns whether the helper asks for a full drawing of `line` for its colors. `kind` says why
     /// it is asked. Without a helper the answer is false. No hint, no verdict and no later answer
     /// of this call changes.
-    #[tactic(auto, unfolding(crate::specs::Helped::hint_by, crate::specs::Helped::hints_surely_by, crate::specs::Helped::is_sure_by, crate::specs::Helped::lights_by, crate::specs::Helped::verdict_by))]
+    #[tactic(auto, unfolding(crate::specs::Helped::hint_by, crate::specs::Helped::hints_surely_by, crate::specs::Helped::is_sure_by, crate::specs::Helped::lights_by, crate::specs::Helped::verdict_by, crate::specs::Helped::completion_by, crate::specs::Helped::update_by))]
     pub fn highlight_char(&mut self, line: &LineBuffer, kind: CmdKind) -> bool
         ensures lit { result ≡ (⟦<Self as Consulted>⟧.environment self.old).lights
             line.now.text line.now.cursor kind }
@@ -145,13 +169,16 @@ impl<'out, H: Helper, S: History> Parties<'out, H, S> {
     }
 
     /// Returns the helper, if there is one: its answers are those of the parties.
-    #[tactic(auto, unfolding(crate::specs::Helped::hint_by, crate::specs::Helped::verdict_by, crate::specs::Helped::lights_by))]
+    #[tactic(auto, unfolding(crate::specs::Helped::hint_by, crate::specs::Helped::verdict_by, crate::specs::Helped::lights_by, crate::specs::Helped::update_by))]
     pub fn helper(&self) -> Option<&H>
         ensures some { is_some result
             ≡ is_some (⟦<Self as Consulted>⟧.environment self.now).verdict_at }
         ensures answers { let w = ⟦<Self as Consulted>⟧.environment self.now in
             IfSome result (λ h. (w.hint_at ≡ H.hint_at h.now)
             × (w.verdict_at ≡ Some (H.verdict_at h.now)) × (w.lights ≡ H.lights h.now)) }
+        ensures updates { let w = ⟦<Self as Consulted>⟧.environment self.now in
+            MatchOption result (w.own_update ≡ (λ written _ _. Some written))
+            (λ h. w.own_update ≡ H.own_update h.now) }
     {
         match &self.helper {
             Some(h) => Some(h),
