@@ -6,7 +6,7 @@ ghost use Rattle.line_buffer.specs.Line.{with_cursor};
 ghost use Rattle.line_buffer.specs.Printable.{is_plain, is_printable};
 ghost use Rattle.line_keys.specs.Display.{GoesToPosition, GoesToShownEnd, HasCursorAt, columns_back, corner, cursor_position, never_drawn};
 ghost use Rattle.line_state.specs.Drawn.{ColorsAreOn, DrawsInFull, DrawsNoneInFull, DrawsResized, RedrawsKept, TakesBack, Writes, cleared};
-ghost use Rattle.line_state.specs.ScreenState.{BeepsAtMost, ResizesTo};
+ghost use Rattle.line_state.specs.ScreenState.{BeepsAtMost, ResizesTo, WritesAtMost};
 ghost use Rattle.line_state.specs.Shown.{IsShownPlain, KnowsEnd, StandsAtEnd};
 
 pub mod kept;
@@ -558,6 +558,28 @@ impl<'out, 'prompt, W: Renderer, P: Prompt> View<'out, 'prompt, W, P> {
         self.in_place = false;
         self.shows_plain = false;
         self.out.move_cursor_at_leftmost(rdr)
+    }
+
+    /// Writes a text by itself below what is shown, from the first column on. What the screen shows then is not said, and the
+    /// kept layout stays: a full redraw is to follow, which comes below the text.
+    ///
+    /// # Errors
+    /// Those of the renderer.
+    pub fn write_above(&mut self, text: &str, rdr: &mut W::Reader) -> Result<()>
+        ensures layout { let d = ⟦<Self as Drawn>⟧.display in
+            (d self.new).layout ≡ (d self.old).layout }
+        ensures beside { let d = ⟦<Self as Drawn>⟧ in
+            WritesAtMost (d.beside self.old) (d.beside self.new) }
+        ensures part { DrawsNoneInFull ⟦<Self as Drawn>⟧ result self.old self.new }
+    {
+        let in_place = self.in_place;
+        self.in_place = false;
+        self.shows_plain = false;
+        if in_place {
+            self.out.move_cursor(self.layout.cursor, self.layout.end)?;
+        }
+        self.out.move_cursor_at_leftmost(rdr)?;
+        self.out.write_and_flush(text)
     }
 
     /// Returns whether colors are shown.

@@ -1,5 +1,5 @@
 //! Moves of the cursor.
-ghost use Rattle.std.specs.Prelude.{◌≡◌, false, length};
+ghost use Rattle.std.specs.Prelude.{IsCharBoundary, ◌≡◌, false, length};
 ghost use Rattle.line_buffer.specs.Cluster.{place_on, place_back};
 ghost use Rattle.line_buffer.specs.Line.{after, with_cursor, start_of_line, end_of_line};
 ghost use Rattle.line_buffer.specs.Lines.{down_by, up_by};
@@ -25,6 +25,14 @@ impl EditedLine {
         ensures { GoesTo result self.old self.new (place_on self.old.line n) }
     {
         self.line.move_forward(n)
+    }
+
+    /// Puts the cursor at byte `pos`, a character boundary of the text.
+    pub fn set_pos(&mut self, pos: usize)
+        requires { IsCharBoundary self.old.line.text pos }
+        ensures { self.new ≡ record self.old { line = with_cursor self.old.line pos } }
+    {
+        self.line.set_pos(pos);
     }
 
     /// Moves the cursor to the start of its line. Returns whether it moved.
