@@ -23,6 +23,11 @@ is_own_line environment draft = draft.index == length environment.lines
 abbrev pub saved_at_end : Environment → Draft → Draft
 saved_at_end environment draft = if is_own_line environment draft then record draft { saved = draft.line } else draft
 
+-- a text of the history takes the line's place as one group of changes, with the cursor at a place in it, as the line at an index
+abbrev pub entry_put : List ℕ → ℕ → ℕ → Draft → Draft
+entry_put text cursor index draft =
+    at_index index (with_edited draft (in_one_group (with_update_to text cursor) (edited_of draft)))
+
 -- a text of the history takes the line's place as one group of changes, with the cursor at a place in it
 abbrev pub showing : Environment → List ℕ → ℕ → Draft → Draft
 showing environment text cursor draft =

@@ -1,5 +1,6 @@
 pub mod Accept
 pub mod Asked
+pub mod Completing
 pub mod Editor
 pub mod BracketLaws
 pub mod DraftEdits

@@ -18,6 +18,7 @@ ghost use Rattle.line_parts.specs.Helped.{environment_by, sure_by};
 ghost use Rattle.line_parts.specs.Hint.{suggestion_of};
 ghost use Rattle.line_parts.specs.declared.highlight.CmdKind.TheVariants.{Other};
 
+mod completions;
 mod drawing;
 mod hints;
 mod history_moves;
@@ -135,7 +136,7 @@ impl<'out, 'prompt, W: Renderer, H: Helper, P: Prompt, S: History> State<
         ensures made { IsOk result }
         ensures begins { IfOk result (λ s. Begins ⟦<Self as EditorState>⟧ s
             (empty_draft ctx.entry.index)
-            (environment_by H.hint_at H.verdict_at H.lights helper.entry
+            (environment_by H.hint_at H.verdict_at H.lights H.Completer helper.entry
             (S.lines ctx.entry.history))
             (sure_by H.Hinter.sure H.Validator.sure (S.sure ctx.entry.history) helper.entry)
             (never_drawn (W.surface out.old) (W.screen out.old) (P.raw_text prompt.now))
@@ -171,7 +172,7 @@ impl<'out, 'prompt, W: Renderer, H: Helper, P: Prompt, S: History> State<
             (record (empty_draft ctx.entry.index) {
               line = record { text = text.now; cursor = cursor };
             })
-            (environment_by H.hint_at H.verdict_at H.lights helper.entry
+            (environment_by H.hint_at H.verdict_at H.lights H.Completer helper.entry
             (S.lines ctx.entry.history))
             (sure_by H.Hinter.sure H.Validator.sure (S.sure ctx.entry.history) helper.entry)
             (never_drawn (W.surface out.old) (W.screen out.old) (P.raw_text prompt.now))
@@ -230,6 +231,13 @@ impl<'out, 'prompt, W: Renderer, H: Helper, P: Prompt, S: History> State<
             × (w.verdict_at ≡ Some (H.verdict_at h.now)) × (w.lights ≡ H.lights h.now)) }
     {
         self.parties.helper()
+    }
+
+    /// Returns the history.
+    pub fn history(&self) -> &S
+        ensures { S.lines result.now ≡ (⟦<Self as EditorState>⟧.environment self.now).lines }
+    {
+        self.parties.history()
     }
 
     /// Returns the history index: which line of the history is edited. For the line that is being written it is the number

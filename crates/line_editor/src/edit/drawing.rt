@@ -129,6 +129,19 @@ impl<'out, 'prompt, W: Renderer, H: Helper, P: Prompt, S: History> State<
         self.view.move_cursor_at_leftmost(rdr)
     }
 
+    /// Writes a text by itself below what is shown, from the first column on. The kept layout stays, and what the screen shows
+    /// is not said: `refresh_line` is to follow, which draws the line below the text.
+    ///
+    /// # Errors
+    /// Those of the renderer.
+    pub fn write_above(&mut self, text: &str, rdr: &mut W::Reader) -> Result<()>
+        ensures layout { let d = ⟦<Self as EditorState>⟧.display in
+            (d self.new).layout ≡ (d self.old).layout }
+        ensures paints { Paints ⟦<Self as EditorState>⟧ false result self.old self.new }
+    {
+        self.view.write_above(text, rdr)
+    }
+
     // Clears the screen and draws the line again, with the hint asked for.
     pub(crate) fn clear_and_redraw(&mut self) -> Result<()>
         ensures { DoesCommand ⟦<Self as EditorState>⟧ result self.old self.new

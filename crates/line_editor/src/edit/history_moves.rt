@@ -2,9 +2,9 @@
 ghost use Rattle.line_editor.specs.Outcomes.{DoesCommand};
 ghost use Rattle.line_keys.specs.Command as commands;
 ghost use Rattle.std.specs.Prelude.{◌≡◌, ◌+◌, ◌≤◌, IsCharBoundary, false, if◌then◌else◌, not, is_some, length, OnOk, OnErr};
-ghost use Rattle.line_buffer.specs.Line.{before};
+ghost use Rattle.line_buffer.specs.Line.{before, with_cursor};
 ghost use Rattle.line_config.specs.Error.{MemoryOnly};
-ghost use Rattle.line_editor.specs.HistoryMoves.{asked_back, asked_for, asked_in_search, asked_on, asked_to_end, at_index, come_back, end_shown, first_shown, found_shown, line_shown, next_shown, previous_shown, restored, saved_at_end, search_of, search_shown, showing, way_ends};
+ghost use Rattle.line_editor.specs.HistoryMoves.{asked_back, asked_for, asked_in_search, asked_on, asked_to_end, at_index, come_back, end_shown, entry_put, first_shown, found_shown, line_shown, next_shown, previous_shown, restored, saved_at_end, search_of, search_shown, showing, way_ends};
 ghost use Rattle.line_keys.specs.Draft.{start_text};
 ghost use Rattle.line_keys.specs.Drawing.{Does, DoesAsking, DoesInTwo, DrewNothing, Paints, Undrawn, drawn_if, with_hint};
 ghost use Rattle.line_keys.specs.Fault.{LosesChanges};
@@ -64,6 +64,43 @@ impl<'out, 'prompt, W: Renderer, H: Helper, P: Prompt, S: History> State<
     {
         let saved = &self.saved_line_for_history;
         Ok(self.edited.update(saved.as_str(), saved.pos())?)
+    }
+
+    /// Puts a text of the history in the line's place as one group of changes, with the cursor at byte `pos` of it, as the line
+    /// at an index. Nothing is drawn.
+    ///
+    /// # Errors
+    /// `Memory`. Then the line has no changes; the saved line, the history index and the hint stay.
+    pub fn put_entry(&mut self, text: &str, pos: usize, index: usize) -> Result<()>
+        requires boundary { IsCharBoundary text.now pos }
+        requires index { index ≤ length (⟦<Self as EditorState>⟧.environment self.old).lines }
+        ensures draft { let d = ⟦<Self as EditorState>⟧.draft in
+            OnOk result (d self.new ≡ entry_put text.now pos index (d self.old)) }
+        ensures err { let d = ⟦<Self as EditorState>⟧.draft in
+            OnErr result (LosesChanges (d self.old) (d self.new)) }
+        ensures undrawn { Undrawn ⟦<Self as EditorState>⟧ self.old self.new }
+        ensures memory { MemoryOnly result }
+    {
+        self.edited.update_in_group(text, pos)?;
+        self.parties.set_history_index(index);
+        Ok(())
+    }
+
+    /// Puts the cursor at byte `pos`, where that is a character boundary, and says that the line is the one of the history at
+    /// an index. Nothing is drawn.
+    pub fn return_to(&mut self, pos: usize, index: usize)
+        requires index { index ≤ length (⟦<Self as EditorState>⟧.environment self.old).lines }
+        ensures returned { let d = ⟦<Self as EditorState>⟧.draft in
+            IsCharBoundary (d self.old).line.text pos
+            → d self.new ≡ at_index index (record (d self.old) { line = with_cursor (d self.old).line pos }) }
+        ensures unfit { let d = ⟦<Self as EditorState>⟧.draft in
+            (IsCharBoundary (d self.old).line.text pos → ⊥) → d self.new ≡ at_index index (d self.old) }
+        ensures undrawn { Undrawn ⟦<Self as EditorState>⟧ self.old self.new }
+    {
+        if self.edited.line().as_str().is_char_boundary(pos) {
+            self.edited.set_pos(pos);
+        }
+        self.parties.set_history_index(index);
     }
 
     /// Shows the line of the history before this one where `prev` is true, and else the one behind it: behind the last one

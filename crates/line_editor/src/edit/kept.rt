@@ -4,8 +4,6 @@ ghost use Rattle.line_editor.specs.Editor.{Begins};
 ghost use Rattle.line_parts.specs.Helped.{environment_by, sure_by};
 ghost use Rattle.line_state.specs.Kept.{IsLeftOn, display_on};
 
-mod edits;
-
 use crate::edit::State;
 use line_buffer::LineBuffer;
 use line_config::Prompt;
@@ -83,7 +81,7 @@ impl<'out, 'prompt, W: Renderer, H: Helper, P: Prompt, S: History> State<
         ensures loan { (result.1.ghost_name, option_map (λ h. h.ghost_name) result.2)
             ≡ ⟦<Self as EditorState>⟧.loan self.entry }
         ensures environment { let w = ⟦<Self as EditorState>⟧.environment self.entry in
-            w ≡ environment_by H.hint_at H.verdict_at H.lights result.2 w.lines }
+            w ≡ environment_by H.hint_at H.verdict_at H.lights H.Completer result.2 w.lines }
         ensures sure { let s = ⟦<Self as EditorState>⟧.sure self.entry in
             s ≡ sure_by H.Hinter.sure H.Validator.sure s.history result.2 }
         ensures within { result.0.draft.index
@@ -124,7 +122,8 @@ impl<'out, 'prompt, W: Renderer, H: Helper, P: Prompt, S: History> State<
             (W.surface out.old) (W.screen out.old) (P.raw_text prompt.now) }
         requires within { kept.draft.index ≤ length (S.lines history.now) }
         ensures { Begins ⟦<Self as EditorState>⟧ result kept.draft
-            (environment_by H.hint_at H.verdict_at H.lights helper.entry (S.lines history.now))
+            (environment_by H.hint_at H.verdict_at H.lights H.Completer
+            helper.entry (S.lines history.now))
             (sure_by H.Hinter.sure H.Validator.sure (S.sure history.now) helper.entry)
             (display_on kept.drawing
             (W.surface out.old) (W.screen out.old) (P.raw_text prompt.now))

@@ -1,6 +1,6 @@
 use Rattle.std.proofs.Common.{◌≡◌, Option, option_map, length}
 use Rattle.std.specs.Borrow.{GName}
-use Rattle.line_parts.specs.Helped.{hint_by, sure_by, lights_by, verdict_by}
+use Rattle.line_parts.specs.Helped.{completion_by, hint_by, lights_by, sure_by, update_by, verdict_by}
 use Rattle.line_parts.specs.Hint.{suggestion_of}
 use Rattle.line_keys.specs.declared.editor_state.EditorState.{Ghosts}
 use Rattle.line_editor.specs.declared.edit.State.{State}
@@ -24,6 +24,8 @@ editor_state g = record {
     hint_at = hint_by g.H.Hinter.hint_at s.parties.helper;
     verdict_at = verdict_by g.H.Validator.verdict_at s.parties.helper;
     lights = lights_by g.H.Highlighter.lights s.parties.helper;
+    own_completion = completion_by g.H.Completer.own_completion s.parties.helper;
+    own_update = update_by g.H.Completer.own_update s.parties.helper;
     lines = g.S.History.lines s.parties.ctx.history;
   };
   display = λ s. record {
