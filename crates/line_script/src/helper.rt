@@ -98,6 +98,8 @@ impl Helper for ScriptHelper {
 
     ghost completions_kept = { λ _ _ _. refl };
 
+    ghost updates_kept = { λ _ _ _. refl };
+
     ghost hinter_kept = { λ _ _ _. refl };
 
     ghost validator_kept = { λ _ _ _. refl };

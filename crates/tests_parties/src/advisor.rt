@@ -205,6 +205,8 @@ impl Helper for Advisor {
 
     ghost completions_kept = { λ _ _ _. refl };
 
+    ghost updates_kept = { λ _ _ _. refl };
+
     ghost hinter_kept = { λ _ _ _. refl };
 
     ghost validator_kept = { λ _ _ _. refl };

@@ -106,6 +106,8 @@ impl Helper for Guide {
 
     ghost completions_kept = { λ _ _ _. refl };
 
+    ghost updates_kept = { λ _ _ _. refl };
+
     ghost hinter_kept = { λ _ _ _. refl };
 
     ghost validator_kept = { λ _ _ _. refl };
