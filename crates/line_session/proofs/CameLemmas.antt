@@ -115,12 +115,12 @@ module _ {H : Type 0} where
         → Came answers bound mid starts.begun new f → CameBegun answers bound prompt left right old new f
     came_begun bound prompt left right old mid new f starts came =
         let asked : answers mid.helper mid.lines ≡ answers old.helper old.lines = starts.keeps.answers_alike mid.lines ∙ ap (λ l. answers old.helper l) starts.lines in
-        let own_to : (KeyEvent → Option Command) → Rules = λ o. record { keymap = record { bound = bound; own = o }; ruler = record { prompt_column = starts.begun.kept.drawing.prompt_end.col; cluster_mode = Unicode; indent_size = mid.settings.indent_size }; environment = answers mid.helper mid.lines } in
+        let own_to : (KeyEvent → Option Command) → Rules = λ o. record { keymap = record { bound = bound; own = o }; ruler = record { prompt_column = starts.begun.kept.drawing.prompt_end.col; cluster_mode = Unicode; indent_size = mid.settings.indent_size }; environment = answers mid.helper mid.lines; settings = mid.settings } in
         let same_rules : rules_at answers bound mid starts.begun.kept.drawing.prompt_end.col ≡ rules_at answers bound old (measured old.columns prompt corner).col =
         ap own_to starts.keeps.own
-        ∙ ap (λ (s : Settings). rules_for bound old.binds s.indent_size starts.begun.kept.drawing.prompt_end.col (answers mid.helper mid.lines)) starts.keeps.settings
-        ∙ ap (λ (p : Position). rules_for bound old.binds old.settings.indent_size p.col (answers mid.helper mid.lines)) starts.prompt_end
-        ∙ ap (λ w. rules_for bound old.binds old.settings.indent_size (measured old.columns prompt corner).col w) asked in
+        ∙ ap (λ (s : Settings). rules_for bound old.binds s starts.begun.kept.drawing.prompt_end.col (answers mid.helper mid.lines)) starts.keeps.settings
+        ∙ ap (λ (p : Position). rules_for bound old.binds old.settings p.col (answers mid.helper mid.lines)) starts.prompt_end
+        ∙ ap (λ w. rules_for bound old.binds old.settings (measured old.columns prompt corner).col w) asked in
         let same_start = ap (λ w. starting w starts.begun.draws (standing_with starts.begun.kept.draft starts.begun.input starts.begun.mode mid.items mid.kills)) asked
         ∙ ap (λ b. starting (answers old.helper old.lines) b (standing_with starts.begun.kept.draft starts.begun.input starts.begun.mode mid.items mid.kills)) starts.draws
         ∙ ap (λ d. starting (answers old.helper old.lines) true (standing_with d starts.begun.input starts.begun.mode mid.items mid.kills)) starts.draft

@@ -1,13 +1,15 @@
 -- Facts on a line that is kept.
 use Rattle.std.proofs.Common.{◌≡◌, ℕ, Bool, List, Option, Some, Result, Ok, Err, IfOk, refl, sym, ◌∙◌, ap, subst}
 use Rattle.std.specs.Borrow.{MutBor}
+use Rattle.line_config.specs.Settings.{Settings}
 use Rattle.line_keys.specs.Display.{Display, Screen, Surface}
 use Rattle.line_keys.specs.Draft.{Draft}
 use Rattle.line_parts.specs.Environment.{Environment}
-use Rattle.line_parts.specs.Helped.{environment_by, hint_by, lights_by, verdict_by}
+use Rattle.line_parts.specs.Helped.{completion_by, environment_by, hint_by, lights_by, update_by, verdict_by}
 use Rattle.line_parts.specs.Hint.{Suggestion}
 use Rattle.line_parts.specs.Shown.{Shown}
 use Rattle.line_parts.specs.Verdict.{Verdict}
+use Rattle.line_parts.specs.declared.completion.Completer as completers
 use Rattle.line_parts.specs.declared.highlight.CmdKind.{CmdKind}
 use Rattle.line_buffer.specs.KillRing.{Ring}
 use Rattle.line_keys.specs.Command.{Command}
@@ -26,10 +28,10 @@ use Rattle.line_session.specs.Taken.{ComesTo, WaitsBehind}
 use Rattle.line_session.specs.declared.mode.Mode.{Mode}
 
 -- a helper that is lent answers as it does
-pub lent_answers : {H : Type 0} (hint_at : H → Shown → Option Suggestion) (verdict_at : H → List ℕ → Verdict) (lights : H → List ℕ → ℕ → CmdKind → Bool) (helper : MutBor H) (lines : List (List ℕ))
-    → environment_by hint_at verdict_at lights (Some helper) lines ≡ answers_of hint_at verdict_at lights helper.now lines
-unfolding hint_by verdict_by lights_by
-lent_answers hint_at verdict_at lights helper lines = refl
+pub lent_answers : {H C : Type 0} (hint_at : H → Shown → Option Suggestion) (verdict_at : H → List ℕ → Verdict) (lights : H → List ℕ → ℕ → CmdKind → Bool) (completer : completers.Ghosts H C) (helper : MutBor H) (lines : List (List ℕ))
+    → environment_by hint_at verdict_at lights completer (Some helper) lines ≡ answers_of hint_at verdict_at lights completer helper.now lines
+unfolding hint_by verdict_by lights_by completion_by update_by
+lent_answers hint_at verdict_at lights completer helper lines = refl
 
 -- a line is shown by what is equal
 pub shown_alike : (w w' : Environment) (d d' : Display) (t t' : Draft) → w ≡ w' → d ≡ d' → t ≡ t' → IsShownBy w' d' t' → IsShownBy w d t
@@ -37,28 +39,28 @@ shown_alike w w' d d' t t' same_environment same_display same_draft shown =
     subst (λ x. IsShownBy x d t) (sym same_environment) (subst (λ x. IsShownBy w' x t) (sym same_display) (subst (λ x. IsShownBy w' d' x) (sym same_draft) shown))
 
 -- a helper that comes back answers as it did
-pub answers_back : {H : Type 0} (hint_at : H → Shown → Option Suggestion) (verdict_at : H → List ℕ → Verdict) (lights : H → List ℕ → ℕ → CmdKind → Bool)
+pub answers_back : {H C : Type 0} (hint_at : H → Shown → Option Suggestion) (verdict_at : H → List ℕ → Verdict) (lights : H → List ℕ → ℕ → CmdKind → Bool) (completer : completers.Ghosts H C)
     (helper lent : MutBor H) (back : Option (MutBor H)) (w w' : Environment) (lines : List (List ℕ))
-    → back ≡ Some lent → w ≡ environment_by hint_at verdict_at lights back w.lines → w ≡ w' → w' ≡ environment_by hint_at verdict_at lights (Some helper) lines
-    → w ≡ answers_of hint_at verdict_at lights lent.now lines
-answers_back hint_at verdict_at lights helper lent back w w' lines is by same before =
+    → back ≡ Some lent → w ≡ environment_by hint_at verdict_at lights completer back w.lines → w ≡ w' → w' ≡ environment_by hint_at verdict_at lights completer (Some helper) lines
+    → w ≡ answers_of hint_at verdict_at lights completer lent.now lines
+answers_back hint_at verdict_at lights completer helper lent back w w' lines is by same before =
     let lines_stay : w.lines ≡ lines = ap (λ (x : Environment). x.lines) (same ∙ before) in
-    by ∙ ap (λ b. environment_by hint_at verdict_at lights b w.lines) is ∙ lent_answers hint_at verdict_at lights lent w.lines
-    ∙ ap (λ l. answers_of hint_at verdict_at lights lent.now l) lines_stay
+    by ∙ ap (λ b. environment_by hint_at verdict_at lights completer b w.lines) is ∙ lent_answers hint_at verdict_at lights completer lent w.lines
+    ∙ ap (λ l. answers_of hint_at verdict_at lights completer lent.now l) lines_stay
 
 -- a line that is kept fits what is equal
-pub fits_alike : {A : Type 0} (surface : A → Surface) (screen : A → Screen) (kept : KeptDraft) (draws : Bool) (a b : A) (p p' : List ℕ) (w w' : Environment)
-    → a ≡ b → p ≡ p' → w ≡ w' → Fits kept draws (surface b) (screen b) p' w' → Fits kept draws (surface a) (screen a) p w
-fits_alike surface screen kept draws a b p p' w w' same_screen same_prompt same_answers fits =
-    subst (λ x. Fits kept draws (surface a) (screen a) p x) (sym same_answers)
-    (subst (λ x. Fits kept draws (surface a) (screen a) x w') (sym same_prompt)
-    (subst (λ x. Fits kept draws (surface x) (screen x) p' w') (sym same_screen) fits))
+pub fits_alike : {A : Type 0} (surface : A → Surface) (screen : A → Screen) (kept : KeptDraft) (mode : Mode) (draws : Bool) (a b : A) (p p' : List ℕ) (w w' : Environment)
+    → a ≡ b → p ≡ p' → w ≡ w' → Fits kept mode draws (surface b) (screen b) p' w' → Fits kept mode draws (surface a) (screen a) p w
+fits_alike surface screen kept mode draws a b p p' w w' same_screen same_prompt same_answers fits =
+    subst (λ x. Fits kept mode draws (surface a) (screen a) p x) (sym same_answers)
+    (subst (λ x. Fits kept mode draws (surface a) (screen a) x w') (sym same_prompt)
+    (subst (λ x. Fits kept mode draws (surface x) (screen x) p' w') (sym same_screen) fits))
 
 -- those who answer alike with one history answer alike with any
-pub answers_any : {H : Type 0} (hint_at : H → Shown → Option Suggestion) (verdict_at : H → List ℕ → Verdict) (lights : H → List ℕ → ℕ → CmdKind → Bool)
-    (one other : H) (lines : List (List ℕ)) → answers_of hint_at verdict_at lights one lines ≡ answers_of hint_at verdict_at lights other lines
-    → (all : List (List ℕ)) → answers_of hint_at verdict_at lights one all ≡ answers_of hint_at verdict_at lights other all
-answers_any hint_at verdict_at lights one other lines same all = ap (λ (w : Environment). record w { lines = all }) same
+pub answers_any : {H C : Type 0} (hint_at : H → Shown → Option Suggestion) (verdict_at : H → List ℕ → Verdict) (lights : H → List ℕ → ℕ → CmdKind → Bool) (completer : completers.Ghosts H C)
+    (one other : H) (lines : List (List ℕ)) → answers_of hint_at verdict_at lights completer one lines ≡ answers_of hint_at verdict_at lights completer other lines
+    → (all : List (List ℕ)) → answers_of hint_at verdict_at lights completer one all ≡ answers_of hint_at verdict_at lights completer other all
+answers_any hint_at verdict_at lights completer one other lines same all = ap (λ (w : Environment). record w { lines = all }) same
 
 -- what holds of one result holds of another that is the same where it is a success
 pub on_both : {T E : Type 0} (P Q : T → Type 0) (one two : Result T E) → IfOk two (λ done. one ≡ Ok done) → IfOk one P
@@ -89,15 +91,15 @@ comes_so own own' by by' start start' end end' one two comes same same_rules sam
     (λ done is came. comes_alike own own' by by' start start' end end' same_rules same_start same_end done (λ more. same_own (is ∙ ap (λ t. Ok t) more)) came)
 
 -- what commands are read and executed by, of its parts
-abbrev pub rules_with : Bound → (KeyEvent → Option Command) → Ruler → Environment → Rules
-rules_with bound own ruler w = record { keymap = record { bound = bound; own = own }; ruler = ruler; environment = w }
+abbrev pub rules_with : Bound → (KeyEvent → Option Command) → Ruler → Environment → Settings → Rules
+rules_with bound own ruler w settings = record { keymap = record { bound = bound; own = own }; ruler = ruler; environment = w; settings = settings }
 
 -- it is equal where its parts are
-pub rules_alike : (bound bound' : Bound) (own : KeyEvent → Option Command) (d d' : Display) (indent : ℕ) (w w' : Environment) → bound ≡ bound' → d ≡ d' → w ≡ w'
-    → rules_with bound own (own_ruler d indent) w ≡ rules_with bound' own (own_ruler d' indent) w'
-rules_alike bound bound' own d d' indent w w' same_bound same_display same_answers =
-    ap (λ b. rules_with b own (own_ruler d indent) w) same_bound ∙ ap (λ x. rules_with bound' own (own_ruler x indent) w) same_display
-    ∙ ap (λ x. rules_with bound' own (own_ruler d' indent) x) same_answers
+pub rules_alike : (bound bound' : Bound) (own : KeyEvent → Option Command) (d d' : Display) (settings : Settings) (w w' : Environment) → bound ≡ bound' → d ≡ d' → w ≡ w'
+    → rules_with bound own (own_ruler d settings.indent_size) w settings ≡ rules_with bound' own (own_ruler d' settings.indent_size) w' settings
+rules_alike bound bound' own d d' settings w w' same_bound same_display same_answers =
+    ap (λ b. rules_with b own (own_ruler d settings.indent_size) w settings) same_bound ∙ ap (λ x. rules_with bound' own (own_ruler x settings.indent_size) w settings) same_display
+    ∙ ap (λ x. rules_with bound' own (own_ruler d' settings.indent_size) x settings) same_answers
 
 -- and so is where reading starts
 pub starts_alike : (draws : Bool) (draft draft' : Draft) (input input' : Input) (w w' : Environment) (mode : Mode) (items : List Item) (kills : Ring)

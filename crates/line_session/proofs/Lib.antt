@@ -1,6 +1,9 @@
 pub mod CameLemmas
+pub mod CompletingLemmas
 pub mod GoingLemmas
 pub mod KeptLemmas
+pub mod OneChangeLaws
 pub mod OnceLaws
 pub mod ReadingLemmas
 pub mod WholeLaws
+pub mod WordsLemmas

@@ -111,12 +111,12 @@ module _ {H : Type 0} (answers : H → List (List ℕ) → Environment) (bound :
     reads_on new later came hears =
         let turn = hears.turn in
         let here = goes_on_at turn.items in
-        let own_to : (KeyEvent → Option Command) → Rules = λ o. record { keymap = record { bound = bound; own = o }; ruler = record { prompt_column = left.kept.drawing.prompt_end.col; cluster_mode = Unicode; indent_size = now.settings.indent_size }; environment = answers now.helper now.lines } in
+        let own_to : (KeyEvent → Option Command) → Rules = λ o. record { keymap = record { bound = bound; own = o }; ruler = record { prompt_column = left.kept.drawing.prompt_end.col; cluster_mode = Unicode; indent_size = now.settings.indent_size }; environment = answers now.helper now.lines; settings = now.settings } in
         let same_rules : rules_at answers bound (with_turn turn now) left.kept.drawing.prompt_end.col ≡ by =
         ap own_to reads.keeps.own
-        ∙ ap (λ (s : Settings). rules_for bound old.binds s.indent_size left.kept.drawing.prompt_end.col (answers now.helper now.lines)) reads.keeps.settings
-        ∙ ap (λ c. rules_for bound old.binds old.settings.indent_size c (answers now.helper now.lines)) reads.over.0.column
-        ∙ ap (λ w. rules_for bound old.binds old.settings.indent_size (measured old.columns prompt corner).col w) asked in
+        ∙ ap (λ (s : Settings). rules_for bound old.binds s left.kept.drawing.prompt_end.col (answers now.helper now.lines)) reads.keeps.settings
+        ∙ ap (λ c. rules_for bound old.binds old.settings c (answers now.helper now.lines)) reads.over.0.column
+        ∙ ap (λ w. rules_for bound old.binds old.settings (measured old.columns prompt corner).col w) asked in
         let came_here : CameFrom by (with_more turn.items here.next) old new came =
         came_alike _ _ _ _ (with_turn turn now) old new same_rules here.is reads.over.1 reads.keeps.takes reads.keeps.settings came hears.came in
         record {

@@ -18,16 +18,16 @@ use Rattle.line_editor.proofs.DrawnAgainLaws.{drawn-again}
 use Rattle.line_parts.specs.Environment.{Environment}
 use Rattle.line_session.specs.Pieces.{EndsTheSame, GoesOnFrom, drawn_anew, with_more}
 use Rattle.line_session.specs.Pieces as pieces
-use Rattle.line_session.specs.Steps.{Ends, ItemComesIn, Rules, Standing, Steps, TurnFrom, Waits, WaitsIn, comes_in}
+use Rattle.line_session.specs.Steps.{Ends, ItemTaken, Rules, Standing, Steps, TurnFrom, Waits, WaitsIn, comes_in, takes_items}
 use Rattle.line_session.specs.Steps as steps
-use Rattle.line_session.specs.declared.mode.Mode.TheVariants as modes
 use Rattle.line_session.proofs.GoingLemmas.{same_hint}
 
 -- more items stay behind a turn
 turn_more : (by : Rules) (from to : Standing) (answer : Answer) (more : List Item) → TurnFrom by from to answer
     → TurnFrom by (with_more more from) (with_more more to) answer
 turn_more by from to answer more turn = record {
-  editing = turn.editing;
+  reads = turn.reads;
+  executed = turn.executed;
   turn = record {
     phrase = turn.turn.phrase;
     read = turn.turn.read;
@@ -39,14 +39,13 @@ turn_more by from to answer more turn = record {
   next = turn.next;
 }
 
-item_more : (by : Rules) (from to : Standing) (more : List Item) → ItemComesIn by from to → ItemComesIn by (with_more more from) (with_more more to)
+item_more : (by : Rules) (from to : Standing) (more : List Item) → ItemTaken by from to → ItemTaken by (with_more more from) (with_more more to)
 item_more by from to more puts = record {
   item = puts.item;
   comes = puts.comes;
   cut = ap (λ i. i ++ more) puts.cut;
   input = puts.input;
-  next = puts.next;
-  leaves = puts.leaves;
+  does = puts.does;
 }
 
 steps_more : (by : Rules) (start found : Standing) (more : List Item) → Steps by start found → Steps by (with_more more start) (with_more more found)
@@ -127,7 +126,7 @@ goes_on by found left next begins short input items mode goes =
     ]
 
 module _ (by : Rules) (no_hint : (typed : KeyEvent) → KeyLooksAtNoHint by.keymap.bound typed) (found : Standing) (more : List Item)
-    (editing : found.mode ≡ modes.Editing) (begins : IsBeginning by.keymap by.environment found.editor.draft found.input found.items) (cut : Draft)
+    (reads : takes_items found.mode ≡ false) (begins : IsBeginning by.keymap by.environment found.editor.draft found.input found.items) (cut : Draft)
     (left : IsCut by found (any_drawn begins.shown) cut) where
   first_looks : (items : List Item) → FirstLooksAtNoHint by.keymap.bound found.input items
   first_looks items = λ first rest is. (no_hint first, λ plain stands. no_hint plain)
@@ -142,7 +141,8 @@ module _ (by : Rules) (no_hint : (typed : KeyEvent) → KeyLooksAtNoHint by.keym
       → HintMakesNoDifference by.keymap found.input (found.items ++ more) found.editor.draft cut (count_in_front turn.turn.reads) turn.turn.read
       → TurnFrom by (with_more more found) to answer
   turn_again to answer turn short as_before = record {
-    editing = turn.editing;
+    reads = turn.reads;
+    executed = turn.executed;
     turn = record {
       phrase = turn.turn.phrase;
       read = turn.turn.read;
@@ -176,16 +176,16 @@ module _ (by : Rules) (no_hint : (typed : KeyEvent) → KeyLooksAtNoHint by.keym
       by_items (first ∷ rest) some = by_drawn (any_drawn begins.shown) refl (λ none. absurd (let two : first ∷ rest ≡ [] = sym some ∙ none in cc))
 
   -- and so is an item that comes in as it is
-  item_whole : (to : Standing) → ItemComesIn by (with_more more (cut_at found cut)) to → ItemComesIn by (with_more more found) to
+  item_whole : (to : Standing) → ItemTaken by (with_more more (cut_at found cut)) to → ItemTaken by (with_more more found) to
   item_whole to puts = by_items found.items refl
     where
-      by_items : (items : List Item) → found.items ≡ items → ItemComesIn by (with_more more found) to
-      by_items [] none = subst (λ d. ItemComesIn by (with_more more (cut_at found d)) to) (as_it_was none) puts
+      by_items : (items : List Item) → found.items ≡ items → ItemTaken by (with_more more found) to
+      by_items [] none = subst (λ d. ItemTaken by (with_more more (cut_at found d)) to) (as_it_was none) puts
       by_items (key first ∷ rest) is =
           let front : key first ∷ rest ++ more ≡ puts.item ∷ to.items = ap (λ i. i ++ more) (sym is) ∙ puts.cut in
           let item : key first ≡ puts.item = cc in
-          let comes : comes_in modes.Editing (key first) ≡ true = subst (λ m. comes_in m (key first) ≡ true) editing (subst (λ i. comes_in found.mode i ≡ true) (sym item) puts.comes) in
-          absurd (cc)
+          let comes : takes_items found.mode ≡ true = subst (λ i. comes_in found.mode i ≡ true) (sym item) puts.comes in
+          absurd (let two : true ≡ false = sym comes ∙ reads in cc)
       by_items (paste text ∷ rest) is =
           let comes = subst (λ i. Phrase by.keymap by.environment found.editor.draft found.input (i ++ begins.rest) begins.read) is begins.comes in
           absurd (no_paste by.keymap by.environment found.editor.draft found.input text (rest ++ begins.rest) begins.read comes)
@@ -199,7 +199,7 @@ module _ (by : Rules) (no_hint : (typed : KeyEvent) → KeyLooksAtNoHint by.keym
     | inr there ↦ steps.turn there turn
   ])
   steps_whole start to front (steps.item {found = middle} {next} before puts) = inr (elim (steps_whole start middle front before) [
-    | inl is ↦ steps.item front (item_whole to (subst (λ s. ItemComesIn by s to) is puts))
+    | inl is ↦ steps.item front (item_whole to (subst (λ s. ItemTaken by s to) is puts))
     | inr there ↦ steps.item there puts
   ])
 
@@ -228,13 +228,13 @@ ends_once : (by : Rules) (start left next end : Standing) (piece : List Item) (a
 ends_once by start left next end piece answer no_hint waits goes ends = by_kind waits.shown waits.waits goes
   where
     by_kind : (shown : List ItemShown) → WaitsIn by waits.found left.editor shown → GoesOnFrom by left (any_drawn shown) next → Ends by (with_more piece start) end answer
-    by_kind _ (steps.phrase editing begins short) goes =
+    by_kind _ (steps.phrase reads begins short) goes =
         let here = goes_on by waits.found left next begins short waits.input waits.items waits.mode goes in
-        ends_whole by no_hint waits.found piece editing begins here.cut here.left (with_more piece start) end answer
+        ends_whole by no_hint waits.found piece reads begins here.cut here.left (with_more piece start) end answer
         (steps_more by start waits.found piece waits.steps)
         (subst (λ s. Ends by (with_more piece s) end answer) here.is ends)
-    by_kind _ (steps.quoted quotes none same) (inr anew) = absurd (let no = anew.0 in cc)
-    by_kind _ (steps.quoted quotes none same) (inl is) =
+    by_kind _ (steps.alone takes none same) (inr anew) = absurd (let no = anew.0 in cc)
+    by_kind _ (steps.alone takes none same) (inl is) =
         let there : next ≡ waits.found = is ∙ stands left waits.found same waits.input waits.items waits.mode in
         let ends_there = subst (λ s. Ends by (with_more piece s) end answer) there ends in
         record {

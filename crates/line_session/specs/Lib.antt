@@ -1,8 +1,11 @@
+pub mod Completing
 pub mod Kept
+pub mod OneChange
 pub mod Pieces
 pub mod Reading
 pub mod Sitting
 pub mod Steps
 pub mod Taken
+pub mod Words
 pub use Rattle.line_editor.specs.Editor
 pub use Rattle.line_editor.specs.Run

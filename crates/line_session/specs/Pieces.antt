@@ -1,11 +1,13 @@
 -- A line whose items come in pieces.
-use Rattle.std.specs.Prelude.{◌≡◌, ◌≢◌, ◌⊎◌, Bool, true, List, [], ◌++◌}
+use Rattle.std.specs.Prelude.{◌≡◌, ◌≢◌, ◌⊎◌, Bool, true, List, [], ◌++◌, None}
 use Rattle.line_keys.specs.Item.{Item}
 use Rattle.line_keys.specs.declared.keys.KeyEvent.{KeyEvent}
+use Rattle.line_parts.specs.Shown.{Shown}
 use Rattle.line_editor.specs.Editor.{Answer, proceeds}
 use Rattle.line_editor.specs.ItemShown.{any_drawn}
 use Rattle.line_editor.specs.Keymap.{KeyLooksAtNoHint}
 use Rattle.line_session.specs.Steps.{Ends, Rules, Standing, Waits, starting}
+use Rattle.line_session.specs.declared.mode.Mode.TheVariants.{Editing}
 
 -- the same with more items behind those that are left
 abbrev pub with_more : List Item → Standing → Standing
@@ -34,7 +36,8 @@ EndsTheSame = (by : Rules) (start left next end : Standing) (items piece : List 
     → Waited by start items left drawn → GoesOnFrom by left drawn next → Ends by (with_more piece next) end answer
     → Ends by (with_more (items ++ piece) start) end answer
 
--- from one start a line ends once: its end and the answer are one
+-- from one start at which commands are read a line ends once, where the helper completes nothing by itself: its end and the answer are one
 abbrev pub EndsOnce : Type 0
 EndsOnce = (by : Rules) (start end end' : Standing) (answer answer' : Answer) → answer ≢ proceeds → answer' ≢ proceeds
+    → ((shown : Shown) → by.environment.own_completion shown ≡ None) → start.mode ≡ Editing
     → Ends by start end answer → Ends by start end' answer' → (end ≡ end') × (answer ≡ answer')

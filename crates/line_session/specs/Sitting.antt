@@ -19,7 +19,7 @@ use Rattle.line_editor.specs.Released.{KeptDraft}
 use Rattle.line_editor.specs.declared.run.Turned.{Turned}
 use Rattle.line_editor.specs.declared.run.Turned.TheVariants as turned
 use Rattle.line_term.specs.Decoder as decoding
-use Rattle.line_session.specs.Steps.{Ends, Rules, Standing, Waits, starting}
+use Rattle.line_session.specs.Steps.{Ends, Rules, Standing, Waits, starting, unlisted}
 use Rattle.line_session.specs.declared.editor.Fed.{Fed}
 use Rattle.line_session.specs.declared.editor.Fed.TheVariants as fed
 use Rattle.line_session.specs.declared.mode.Mode.{Mode}
@@ -48,9 +48,9 @@ pub record Sitting (H : Type 0) : Type 0 where
   pub columns : ℕ
   pub rows : ℕ
 
--- the draft of the line that has begun, what reading keys remembers, and what they are read as, if one has
+-- the draft of the line that has begun, what reading keys remembers, and what they are read as but in a list, if one has
 abbrev pub written_so_far : {H : Type 0} → Sitting H → Option (Draft × Input × Mode)
-written_so_far sitting = option_map (λ (begun : BegunLine). (begun.kept.draft, begun.input, begun.mode)) sitting.line
+written_so_far sitting = option_map (λ (begun : BegunLine). (begun.kept.draft, begun.input, unlisted begun.mode)) sitting.line
 
 -- nothing is lost where a call fails: the line that had begun is there, if one had, and so are the lines of the history
 pub record LosesNothing {H : Type 0} (old new : Sitting H) : Type 0 where
@@ -71,13 +71,14 @@ goes_on _ = false
 abbrev pub with_turn : {H : Type 0} → decoding.Turn → Sitting H → Sitting H
 with_turn turn sitting = record sitting { items = sitting.items ++ turn.items; decoder = turn.after }
 
--- what commands are read and executed by: bindings, and whether the queue binds keys; by how many spaces a line is indented; the column
--- where the prompt ends; and those who answer
-abbrev pub rules_for : Bound → Bool → ℕ → ℕ → Environment → Rules
-rules_for bound binds indent column environment = record {
+-- what commands are read and executed by: bindings, and whether the queue binds keys; the settings; the column where the prompt ends; and
+-- those who answer
+abbrev pub rules_for : Bound → Bool → Settings → ℕ → Environment → Rules
+rules_for bound binds settings column environment = record {
   keymap = record { bound = bound; own = queue_binding binds };
-  ruler = record { prompt_column = column; cluster_mode = Unicode; indent_size = indent };
+  ruler = record { prompt_column = column; cluster_mode = Unicode; indent_size = settings.indent_size };
   environment = environment;
+  settings = settings;
 }
 
 -- where reading stands with a draft, what is remembered of keys, what items are read as, those that are left, and the kill ring
@@ -144,7 +145,7 @@ module _ {H : Type 0} where
     module _ (bound : Bound) where
       -- what the commands of a line are read and executed by, whose prompt ends in this column
       abbrev pub rules_at : Sitting H → ℕ → Rules
-      rules_at old column = rules_for bound old.binds old.settings.indent_size column (answers old.helper old.lines)
+      rules_at old column = rules_for bound old.binds old.settings column (answers old.helper old.lines)
 
       -- what came of the line that has begun
       abbrev pub Came : Sitting H → BegunLine → Sitting H → Fed → Type 0

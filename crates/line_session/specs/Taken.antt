@@ -1,7 +1,7 @@
 -- What turns leave that were taken one after another.
-use Rattle.std.specs.Prelude.{◌≡◌, ℕ, Bool, true, false, List, ◌∷◌, Option, Some, None, string_bytes}
+use Rattle.std.specs.Prelude.{◌≡◌, Bool, true, false, if◌then◌else◌, List, ◌∷◌, Option, Some, None, string_bytes}
 use Rattle.line_buffer.specs.KillRing.{Ring}
-use Rattle.line_keys.specs.Drawing.{DrewNothing}
+use Rattle.line_config.specs.Settings.{Settings}
 use Rattle.line_keys.specs.Frame.{Frame}
 use Rattle.line_keys.specs.Item.{Item, key, paste}
 use Rattle.line_keys.specs.ShownLine.{HasRightLayout, HasShownEnd, IsAtEnd, IsInPlace, ShowsNoHint}
@@ -17,67 +17,75 @@ use Rattle.line_editor.specs.Step.{step}
 use Rattle.line_editor.specs.declared.run.Turned.{Turned}
 use Rattle.line_editor.specs.declared.run.Turned.TheVariants as turned
 use Rattle.line_session.specs.Kept.{IsShownBy}
-use Rattle.line_session.specs.Steps.{Ends, Rules, Standing, Waits, as_it_is, comes_in, starting}
+use Rattle.line_session.specs.Steps.{Ends, Rules, Standing, Waits, as_it_is, comes_in, shows_line, starting}
 use Rattle.line_session.specs.declared.mode.AsItIs.{AsItIs}
 use Rattle.line_session.specs.declared.mode.AsItIs.TheVariants as as_is
+use Rattle.line_session.specs.Completing.{Replies, reply_by}
 use Rattle.line_session.specs.declared.mode.Mode.{Mode}
+use Rattle.line_session.specs.declared.mode.Mode.TheVariants as modes
 
--- reading waits for items; and another prompt than the own one is shown only where something was drawn of those that are no phrase yet
-pub record WaitsBehind (own_prompt : Bool) (by : Rules) (start left : Standing) : Type 0 where
+-- reading waits for items; and something is shown of those that are no phrase yet only where it was drawn
+pub record WaitsBehind (settled : Bool) (by : Rules) (start left : Standing) : Type 0 where
   pub waits : Waits by start left
-  pub drawn : own_prompt ≡ false → any_drawn waits.shown ≡ true
+  pub drawn : settled ≡ false → any_drawn waits.shown ≡ true
+
+-- whether nothing is shown of items that are no phrase yet: behind the own prompt, and in a list
+abbrev pub is_settled : Mode → Bool → Bool
+is_settled mode own_prompt = if shows_line mode then own_prompt else true
 
 -- how turns that were taken end: with the answer of the last one; or where more items are awaited
 abbrev pub ComesTo : Bool → Rules → Standing → Standing → Turned → Type 0
-ComesTo own_prompt by start end turned.Proceeds = ⊥
-ComesTo own_prompt by start end turned.Submitted = Ends by start end submitted
-ComesTo own_prompt by start end turned.Ended = Ends by start end ended
-ComesTo own_prompt by start end turned.Interrupted = Ends by start end interrupted
-ComesTo own_prompt by start end turned.NeedsMore = WaitsBehind own_prompt by start end
+ComesTo settled by start end turned.Proceeds = ⊥
+ComesTo settled by start end turned.Submitted = Ends by start end submitted
+ComesTo settled by start end turned.Ended = Ends by start end ended
+ComesTo settled by start end turned.Interrupted = Ends by start end interrupted
+ComesTo settled by start end turned.NeedsMore = WaitsBehind settled by start end
 
 -- an item that comes in as it is, as the reader gives it
 abbrev pub item_of : AsItIs → Item
 item_of (as_is.Key typed) = key typed
 item_of (as_is.Text text) = paste (string_bytes text)
 
--- the next item was taken, where it comes in as it is; and none where it is read as part of a command, or nothing is left
+-- the next item was taken, where it is taken by itself; and none where it is read as part of a command, or nothing is left
 abbrev pub TakesAsItIs : Mode → Option Item → List Item → List Item → Type 0
 TakesAsItIs mode (Some item) old new = (old ≡ item ∷ new) × (comes_in mode item ≡ true)
 TakesAsItIs mode None old new = ((item : Item) (more : List Item) → old ≡ item ∷ more → comes_in mode item ≡ false) × (new ≡ old)
 
 module _ {X : Type 0} (e : editors.Ghosts X) where
-  -- at most a beep was asked for
-  pub record Beeps (old new : X) : Type 0 where
-    pub draft : e.draft new ≡ e.draft old
-    pub drew : DrewNothing e old new
-    pub frame : Frame e old new
-
   -- the line is shown, and the kept layout is right
   abbrev pub IsShown : X → Type 0
   IsShown state = IsShownBy (e.environment state) (e.display state) (e.draft state)
 
   -- what is drawn once turns have ended: the line without a hint; the cursor at the end of what is shown; and where items are awaited,
-  -- the line, unless another prompt is shown
-  abbrev pub DrawnOnce : Turned → X → Type 0
-  DrawnOnce turned.Proceeds state = ⊥
-  DrawnOnce turned.Submitted state = HasRightLayout e state × ShowsNoHint e state
-  DrawnOnce turned.Ended state = HasRightLayout e state × ShowsNoHint e state
-  DrawnOnce turned.Interrupted state = IsAtEnd e state × IsInPlace e state × HasShownEnd e state
-  DrawnOnce turned.NeedsMore state = (e.display state).layout.default_prompt ≡ true → IsShown state
+  -- the line, unless a list or another prompt is shown
+  abbrev pub DrawnOnce : Mode → Turned → X → Type 0
+  DrawnOnce mode turned.Proceeds state = ⊥
+  DrawnOnce mode turned.Submitted state = HasRightLayout e state × ShowsNoHint e state
+  DrawnOnce mode turned.Ended state = HasRightLayout e state × ShowsNoHint e state
+  DrawnOnce mode turned.Interrupted state = IsAtEnd e state × IsInPlace e state × HasShownEnd e state
+  DrawnOnce mode turned.NeedsMore state = shows_line mode ≡ true → (e.display state).layout.default_prompt ≡ true → IsShown state
 
   -- an item was put in as it is, behind the own prompt
-  abbrev pub PutsIn : ℕ → Input → Item → X → Ring → X → Ring → Type 0
-  PutsIn indent input item old kills new kills' =
-      Leaves (step (own_ruler (e.display old) indent) (e.environment old) input (ready (as_it_is item) (e.draft old) kills) (as_it_is item))
+  abbrev pub PutsIn : Settings → Input → Item → X → Ring → X → Ring → Type 0
+  PutsIn settings input item old kills new kills' =
+      Leaves (step (own_ruler (e.display old) settings.indent_size) (e.environment old) input (ready (as_it_is item) (e.draft old) kills) (as_it_is item))
       (editor_of e new kills') proceeds
+
+  -- an item was taken by itself
+  abbrev pub TakesItem : Settings → Input → Mode → Item → X → Ring → X → Ring → Mode → Type 0
+  TakesItem settings input (modes.Listing listing) item old kills new kills' next =
+      Replies (e.environment old) listing (reply_by listing.next item) (e.draft old) (e.draft new) next × (kills' ≡ kills)
+  TakesItem settings input mode item old kills new kills' next =
+      PutsIn settings input item old kills new kills' × (next ≡ modes.Editing)
 
 module _ {X Y : Type 0} (e : editors.Ghosts X) (r : readers.Ghosts Y) where
   -- what the commands of a session are read and executed by
-  abbrev pub rules_of : ℕ → Session X Y → Rules
-  rules_of indent session = record {
+  abbrev pub rules_of : Settings → Session X Y → Rules
+  rules_of settings session = record {
     keymap = keymap_of session.keys (r.own_binding (r.kept session.reader));
-    ruler = own_ruler (e.display session.state) indent;
+    ruler = own_ruler (e.display session.state) settings.indent_size;
     environment = e.environment session.state;
+    settings = settings;
   }
 
   -- what stays of a session while turns are taken: what commands are read and executed by, and what no command changes of the editor

@@ -11,8 +11,8 @@ ghost use Rattle.line_parts.specs.Helped.{environment_by, sure_by};
 ghost use Rattle.line_screen.specs.KeyQueue.{queue_binding};
 ghost use Rattle.line_session.specs.Kept.{Fits, answers_of};
 ghost use Rattle.line_session.specs.Sitting.{begun_with, rules_for, standing_with};
-ghost use Rattle.line_session.specs.Steps.{starting};
-ghost use Rattle.line_session.specs.Taken.{ComesTo, DrawnOnce, IsShown};
+ghost use Rattle.line_session.specs.Steps.{shows_line, starting, unlisted};
+ghost use Rattle.line_session.specs.Taken.{ComesTo, DrawnOnce, IsShown, is_settled};
 
 use crate::mode::Mode;
 use crate::turns::take_turns;
@@ -64,14 +64,15 @@ fn give_back<T, U>(one: &mut T, other: &mut U)
 /// Leaves the terminal's cursor below a line that has ended. Returns how it ended.
 fn leave<'out, 'prompt, O: Write + Drop, H: Helper, P: Prompt, S: History>(
     alloc: Global,
+    mode: &Mode,
     turned: Result<Turned>,
     state: &mut State<'out, 'prompt, Ansi<O, KeyQueue>, H, P, S>,
 ) -> Result<Turned>
     requires { let e = ⟦<State<'out, 'prompt, Ansi<O, KeyQueue>, H, P, S> as EditorState>⟧ in
-        IfOk turned (λ done. DrawnOnce e done state.old) }
+        IfOk turned (λ done. DrawnOnce e mode.now done state.old) }
     ensures ended { IfOk result (λ done. turned ≡ Ok done) }
     ensures drawn { let e = ⟦<State<'out, 'prompt, Ansi<O, KeyQueue>, H, P, S> as EditorState>⟧ in
-        result ≡ Ok Turned.NeedsMore → DrawnOnce e Turned.NeedsMore state.new }
+        result ≡ Ok Turned.NeedsMore → DrawnOnce e mode.now Turned.NeedsMore state.new }
     ensures prompt { let e = ⟦<State<'out, 'prompt, Ansi<O, KeyQueue>, H, P, S> as EditorState>⟧ in
         result ≡ Ok Turned.NeedsMore → e.display state.new ≡ e.display state.old }
     ensures draft { let e = ⟦<State<'out, 'prompt, Ansi<O, KeyQueue>, H, P, S> as EditorState>⟧ in
@@ -89,21 +90,41 @@ fn leave<'out, 'prompt, O: Write + Drop, H: Helper, P: Prompt, S: History>(
     Ok(done)
 }
 
-/// Returns whether the line is to be drawn before the next key is read: unless more keys are awaited behind its own prompt.
+/// Takes the terminal's cursor below a list, if one is shown.
+fn leave_list<'out, 'prompt, O: Write + Drop, H: Helper, P: Prompt, S: History>(
+    alloc: Global,
+    mode: &Mode,
+    state: &mut State<'out, 'prompt, Ansi<O, KeyQueue>, H, P, S>,
+) -> Result<()>
+    ensures draft { let e = ⟦<State<'out, 'prompt, Ansi<O, KeyQueue>, H, P, S> as EditorState>⟧ in
+        e.draft state.new ≡ e.draft state.old }
+    ensures frame { let e = ⟦<State<'out, 'prompt, Ansi<O, KeyQueue>, H, P, S> as EditorState>⟧ in
+        Frame e state.old state.new }
+    ensures faults { FaultsOnly result }
+{
+    if mode.shows_line() {
+        return Ok(());
+    }
+    state.move_cursor_at_leftmost(&mut KeyQueue::new(alloc))
+}
+
+/// Returns whether the line is to be drawn before the next key is read: unless more keys are awaited behind its own prompt, or for a
+/// list.
 fn is_to_be_drawn<'out, 'prompt, O: Write + Drop, H: Helper, P: Prompt, S: History>(
+    mode: &Mode,
     turned: &Result<Turned>,
     state: &State<'out, 'prompt, Ansi<O, KeyQueue>, H, P, S>,
 ) -> bool
     requires { let e = ⟦<State<'out, 'prompt, Ansi<O, KeyQueue>, H, P, S> as EditorState>⟧ in
-        turned.now ≡ Ok Turned.NeedsMore → DrawnOnce e Turned.NeedsMore state.now }
+        turned.now ≡ Ok Turned.NeedsMore → DrawnOnce e mode.now Turned.NeedsMore state.now }
     ensures shown { let e = ⟦<State<'out, 'prompt, Ansi<O, KeyQueue>, H, P, S> as EditorState>⟧ in
-        result ≡ false → IsShown e state.now }
+        result ≡ false → shows_line mode.now ≡ true → IsShown e state.now }
     ensures prompt { let e = ⟦<State<'out, 'prompt, Ansi<O, KeyQueue>, H, P, S> as EditorState>⟧ in
         turned.now ≡ Ok Turned.NeedsMore
-        → not result ≡ (e.display state.now).layout.default_prompt }
+        → not result ≡ is_settled mode.now (e.display state.now).layout.default_prompt }
 {
     match turned {
-        Ok(Turned::NeedsMore) => !state.is_default_prompt(),
+        Ok(Turned::NeedsMore) => mode.shows_line() && !state.is_default_prompt(),
         _ => true,
     }
 }
@@ -122,10 +143,11 @@ pub(crate) fn begin<'out, 'prompt, O: Write + Drop, H: Helper, S: History>(
     right: &str,
     config: &Config,
 ) -> Result<Begun<H>>
-    ensures fits { IfOk result (λ begun. Fits begun.line begun.draws
+    ensures fits { IfOk result (λ begun. Fits begun.line begun.mode begun.draws
         (⟦<Ansi<O, KeyQueue> as ScreenState>⟧.surface screen.new)
         (⟦<Ansi<O, KeyQueue> as ScreenState>⟧.screen screen.new) (string_bytes prompt.now.0)
-        (answers_of H.hint_at H.verdict_at H.lights helper.new (S.lines history.now))) }
+        (answers_of H.hint_at H.verdict_at H.lights H.Completer
+        helper.new (S.lines history.now))) }
     ensures draft { IfOk result (λ begun.
         begun.line.draft ≡ begun_with left.now right.now (S.lines history.now)) }
     ensures input { IfOk result (λ begun. begun.input ≡ first_input config.now.edit_mode) }
@@ -137,8 +159,8 @@ pub(crate) fn begin<'out, 'prompt, O: Write + Drop, H: Helper, S: History>(
     ensures surface { IfOk result (λ _. ⟦<Ansi<O, KeyQueue> as ScreenState>⟧.surface screen.new
         ≡ ⟦<Ansi<O, KeyQueue> as ScreenState>⟧.surface screen.old) }
     ensures answers { IfOk result (λ _. (lines : List (List ℕ))
-        → answers_of H.hint_at H.verdict_at H.lights helper.new lines
-        ≡ answers_of H.hint_at H.verdict_at H.lights helper.old lines) }
+        → answers_of H.hint_at H.verdict_at H.lights H.Completer helper.new lines
+        ≡ answers_of H.hint_at H.verdict_at H.lights H.Completer helper.old lines) }
     ensures memory { MemoryOnly result }
 {
     let mut text = String::from_str(alloc, left)?;
@@ -181,7 +203,8 @@ fn state_of<'out, 'prompt, O: Write + Drop, H: Helper, P: Prompt, S: History>(
         (record (empty_draft (length (S.lines history.now))) {
           line = record { text = text.now; cursor = cursor };
         })
-        (environment_by H.hint_at H.verdict_at H.lights (Some helper.entry) (S.lines history.now))
+        (environment_by H.hint_at H.verdict_at H.lights H.Completer
+        (Some helper.entry) (S.lines history.now))
         (sure_by H.Hinter.sure H.Validator.sure (S.sure history.now) (Some helper.entry))
         (never_drawn (w.surface screen.entry.now) (w.screen screen.entry.now)
         (P.raw_text prompt.now))
@@ -194,8 +217,8 @@ fn state_of<'out, 'prompt, O: Write + Drop, H: Helper, P: Prompt, S: History>(
 }
 
 impl<H: Helper> Begun<H> {
-    /// Gives the screen of a line another number of columns and of rows, draws the line, and keeps it again. Where drawing fails, the
-    /// line is to be drawn.
+    /// Gives the screen of a line another number of columns and of rows, draws the line, and keeps it again. A list ends, and the
+    /// line is drawn below it. Where drawing fails, the line is to be drawn.
     pub(crate) fn resized<'out, 'prompt, O: Write + Drop, S: History>(
         self,
         alloc: Global,
@@ -207,24 +230,26 @@ impl<H: Helper> Begun<H> {
         rows: Unit,
     ) -> (Begun<H>, Result<()>)
         requires columns { 0 < columns }
-        requires fits { Fits self.line self.draws
+        requires fits { Fits self.line self.mode self.draws
             (⟦<Ansi<O, KeyQueue> as ScreenState>⟧.surface screen.old)
             (⟦<Ansi<O, KeyQueue> as ScreenState>⟧.screen screen.old) (string_bytes prompt.now.0)
-            (answers_of H.hint_at H.verdict_at H.lights helper.old (S.lines history.now)) }
-        ensures fits { Fits result.0.line result.0.draws
+            (answers_of H.hint_at H.verdict_at H.lights H.Completer
+            helper.old (S.lines history.now)) }
+        ensures fits { Fits result.0.line result.0.mode result.0.draws
             (⟦<Ansi<O, KeyQueue> as ScreenState>⟧.surface screen.new)
             (⟦<Ansi<O, KeyQueue> as ScreenState>⟧.screen screen.new) (string_bytes prompt.now.0)
-            (answers_of H.hint_at H.verdict_at H.lights helper.new (S.lines history.now)) }
+            (answers_of H.hint_at H.verdict_at H.lights H.Completer
+            helper.new (S.lines history.now)) }
         ensures draft { result.0.line.draft ≡ self.line.draft }
         ensures input { result.0.input ≡ self.input }
-        ensures mode { result.0.mode ≡ self.mode }
+        ensures mode { result.0.mode ≡ unlisted self.mode }
         ensures columns { let w = ⟦<Ansi<O, KeyQueue> as ScreenState>⟧ in
             (w.surface screen.new).columns ≡ columns }
         ensures rows { let w = ⟦<Ansi<O, KeyQueue> as ScreenState>⟧ in
             (w.surface screen.new).rows ≡ rows }
         ensures answers { (lines : List (List ℕ))
-            → answers_of H.hint_at H.verdict_at H.lights helper.new lines
-            ≡ answers_of H.hint_at H.verdict_at H.lights helper.old lines }
+            → answers_of H.hint_at H.verdict_at H.lights H.Completer helper.new lines
+            ≡ answers_of H.hint_at H.verdict_at H.lights H.Completer helper.old lines }
         ensures faults { FaultsOnly result.1 }
     {
         let Begun {
@@ -234,17 +259,18 @@ impl<H: Helper> Begun<H> {
             draws: _,
         } = self;
         let mut state = State::resume(alloc, line, screen, prompt, Some(helper), history);
+        let left = leave_list(alloc, &mode, &mut state);
         let drawn = state.resized(columns, rows);
         let (line, out, lent) = state.release();
         let lent = lent.unwrap();
         let begun = Begun {
             line,
             input,
-            mode,
+            mode: mode.unlisted(),
             draws: true,
         };
         give_back(out, lent);
-        (begun, drawn)
+        (begun, left.and(drawn))
     }
 
     /// Takes turns of a line, as `take_turns` does, and keeps it again.
@@ -260,20 +286,22 @@ impl<H: Helper> Begun<H> {
         kill_ring: &mut KillRing,
         config: &Config,
     ) -> (Begun<H>, Result<Turned>)
-        requires { Fits self.line self.draws
+        requires { Fits self.line self.mode self.draws
             (⟦<Ansi<O, KeyQueue> as ScreenState>⟧.surface screen.old)
             (⟦<Ansi<O, KeyQueue> as ScreenState>⟧.screen screen.old) (string_bytes prompt.now.0)
-            (answers_of H.hint_at H.verdict_at H.lights helper.old (S.lines history.now)) }
-        ensures fits { Fits result.0.line result.0.draws
+            (answers_of H.hint_at H.verdict_at H.lights H.Completer
+            helper.old (S.lines history.now)) }
+        ensures fits { Fits result.0.line result.0.mode result.0.draws
             (⟦<Ansi<O, KeyQueue> as ScreenState>⟧.surface screen.new)
             (⟦<Ansi<O, KeyQueue> as ScreenState>⟧.screen screen.new) (string_bytes prompt.now.0)
-            (answers_of H.hint_at H.verdict_at H.lights helper.new (S.lines history.now)) }
+            (answers_of H.hint_at H.verdict_at H.lights H.Completer
+            helper.new (S.lines history.now)) }
         ensures comes { let g = ⟦<dyn ConditionalEventHandler as ConditionalEventHandler>⟧ in
             let lines = S.lines history.now in
-            let asked = answers_of H.hint_at H.verdict_at H.lights helper.old lines in
+            let asked = answers_of H.hint_at H.verdict_at H.lights H.Completer helper.old lines in
             IfOk result.1 (ComesTo (not result.0.draws)
             (rules_for (bound_of g bindings.now) keys.old.binds
-            config.now.indent_size self.line.drawing.prompt_end.col asked)
+            config.now self.line.drawing.prompt_end.col asked)
             (starting asked self.draws
             (standing_with self.line.draft self.input self.mode keys.old.rest kill_ring.old))
             (standing_with result.0.line.draft result.0.input result.0.mode
@@ -283,8 +311,8 @@ impl<H: Helper> Begun<H> {
         ensures prompt { result.0.line.drawing.prompt_end ≡ self.line.drawing.prompt_end }
         ensures own { queue_binding keys.new.binds ≡ queue_binding keys.old.binds }
         ensures answers { (lines : List (List ℕ))
-            → answers_of H.hint_at H.verdict_at H.lights helper.new lines
-            ≡ answers_of H.hint_at H.verdict_at H.lights helper.old lines }
+            → answers_of H.hint_at H.verdict_at H.lights H.Completer helper.new lines
+            ≡ answers_of H.hint_at H.verdict_at H.lights H.Completer helper.old lines }
         ensures faults { FaultsOnly result.1 }
     {
         let Begun {
@@ -304,8 +332,8 @@ impl<H: Helper> Begun<H> {
             kill_ring,
             config,
         );
-        let turned = leave(alloc, turned, &mut state);
-        let draws = is_to_be_drawn(&turned, &state);
+        let turned = leave(alloc, &mode, turned, &mut state);
+        let draws = is_to_be_drawn(&mode, &turned, &state);
         let input = input_state.release();
         let (line, out, lent) = state.release();
         let lent = lent.unwrap();

@@ -118,7 +118,7 @@ impl<O: Write + Drop, H: Helper + Drop, S: History + Drop> Model for Editor<O, H
     } };
 
     // The line that has begun fits the screen, its prompt, and those who answer.
-    ghost invariant = { λ e. IfSome e.line (λ begun. Fits begun.line begun.draws
+    ghost invariant = { λ e. IfSome e.line (λ begun. Fits begun.line begun.mode begun.draws
         (record {
           measure = measured e.screen.shown.columns;
           columns = e.screen.shown.columns;
@@ -132,7 +132,7 @@ impl<O: Write + Drop, H: Helper + Drop, S: History + Drop> Model for Editor<O, H
           origin = e.screen.shown.origin;
         })
         (string_bytes e.prompt.0)
-        (answers_of H.hint_at H.verdict_at H.lights e.helper (S.lines e.history))) };
+        (answers_of H.hint_at H.verdict_at H.lights H.Completer e.helper (S.lines e.history))) };
 }
 
 impl<O: Write + Drop, H: Helper + Drop, S: History + Drop> Editor<O, H, S> {
@@ -287,11 +287,11 @@ impl<O: Write + Drop, H: Helper + Drop, S: History + Drop> Editor<O, H, S> {
         bindings: &Bindings,
     ) -> Result<Fed>
         ensures came { let g = ⟦<dyn ConditionalEventHandler as ConditionalEventHandler>⟧ in
-            IfOk result (CameBegun (answers_of H.hint_at H.verdict_at H.lights)
+            IfOk result (CameBegun (answers_of H.hint_at H.verdict_at H.lights H.Completer)
             (bound_of g bindings.now) (P.raw_text prompt.now)
             initial.entry.0.now initial.entry.1.now self.old self.new) }
         ensures keeps { OnOk result
-            (Keeps (answers_of H.hint_at H.verdict_at H.lights) self.old self.new) }
+            (Keeps (answers_of H.hint_at H.verdict_at H.lights H.Completer) self.old self.new) }
         ensures lines { OnErr result (self.new.lines ≡ self.old.lines) }
         ensures faults { FaultsOnly result }
     {
@@ -305,10 +305,10 @@ impl<O: Write + Drop, H: Helper + Drop, S: History + Drop> Editor<O, H, S> {
     /// Those of `begin_with`.
     pub fn begin<P: Prompt>(&mut self, prompt: &P, bindings: &Bindings) -> Result<Fed>
         ensures came { let g = ⟦<dyn ConditionalEventHandler as ConditionalEventHandler>⟧ in
-            IfOk result (CameBegun (answers_of H.hint_at H.verdict_at H.lights)
+            IfOk result (CameBegun (answers_of H.hint_at H.verdict_at H.lights H.Completer)
             (bound_of g bindings.now) (P.raw_text prompt.now) [] [] self.old self.new) }
         ensures keeps { OnOk result
-            (Keeps (answers_of H.hint_at H.verdict_at H.lights) self.old self.new) }
+            (Keeps (answers_of H.hint_at H.verdict_at H.lights H.Completer) self.old self.new) }
         ensures lines { OnErr result (self.new.lines ≡ self.old.lines) }
         ensures faults { FaultsOnly result }
     {
@@ -322,9 +322,10 @@ impl<O: Write + Drop, H: Helper + Drop, S: History + Drop> Editor<O, H, S> {
     pub fn feed(&mut self, bytes: &[u8], bindings: &Bindings) -> Result<Fed>
         ensures came { (begun : BegunLine) → self.old.line ≡ Some begun →
             let g = ⟦<dyn ConditionalEventHandler as ConditionalEventHandler>⟧ in
-            IfOk result (Came (answers_of H.hint_at H.verdict_at H.lights) (bound_of g bindings.now)
+            IfOk result (Came (answers_of H.hint_at H.verdict_at H.lights H.Completer)
+            (bound_of g bindings.now)
             (with_turn (read self.old.decoder bytes.now) self.old) begun self.new) }
-        ensures keeps { OnOk result (Keeps (answers_of H.hint_at H.verdict_at H.lights)
+        ensures keeps { OnOk result (Keeps (answers_of H.hint_at H.verdict_at H.lights H.Completer)
             (with_turn (read self.old.decoder bytes.now) self.old) self.new) }
         ensures idle { self.old.line ≡ None → IfOk result (λ fed. (fed ≡ Fed.More)
             × (self.new ≡ with_turn (read self.old.decoder bytes.now) self.old)) }
@@ -342,9 +343,10 @@ impl<O: Write + Drop, H: Helper + Drop, S: History + Drop> Editor<O, H, S> {
     pub fn flush(&mut self, bindings: &Bindings) -> Result<Fed>
         ensures came { (begun : BegunLine) → self.old.line ≡ Some begun →
             let g = ⟦<dyn ConditionalEventHandler as ConditionalEventHandler>⟧ in
-            IfOk result (Came (answers_of H.hint_at H.verdict_at H.lights) (bound_of g bindings.now)
+            IfOk result (Came (answers_of H.hint_at H.verdict_at H.lights H.Completer)
+            (bound_of g bindings.now)
             (with_turn (flushed self.old.decoder) self.old) begun self.new) }
-        ensures keeps { OnOk result (Keeps (answers_of H.hint_at H.verdict_at H.lights)
+        ensures keeps { OnOk result (Keeps (answers_of H.hint_at H.verdict_at H.lights H.Completer)
             (with_turn (flushed self.old.decoder) self.old) self.new) }
         ensures idle { self.old.line ≡ None → IfOk result (λ fed. (fed ≡ Fed.More)
             × (self.new ≡ with_turn (flushed self.old.decoder) self.old)) }
@@ -362,9 +364,10 @@ impl<O: Write + Drop, H: Helper + Drop, S: History + Drop> Editor<O, H, S> {
     pub fn finish(&mut self, bindings: &Bindings) -> Result<Fed>
         ensures came { (begun : BegunLine) → self.old.line ≡ Some begun →
             let g = ⟦<dyn ConditionalEventHandler as ConditionalEventHandler>⟧ in
-            IfOk result (Came (answers_of H.hint_at H.verdict_at H.lights) (bound_of g bindings.now)
+            IfOk result (Came (answers_of H.hint_at H.verdict_at H.lights H.Completer)
+            (bound_of g bindings.now)
             (with_turn (finished self.old.decoder) self.old) begun self.new) }
-        ensures keeps { OnOk result (Keeps (answers_of H.hint_at H.verdict_at H.lights)
+        ensures keeps { OnOk result (Keeps (answers_of H.hint_at H.verdict_at H.lights H.Completer)
             (with_turn (finished self.old.decoder) self.old) self.new) }
         ensures idle { self.old.line ≡ None → IfOk result (λ fed. (fed ≡ Fed.More)
             × (self.new ≡ with_turn (finished self.old.decoder) self.old)) }
@@ -385,7 +388,7 @@ impl<O: Write + Drop, H: Helper + Drop, S: History + Drop> Editor<O, H, S> {
         ensures lines { self.new.lines ≡ self.old.lines }
         ensures kills { self.new.kills ≡ self.old.kills }
         ensures items { self.new.items ≡ self.old.items }
-        ensures keeps { Keeps (answers_of H.hint_at H.verdict_at H.lights)
+        ensures keeps { Keeps (answers_of H.hint_at H.verdict_at H.lights H.Completer)
             (record self.old { columns = columns; rows = rows }) self.new }
         ensures faults { FaultsOnly result }
     {
@@ -422,7 +425,8 @@ impl<O: Write + Drop, H: Helper + Drop, S: History + Drop> Editor<O, H, S> {
     ) -> Result<String>
         ensures reads { let g = ⟦<dyn ConditionalEventHandler as ConditionalEventHandler>⟧ in
             BindingsLookAtNoHint (bound_of g bindings.now) → UnlessFault result
-            (ReadsLine (answers_of H.hint_at H.verdict_at H.lights) (bound_of g bindings.now)
+            (ReadsLine (answers_of H.hint_at H.verdict_at H.lights H.Completer)
+            (bound_of g bindings.now)
             pauses (R.remaining input.old) (R.remaining input.new)
             (P.raw_text prompt.now) [] [] self.old self.new result) }
     {
@@ -443,7 +447,8 @@ impl<O: Write + Drop, H: Helper + Drop, S: History + Drop> Editor<O, H, S> {
     ) -> Result<String>
         ensures reads { let g = ⟦<dyn ConditionalEventHandler as ConditionalEventHandler>⟧ in
             BindingsLookAtNoHint (bound_of g bindings.now) → UnlessFault result
-            (ReadsLine (answers_of H.hint_at H.verdict_at H.lights) (bound_of g bindings.now)
+            (ReadsLine (answers_of H.hint_at H.verdict_at H.lights H.Completer)
+            (bound_of g bindings.now)
             pauses (R.remaining input.old) (R.remaining input.new)
             (P.raw_text prompt.now) initial.entry.0.now initial.entry.1.now
             self.old self.new result) }
@@ -495,7 +500,7 @@ impl<O: Write + Drop, H: Helper + Drop, S: History + Drop> Editor<O, H, S> {
         requires { 0 < length buffer.old }
         ensures hears { (begun : BegunLine) → self.old.line ≡ Some begun →
             let g = ⟦<dyn ConditionalEventHandler as ConditionalEventHandler>⟧ in
-            IfOk result (λ told. HearsOnce (answers_of H.hint_at H.verdict_at H.lights)
+            IfOk result (λ told. HearsOnce (answers_of H.hint_at H.verdict_at H.lights H.Completer)
             (bound_of g bindings.now) pauses (R.remaining input.old) (R.remaining input.new)
             self.old begun self.new told.0) }
         ensures end { IfOk result (λ told. told.1 ≡ false → IsAtEnd (R.remaining input.new)) }
@@ -510,7 +515,8 @@ impl<O: Write + Drop, H: Helper + Drop, S: History + Drop> Editor<O, H, S> {
 
     /// Begins a line behind the prompt, with these texts before and behind the cursor. It is to be drawn.
     fn start<P: Prompt>(&mut self, prompt: &P, initial: (&str, &str)) -> Result<()>
-        ensures starts { OnOk result (StartsWith (answers_of H.hint_at H.verdict_at H.lights)
+        ensures starts { OnOk result
+            (StartsWith (answers_of H.hint_at H.verdict_at H.lights H.Completer)
             (P.raw_text prompt.now) initial.entry.0.now initial.entry.1.now self.old self.new) }
         ensures lines { OnErr result (self.new.lines ≡ self.old.lines) }
         ensures faults { FaultsOnly result }
@@ -587,9 +593,11 @@ impl<O: Write + Drop, H: Helper + Drop, S: History + Drop> Editor<O, H, S> {
     fn take_turns(&mut self, bindings: &Bindings) -> Result<Fed>
         ensures came { (begun : BegunLine) → self.old.line ≡ Some begun →
             let g = ⟦<dyn ConditionalEventHandler as ConditionalEventHandler>⟧ in
-            IfOk result (Came (answers_of H.hint_at H.verdict_at H.lights) (bound_of g bindings.now)
+            IfOk result (Came (answers_of H.hint_at H.verdict_at H.lights H.Completer)
+            (bound_of g bindings.now)
             self.old begun self.new) }
-        ensures keeps { Keeps (answers_of H.hint_at H.verdict_at H.lights) self.old self.new }
+        ensures keeps { Keeps (answers_of H.hint_at H.verdict_at H.lights H.Completer)
+            self.old self.new }
         ensures idle { self.old.line ≡ None
             → IfOk result (λ fed. (fed ≡ Fed.More) × (self.new ≡ self.old)) }
         ensures left { OnErr result (LosesNothing self.old self.new) }

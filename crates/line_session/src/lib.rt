@@ -2,9 +2,12 @@
 #![tactic(auto)]
 
 mod begun;
+pub mod completing;
 pub mod editor;
 pub mod iter;
 pub mod laws;
+pub mod listing;
 pub mod mode;
 pub mod parts;
 mod turns;
+pub mod words;

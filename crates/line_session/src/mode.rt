@@ -1,37 +1,66 @@
 //! What the items of a line are read as.
 ghost use Rattle.std.specs.Prelude.{◌≡◌};
 ghost use Rattle.line_keys.specs.Command.{command_of};
-ghost use Rattle.line_session.specs.Steps.{as_it_is, character_of, mode_behind, plain_character, with_control};
+ghost use Rattle.line_session.specs.Steps.{as_it_is, character_of, plain_character, shows_line, takes_items, unlisted, with_control};
 ghost use Rattle.line_session.specs.Taken.{item_of};
 
-use line_editor::Left;
+use crate::completing::Completing;
+use crate::listing::Listing;
 use line_keys::cmd::Cmd;
 use line_keys::keys::{KeyCode, KeyEvent, Modifiers};
+use line_parts::completion::Pair;
 
 /// What the items of a line are read as.
-#[derive(Clone, Copy, Debug, PartialEq, Eq)]
+#[derive(Drop)]
 pub enum Mode {
     /// Commands.
     Editing,
     /// Text, of one item: a quoted insert puts the next one in as it is.
     Quoting,
+    /// Commands, of which some go through candidates.
+    Completing(Completing),
+    /// Commands: a Tab lists these candidates.
+    Offering(Vec<Pair>),
+    /// Keys, each by itself: candidates are listed, or it was asked whether to list them.
+    Listing(Listing),
 }
 
 impl Mode {
-    /// Returns what items are read as behind a command that left this to the program.
-    pub(crate) fn behind(left: Option<Left>) -> Mode
-        ensures { result ≡ mode_behind left }
+    /// Returns whether each item is taken by itself, and none is read as part of a command.
+    pub(crate) fn takes_items(&self) -> bool
+        ensures { result ≡ takes_items self.now }
     {
-        match left {
-            Some(Left::QuotedInsert) => Mode::Quoting,
-            _ => Mode::Editing,
+        match self {
+            Mode::Quoting | Mode::Listing(_) => true,
+            Mode::Editing | Mode::Completing(_) | Mode::Offering(_) => false,
+        }
+    }
+
+    /// Returns the same mode; but a list ends.
+    pub(crate) fn unlisted(self) -> Mode
+        ensures { result ≡ unlisted self }
+    {
+        match self {
+            Mode::Listing(_) => Mode::Editing,
+            other => other,
+        }
+    }
+
+    /// Returns whether the line is shown: in a list it is not.
+    pub(crate) fn shows_line(&self) -> bool
+        ensures { result ≡ shows_line self.now }
+    {
+        match self {
+            Mode::Listing(_) => false,
+            Mode::Editing | Mode::Quoting | Mode::Completing(_) | Mode::Offering(_) => true,
         }
     }
 }
 
-/// An item that comes in as it is.
+/// An item that is taken by itself: it comes in as it is, or answers a list.
+#[derive(Drop)]
 pub(crate) enum AsItIs {
-    /// A key, of which its character comes in.
+    /// A key.
     Key(KeyEvent),
     /// A pasted text.
     Text(String),

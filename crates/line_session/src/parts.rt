@@ -188,6 +188,8 @@ impl<C: Completer + Drop, N: Hinter + Drop, L: SteadyHighlighter + Drop, V: Vali
 
     ghost completions_kept = { λ _ _ same. ap (λ parts. C.own_completion parts.completer) same };
 
+    ghost updates_kept = { λ _ _ same. ap (λ parts. C.own_update parts.completer) same };
+
     ghost hinter_kept = { λ _ _ same. ap (λ parts. N.sure parts.hinter) same };
 
     ghost validator_kept = { λ _ _ same. ap (λ parts. V.sure parts.validator) same };

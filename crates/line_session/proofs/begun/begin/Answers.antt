@@ -18,7 +18,7 @@ returns-clause-answers g c =
     let both : Some c.state_of-arg-2-1.given ≡ Some c.unwrap-lent.result.ghost_name =
     sym (ap (λ p. p.1) names) ∙ ap (λ o. option_map (λ h. h.ghost_name) o) c.unwrap-lent.ensures in
     let back = c.helper-2-1.given.1 (cc) ∙ c.give_back.ensures.other in
-    let after = answers_back _ _ _ _ c.unwrap-lent.result _ _ _ _ c.unwrap-lent.ensures c.release-line.ensures.environment refl begins.environment in
-    answers_any g.H.Hinter.hint_at g.H.Validator.verdict_at g.H.Highlighter.lights _ _ _
-    (ap (λ h. answers_of g.H.Hinter.hint_at g.H.Validator.verdict_at g.H.Highlighter.lights h (g.S.History.lines c.args.history.now)) back
-    ∙ sym after ∙ begins.environment ∙ lent_answers _ _ _ _ _)
+    let after = answers_back _ _ _ g.H.Completer _ c.unwrap-lent.result _ _ _ _ c.unwrap-lent.ensures c.release-line.ensures.environment refl begins.environment in
+    answers_any g.H.Hinter.hint_at g.H.Validator.verdict_at g.H.Highlighter.lights g.H.Completer _ _ _
+    (ap (λ h. answers_of g.H.Hinter.hint_at g.H.Validator.verdict_at g.H.Highlighter.lights g.H.Completer h (g.S.History.lines c.args.history.now)) back
+    ∙ sym after ∙ begins.environment ∙ lent_answers _ _ _ g.H.Completer _ _)

@@ -4,7 +4,7 @@ use Rattle.line_buffer.specs.declared.layout.GraphemeClusterMode.TheVariants.{Un
 use Rattle.line_keys.specs.Item.{Item}
 use Rattle.line_keys.specs.declared.editor_state.EditorState as editors
 use Rattle.line_keys.specs.declared.raw_reader.RawReader as readers
-use Rattle.line_parts.specs.Helped.{hint_by, lights_by, sure_by, verdict_by}
+use Rattle.line_parts.specs.Helped.{completion_by, hint_by, lights_by, sure_by, update_by, verdict_by}
 use Rattle.line_parts.specs.Hint.{suggestion_of}
 use Rattle.line_screen.specs.KeyQueue.{Queued, kept_by, queue_binding}
 use Rattle.line_screen.specs.Measure.{measured}
@@ -40,6 +40,8 @@ invariant-turns g l =
         hint_at = hint_by g.H.Hinter.hint_at s.parties.helper;
         verdict_at = verdict_by g.H.Validator.verdict_at s.parties.helper;
         lights = lights_by g.H.Highlighter.lights s.parties.helper;
+        own_completion = completion_by g.H.Completer.own_completion s.parties.helper;
+        own_update = update_by g.H.Completer.own_update s.parties.helper;
         lines = g.S.History.lines s.parties.ctx.history;
       };
       display = λ s. record {
@@ -55,7 +57,7 @@ invariant-turns g l =
       failures = λ s. s.view.out.now.failures;
       redraws = λ s. s.view.out.now.redraws;
     } in
-    Going e reader l.fn.config.indent_size l.fn.mode (session l.fn.state (k l.fn.input_state) l.fn.keys l.fn.kill_ring)
+    Going e reader l.fn.config l.fn.mode (session l.fn.state (k l.fn.input_state) l.fn.keys l.fn.kill_ring)
     l.mode (session l.state (k l.input_state) l.keys l.kill_ring)
     × (l.kill_ring.size ≡ l.fn.kill_ring.size)
 

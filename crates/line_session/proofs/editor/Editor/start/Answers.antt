@@ -7,7 +7,7 @@ use Rattle.line_session.proofs.editor.Editor.start.Goals as goal
 
 pub returns-clause-starts : goal.returns-clause-starts
 returns-clause-starts g c =
-    let asked = answers_of g.H.Hinter.hint_at g.H.Validator.verdict_at g.H.Highlighter.lights in
+    let asked = answers_of g.H.Hinter.hint_at g.H.Validator.verdict_at g.H.Highlighter.lights g.H.Completer in
     let made = c.in_ok-begun in
     let begun : BegunLine = record { kept = made.begun.line; input = made.begun.input; mode = made.begun.mode; draws = made.begun.draws } in
     let columns = ap (λ (s : Surface). s.columns) made.ensures.surface in

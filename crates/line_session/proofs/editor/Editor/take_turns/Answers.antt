@@ -9,7 +9,7 @@ use Rattle.line_session.proofs.editor.Editor.take_turns.Goals as goal
 
 pub returns-clause-came : goal.returns-clause-came
 returns-clause-came g c =
-    let asked = answers_of g.H.Hinter.hint_at g.H.Validator.verdict_at g.H.Highlighter.lights in
+    let asked = answers_of g.H.Hinter.hint_at g.H.Validator.verdict_at g.H.Highlighter.lights g.H.Completer in
     let bound = bound_of (λ vtable. (g.dyn-1.0.entry vtable).1) c.args.bindings.now in
     let old : Sitting g.row.H.Denot = record {
       line = option_map (λ b. record { kept = b.line; input = b.input; mode = b.mode; draws = b.draws }) c.self.inside.line;
@@ -35,7 +35,7 @@ returns-clause-came g c =
 
 pub returns-clause-keeps : goal.returns-clause-keeps
 returns-clause-keeps g c =
-    let asked = answers_of g.H.Hinter.hint_at g.H.Validator.verdict_at g.H.Highlighter.lights in
+    let asked = answers_of g.H.Hinter.hint_at g.H.Validator.verdict_at g.H.Highlighter.lights g.H.Completer in
     let columns = ap (λ (s : Surface). s.columns) c.go_on-begun.ensures.surface in
     let rows = ap (λ (s : Surface). s.rows) c.go_on-begun.ensures.surface in
     let old : Sitting g.row.H.Denot = record {

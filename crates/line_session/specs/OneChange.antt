@@ -1,0 +1,39 @@
+-- A completion is one change.
+use Rattle.std.specs.Prelude.{◌≡◌, ◌++◌, ℕ, Bool, false, List, take, drop, None, IsCharBoundary}
+use Rattle.line_keys.specs.Draft.{Draft, KeepsLine}
+use Rattle.line_parts.specs.Candidate.{BeginsIn}
+use Rattle.line_parts.specs.Environment.{Environment}
+use Rattle.line_parts.specs.Written.{Written}
+use Rattle.line_session.specs.Completing.{Elects, GivesUp, GoesOnTo, before_shown}
+use Rattle.line_session.specs.declared.completing.Completing.{Completing}
+use Rattle.line_session.specs.declared.mode.Mode.{Mode}
+
+-- a completion began at a draft, and was gone through, whatever way: these are its candidates and the one that is shown, and the draft that
+-- is left
+pub data GoneThrough (environment : Environment) (start : Draft) : Completing → Draft → Type 0 where
+  begun : {new : Draft} {mode : Mode} → (going : Completing) (index : ℕ) → going.grown ≡ false → BeginsIn start.line.text start.line.cursor going.start
+      → (goes : GoesOnTo environment going index start new mode) → GoneThrough environment start goes.next new
+  on : {going : Completing} {draft new : Draft} {mode : Mode} → GoneThrough environment start going draft → (index : ℕ)
+      → (goes : GoesOnTo environment going index draft new mode) → GoneThrough environment start goes.next new
+
+-- however a completion was gone through, taking back the change by which the shown candidate came in, if it changed anything, gives the line
+-- from before, with its cursor, where the helper puts texts in as it is usual
+abbrev pub CompletionIsOneChange : Type 0
+CompletionIsOneChange = (environment : Environment) (old new : Draft) (going : Completing)
+    → ((written : Written) (start : ℕ) (text : List ℕ) → environment.own_update written start text ≡ None)
+    → IsCharBoundary old.line.text old.line.cursor → GoneThrough environment old going new
+    → KeepsLine old (before_shown going new)
+
+-- and giving the candidates up gives that line
+abbrev pub GivingUpRestores : Type 0
+GivingUpRestores = (environment : Environment) (old draft new : Draft) (going : Completing) (mode : Mode)
+    → ((written : Written) (start : ℕ) (text : List ℕ) → environment.own_update written start text ≡ None)
+    → IsCharBoundary old.line.text old.line.cursor → GoneThrough environment old going draft → GivesUp environment going draft new mode
+    → KeepsLine old new
+
+-- a candidate that came in leaves the text before the completed part and behind the cursor
+abbrev pub CompletionKeepsTheRest : Type 0
+CompletionKeepsTheRest = (environment : Environment) (start : ℕ) (text : List ℕ) (grown : Bool) (old new : Draft)
+    → ((written : Written) (start : ℕ) (text : List ℕ) → environment.own_update written start text ≡ None)
+    → IsCharBoundary old.line.text old.line.cursor → BeginsIn old.line.text old.line.cursor start → Elects environment start text grown old new
+    → new.line.text ≡ take start old.line.text ++ text ++ drop old.line.cursor old.line.text

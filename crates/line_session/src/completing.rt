@@ -1,0 +1,339 @@
+//! Completions: candidates come into the line one after another, or as far as they agree.
+ghost use Rattle.std.specs.Prelude.{◌≡◌, ◌-◌, ◌==◌, ◌||◌, nat_lt, true, false, [], length, map, option_map, if◌then◌else◌, IfOk, OnOk};
+ghost use Rattle.line_config.specs.Error.{FaultsOnly, MemoryOnly};
+ghost use Rattle.line_editor.specs.Completing.{taken_back_once};
+ghost use Rattle.line_keys.specs.Frame.{Frame};
+ghost use Rattle.line_parts.specs.Candidate.{offer_of, pair_offer};
+ghost use Rattle.line_session.specs.Completing.{Agree, BeginsCompletion, Elects, GivesUp, GoesOnTo, PutsInCommon, Shows, index_before, index_behind};
+ghost use Rattle.line_session.specs.Taken.{IsShown};
+ghost use Rattle.line_session.specs.Steps.{shows_line};
+
+use crate::listing::list;
+use crate::mode::Mode;
+use line_config::{CompletionType, Config, Prompt, Result};
+use line_editor::edit::State;
+use line_keys::editor_state::EditorState;
+use line_keys::refresher::Refresher;
+use line_parts::completion::{Candidate, Pair, longest_common_prefix};
+use line_parts::{Helper, History};
+use line_screen::KeyQueue;
+use line_term::Ansi;
+use std::alloc::Global;
+use std::io::Write;
+
+/// Candidates that are gone through.
+#[derive(Drop)]
+pub struct Completing {
+    /// Where the completed part of the line begins: a byte offset.
+    pub start: usize,
+    /// The candidates, in the helper's order.
+    pub candidates: Vec<Pair>,
+    /// The index of the shown candidate; where the line from before is shown, how many candidates there are.
+    pub shown: usize,
+    /// Whether the changes have grown by the shown one.
+    pub grown: bool,
+}
+
+/// Asks the helper for candidates; where it has none, it beeps. By the settings it shows the first one, to go through them; or
+/// puts in what all of them begin with, which is all of a single one. Several beep then, and are listed at once or at another Tab.
+///
+/// # Errors
+/// Those of the helper and of the output: `Io` and `Memory`.
+pub(crate) fn complete<'out, 'prompt, O: Write + Drop, H: Helper, P: Prompt, S: History>(
+    state: &mut State<'out, 'prompt, Ansi<O, KeyQueue>, H, P, S>,
+    config: &Config,
+) -> Result<Mode>
+    requires { let e = ⟦<State<'out, 'prompt, Ansi<O, KeyQueue>, H, P, S> as EditorState>⟧ in
+        IsShown e state.old }
+    ensures begins { let e = ⟦<State<'out, 'prompt, Ansi<O, KeyQueue>, H, P, S> as EditorState>⟧ in
+        IfOk result (BeginsCompletion config.now (e.environment state.old)
+        (e.draft state.old) (e.draft state.new)) }
+    ensures shown { let e = ⟦<State<'out, 'prompt, Ansi<O, KeyQueue>, H, P, S> as EditorState>⟧ in
+        IfOk result (λ mode. shows_line mode ≡ true → IsShown e state.new) }
+    ensures frame { let e = ⟦<State<'out, 'prompt, Ansi<O, KeyQueue>, H, P, S> as EditorState>⟧ in
+        Frame e state.old state.new }
+    ensures faults { FaultsOnly result }
+{
+    let (start, candidates) = state.completions()?;
+    let candidates = pairs(&candidates)?;
+    if is_nothing(&candidates) {
+        state.beep()?;
+        return Ok(Mode::Editing);
+    }
+    match config.completion_type() {
+        CompletionType::List => complete_in_common(start, candidates, state, config),
+        CompletionType::Circular => {
+            let shown = candidates.len();
+            let before = Completing {
+                start,
+                candidates,
+                shown,
+                grown: false,
+            };
+            before.show(0, state)
+        }
+    }
+}
+
+/// Returns whether there is no candidate.
+fn is_nothing(candidates: &[Pair]) -> bool
+    ensures nothing { result ≡ true → candidates.now ≡ [] }
+    ensures some { result ≡ false → candidates.now ≡ [] → ⊥ }
+{
+    candidates.is_empty()
+}
+
+/// Returns candidates as pairs of texts.
+fn pairs<C: Candidate>(candidates: &Vec<C>) -> Result<Vec<Pair>>
+    ensures pairs { IfOk result (λ pairs.
+        map pair_offer pairs.items ≡ map (offer_of C.Candidate) candidates.now.items) }
+    ensures memory { MemoryOnly result }
+{
+    let alloc = *candidates.allocator();
+    let mut pairs = Vec::new(alloc);
+    for candidate in candidates {
+        pairs.push(pair(alloc, candidate)?)?;
+    }
+    Ok(pairs)
+}
+
+/// Returns a candidate as a pair of texts.
+fn pair<C: Candidate>(alloc: Global, candidate: &C) -> Result<Pair>
+    ensures pair { IfOk result (λ pair. pair_offer pair ≡ offer_of C.Candidate candidate.now) }
+    ensures memory { MemoryOnly result }
+{
+    Ok(Pair {
+        display: String::from_str(alloc, candidate.display())?,
+        replacement: String::from_str(alloc, candidate.replacement())?,
+    })
+}
+
+/// Puts candidates in as far as they agree. A single one is done then; several beep, and are listed at once or at another Tab.
+fn complete_in_common<'out, 'prompt, O: Write + Drop, H: Helper, P: Prompt, S: History>(
+    start: usize,
+    candidates: Vec<Pair>,
+    state: &mut State<'out, 'prompt, Ansi<O, KeyQueue>, H, P, S>,
+    config: &Config,
+) -> Result<Mode>
+    requires { let e = ⟦<State<'out, 'prompt, Ansi<O, KeyQueue>, H, P, S> as EditorState>⟧ in
+        IsShown e state.old }
+    ensures puts { let e = ⟦<State<'out, 'prompt, Ansi<O, KeyQueue>, H, P, S> as EditorState>⟧ in
+        IfOk result (PutsInCommon config.now (e.environment state.old) start candidates
+        (e.draft state.old) (e.draft state.new)) }
+    ensures shown { let e = ⟦<State<'out, 'prompt, Ansi<O, KeyQueue>, H, P, S> as EditorState>⟧ in
+        IfOk result (λ mode. shows_line mode ≡ true → IsShown e state.new) }
+    ensures frame { let e = ⟦<State<'out, 'prompt, Ansi<O, KeyQueue>, H, P, S> as EditorState>⟧ in
+        Frame e state.old state.new }
+    ensures faults { FaultsOnly result }
+{
+    agree(start, &candidates, state)?;
+    if candidates.len() == 1 {
+        return Ok(Mode::Editing);
+    }
+    state.beep()?;
+    if config.completion_show_all_if_ambiguous() {
+        return list(candidates, state, config);
+    }
+    Ok(Mode::Offering(candidates))
+}
+
+/// Puts in what candidates begin with in common, where that is longer than what stands there, or all of the only one.
+fn agree<'out, 'prompt, O: Write + Drop, H: Helper, P: Prompt, S: History>(
+    start: usize,
+    candidates: &[Pair],
+    state: &mut State<'out, 'prompt, Ansi<O, KeyQueue>, H, P, S>,
+) -> Result<()>
+    requires { let e = ⟦<State<'out, 'prompt, Ansi<O, KeyQueue>, H, P, S> as EditorState>⟧ in
+        IsShown e state.old }
+    ensures agree { let e = ⟦<State<'out, 'prompt, Ansi<O, KeyQueue>, H, P, S> as EditorState>⟧ in
+        OnOk result (Agree (e.environment state.old) start candidates.now
+        (e.draft state.old) (e.draft state.new)) }
+    ensures shown { let e = ⟦<State<'out, 'prompt, Ansi<O, KeyQueue>, H, P, S> as EditorState>⟧ in
+        OnOk result (IsShown e state.new) }
+    ensures frame { let e = ⟦<State<'out, 'prompt, Ansi<O, KeyQueue>, H, P, S> as EditorState>⟧ in
+        Frame e state.old state.new }
+    ensures faults { FaultsOnly result }
+{
+    let Some(common) = longest_common_prefix(candidates) else {
+        return Ok(());
+    };
+    if is_put_in(state.pos(), start, common, candidates.len()) {
+        elect(start, common, state)?;
+    }
+    Ok(())
+}
+
+/// Returns whether what so many candidates begin with in common is put in, which comes for what stands from `start` to the cursor.
+fn is_put_in(cursor: usize, start: usize, common: &str, count: usize) -> bool
+    ensures { result ≡ (nat_lt (cursor - start) (length common.now) || (count == 1)) }
+{
+    cursor.saturating_sub(start) < common.len() || count == 1
+}
+
+/// Puts in the text of an elected candidate, and draws the line. Returns whether the changes have grown by it.
+fn elect<'out, 'prompt, O: Write + Drop, H: Helper, P: Prompt, S: History>(
+    start: usize,
+    elected: &str,
+    state: &mut State<'out, 'prompt, Ansi<O, KeyQueue>, H, P, S>,
+) -> Result<bool>
+    ensures elects { let e = ⟦<State<'out, 'prompt, Ansi<O, KeyQueue>, H, P, S> as EditorState>⟧ in
+        IfOk result (λ grown. Elects (e.environment state.old) start elected.now grown
+        (e.draft state.old) (e.draft state.new)) }
+    ensures shown { let e = ⟦<State<'out, 'prompt, Ansi<O, KeyQueue>, H, P, S> as EditorState>⟧ in
+        OnOk result (IsShown e state.new) }
+    ensures frame { let e = ⟦<State<'out, 'prompt, Ansi<O, KeyQueue>, H, P, S> as EditorState>⟧ in
+        Frame e state.old state.new }
+    ensures faults { FaultsOnly result }
+{
+    let grown = state.update_completion(start, elected)?;
+    state.refresh_line()?;
+    Ok(grown)
+}
+
+impl Completing {
+    /// Shows the candidate behind the shown one: behind the last one, the line from before, and then the first one.
+    ///
+    /// # Errors
+    /// Those of the helper and of the output: `Io` and `Memory`.
+    pub(crate) fn show_next<'out, 'prompt, O: Write + Drop, H: Helper, P: Prompt, S: History>(
+        self,
+        state: &mut State<'out, 'prompt, Ansi<O, KeyQueue>, H, P, S>,
+    ) -> Result<Mode>
+        ensures goes { let e = ⟦<State<'out, 'prompt, Ansi<O, KeyQueue>, H, P, S> as EditorState>⟧ in
+            IfOk result (GoesOnTo (e.environment state.old) self (index_behind self)
+            (e.draft state.old) (e.draft state.new)) }
+        ensures shown { let e = ⟦<State<'out, 'prompt, Ansi<O, KeyQueue>, H, P, S> as EditorState>⟧ in
+            OnOk result (IsShown e state.new) }
+        ensures frame { let e = ⟦<State<'out, 'prompt, Ansi<O, KeyQueue>, H, P, S> as EditorState>⟧ in
+            Frame e state.old state.new }
+        ensures faults { FaultsOnly result }
+    {
+        let index = if self.shown < self.candidates.len() {
+            self.shown + 1
+        } else {
+            0
+        };
+        self.show(index, state)
+    }
+
+    /// Shows the candidate before the shown one, the other way round.
+    ///
+    /// # Errors
+    /// Those of `show_next`.
+    pub(crate) fn show_previous<'out, 'prompt, O: Write + Drop, H: Helper, P: Prompt, S: History>(
+        self,
+        state: &mut State<'out, 'prompt, Ansi<O, KeyQueue>, H, P, S>,
+    ) -> Result<Mode>
+        ensures goes { let e = ⟦<State<'out, 'prompt, Ansi<O, KeyQueue>, H, P, S> as EditorState>⟧ in
+            IfOk result (GoesOnTo (e.environment state.old) self (index_before self)
+            (e.draft state.old) (e.draft state.new)) }
+        ensures shown { let e = ⟦<State<'out, 'prompt, Ansi<O, KeyQueue>, H, P, S> as EditorState>⟧ in
+            OnOk result (IsShown e state.new) }
+        ensures frame { let e = ⟦<State<'out, 'prompt, Ansi<O, KeyQueue>, H, P, S> as EditorState>⟧ in
+            Frame e state.old state.new }
+        ensures faults { FaultsOnly result }
+    {
+        let index = if self.shown == 0 {
+            self.candidates.len()
+        } else {
+            self.shown - 1
+        };
+        self.show(index, state)
+    }
+
+    /// Shows the candidate at an index in place of the shown one: behind the last one, with a beep, the line from before.
+    fn show<'out, 'prompt, O: Write + Drop, H: Helper, P: Prompt, S: History>(
+        self,
+        index: usize,
+        state: &mut State<'out, 'prompt, Ansi<O, KeyQueue>, H, P, S>,
+    ) -> Result<Mode>
+        ensures goes { let e = ⟦<State<'out, 'prompt, Ansi<O, KeyQueue>, H, P, S> as EditorState>⟧ in
+            IfOk result (GoesOnTo (e.environment state.old) self index
+            (e.draft state.old) (e.draft state.new)) }
+        ensures shown { let e = ⟦<State<'out, 'prompt, Ansi<O, KeyQueue>, H, P, S> as EditorState>⟧ in
+            OnOk result (IsShown e state.new) }
+        ensures frame { let e = ⟦<State<'out, 'prompt, Ansi<O, KeyQueue>, H, P, S> as EditorState>⟧ in
+            Frame e state.old state.new }
+        ensures faults { FaultsOnly result }
+    {
+        let Completing {
+            start,
+            candidates,
+            shown: _,
+            grown,
+        } = self;
+        take_back(grown, state)?;
+        let grown = show(start, candidates.get(index), state)?;
+        Ok(Mode::Completing(Completing {
+            start,
+            candidates,
+            shown: index,
+            grown,
+        }))
+    }
+
+    /// Gives the candidates up: shows the line from before them.
+    ///
+    /// # Errors
+    /// Those of the output: `Io` and `Memory`.
+    pub(crate) fn give_up<'out, 'prompt, O: Write + Drop, H: Helper, P: Prompt, S: History>(
+        self,
+        state: &mut State<'out, 'prompt, Ansi<O, KeyQueue>, H, P, S>,
+    ) -> Result<Mode>
+        ensures gives { let e = ⟦<State<'out, 'prompt, Ansi<O, KeyQueue>, H, P, S> as EditorState>⟧ in
+            IfOk result (GivesUp (e.environment state.old) self
+            (e.draft state.old) (e.draft state.new)) }
+        ensures shown { let e = ⟦<State<'out, 'prompt, Ansi<O, KeyQueue>, H, P, S> as EditorState>⟧ in
+            OnOk result (IsShown e state.new) }
+        ensures frame { let e = ⟦<State<'out, 'prompt, Ansi<O, KeyQueue>, H, P, S> as EditorState>⟧ in
+            Frame e state.old state.new }
+        ensures faults { FaultsOnly result }
+    {
+        take_back(self.grown, state)?;
+        state.refresh_line()?;
+        Ok(Mode::Editing)
+    }
+}
+
+/// Takes the change of the shown candidate back, if the changes have grown by it. Nothing is drawn.
+fn take_back<'out, 'prompt, O: Write + Drop, H: Helper, P: Prompt, S: History>(
+    grown: bool,
+    state: &mut State<'out, 'prompt, Ansi<O, KeyQueue>, H, P, S>,
+) -> Result<()>
+    ensures draft { let e = ⟦<State<'out, 'prompt, Ansi<O, KeyQueue>, H, P, S> as EditorState>⟧ in
+        OnOk result (e.draft state.new
+        ≡ (if grown then taken_back_once (e.draft state.old) else e.draft state.old)) }
+    ensures frame { let e = ⟦<State<'out, 'prompt, Ansi<O, KeyQueue>, H, P, S> as EditorState>⟧ in
+        Frame e state.old state.new }
+    ensures faults { FaultsOnly result }
+{
+    if grown {
+        state.take_back()?;
+    }
+    Ok(())
+}
+
+/// Shows a candidate, or, with a beep, the line as it is. Returns whether the changes have grown by it.
+fn show<'out, 'prompt, O: Write + Drop, H: Helper, P: Prompt, S: History>(
+    start: usize,
+    candidate: Option<&Pair>,
+    state: &mut State<'out, 'prompt, Ansi<O, KeyQueue>, H, P, S>,
+) -> Result<bool>
+    ensures shows { let e = ⟦<State<'out, 'prompt, Ansi<O, KeyQueue>, H, P, S> as EditorState>⟧ in
+        IfOk result (λ grown. Shows (e.environment state.old) start
+        (option_map (λ pair. pair.now) candidate.entry) grown (e.draft state.old) (e.draft state.new)) }
+    ensures shown { let e = ⟦<State<'out, 'prompt, Ansi<O, KeyQueue>, H, P, S> as EditorState>⟧ in
+        OnOk result (IsShown e state.new) }
+    ensures frame { let e = ⟦<State<'out, 'prompt, Ansi<O, KeyQueue>, H, P, S> as EditorState>⟧ in
+        Frame e state.old state.new }
+    ensures faults { FaultsOnly result }
+{
+    match candidate {
+        Some(candidate) => elect(start, candidate.replacement(), state),
+        None => {
+            state.beep()?;
+            state.refresh_line()?;
+            Ok(false)
+        }
+    }
+}

@@ -1,0 +1,369 @@
+//! Lists of candidates, in columns and by pages, above the line.
+ghost use Rattle.std.specs.Prelude.{◌≡◌, ◌<◌, None, Some, true, IfOk, OnOk};
+ghost use Rattle.line_config.specs.Error.{FaultsOnly, MemoryOnly};
+ghost use Rattle.line_keys.specs.Frame.{Frame};
+ghost use Rattle.line_session.specs.Completing.{EndsList, Lists, ListsPage, ListsRows, Replies, reply_by, reply_of, reply_to_more, reply_to_question, unctrled};
+ghost use Rattle.line_session.specs.Taken.{IsShown, item_of};
+ghost use Rattle.line_session.specs.Steps.{shows_line};
+
+use crate::mode::{AsItIs, Mode};
+use line_buffer::Position;
+use line_config::{Config, Prompt, Result};
+use line_editor::edit::State;
+use line_keys::editor_state::EditorState;
+use line_keys::keys::{KeyCode, KeyEvent, Modifiers};
+use line_keys::refresher::Refresher;
+use line_parts::completion::Pair;
+use line_parts::{Helper, History};
+use line_screen::KeyQueue;
+use line_state::Renderer;
+use line_term::Ansi;
+use std::alloc::Global;
+use std::io::Write;
+
+/// Candidates that are listed row by row: down the first column, then down the next.
+#[derive(Drop)]
+pub struct Listing {
+    /// The candidates, in the helper's order.
+    pub candidates: Vec<Pair>,
+    /// How wide a column of the list is, in columns of the screen.
+    width: usize,
+    /// How many columns the list has.
+    columns: usize,
+    /// How many rows it has.
+    pub rows: usize,
+    /// The row that is listed next; None where it was asked whether to list at all.
+    pub next: Option<usize>,
+}
+
+/// What a key says to a list.
+#[derive(Clone, Copy, Debug, PartialEq, Eq)]
+pub enum Reply {
+    /// To list a page: one row fewer than the screen has, and at least one.
+    Page,
+    /// To list one row.
+    Row,
+    /// To list nothing more.
+    Stop,
+    /// Nothing.
+    Nothing,
+}
+
+/// Lists candidates above the line; where they are more than the settings' limit, it asks first.
+///
+/// # Errors
+/// Those of the output and of the helper's hints: `Io` and `Memory`.
+pub(crate) fn list<'out, 'prompt, O: Write + Drop, H: Helper, P: Prompt, S: History>(
+    candidates: Vec<Pair>,
+    state: &mut State<'out, 'prompt, Ansi<O, KeyQueue>, H, P, S>,
+    config: &Config,
+) -> Result<Mode>
+    ensures lists { let e = ⟦<State<'out, 'prompt, Ansi<O, KeyQueue>, H, P, S> as EditorState>⟧ in
+        IfOk result (Lists config.now (e.environment state.old) candidates
+        (e.draft state.old) (e.draft state.new)) }
+    ensures shown { let e = ⟦<State<'out, 'prompt, Ansi<O, KeyQueue>, H, P, S> as EditorState>⟧ in
+        IfOk result (λ mode. shows_line mode ≡ true → IsShown e state.new) }
+    ensures frame { let e = ⟦<State<'out, 'prompt, Ansi<O, KeyQueue>, H, P, S> as EditorState>⟧ in
+        Frame e state.old state.new }
+    ensures faults { FaultsOnly result }
+{
+    let asks = config.completion_prompt_limit() < candidates.as_slice().len();
+    let listing = Listing::new(candidates, state.out());
+    if asks {
+        return listing.ask(state);
+    }
+    listing.list_page(state)
+}
+
+impl Listing {
+    /// Returns a list of candidates on a screen.
+    fn new<O: Write + Drop>(candidates: Vec<Pair>, screen: &Ansi<O, KeyQueue>) -> Listing
+        ensures candidates { result.candidates ≡ candidates }
+        ensures next { result.next ≡ None }
+    {
+        let screen_columns: usize = screen.get_columns().into();
+        let mut widest = 0;
+        for candidate in &candidates {
+            widest = widest.max(width_of(candidate, screen));
+        }
+        let width = screen_columns.min(widest.saturating_add(2));
+        let columns = screen_columns / width;
+        let rows = candidates.len() / columns + usize::from(candidates.len() % columns > 0);
+        Listing {
+            candidates,
+            width,
+            columns,
+            rows,
+            next: None,
+        }
+    }
+
+    /// Asks whether to list the candidates.
+    fn ask<'out, 'prompt, O: Write + Drop, H: Helper, P: Prompt, S: History>(
+        self,
+        state: &mut State<'out, 'prompt, Ansi<O, KeyQueue>, H, P, S>,
+    ) -> Result<Mode>
+        ensures asks { let e = ⟦<State<'out, 'prompt, Ansi<O, KeyQueue>, H, P, S> as EditorState>⟧ in
+            IfOk result (λ mode. (mode ≡ Mode.Listing self)
+            × (e.draft state.new ≡ e.draft state.old)) }
+        ensures frame { let e = ⟦<State<'out, 'prompt, Ansi<O, KeyQueue>, H, P, S> as EditorState>⟧ in
+            Frame e state.old state.new }
+        ensures faults { FaultsOnly result }
+    {
+        let alloc = *self.candidates.allocator();
+        let count = self.candidates.len();
+        let question = format!(in alloc; "Display all {count} possibilities? (y or n)")?;
+        write_above(alloc, question.as_str(), state)?;
+        Ok(Mode::Listing(self))
+    }
+
+    /// Answers an item: lists more, or ends the list and draws the line below it.
+    ///
+    /// # Errors
+    /// Those of `list`.
+    pub(crate) fn answer<'out, 'prompt, O: Write + Drop, H: Helper, P: Prompt, S: History>(
+        self,
+        item: &AsItIs,
+        state: &mut State<'out, 'prompt, Ansi<O, KeyQueue>, H, P, S>,
+    ) -> Result<Mode>
+        ensures replies { let e = ⟦<State<'out, 'prompt, Ansi<O, KeyQueue>, H, P, S> as EditorState>⟧ in
+            IfOk result (Replies (e.environment state.old) self
+            (reply_by self.next (item_of item.now)) (e.draft state.old) (e.draft state.new)) }
+        ensures shown { let e = ⟦<State<'out, 'prompt, Ansi<O, KeyQueue>, H, P, S> as EditorState>⟧ in
+            IfOk result (λ mode. shows_line mode ≡ true → IsShown e state.new) }
+        ensures frame { let e = ⟦<State<'out, 'prompt, Ansi<O, KeyQueue>, H, P, S> as EditorState>⟧ in
+            Frame e state.old state.new }
+        ensures faults { FaultsOnly result }
+    {
+        match reply_by(self.next, item) {
+            Reply::Page => self.list_page(state),
+            Reply::Row => self.list_rows(1, state),
+            Reply::Stop => end(*self.candidates.allocator(), state),
+            Reply::Nothing => Ok(Mode::Listing(self)),
+        }
+    }
+
+    /// Lists a page more.
+    fn list_page<'out, 'prompt, O: Write + Drop, H: Helper, P: Prompt, S: History>(
+        self,
+        state: &mut State<'out, 'prompt, Ansi<O, KeyQueue>, H, P, S>,
+    ) -> Result<Mode>
+        ensures lists { let e = ⟦<State<'out, 'prompt, Ansi<O, KeyQueue>, H, P, S> as EditorState>⟧ in
+            IfOk result (ListsPage (e.environment state.old) self
+            (e.draft state.old) (e.draft state.new)) }
+        ensures shown { let e = ⟦<State<'out, 'prompt, Ansi<O, KeyQueue>, H, P, S> as EditorState>⟧ in
+            IfOk result (λ mode. shows_line mode ≡ true → IsShown e state.new) }
+        ensures frame { let e = ⟦<State<'out, 'prompt, Ansi<O, KeyQueue>, H, P, S> as EditorState>⟧ in
+            Frame e state.old state.new }
+        ensures faults { FaultsOnly result }
+    {
+        let rows: usize = state.out().get_rows().into();
+        self.list_rows(rows.saturating_sub(1).max(1), state)
+    }
+
+    /// Lists so many rows more, or as many as there are. Below the last row of the list the line is drawn.
+    fn list_rows<'out, 'prompt, O: Write + Drop, H: Helper, P: Prompt, S: History>(
+        self,
+        count: usize,
+        state: &mut State<'out, 'prompt, Ansi<O, KeyQueue>, H, P, S>,
+    ) -> Result<Mode>
+        ensures lists { let e = ⟦<State<'out, 'prompt, Ansi<O, KeyQueue>, H, P, S> as EditorState>⟧ in
+            IfOk result (ListsRows (e.environment state.old) self count
+            (e.draft state.old) (e.draft state.new)) }
+        ensures shown { let e = ⟦<State<'out, 'prompt, Ansi<O, KeyQueue>, H, P, S> as EditorState>⟧ in
+            IfOk result (λ mode. shows_line mode ≡ true → IsShown e state.new) }
+        ensures frame { let e = ⟦<State<'out, 'prompt, Ansi<O, KeyQueue>, H, P, S> as EditorState>⟧ in
+            Frame e state.old state.new }
+        ensures faults { FaultsOnly result }
+    {
+        let alloc = *self.candidates.allocator();
+        let from = self.next.unwrap_or(0);
+        let until = from.saturating_add(count).min(self.rows);
+        let text = self.text(alloc, state.out(), from, until)?;
+        write_above(alloc, text.as_str(), state)?;
+        if until < self.rows {
+            return Ok(self.paused(until));
+        }
+        end(alloc, state)
+    }
+
+    /// Returns the mode of a list that goes on with this row.
+    fn paused(self, next: usize) -> Mode
+        ensures { result ≡ Mode.Listing (record self { next = Some next }) }
+    {
+        let Listing {
+            candidates,
+            width,
+            columns,
+            rows,
+            next: _,
+        } = self;
+        Mode::Listing(Listing {
+            candidates,
+            width,
+            columns,
+            rows,
+            next: Some(next),
+        })
+    }
+
+    /// Returns the text of the rows from one to before another, each on a line of its own; and where these are not the last,
+    /// `--More--` below them.
+    fn text<O: Write + Drop>(
+        &self,
+        alloc: Global,
+        screen: &Ansi<O, KeyQueue>,
+        from: usize,
+        until: usize,
+    ) -> Result<String>
+        ensures memory { MemoryOnly result }
+    {
+        let mut text = String::new(alloc);
+        for row in from..until {
+            self.push_row(&mut text, screen, row)?;
+            text.push('\n')?;
+        }
+        if until < self.rows {
+            text.push_str("--More--")?;
+        }
+        Ok(text)
+    }
+
+    /// Appends a row: the candidates that stand in it, each of them but the last filled up with blanks to the width of a column.
+    fn push_row<O: Write + Drop>(
+        &self,
+        text: &mut String,
+        screen: &Ansi<O, KeyQueue>,
+        row: usize,
+    ) -> Result<()>
+        ensures memory { MemoryOnly result }
+    {
+        let mut index = row;
+        let mut blanks = 0;
+        for _ in 0..self.columns {
+            if let Some(candidate) = self.candidates.get(index) {
+                push_blanks(text, blanks)?;
+                text.push_str(candidate.display.as_str())?;
+                blanks = self.width.saturating_sub(width_of(candidate, screen));
+            }
+            index = index.saturating_add(self.rows);
+        }
+        Ok(())
+    }
+}
+
+/// Appends so many blanks.
+fn push_blanks(text: &mut String, count: usize) -> Result<()>
+    ensures memory { MemoryOnly result }
+{
+    for _ in 0..count {
+        text.push(' ')?;
+    }
+    Ok(())
+}
+
+/// Returns how many columns of a screen a candidate takes in a list: all of them, where it needs more than a row.
+fn width_of<O: Write + Drop>(candidate: &Pair, screen: &Ansi<O, KeyQueue>) -> usize {
+    let end = screen.calculate_position(candidate.display.as_str(), Position { row: 0, col: 0 });
+    if end.row > 0 {
+        return screen.get_columns().into();
+    }
+    end.col.into()
+}
+
+/// Writes a text above the line, which is to be drawn below it.
+fn write_above<'out, 'prompt, O: Write + Drop, H: Helper, P: Prompt, S: History>(
+    alloc: Global,
+    text: &str,
+    state: &mut State<'out, 'prompt, Ansi<O, KeyQueue>, H, P, S>,
+) -> Result<()>
+    ensures draft { let e = ⟦<State<'out, 'prompt, Ansi<O, KeyQueue>, H, P, S> as EditorState>⟧ in
+        e.draft state.new ≡ e.draft state.old }
+    ensures frame { let e = ⟦<State<'out, 'prompt, Ansi<O, KeyQueue>, H, P, S> as EditorState>⟧ in
+        Frame e state.old state.new }
+    ensures faults { FaultsOnly result }
+{
+    state.write_above(text, &mut KeyQueue::new(alloc))
+}
+
+/// Ends a list: draws the line below it.
+fn end<'out, 'prompt, O: Write + Drop, H: Helper, P: Prompt, S: History>(
+    alloc: Global,
+    state: &mut State<'out, 'prompt, Ansi<O, KeyQueue>, H, P, S>,
+) -> Result<Mode>
+    ensures ends { let e = ⟦<State<'out, 'prompt, Ansi<O, KeyQueue>, H, P, S> as EditorState>⟧ in
+        IfOk result (EndsList (e.environment state.old) (e.draft state.old) (e.draft state.new)) }
+    ensures shown { let e = ⟦<State<'out, 'prompt, Ansi<O, KeyQueue>, H, P, S> as EditorState>⟧ in
+        OnOk result (IsShown e state.new) }
+    ensures frame { let e = ⟦<State<'out, 'prompt, Ansi<O, KeyQueue>, H, P, S> as EditorState>⟧ in
+        Frame e state.old state.new }
+    ensures faults { FaultsOnly result }
+{
+    write_above(alloc, "", state)?;
+    state.refresh_line()?;
+    Ok(Mode::Editing)
+}
+
+/// Returns the reply of an item to a list that goes on with a row, or to the question whether to list.
+fn reply_by(next: Option<usize>, item: &AsItIs) -> Reply
+    ensures { result ≡ reply_by next (item_of item.now) }
+{
+    match item {
+        AsItIs::Text(_) => Reply::Nothing,
+        AsItIs::Key(KeyEvent(code, modifiers)) => {
+            if *modifiers == Modifiers::NONE {
+                return reply_of(next, *code);
+            }
+            if *modifiers == Modifiers::CTRL {
+                return reply_of(next, unctrled(*code));
+            }
+            Reply::Nothing
+        }
+    }
+}
+
+/// Returns the key that one with Ctrl is read as: C-j as Enter.
+fn unctrled(code: KeyCode) -> KeyCode
+    ensures { result ≡ unctrled code }
+{
+    match code {
+        KeyCode::Char('J') => KeyCode::Enter,
+        _ => KeyCode::Null,
+    }
+}
+
+/// Returns the reply of a key to the question, or to `--More--`.
+fn reply_of(next: Option<usize>, code: KeyCode) -> Reply
+    ensures { result ≡ reply_of next code }
+{
+    match next {
+        None => reply_to_question(code),
+        Some(_) => reply_to_more(code),
+    }
+}
+
+/// Returns the reply of a key to the question whether to list.
+fn reply_to_question(code: KeyCode) -> Reply
+    ensures { result ≡ reply_to_question code }
+{
+    match code {
+        KeyCode::Char('y') | KeyCode::Char('Y') => Reply::Page,
+        KeyCode::Char('n') | KeyCode::Char('N') | KeyCode::Backspace => Reply::Stop,
+        _ => Reply::Nothing,
+    }
+}
+
+/// Returns the reply of a key to `--More--`.
+fn reply_to_more(code: KeyCode) -> Reply
+    ensures { result ≡ reply_to_more code }
+{
+    match code {
+        KeyCode::Char('y') | KeyCode::Char('Y') | KeyCode::Char(' ') => Reply::Page,
+        KeyCode::Char('n') | KeyCode::Char('N') | KeyCode::Char('q') | KeyCode::Char('Q') => {
+            Reply::Stop
+        }
+        KeyCode::Backspace => Reply::Stop,
+        KeyCode::Enter => Reply::Row,
+        _ => Reply::Nothing,
+    }
+}

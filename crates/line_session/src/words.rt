@@ -1,0 +1,71 @@
+//! A completer of words.
+ghost use Rattle.std.specs.Prelude.{◌≡◌, true, Some, map, IfOk, string_bytes};
+ghost use Rattle.line_config.specs.Error.{MemoryOnly};
+ghost use Rattle.line_session.specs.Words.{beginning_with, breaks_words};
+
+use line_config::Result;
+use line_parts::completion::extract_word;
+use line_parts::{Completer, Context, History};
+use std::alloc::Global;
+
+/// Completes the word before the cursor by those of a list that begin with it, in the list's order. Letters, digits, `_` and all
+/// characters past ASCII make a word.
+#[derive(Drop)]
+pub struct Words {
+    /// The words.
+    pub words: Vec<String>,
+}
+
+impl Completer for Words {
+    ghost use Rattle.line_session.specs.Words.{completed_among};
+
+    type Candidate = String;
+
+    ghost sure = { λ _. true };
+
+    ghost own_completion = { λ words shown.
+        Some (completed_among (map string_bytes words.words.items) shown.text shown.cursor) };
+
+    fn complete<S: History>(
+        &self,
+        alloc: Global,
+        line: &str,
+        pos: usize,
+        _ctx: &Context<'_, S>,
+    ) -> Result<(usize, Vec<String>)> {
+        let (start, word) = extract_word(
+            line,
+            pos,
+            None,
+            |c|
+                ensures { result ≡ breaks_words c }
+            { breaks_words(c) },
+        );
+        Ok((start, beginning_with(alloc, self.words.as_slice(), word)?))
+    }
+}
+
+/// Returns copies of the words that begin with `start`.
+fn beginning_with(alloc: Global, words: &[String], start: &str) -> Result<Vec<String>>
+    ensures words { IfOk result (λ found. map string_bytes found.items
+        ≡ beginning_with start.now (map string_bytes words.now)) }
+    ensures memory { MemoryOnly result }
+{
+    let mut found = Vec::new(alloc);
+    for word in words {
+        if word.starts_with(start) {
+            found.push(word.clone()?)?;
+        }
+    }
+    Ok(found)
+}
+
+/// Returns whether a character is no part of a word.
+fn breaks_words(c: char) -> bool
+    ensures { result ≡ breaks_words c }
+{
+    if c.is_ascii_alphanumeric() || c == '_' {
+        return false;
+    }
+    c.is_ascii()
+}
