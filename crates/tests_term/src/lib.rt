@@ -1,5 +1,5 @@
 //! The tests of `line_term`: sequences of terminals, texts and pasted texts by their bytes, bytes that are made from a number, and what
-//! a terminal asks of its output; and of `line_session`: lines by the bytes that are typed, whole and in pieces.
+//! a terminal asks of its output; and of `line_session`: lines by the bytes that are typed, whole and in pieces, and completions.
 #![tactic(auto)]
 
 #[cfg(test)]
@@ -7,6 +7,8 @@ use std::process::Abort;
 
 #[cfg(test)]
 mod by_bytes;
+#[cfg(test)]
+mod completions;
 #[cfg(test)]
 mod lines;
 #[cfg(test)]

@@ -4,17 +4,17 @@ use crate::holds;
 use line_buffer::GraphemeClusterMode;
 use line_config::{Config, EditMode, ReadlineError, Result};
 use line_editor::Bindings;
-use line_parts::{History, MemHistory};
+use line_parts::{Helper, History, MemHistory};
 use line_session::editor::{Editor, Fed};
 use std::alloc::Global;
 
-type Session = Editor<Vec<u8>, (), MemHistory>;
+type Session<H> = Editor<Vec<u8>, H, MemHistory>;
 
 /// How many bytes are fed at once: all, or one after another.
-const PIECES: [usize; 3] = [usize::MAX, 1, 3];
+pub(crate) const PIECES: [usize; 3] = [usize::MAX, 1, 3];
 
 /// An editor with one line in its history, which submitted lines join.
-fn editor(alloc: Global, edit_mode: EditMode) -> Result<Session> {
+fn editor(alloc: Global, edit_mode: EditMode) -> Result<Session<()>> {
     let config = Config::builder(GraphemeClusterMode::Unicode)
         .edit_mode(edit_mode)
         .auto_add_history(true)
@@ -25,7 +25,7 @@ fn editor(alloc: Global, edit_mode: EditMode) -> Result<Session> {
 }
 
 /// What is done.
-enum Step {
+pub(crate) enum Step {
     /// Begins a line, with these texts before and behind the cursor.
     Begin(&'static str, &'static str),
     /// Feeds bytes.
@@ -36,7 +36,12 @@ enum Step {
 }
 
 /// Feeds bytes in pieces of at most this length, up to where the line ends.
-fn fed(session: &mut Session, bytes: &[u8], piece: usize, bindings: &Bindings) -> Result<Fed> {
+fn fed<H: Helper + Drop>(
+    session: &mut Session<H>,
+    bytes: &[u8],
+    piece: usize,
+    bindings: &Bindings,
+) -> Result<Fed> {
     let mut last = Fed::More;
     for bytes in bytes.chunks(piece.max(1)) {
         last = session.feed(bytes, bindings)?;
@@ -45,7 +50,12 @@ fn fed(session: &mut Session, bytes: &[u8], piece: usize, bindings: &Bindings) -
 }
 
 /// Does a step.
-fn done(session: &mut Session, step: &Step, piece: usize, bindings: &Bindings) -> Result<Fed> {
+pub(crate) fn done<H: Helper + Drop>(
+    session: &mut Session<H>,
+    step: &Step,
+    piece: usize,
+    bindings: &Bindings,
+) -> Result<Fed> {
     match step {
         Step::Begin(left, right) => session.begin_with(&"> ", (*left, *right), bindings),
         Step::Feed(bytes) => fed(session, bytes.as_bytes(), piece, bindings),
@@ -59,7 +69,7 @@ fn done(session: &mut Session, step: &Step, piece: usize, bindings: &Bindings) -
 }
 
 /// What is wanted: the line and its cursor, where it goes on; or how it ended.
-enum Want {
+pub(crate) enum Want {
     More(&'static str, usize),
     NoLine,
     Submitted(&'static str),
@@ -68,7 +78,7 @@ enum Want {
 }
 
 /// Whether this came of it.
-fn is_met(want: &Want, fed: &Fed, session: &Session) -> bool {
+pub(crate) fn is_met<H: Helper + Drop>(want: &Want, fed: &Fed, session: &Session<H>) -> bool {
     match (want, fed) {
         (Want::More(line, cursor), Fed::More) => {
             session.line() == Some(*line) && session.pos() == Some(*cursor)
@@ -81,7 +91,7 @@ fn is_met(want: &Want, fed: &Fed, session: &Session) -> bool {
     }
 }
 
-const BEGIN: Step = Step::Begin("", "");
+pub(crate) const BEGIN: Step = Step::Begin("", "");
 
 const CASES: &[(EditMode, &[Step], Want)] = &[
     // keys and commands of both styles

@@ -1,0 +1,476 @@
+//! What comes of completions, by the bytes that are typed, whole and in pieces.
+ghost use Rattle.std.specs.Prelude.{◌≡◌, true, map, IfOk, Some};
+ghost use Rattle.line_config.specs.Error.{MemoryOnly};
+ghost use Rattle.line_parts.specs.Completed.{listed_of};
+
+use crate::holds;
+use crate::lines::{BEGIN, PIECES, Step, Want, done, is_met};
+use line_buffer::GraphemeClusterMode;
+use line_config::{CompletionType, Config, EditMode, Result};
+use line_editor::Bindings;
+use line_parts::{Entry, FilenameCompleter, Lister, MemHistory};
+use line_session::editor::{Editor, Fed};
+use line_session::parts::Parts;
+use std::alloc::Global;
+
+/// The names in any folder.
+#[derive(Drop)]
+struct Names {
+    entries: Vec<Entry>,
+}
+
+impl Lister for Names {
+    ghost sure = { λ _. true };
+
+    ghost listing = { λ names _. Some (map listed_of names.entries.items) };
+
+    fn list(&self, alloc: Global, _dir: &str) -> Result<Option<Vec<Entry>>> {
+        Ok(Some(copied(alloc, self.entries.as_slice())?))
+    }
+}
+
+/// The same names.
+fn copied(alloc: Global, entries: &[Entry]) -> Result<Vec<Entry>>
+    ensures entries { IfOk result (λ v. map listed_of v.items ≡ map listed_of entries.now) }
+    ensures memory { MemoryOnly result }
+{
+    let mut copies = Vec::new(alloc);
+    for entry in entries {
+        copies.push(Entry {
+            name: entry.name.clone()?,
+            folder: entry.folder,
+        })?;
+    }
+    Ok(copies)
+}
+
+type Completing = Editor<Vec<u8>, Parts<FilenameCompleter<Names>, (), (), ()>, MemHistory>;
+
+/// The names that stand between blanks, behind each other; a slash stands behind those of folders.
+fn lister(alloc: Global, text: &str) -> Result<Names> {
+    let mut entries = Vec::new(alloc);
+    for name in text.split(' ') {
+        entries.push(Entry {
+            name: String::from_str(alloc, name.strip_suffix('/').unwrap_or(name))?,
+            folder: name.ends_with('/'),
+        })?;
+    }
+    Ok(Names { entries })
+}
+
+/// How candidates are offered.
+enum Offer {
+    /// One after another, in this style of editing.
+    Round(EditMode),
+    /// As a list, which is asked for past so many, at once or at another Tab.
+    List(usize, bool),
+}
+
+/// An editor on a screen of 20 columns and 5 rows.
+fn editor(alloc: Global, offer: &Offer, text: &str) -> Result<Completing> {
+    let builder = Config::builder(GraphemeClusterMode::Unicode);
+    let config = match offer {
+        Offer::Round(edit_mode) => builder.edit_mode(*edit_mode).build(),
+        Offer::List(limit, at_once) => builder
+            .completion_type(CompletionType::List)
+            .completion_prompt_limit(*limit)
+            .completion_show_all_if_ambiguous(*at_once)
+            .build(),
+    };
+    let helper = Parts {
+        completer: FilenameCompleter::new(lister(alloc, text)?),
+        hinter: (),
+        highlighter: (),
+        validator: (),
+    };
+    let history = MemHistory::new(alloc);
+    let mut editor = Editor::new(alloc, config, Vec::new(alloc), 20, helper, history);
+    editor.resize(20, 5)?;
+    Ok(editor)
+}
+
+const ROUND: Offer = Offer::Round(EditMode::Emacs);
+
+const LIST: Offer = Offer::List(100, false);
+
+/// How candidates are offered, the names, what is done, what is wanted of the line, and what is written to the terminal on the way.
+const CASES: &[(Offer, &str, &[Step], Want, &str)] = &[
+    // round by way of the line from before, and back
+    (
+        ROUND,
+        "ab ac",
+        &[BEGIN, Step::Feed("x a\t")],
+        Want::More("x ab", 4),
+        "",
+    ),
+    (
+        ROUND,
+        "ab ac",
+        &[BEGIN, Step::Feed("x a\t\t")],
+        Want::More("x ac", 4),
+        "",
+    ),
+    (
+        ROUND,
+        "ab ac",
+        &[BEGIN, Step::Feed("x a\t\t\t")],
+        Want::More("x a", 3),
+        "\x07",
+    ),
+    (
+        ROUND,
+        "ab ac",
+        &[BEGIN, Step::Feed("x a\t\t\t\t")],
+        Want::More("x ab", 4),
+        "",
+    ),
+    (
+        ROUND,
+        "ab ac",
+        &[BEGIN, Step::Feed("a\t\x1b[Z")],
+        Want::More("a", 1),
+        "\x07",
+    ),
+    (
+        ROUND,
+        "ab ac",
+        &[BEGIN, Step::Feed("a\t\x1b[Z\x1b[Z")],
+        Want::More("ac", 2),
+        "",
+    ),
+    (
+        ROUND,
+        "ab ac",
+        &[Step::Begin("a", "z"), Step::Feed("\t\t")],
+        Want::More("acz", 2),
+        "",
+    ),
+    // Abort gives the candidates up, and anything else keeps the shown one
+    (
+        ROUND,
+        "ab ac",
+        &[BEGIN, Step::Feed("x a\t\t\x07")],
+        Want::More("x a", 3),
+        "",
+    ),
+    (
+        ROUND,
+        "ab ac",
+        &[BEGIN, Step::Feed("a\t\x07\t")],
+        Want::More("ab", 2),
+        "",
+    ),
+    (
+        ROUND,
+        "ab ac",
+        &[BEGIN, Step::Feed("a\tx")],
+        Want::More("abx", 3),
+        "",
+    ),
+    (
+        ROUND,
+        "ab ac",
+        &[BEGIN, Step::Feed("a\t\x02")],
+        Want::More("ab", 1),
+        "",
+    ),
+    (
+        ROUND,
+        "ab ac",
+        &[BEGIN, Step::Feed("a\t\r")],
+        Want::Submitted("ab"),
+        "",
+    ),
+    (
+        ROUND,
+        "ab ac",
+        &[BEGIN, Step::Feed("a\t\x16\tb")],
+        Want::More("ab\tb", 4),
+        "",
+    ),
+    (
+        ROUND,
+        "ab ac",
+        &[BEGIN, Step::Feed("a\t\x1b[200~z\x1b[201~")],
+        Want::More("abz", 3),
+        "",
+    ),
+    (
+        ROUND,
+        "ab ac",
+        &[
+            BEGIN,
+            Step::Feed("a\t"),
+            Step::Resize(10, 5),
+            Step::Feed("\t"),
+        ],
+        Want::More("ac", 2),
+        "",
+    ),
+    // one undo takes it back, whatever way it was gone through
+    (
+        ROUND,
+        "ab ac",
+        &[BEGIN, Step::Feed("x a\t\t\x1f")],
+        Want::More("x a", 3),
+        "",
+    ),
+    (
+        ROUND,
+        "ab ac",
+        &[BEGIN, Step::Feed("x a\t\t\t\t\x1f")],
+        Want::More("x a", 3),
+        "",
+    ),
+    (
+        ROUND,
+        "ab ac",
+        &[Step::Begin("a", "z"), Step::Feed("\t\x1f")],
+        Want::More("az", 1),
+        "",
+    ),
+    (
+        ROUND,
+        "ab ac",
+        &[BEGIN, Step::Feed("x a\t\t\t\x1f")],
+        Want::More("x", 1),
+        "",
+    ),
+    // Vi: in insert mode
+    (
+        Offer::Round(EditMode::Vi),
+        "ab ac",
+        &[BEGIN, Step::Feed("x a\t\t")],
+        Want::More("x ac", 4),
+        "",
+    ),
+    (
+        Offer::Round(EditMode::Vi),
+        "ab ac",
+        &[BEGIN, Step::Feed("x a\t\t\t")],
+        Want::More("x a", 3),
+        "\x07",
+    ),
+    (
+        Offer::Round(EditMode::Vi),
+        "ab ac",
+        &[BEGIN, Step::Feed("x a\t\x1b"), Step::Flush, Step::Feed("u")],
+        Want::More("x a", 3),
+        "",
+    ),
+    // one candidate, and none
+    (
+        ROUND,
+        "ab/",
+        &[BEGIN, Step::Feed("a\t")],
+        Want::More("ab/", 3),
+        "",
+    ),
+    (
+        ROUND,
+        "日本",
+        &[BEGIN, Step::Feed("日\t")],
+        Want::More("日本", 6),
+        "",
+    ),
+    (
+        ROUND,
+        "ab ac",
+        &[BEGIN, Step::Feed("b\tc")],
+        Want::More("bc", 2),
+        "\x07",
+    ),
+    (
+        ROUND,
+        "ab ac",
+        &[BEGIN, Step::Feed("a\x1b[Zb")],
+        Want::More("ab", 2),
+        "",
+    ),
+    // as far as they agree
+    (
+        LIST,
+        "abc abd",
+        &[BEGIN, Step::Feed("x a\t")],
+        Want::More("x ab", 4),
+        "\x07",
+    ),
+    (
+        LIST,
+        "abc abd",
+        &[BEGIN, Step::Feed("x a\t\x1f")],
+        Want::More("x a", 3),
+        "",
+    ),
+    (
+        LIST,
+        "abc abd",
+        &[BEGIN, Step::Feed("ab\t")],
+        Want::More("ab", 2),
+        "\x07",
+    ),
+    (
+        LIST,
+        "abc",
+        &[BEGIN, Step::Feed("a\t\x1f")],
+        Want::More("a", 1),
+        "",
+    ),
+    (
+        LIST,
+        "abc",
+        &[BEGIN, Step::Feed("abc\tz")],
+        Want::More("abcz", 4),
+        "",
+    ),
+    (
+        LIST,
+        "abc abd",
+        &[BEGIN, Step::Feed("b\tc")],
+        Want::More("bc", 2),
+        "\x07",
+    ),
+    // another Tab lists them, sorted down the columns
+    (
+        LIST,
+        "abc abd",
+        &[BEGIN, Step::Feed("a\t\tz")],
+        Want::More("abz", 3),
+        "\r\nabc  abd\r\n",
+    ),
+    (
+        LIST,
+        "a1 a2 a3 a4 a5 a6",
+        &[BEGIN, Step::Feed("a\t\tz")],
+        Want::More("az", 2),
+        "a1  a3  a5\r\na2  a4  a6\r\n",
+    ),
+    (
+        LIST,
+        "aé a日 ab",
+        &[BEGIN, Step::Feed("a\t\tz")],
+        Want::More("az", 2),
+        "ab   aé   a日\r\n",
+    ),
+    (
+        LIST,
+        "abc abd",
+        &[BEGIN, Step::Feed("a\tx\t\t")],
+        Want::More("abx", 3),
+        "\x07",
+    ),
+    (
+        Offer::List(100, true),
+        "abc abd",
+        &[BEGIN, Step::Feed("a\tz")],
+        Want::More("abz", 3),
+        "abc  abd\r\n",
+    ),
+    // past the limit it is asked
+    (
+        Offer::List(1, false),
+        "abc abd",
+        &[BEGIN, Step::Feed("a\t\t")],
+        Want::More("ab", 2),
+        "Display all 2 possibilities? (y or n)",
+    ),
+    (
+        Offer::List(1, false),
+        "abc abd",
+        &[BEGIN, Step::Feed("a\t\txqyz")],
+        Want::More("abz", 3),
+        "(y or n)\r\nabc  abd\r\n",
+    ),
+    (
+        Offer::List(1, false),
+        "abc abd",
+        &[BEGIN, Step::Feed("a\t\tnz")],
+        Want::More("abz", 3),
+        "(y or n)\r\n",
+    ),
+    (
+        Offer::List(1, false),
+        "abc abd",
+        &[BEGIN, Step::Feed("a\t\t\x7fz")],
+        Want::More("abz", 3),
+        "(y or n)\r\n",
+    ),
+    // by pages of four rows
+    (
+        LIST,
+        MANY,
+        &[BEGIN, Step::Feed("a\t\t")],
+        Want::More("a", 1),
+        "a3        a9\r\na4        aa\r\n--More--",
+    ),
+    (
+        LIST,
+        MANY,
+        &[BEGIN, Step::Feed("a\t\tx z")],
+        Want::More("az", 2),
+        "--More--\r\na5        ab\r\na6        abcdefgh\r\n",
+    ),
+    (
+        LIST,
+        MANY,
+        &[BEGIN, Step::Feed("a\t\t\rnz")],
+        Want::More("az", 2),
+        "--More--\r\na5        ab\r\n--More--\r\n",
+    ),
+    (
+        LIST,
+        MANY,
+        &[BEGIN, Step::Feed("a\t\t\n\nz")],
+        Want::More("az", 2),
+        "--More--\r\na6        abcdefgh\r\n",
+    ),
+    (
+        LIST,
+        MANY,
+        &[BEGIN, Step::Feed("a\t\tqz")],
+        Want::More("az", 2),
+        "--More--\r\n",
+    ),
+    // a list ends where the size changes
+    (
+        LIST,
+        MANY,
+        &[
+            BEGIN,
+            Step::Feed("a\t\t"),
+            Step::Resize(12, 5),
+            Step::Feed("z"),
+        ],
+        Want::More("az", 2),
+        "--More--\r\n",
+    ),
+];
+
+/// Names in six rows of two columns.
+const MANY: &str = "a1 a2 a3 a4 a5 a6 a7 a8 a9 aa ab abcdefgh";
+
+/// Whether bytes stand among others.
+fn has(bytes: &[u8], part: &[u8]) -> bool {
+    part.is_empty()
+        || bytes
+            .windows(part.len().max(1))
+            .any(|window| window == part)
+}
+
+#[test]
+fn completes_in_whatever_pieces(rt: HostRuntime) -> Result<()> {
+    for (number, (offer, text, steps, want, written)) in CASES.iter().enumerate() {
+        for piece in PIECES {
+            let bindings = Bindings::new(rt.alloc());
+            let mut session = editor(rt.alloc(), offer, text)?;
+            let mut fed = Fed::More;
+            for step in *steps {
+                fed = done(&mut session, step, piece, &bindings)?;
+            }
+            holds(&rt, is_met(want, &fed, &session), "a completion", number);
+            let is_written = has(session.out().as_slice(), written.as_bytes());
+            holds(&rt, is_written, "what is written", number);
+        }
+    }
+    Ok(())
+}
