@@ -1,4 +1,4 @@
-//! Hints from the history, shown dim; brackets that are matched, and lit.
+//! Hints from the history, shown dim; brackets that are matched, and lit; words that are completed.
 ghost use Rattle.std.specs.Prelude.{Some, true};
 
 use line_config::Result;
@@ -6,6 +6,7 @@ use line_parts::{
     CmdKind, Highlighter, HistoryHinter, MatchingBracketHighlighter, MatchingBracketValidator,
 };
 use line_session::parts::{Parts, SteadyHighlighter};
+use line_session::words::Words;
 use std::alloc::Global;
 use std::borrow::CowStr;
 
@@ -17,16 +18,16 @@ pub(crate) struct ConsoleHighlighter {
 
 /// The helper of the console.
 pub(crate) type ConsoleHelper = Parts<
-    (),
+    Words,
     HistoryHinter,
     ConsoleHighlighter,
     MatchingBracketValidator,
 >;
 
-/// Returns the helper of the console.
-pub(crate) fn console_helper() -> ConsoleHelper {
+/// Returns the helper of the console, which completes these words.
+pub(crate) fn console_helper(words: Vec<String>) -> ConsoleHelper {
     Parts {
-        completer: (),
+        completer: Words { words },
         hinter: HistoryHinter::new(),
         highlighter: ConsoleHighlighter {
             brackets: MatchingBracketHighlighter::new(),

@@ -65,7 +65,7 @@ fn on_terminal(rt: &HostRuntime, arguments: &Arguments, size: Size) -> Result<Ex
         config,
         io::writer(rt),
         size.columns.max(1),
-        console_helper(),
+        console_helper(Names::new(rt.alloc()).words(rt.alloc())?),
         history,
     );
     editor.resize(size.columns.max(1), size.rows)?;

@@ -63,6 +63,9 @@ fn answer<W: Write, O: Write + Drop, F: Write>(
     if let Some(answer) = answer_to(alloc, line.as_str(), names, vi)? {
         write_lines(out, answer.as_str())?;
     }
+    if let Some(helper) = editor.helper_mut() {
+        helper.completer.words = names.words(alloc)?;
+    }
     Ok(())
 }
 

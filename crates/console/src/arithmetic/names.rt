@@ -28,6 +28,19 @@ impl Names {
         self.values.get(name).copied()
     }
 
+    /// Returns what can be completed: the names, and the word of the command.
+    ///
+    /// # Errors
+    /// `Memory`.
+    pub fn words(&self, alloc: Global) -> line_config::Result<Vec<String>> {
+        let mut words = Vec::new(alloc);
+        words.push(String::from_str(alloc, "keys")?)?;
+        for name in self.values.keys() {
+            words.push(name.clone()?)?;
+        }
+        Ok(words)
+    }
+
     /// Gives a name a value.
     ///
     /// # Errors
