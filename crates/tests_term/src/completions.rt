@@ -5,6 +5,7 @@ ghost use Rattle.line_parts.specs.Completed.{listed_of};
 
 use crate::holds;
 use crate::lines::{BEGIN, PIECES, Step, Want, done, is_met};
+use crate::terminal::Counted;
 use line_buffer::GraphemeClusterMode;
 use line_config::{CompletionType, Config, EditMode, Result};
 use line_editor::Bindings;
@@ -12,6 +13,7 @@ use line_parts::{Entry, FilenameCompleter, Lister, MemHistory};
 use line_session::editor::{Editor, Fed};
 use line_session::parts::Parts;
 use std::alloc::Global;
+use std::io::Write;
 
 /// The names in any folder.
 #[derive(Drop)]
@@ -44,7 +46,7 @@ fn copied(alloc: Global, entries: &[Entry]) -> Result<Vec<Entry>>
     Ok(copies)
 }
 
-type Completing = Editor<Vec<u8>, Parts<FilenameCompleter<Names>, (), (), ()>, MemHistory>;
+type Completing<O> = Editor<O, Parts<FilenameCompleter<Names>, (), (), ()>, MemHistory>;
 
 /// The names that stand between blanks, behind each other; a slash stands behind those of folders.
 fn lister(alloc: Global, text: &str) -> Result<Names> {
@@ -67,7 +69,12 @@ enum Offer {
 }
 
 /// An editor on a screen of 20 columns and 5 rows.
-fn editor(alloc: Global, offer: &Offer, text: &str) -> Result<Completing> {
+fn editor<O: Write + Drop>(
+    alloc: Global,
+    offer: &Offer,
+    text: &str,
+    out: O,
+) -> Result<Completing<O>> {
     let builder = Config::builder(GraphemeClusterMode::Unicode);
     let config = match offer {
         Offer::Round(edit_mode) => builder.edit_mode(*edit_mode).build(),
@@ -84,9 +91,7 @@ fn editor(alloc: Global, offer: &Offer, text: &str) -> Result<Completing> {
         validator: (),
     };
     let history = MemHistory::new(alloc);
-    let mut editor = Editor::new(alloc, config, Vec::new(alloc), 20, helper, history);
-    editor.resize(20, 5)?;
-    Ok(editor)
+    Ok(Editor::new(alloc, config, out, 20, helper, history))
 }
 
 const ROUND: Offer = Offer::Round(EditMode::Emacs);
@@ -462,7 +467,8 @@ fn completes_in_whatever_pieces(rt: HostRuntime) -> Result<()> {
     for (number, (offer, text, steps, want, written)) in CASES.iter().enumerate() {
         for piece in PIECES {
             let bindings = Bindings::new(rt.alloc());
-            let mut session = editor(rt.alloc(), offer, text)?;
+            let mut session = editor(rt.alloc(), offer, text, Vec::new(rt.alloc()))?;
+            session.resize(20, 5)?;
             let mut fed = Fed::More;
             for step in *steps {
                 fed = done(&mut session, step, piece, &bindings)?;
@@ -470,6 +476,60 @@ fn completes_in_whatever_pieces(rt: HostRuntime) -> Result<()> {
             holds(&rt, is_met(want, &fed, &session), "a completion", number);
             let is_written = has(session.out().as_slice(), written.as_bytes());
             holds(&rt, is_written, "what is written", number);
+        }
+    }
+    Ok(())
+}
+
+/// How candidates are offered, the names, and what is typed.
+const FAILING: &[(Offer, &str, &[u8])] = &[
+    (ROUND, "ab ac", b"x a\t\t\t\t\x1b[Z\x07"),
+    (LIST, "abc abd", b"x a\t\t"),
+    (Offer::List(1, true), "abc abd", b"a\tqy"),
+    (LIST, MANY, b"a\t\tq\t\t"),
+    (LIST, MANY, b"a\t\t\r\r "),
+];
+
+/// Types bytes until a call fails. Returns whether one has.
+fn fails<O: Write + Drop>(session: &mut Completing<O>, bytes: &[u8], bindings: &Bindings) -> bool {
+    if session.begin(&"> ", bindings).is_err() {
+        return true;
+    }
+    for byte in bytes {
+        if session.feed(&[*byte], bindings).is_err() {
+            return true;
+        }
+    }
+    false
+}
+
+/// Whether a character that is typed comes in at the cursor, as where commands are read.
+fn types_on<O: Write + Drop>(
+    alloc: Global,
+    session: &mut Completing<O>,
+    bindings: &Bindings,
+) -> Result<bool> {
+    let (Some(line), Some(pos)) = (session.line(), session.pos()) else {
+        return Ok(true);
+    };
+    let (before, behind) = line.split_at_checked(pos).unwrap_or(("", ""));
+    let wanted = format!(in alloc; "{before}z{behind}")?;
+    session.flush(bindings)?;
+    session.feed(b"z", bindings)?;
+    Ok(session.line() == Some(wanted.as_str()))
+}
+
+#[test]
+fn types_on_where_the_output_has_failed(rt: HostRuntime) -> Result<()> {
+    for (number, (offer, text, keys)) in FAILING.iter().enumerate() {
+        for failing in 1..60 {
+            let bindings = Bindings::new(rt.alloc());
+            let out = Counted::failing(rt.alloc(), failing);
+            let mut session = editor(rt.alloc(), offer, text, out)?;
+            if fails(&mut session, keys, &bindings) {
+                let goes_on = types_on(rt.alloc(), &mut session, &bindings)?;
+                holds(&rt, goes_on, "a failure", number);
+            }
         }
     }
     Ok(())

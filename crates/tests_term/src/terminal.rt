@@ -17,13 +17,27 @@ use std::io::{self, ErrorKind, Write};
 /// An output that counts what it is asked for. It takes at most so many bytes at once. Its write of this number, from 1 on, fails; or
 /// each flush, where the number is the greatest.
 #[derive(Drop)]
-struct Counted {
+pub(crate) struct Counted {
     bytes: Vec<u8>,
     writes: usize,
     flushes: usize,
     most: usize,
     failing: usize,
     kind: ErrorKind,
+}
+
+impl Counted {
+    /// An output that takes all at once, and whose write of this number fails.
+    pub(crate) fn failing(alloc: Global, failing: usize) -> Counted {
+        Counted {
+            bytes: Vec::new(alloc),
+            writes: 0,
+            flushes: 0,
+            most: usize::MAX,
+            failing,
+            kind: ErrorKind::BrokenPipe,
+        }
+    }
 }
 
 impl Write for Counted {
