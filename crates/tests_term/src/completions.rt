@@ -1,7 +1,4 @@
 //! What comes of completions, by the bytes that are typed, whole and in pieces.
-ghost use Rattle.std.specs.Prelude.{◌≡◌, true, map, IfOk, Some};
-ghost use Rattle.line_config.specs.Error.{MemoryOnly};
-ghost use Rattle.line_parts.specs.Completed.{listed_of};
 
 use crate::holds;
 use crate::lines::{BEGIN, PIECES, Step, Want, done, is_met};
@@ -9,56 +6,14 @@ use crate::terminal::Counted;
 use line_buffer::GraphemeClusterMode;
 use line_config::{CompletionType, Config, EditMode, Result};
 use line_editor::Bindings;
-use line_parts::{Entry, FilenameCompleter, Lister, MemHistory};
+use line_parts::MemHistory;
 use line_session::editor::{Editor, Fed};
 use line_session::parts::Parts;
+use line_session::words::Words;
 use std::alloc::Global;
 use std::io::Write;
 
-/// The names in any folder.
-#[derive(Drop)]
-struct Names {
-    entries: Vec<Entry>,
-}
-
-impl Lister for Names {
-    ghost sure = { λ _. true };
-
-    ghost listing = { λ names _. Some (map listed_of names.entries.items) };
-
-    fn list(&self, alloc: Global, _dir: &str) -> Result<Option<Vec<Entry>>> {
-        Ok(Some(copied(alloc, self.entries.as_slice())?))
-    }
-}
-
-/// The same names.
-fn copied(alloc: Global, entries: &[Entry]) -> Result<Vec<Entry>>
-    ensures entries { IfOk result (λ v. map listed_of v.items ≡ map listed_of entries.now) }
-    ensures memory { MemoryOnly result }
-{
-    let mut copies = Vec::new(alloc);
-    for entry in entries {
-        copies.push(Entry {
-            name: entry.name.clone()?,
-            folder: entry.folder,
-        })?;
-    }
-    Ok(copies)
-}
-
-type Completing<O> = Editor<O, Parts<FilenameCompleter<Names>, (), (), ()>, MemHistory>;
-
-/// The names that stand between blanks, behind each other; a slash stands behind those of folders.
-fn lister(alloc: Global, text: &str) -> Result<Names> {
-    let mut entries = Vec::new(alloc);
-    for name in text.split(' ') {
-        entries.push(Entry {
-            name: String::from_str(alloc, name.strip_suffix('/').unwrap_or(name))?,
-            folder: name.ends_with('/'),
-        })?;
-    }
-    Ok(Names { entries })
-}
+type Completing<O> = Editor<O, Parts<Words, (), (), ()>, MemHistory>;
 
 /// How candidates are offered.
 enum Offer {
@@ -66,6 +21,15 @@ enum Offer {
     Round(EditMode),
     /// As a list, which is asked for past so many, at once or at another Tab.
     List(usize, bool),
+}
+
+/// The words of a text.
+fn words(alloc: Global, text: &str) -> Result<Words> {
+    let mut words = Vec::new(alloc);
+    for word in text.split(' ') {
+        words.push(String::from_str(alloc, word)?)?;
+    }
+    Ok(Words { words })
 }
 
 /// An editor on a screen of 20 columns and 5 rows.
@@ -85,7 +49,7 @@ fn editor<O: Write + Drop>(
             .build(),
     };
     let helper = Parts {
-        completer: FilenameCompleter::new(lister(alloc, text)?),
+        completer: words(alloc, text)?,
         hinter: (),
         highlighter: (),
         validator: (),
@@ -98,7 +62,7 @@ const ROUND: Offer = Offer::Round(EditMode::Emacs);
 
 const LIST: Offer = Offer::List(100, false);
 
-/// How candidates are offered, the names, what is done, what is wanted of the line, and what is written to the terminal on the way.
+/// How candidates are offered, the words, what is done, what is wanted of the line, and what is written to the terminal on the way.
 const CASES: &[(Offer, &str, &[Step], Want, &str)] = &[
     // round by way of the line from before, and back
     (
@@ -355,7 +319,7 @@ const CASES: &[(Offer, &str, &[Step], Want, &str)] = &[
         "aé a日 ab",
         &[BEGIN, Step::Feed("a\t\tz")],
         Want::More("az", 2),
-        "ab   aé   a日\r\n",
+        "aé   a日  ab\r\n",
     ),
     (
         LIST,
@@ -451,7 +415,7 @@ const CASES: &[(Offer, &str, &[Step], Want, &str)] = &[
     ),
 ];
 
-/// Names in six rows of two columns.
+/// Words in six rows of two columns.
 const MANY: &str = "a1 a2 a3 a4 a5 a6 a7 a8 a9 aa ab abcdefgh";
 
 /// Whether bytes stand among others.
@@ -481,7 +445,7 @@ fn completes_in_whatever_pieces(rt: HostRuntime) -> Result<()> {
     Ok(())
 }
 
-/// How candidates are offered, the names, and what is typed.
+/// How candidates are offered, the words, and what is typed.
 const FAILING: &[(Offer, &str, &[u8])] = &[
     (ROUND, "ab ac", b"x a\t\t\t\t\x1b[Z\x07"),
     (LIST, "abc abd", b"x a\t\t"),
