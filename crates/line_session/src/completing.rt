@@ -199,13 +199,13 @@ impl Completing {
         self,
         state: &mut State<'out, 'prompt, Ansi<O, KeyQueue>, H, P, S>,
     ) -> Result<Mode>
-        ensures goes { let e = ⟦<State<'out, 'prompt, Ansi<O, KeyQueue>, H, P, S> as EditorState>⟧ in
-            IfOk result (GoesOnTo (e.environment state.old) self (index_behind self)
+        ensures goes { let e = ⟦<State<'out, 'prompt, Ansi<O, KeyQueue>, H, P, S> as EditorState>⟧
+            in IfOk result (GoesOnTo (e.environment state.old) self (index_behind self)
             (e.draft state.old) (e.draft state.new)) }
-        ensures shown { let e = ⟦<State<'out, 'prompt, Ansi<O, KeyQueue>, H, P, S> as EditorState>⟧ in
-            OnOk result (IsShown e state.new) }
-        ensures frame { let e = ⟦<State<'out, 'prompt, Ansi<O, KeyQueue>, H, P, S> as EditorState>⟧ in
-            Frame e state.old state.new }
+        ensures shown { let e = ⟦<State<'out, 'prompt, Ansi<O, KeyQueue>, H, P, S> as EditorState>⟧
+            in OnOk result (IsShown e state.new) }
+        ensures frame { let e = ⟦<State<'out, 'prompt, Ansi<O, KeyQueue>, H, P, S> as EditorState>⟧
+            in Frame e state.old state.new }
         ensures faults { FaultsOnly result }
     {
         let index = if self.shown < self.candidates.len() {
@@ -224,13 +224,13 @@ impl Completing {
         self,
         state: &mut State<'out, 'prompt, Ansi<O, KeyQueue>, H, P, S>,
     ) -> Result<Mode>
-        ensures goes { let e = ⟦<State<'out, 'prompt, Ansi<O, KeyQueue>, H, P, S> as EditorState>⟧ in
-            IfOk result (GoesOnTo (e.environment state.old) self (index_before self)
+        ensures goes { let e = ⟦<State<'out, 'prompt, Ansi<O, KeyQueue>, H, P, S> as EditorState>⟧
+            in IfOk result (GoesOnTo (e.environment state.old) self (index_before self)
             (e.draft state.old) (e.draft state.new)) }
-        ensures shown { let e = ⟦<State<'out, 'prompt, Ansi<O, KeyQueue>, H, P, S> as EditorState>⟧ in
-            OnOk result (IsShown e state.new) }
-        ensures frame { let e = ⟦<State<'out, 'prompt, Ansi<O, KeyQueue>, H, P, S> as EditorState>⟧ in
-            Frame e state.old state.new }
+        ensures shown { let e = ⟦<State<'out, 'prompt, Ansi<O, KeyQueue>, H, P, S> as EditorState>⟧
+            in OnOk result (IsShown e state.new) }
+        ensures frame { let e = ⟦<State<'out, 'prompt, Ansi<O, KeyQueue>, H, P, S> as EditorState>⟧
+            in Frame e state.old state.new }
         ensures faults { FaultsOnly result }
     {
         let index = if self.shown == 0 {
@@ -247,13 +247,13 @@ impl Completing {
         index: usize,
         state: &mut State<'out, 'prompt, Ansi<O, KeyQueue>, H, P, S>,
     ) -> Result<Mode>
-        ensures goes { let e = ⟦<State<'out, 'prompt, Ansi<O, KeyQueue>, H, P, S> as EditorState>⟧ in
-            IfOk result (GoesOnTo (e.environment state.old) self index
+        ensures goes { let e = ⟦<State<'out, 'prompt, Ansi<O, KeyQueue>, H, P, S> as EditorState>⟧
+            in IfOk result (GoesOnTo (e.environment state.old) self index
             (e.draft state.old) (e.draft state.new)) }
-        ensures shown { let e = ⟦<State<'out, 'prompt, Ansi<O, KeyQueue>, H, P, S> as EditorState>⟧ in
-            OnOk result (IsShown e state.new) }
-        ensures frame { let e = ⟦<State<'out, 'prompt, Ansi<O, KeyQueue>, H, P, S> as EditorState>⟧ in
-            Frame e state.old state.new }
+        ensures shown { let e = ⟦<State<'out, 'prompt, Ansi<O, KeyQueue>, H, P, S> as EditorState>⟧
+            in OnOk result (IsShown e state.new) }
+        ensures frame { let e = ⟦<State<'out, 'prompt, Ansi<O, KeyQueue>, H, P, S> as EditorState>⟧
+            in Frame e state.old state.new }
         ensures faults { FaultsOnly result }
     {
         let Completing {
@@ -280,13 +280,13 @@ impl Completing {
         self,
         state: &mut State<'out, 'prompt, Ansi<O, KeyQueue>, H, P, S>,
     ) -> Result<Mode>
-        ensures gives { let e = ⟦<State<'out, 'prompt, Ansi<O, KeyQueue>, H, P, S> as EditorState>⟧ in
-            IfOk result (GivesUp (e.environment state.old) self
+        ensures gives { let e = ⟦<State<'out, 'prompt, Ansi<O, KeyQueue>, H, P, S> as EditorState>⟧
+            in IfOk result (GivesUp (e.environment state.old) self
             (e.draft state.old) (e.draft state.new)) }
-        ensures shown { let e = ⟦<State<'out, 'prompt, Ansi<O, KeyQueue>, H, P, S> as EditorState>⟧ in
-            OnOk result (IsShown e state.new) }
-        ensures frame { let e = ⟦<State<'out, 'prompt, Ansi<O, KeyQueue>, H, P, S> as EditorState>⟧ in
-            Frame e state.old state.new }
+        ensures shown { let e = ⟦<State<'out, 'prompt, Ansi<O, KeyQueue>, H, P, S> as EditorState>⟧
+            in OnOk result (IsShown e state.new) }
+        ensures frame { let e = ⟦<State<'out, 'prompt, Ansi<O, KeyQueue>, H, P, S> as EditorState>⟧
+            in Frame e state.old state.new }
         ensures faults { FaultsOnly result }
     {
         take_back(self.grown, state)?;
@@ -321,7 +321,8 @@ fn show<'out, 'prompt, O: Write + Drop, H: Helper, P: Prompt, S: History>(
 ) -> Result<bool>
     ensures shows { let e = ⟦<State<'out, 'prompt, Ansi<O, KeyQueue>, H, P, S> as EditorState>⟧ in
         IfOk result (λ grown. Shows (e.environment state.old) start
-        (option_map (λ pair. pair.now) candidate.entry) grown (e.draft state.old) (e.draft state.new)) }
+        (option_map (λ pair. pair.now) candidate.entry) grown
+        (e.draft state.old) (e.draft state.new)) }
     ensures shown { let e = ⟦<State<'out, 'prompt, Ansi<O, KeyQueue>, H, P, S> as EditorState>⟧ in
         OnOk result (IsShown e state.new) }
     ensures frame { let e = ⟦<State<'out, 'prompt, Ansi<O, KeyQueue>, H, P, S> as EditorState>⟧ in

@@ -103,11 +103,11 @@ impl Listing {
         self,
         state: &mut State<'out, 'prompt, Ansi<O, KeyQueue>, H, P, S>,
     ) -> Result<Mode>
-        ensures asks { let e = ⟦<State<'out, 'prompt, Ansi<O, KeyQueue>, H, P, S> as EditorState>⟧ in
-            IfOk result (λ mode. (mode ≡ Mode.Listing self)
+        ensures asks { let e = ⟦<State<'out, 'prompt, Ansi<O, KeyQueue>, H, P, S> as EditorState>⟧
+            in IfOk result (λ mode. (mode ≡ Mode.Listing self)
             × (e.draft state.new ≡ e.draft state.old)) }
-        ensures frame { let e = ⟦<State<'out, 'prompt, Ansi<O, KeyQueue>, H, P, S> as EditorState>⟧ in
-            Frame e state.old state.new }
+        ensures frame { let e = ⟦<State<'out, 'prompt, Ansi<O, KeyQueue>, H, P, S> as EditorState>⟧
+            in Frame e state.old state.new }
         ensures faults { FaultsOnly result }
     {
         let alloc = *self.candidates.allocator();
@@ -126,13 +126,13 @@ impl Listing {
         item: &AsItIs,
         state: &mut State<'out, 'prompt, Ansi<O, KeyQueue>, H, P, S>,
     ) -> Result<Mode>
-        ensures replies { let e = ⟦<State<'out, 'prompt, Ansi<O, KeyQueue>, H, P, S> as EditorState>⟧ in
-            IfOk result (Replies (e.environment state.old) self
+        ensures reply { let e = ⟦<State<'out, 'prompt, Ansi<O, KeyQueue>, H, P, S> as EditorState>⟧
+            in IfOk result (Replies (e.environment state.old) self
             (reply_by self.next (item_of item.now)) (e.draft state.old) (e.draft state.new)) }
-        ensures shown { let e = ⟦<State<'out, 'prompt, Ansi<O, KeyQueue>, H, P, S> as EditorState>⟧ in
-            IfOk result (λ mode. shows_line mode ≡ true → IsShown e state.new) }
-        ensures frame { let e = ⟦<State<'out, 'prompt, Ansi<O, KeyQueue>, H, P, S> as EditorState>⟧ in
-            Frame e state.old state.new }
+        ensures shown { let e = ⟦<State<'out, 'prompt, Ansi<O, KeyQueue>, H, P, S> as EditorState>⟧
+            in IfOk result (λ mode. shows_line mode ≡ true → IsShown e state.new) }
+        ensures frame { let e = ⟦<State<'out, 'prompt, Ansi<O, KeyQueue>, H, P, S> as EditorState>⟧
+            in Frame e state.old state.new }
         ensures faults { FaultsOnly result }
     {
         match reply_by(self.next, item) {
@@ -148,13 +148,13 @@ impl Listing {
         self,
         state: &mut State<'out, 'prompt, Ansi<O, KeyQueue>, H, P, S>,
     ) -> Result<Mode>
-        ensures lists { let e = ⟦<State<'out, 'prompt, Ansi<O, KeyQueue>, H, P, S> as EditorState>⟧ in
-            IfOk result (ListsPage (e.environment state.old) self
+        ensures lists { let e = ⟦<State<'out, 'prompt, Ansi<O, KeyQueue>, H, P, S> as EditorState>⟧
+            in IfOk result (ListsPage (e.environment state.old) self
             (e.draft state.old) (e.draft state.new)) }
-        ensures shown { let e = ⟦<State<'out, 'prompt, Ansi<O, KeyQueue>, H, P, S> as EditorState>⟧ in
-            IfOk result (λ mode. shows_line mode ≡ true → IsShown e state.new) }
-        ensures frame { let e = ⟦<State<'out, 'prompt, Ansi<O, KeyQueue>, H, P, S> as EditorState>⟧ in
-            Frame e state.old state.new }
+        ensures shown { let e = ⟦<State<'out, 'prompt, Ansi<O, KeyQueue>, H, P, S> as EditorState>⟧
+            in IfOk result (λ mode. shows_line mode ≡ true → IsShown e state.new) }
+        ensures frame { let e = ⟦<State<'out, 'prompt, Ansi<O, KeyQueue>, H, P, S> as EditorState>⟧
+            in Frame e state.old state.new }
         ensures faults { FaultsOnly result }
     {
         let rows: usize = state.out().get_rows().into();
@@ -167,13 +167,13 @@ impl Listing {
         count: usize,
         state: &mut State<'out, 'prompt, Ansi<O, KeyQueue>, H, P, S>,
     ) -> Result<Mode>
-        ensures lists { let e = ⟦<State<'out, 'prompt, Ansi<O, KeyQueue>, H, P, S> as EditorState>⟧ in
-            IfOk result (ListsRows (e.environment state.old) self count
+        ensures lists { let e = ⟦<State<'out, 'prompt, Ansi<O, KeyQueue>, H, P, S> as EditorState>⟧
+            in IfOk result (ListsRows (e.environment state.old) self count
             (e.draft state.old) (e.draft state.new)) }
-        ensures shown { let e = ⟦<State<'out, 'prompt, Ansi<O, KeyQueue>, H, P, S> as EditorState>⟧ in
-            IfOk result (λ mode. shows_line mode ≡ true → IsShown e state.new) }
-        ensures frame { let e = ⟦<State<'out, 'prompt, Ansi<O, KeyQueue>, H, P, S> as EditorState>⟧ in
-            Frame e state.old state.new }
+        ensures shown { let e = ⟦<State<'out, 'prompt, Ansi<O, KeyQueue>, H, P, S> as EditorState>⟧
+            in IfOk result (λ mode. shows_line mode ≡ true → IsShown e state.new) }
+        ensures frame { let e = ⟦<State<'out, 'prompt, Ansi<O, KeyQueue>, H, P, S> as EditorState>⟧
+            in Frame e state.old state.new }
         ensures faults { FaultsOnly result }
     {
         let alloc = *self.candidates.allocator();
