@@ -14,8 +14,8 @@ abbrev pub IsOffered : Environment → Draft → Completion → Type 0
 IsOffered environment draft = IsUsualOrOwn no_completion
     (environment.own_completion (shown_at environment draft.line.text draft.line.cursor draft.index))
 
--- an elected text came into the line as one group of changes, behind those that were open, which are closed; and this tells whether the
--- changes have grown by it
+-- an elected text came into the line as one group of changes, behind those that were open, which are closed; and this tells whether
+-- closing its group added an end
 pub record ComesIn (own_update : Written → ℕ → List ℕ → Option Written) (start : ℕ) (text : List ℕ) (grown : Bool) (old new : Edited) : Type 0 where
   pub inside : Edited
   pub elected : IsElected own_update start text (record old { changes = begun (ended old.changes) }) inside

@@ -1,7 +1,7 @@
 -- Moves in the history.
-use Rattle.std.specs.Prelude.{ℕ, ◌+◌, ◌-◌, ◌==◌, Bool, true, if◌then◌else◌, List, length, Option, Some, None}
-use Rattle.line_buffer.specs.Line.{before}
-use Rattle.line_keys.specs.Draft.{Draft, hinted}
+use Rattle.std.specs.Prelude.{ℕ, ◌+◌, ◌-◌, ◌==◌, ◌&&◌, ◌||◌, nat_le, nat_lt, min, Bool, true, false, if◌then◌else◌, not, List, length, slice_get, slice_index, Option, Some, None}
+use Rattle.line_buffer.specs.Line.{before, with_cursor}
+use Rattle.line_keys.specs.Draft.{Draft, hinted, out_of_group}
 use Rattle.line_parts.specs.Asks.{Asks, for_hint, for_line, for_look_up, nobody}
 use Rattle.line_parts.specs.Environment.{Environment}
 use Rattle.line_parts.specs.History.{Found, line_at, starting_with}
@@ -23,10 +23,42 @@ is_own_line environment draft = draft.index == length environment.lines
 abbrev pub saved_at_end : Environment → Draft → Draft
 saved_at_end environment draft = if is_own_line environment draft then record draft { saved = draft.line } else draft
 
--- a text of the history takes the line's place as one group of changes, with the cursor at a place in it, as the line at an index
-abbrev pub entry_put : List ℕ → ℕ → ℕ → Draft → Draft
-entry_put text cursor index draft =
-    at_index index (with_edited draft (in_one_group (with_update_to text cursor) (edited_of draft)))
+-- whether a byte offset of a text is a character boundary: its end, or where no byte stands that continues a character
+abbrev pub is_boundary : List ℕ → ℕ → Bool
+is_boundary text pos =
+    (pos == length text) || (nat_lt pos (length text) && (nat_lt (slice_index text pos) 128 || nat_le 192 (slice_index text pos)))
+
+-- a byte offset of a text where it is a character boundary, and else the text's end
+abbrev pub boundary_or_end : List ℕ → ℕ → ℕ
+boundary_or_end text pos = if is_boundary text pos then pos else length text
+
+-- a text takes the line's place as one group of changes, behind those that were open, which are closed
+abbrev pub put_alone : List ℕ → ℕ → Draft → Draft
+put_alone text cursor draft = with_edited draft (in_one_group (with_update_to text cursor) (edited_of (out_of_group draft)))
+
+-- a text of the history takes the line's place, if there is one, as the line at an index; the line that is being written is saved before
+abbrev pub text_put : Environment → Option (List ℕ) → ℕ → ℕ → Draft → Draft
+text_put environment None pos index draft = draft
+text_put environment (Some text) pos index draft =
+    at_index index (put_alone text (boundary_or_end text pos) (saved_at_end environment draft))
+
+-- whether the changes grow by that: not where both texts are empty
+abbrev pub text_grows : Option (List ℕ) → Draft → Bool
+text_grows None draft = false
+text_grows (Some text) draft = not (length text == 0 && length draft.line.text == 0)
+
+-- the same of the line of the history at an index
+abbrev pub entry_put : Environment → ℕ → ℕ → Draft → Draft
+entry_put environment pos index draft = text_put environment (slice_get environment.lines index) pos index draft
+
+-- and whether the changes grow by it
+abbrev pub entry_grows : Environment → ℕ → Draft → Bool
+entry_grows environment index draft = text_grows (slice_get environment.lines index) draft
+
+-- the cursor goes to a byte offset, where that is a character boundary, and the line is the one at an index, or the one that is being written
+abbrev pub returned_to : Environment → ℕ → ℕ → Draft → Draft
+returned_to environment pos index draft = at_index (min index (length environment.lines))
+    (if is_boundary draft.line.text pos then record draft { line = with_cursor draft.line pos } else draft)
 
 -- a text of the history takes the line's place as one group of changes, with the cursor at a place in it
 abbrev pub showing : Environment → List ℕ → ℕ → Draft → Draft

@@ -1,8 +1,10 @@
 //! Candidates for a part of the line, and how one comes into it. Nothing here is drawn.
-ghost use Rattle.std.specs.Prelude.{◌≡◌, false, map, IfOk, OnOk};
+ghost use Rattle.std.specs.Prelude.{◌≡◌, false, map, IfOk, OnErr, OnOk};
+ghost use Rattle.line_buffer.specs.Changes.{no_changes};
 ghost use Rattle.line_config.specs.Error.{FaultsOnly, MemoryOnly};
 ghost use Rattle.line_editor.specs.Completing.{ComesIn, IsOffered, taken_back_once};
 ghost use Rattle.line_editor.specs.Editor.{edited_of, with_edited};
+ghost use Rattle.line_keys.specs.Draft.{start_text};
 ghost use Rattle.line_keys.specs.Drawing.{Undrawn};
 ghost use Rattle.line_parts.specs.Candidate.{BeginsIn, offer_of};
 
@@ -52,6 +54,8 @@ impl<'out, 'prompt, W: Renderer, H: Helper, P: Prompt, S: History> State<
             → IfOk result (λ grown. (grown ≡ false) × (d self.new ≡ d self.old)) }
         ensures stays { let d = ⟦<Self as EditorState>⟧.draft in
             d self.new ≡ with_edited (d self.old) (edited_of (d self.new)) }
+        ensures start { let d = ⟦<Self as EditorState>⟧.draft in OnOk result
+            (start_text (d self.new) ≡ start_text (d self.old)) }
         ensures undrawn { Undrawn ⟦<Self as EditorState>⟧ self.old self.new }
         ensures faults { FaultsOnly result }
     {
@@ -77,6 +81,10 @@ impl<'out, 'prompt, W: Renderer, H: Helper, P: Prompt, S: History> State<
     pub fn take_back(&mut self) -> Result<()>
         ensures draft { let d = ⟦<Self as EditorState>⟧.draft in
             OnOk result (d self.new ≡ taken_back_once (d self.old)) }
+        ensures start { let d = ⟦<Self as EditorState>⟧.draft in OnOk result
+            (start_text (d self.new) ≡ start_text (d self.old)) }
+        ensures err { let d = ⟦<Self as EditorState>⟧.draft in
+            OnErr result ((d self.new).changes ≡ no_changes) }
         ensures stays { let d = ⟦<Self as EditorState>⟧.draft in
             d self.new ≡ with_edited (d self.old) (edited_of (d self.new)) }
         ensures undrawn { Undrawn ⟦<Self as EditorState>⟧ self.old self.new }

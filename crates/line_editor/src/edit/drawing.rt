@@ -130,7 +130,8 @@ impl<'out, 'prompt, W: Renderer, H: Helper, P: Prompt, S: History> State<
     }
 
     /// Writes a text by itself below what is shown, from the first column on. The kept layout stays, and what the screen shows
-    /// is not said: `refresh_line` is to follow, which draws the line below the text.
+    /// is not said: `refresh_line` is to follow, which draws the line below a text that ends a row. Behind another one, an empty
+    /// text is to be written before.
     ///
     /// # Errors
     /// Those of the renderer.

@@ -1,10 +1,10 @@
 //! Moves in the history.
 ghost use Rattle.line_editor.specs.Outcomes.{DoesCommand};
 ghost use Rattle.line_keys.specs.Command as commands;
-ghost use Rattle.std.specs.Prelude.{◌≡◌, ◌+◌, ◌≤◌, IsCharBoundary, false, if◌then◌else◌, not, is_some, length, OnOk, OnErr};
-ghost use Rattle.line_buffer.specs.Line.{before, with_cursor};
-ghost use Rattle.line_config.specs.Error.{MemoryOnly};
-ghost use Rattle.line_editor.specs.HistoryMoves.{asked_back, asked_for, asked_in_search, asked_on, asked_to_end, at_index, come_back, end_shown, entry_put, first_shown, found_shown, line_shown, next_shown, previous_shown, restored, saved_at_end, search_of, search_shown, showing, way_ends};
+ghost use Rattle.std.specs.Prelude.{◌≡◌, ◌+◌, ◌≤◌, ◌⊎◌, IsCharBoundary, false, if◌then◌else◌, not, is_some, length, IfOk, OnOk, OnErr};
+ghost use Rattle.line_buffer.specs.Line.{before};
+ghost use Rattle.line_config.specs.Error.{FaultsOnly, MemoryOnly};
+ghost use Rattle.line_editor.specs.HistoryMoves.{asked_back, asked_for, asked_in_search, asked_on, asked_to_end, at_index, boundary_or_end, come_back, end_shown, entry_grows, entry_put, first_shown, found_shown, line_shown, next_shown, previous_shown, restored, returned_to, saved_at_end, search_of, search_shown, showing, way_ends};
 ghost use Rattle.line_keys.specs.Draft.{start_text};
 ghost use Rattle.line_keys.specs.Drawing.{Does, DoesAsking, DoesInTwo, DrewNothing, Paints, Undrawn, drawn_if, with_hint};
 ghost use Rattle.line_keys.specs.Fault.{LosesChanges};
@@ -20,6 +20,18 @@ use line_keys::refresher::Refresher;
 use line_parts::history::SearchDirection;
 use line_parts::{Helper, History};
 use line_state::Renderer;
+
+// Returns a byte offset of a text where it is a character boundary, and else the text's end.
+fn boundary_or_end(text: &str, pos: usize) -> usize
+    ensures value { result ≡ boundary_or_end text.now pos }
+    ensures boundary { IsCharBoundary text.now result }
+{
+    if text.is_char_boundary(pos) {
+        pos
+    } else {
+        text.len()
+    }
+}
 
 impl<'out, 'prompt, W: Renderer, H: Helper, P: Prompt, S: History> State<
     'out,
@@ -66,41 +78,53 @@ impl<'out, 'prompt, W: Renderer, H: Helper, P: Prompt, S: History> State<
         Ok(self.edited.update(saved.as_str(), saved.pos())?)
     }
 
-    /// Puts a text of the history in the line's place as one group of changes, with the cursor at byte `pos` of it, as the line
-    /// at an index. Nothing is drawn.
+    /// Puts the line of the history at an index in the line's place as one group of changes, with the cursor at byte `pos` of it,
+    /// or at its end where that is no character boundary. A group that was open is closed before, and the line is saved where it
+    /// is the one that is being written. Returns whether the changes have grown by it. Without a line at that index nothing
+    /// happens. Nothing is drawn.
     ///
     /// # Errors
-    /// `Memory`. Then the line has no changes; the saved line, the history index and the hint stay.
-    pub fn put_entry(&mut self, text: &str, pos: usize, index: usize) -> Result<()>
-        requires boundary { IsCharBoundary text.now pos }
-        requires index { index ≤ length (⟦<Self as EditorState>⟧.environment self.old).lines }
-        ensures draft { let d = ⟦<Self as EditorState>⟧.draft in
-            OnOk result (d self.new ≡ entry_put text.now pos index (d self.old)) }
-        ensures err { let d = ⟦<Self as EditorState>⟧.draft in
-            OnErr result (LosesChanges (d self.old) (d self.new)) }
+    /// Those of the history: `Io` and `Memory`. Then either all is as it was; or the line has no changes, the saved line is the
+    /// one that was to be saved, and the history index stays. The hint stays.
+    pub fn put_entry(&mut self, pos: usize, index: usize) -> Result<bool>
+        ensures draft { let e = ⟦<Self as EditorState>⟧ in OnOk result
+            (e.draft self.new ≡ entry_put (e.environment self.old) pos index (e.draft self.old)) }
+        ensures grown { let e = ⟦<Self as EditorState>⟧ in IfOk result (λ grown.
+            grown ≡ entry_grows (e.environment self.old) index (e.draft self.old)) }
+        ensures err { let e = ⟦<Self as EditorState>⟧ in OnErr result
+            ((e.draft self.new ≡ e.draft self.old) ⊎ LosesChanges
+            (saved_at_end (e.environment self.old) (e.draft self.old)) (e.draft self.new)) }
+        ensures hint { let d = ⟦<Self as EditorState>⟧.draft in
+            (d self.new).hint ≡ (d self.old).hint }
         ensures undrawn { Undrawn ⟦<Self as EditorState>⟧ self.old self.new }
-        ensures memory { MemoryOnly result }
+        ensures faults { FaultsOnly result }
     {
-        self.edited.update_in_group(text, pos)?;
+        let history = self.parties.history();
+        let Some(found) = history.get(index, SearchDirection::Reverse)? else {
+            return Ok(false);
+        };
+        let text = found.entry.as_str();
+        let grown = !(text.is_empty() && self.edited.line().is_empty());
+        self.save_at_end()?;
+        let _ = self.edited.end_groups()?;
+        self.edited
+            .update_in_group(text, boundary_or_end(text, pos))?;
         self.parties.set_history_index(index);
-        Ok(())
+        Ok(grown)
     }
 
     /// Puts the cursor at byte `pos`, where that is a character boundary, and says that the line is the one of the history at
-    /// an index. Nothing is drawn.
+    /// an index, or the one that is being written where the history has no such line. Nothing is drawn.
     pub fn return_to(&mut self, pos: usize, index: usize)
-        requires index { index ≤ length (⟦<Self as EditorState>⟧.environment self.old).lines }
-        ensures returned { let d = ⟦<Self as EditorState>⟧.draft in
-            IsCharBoundary (d self.old).line.text pos
-            → d self.new ≡ at_index index (record (d self.old) { line = with_cursor (d self.old).line pos }) }
-        ensures unfit { let d = ⟦<Self as EditorState>⟧.draft in
-            (IsCharBoundary (d self.old).line.text pos → ⊥) → d self.new ≡ at_index index (d self.old) }
+        ensures draft { let e = ⟦<Self as EditorState>⟧ in
+            e.draft self.new ≡ returned_to (e.environment self.old) pos index (e.draft self.old) }
         ensures undrawn { Undrawn ⟦<Self as EditorState>⟧ self.old self.new }
     {
         if self.edited.line().as_str().is_char_boundary(pos) {
             self.edited.set_pos(pos);
         }
-        self.parties.set_history_index(index);
+        let end = self.parties.history().len();
+        self.parties.set_history_index(index.min(end));
     }
 
     /// Shows the line of the history before this one where `prev` is true, and else the one behind it: behind the last one
