@@ -1,5 +1,5 @@
 -- Facts on completions.
-use Rattle.std.proofs.Common.{◌≡◌, ◌∙◌, ◌-◌, ◌||◌, ◌==◌, nat_lt, ℕ, Bool, true, false, List, length, map, Option, Some, None, inl, inr, refl, sym, ap, subst, slice_get, ◌+◌, ◌≤◌, ◌<◌, ◌++◌, [], ◌∷◌, take, take-suc, get_or, option_map, Bor, Result, Ok, Err, IfOk, arith, suc}
+use Rattle.std.proofs.Common.{◌≡◌, ◌∙◌, ◌-◌, ◌||◌, ◌==◌, nat_lt, ℕ, Bool, true, false, List, length, map, Option, Some, None, refl, sym, ap, subst, slice_get, ◌+◌, ◌≤◌, ◌<◌, ◌++◌, [], ◌∷◌, take, take-suc, get_or, option_map, Bor, Result, Ok, Err, IfOk, arith, suc}
 use Rattle.std.specs.Prelude.{IfSome, MatchBool, MatchOption}
 use Rattle.std.proofs.lemmas.Bool.Decides.{nat_tests}
 use Rattle.std.proofs.lemmas.Option.{slice_get_past, slice_get_read}

@@ -1,9 +1,15 @@
 pub mod CameLemmas
 pub mod CompletingLemmas
+pub mod DrawLemmas
 pub mod GoingLemmas
 pub mod KeptLemmas
 pub mod OneChangeLaws
+pub mod OneSearchLaws
 pub mod OnceLaws
+pub mod QueueViews
 pub mod ReadingLemmas
+pub mod SearchingLemmas
+pub mod StepLemmas
+pub mod TurnLemmas
 pub mod WholeLaws
 pub mod WordsLemmas

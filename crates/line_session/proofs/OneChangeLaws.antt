@@ -1,12 +1,11 @@
 -- A completion is one change.
-use Rattle.std.proofs.Common.{◌≡◌, ◌∙◌, ◌⊎◌, inl, inr, ℕ, ◌+◌, ◌-◌, ◌≤◌, Bool, true, false, List, [], ◌∷◌, ◌++◌, length, take, drop, Option, Some, None, refl, sym, ap, ap₂, subst, arith, append_assoc, length-drop, slice_get, if◌then◌else◌, IsCharBoundary}
+use Rattle.std.proofs.Common.{◌≡◌, ◌∙◌, inl, inr, ℕ, ◌+◌, ◌-◌, ◌≤◌, Bool, true, List, [], ◌∷◌, ◌++◌, length, take, drop, Option, Some, None, refl, sym, ap, ap₂, subst, arith, append_assoc, length-drop, slice_get, if◌then◌else◌, IsCharBoundary}
 use Rattle.std.proofs.lemmas.List.{length-take-le, take-append-drop}
 use Rattle.std.proofs.lemmas.List.Folds.{drop_split}
 use Rattle.std.proofs.Math.Seq.{drop-append-add, drop-append_seam, take-append_seam}
 use Rattle.std.specs.List.{replace_range, slice_range}
-use Rattle.line_buffer.specs.Changes.{Changes, Entry, adds_end, begins, begun, ended, replaced, with_entries, with_replace}
-use Rattle.line_buffer.specs.Line.{Line, replaced_in}
-use Rattle.line_buffer.specs.Undo.{after_undo, all_taken_back}
+use Rattle.line_buffer.specs.Changes.{Changes, Entry, adds_end, begun, ended, replaced}
+use Rattle.line_buffer.specs.Line.{Line}
 use Rattle.line_buffer.proofs.GroupLemmas.{closed_group}
 use Rattle.line_keys.specs.Draft.{Draft, KeepsLine, hinted}
 use Rattle.line_parts.specs.Candidate.{BeginsIn}
@@ -15,8 +14,8 @@ use Rattle.line_parts.specs.Written.{Written, put_to_cursor, written_as}
 use Rattle.line_parts.specs.declared.completion.pair.Pair.{Pair}
 use Rattle.line_state.specs.Edited.{Edited, undone}
 use Rattle.line_editor.specs.Completing.{ComesIn, taken_back_once}
-use Rattle.line_editor.specs.Editor.{edited_of, with_edited}
-use Rattle.line_session.specs.Completing.{Elects, GivesUp, GoesOnTo, Shows, before_shown, replacement_of}
+use Rattle.line_editor.specs.Editor.{edited_of}
+use Rattle.line_session.specs.Completing.{Elects, GoesOnTo, Shows, before_shown, replacement_of}
 use Rattle.line_session.specs.OneChange.{CompletionIsOneChange, CompletionKeepsTheRest, GivingUpRestores, GoneThrough}
 use Rattle.line_session.specs.OneChange as one_change
 use Rattle.line_session.specs.declared.completing.Completing.{Completing}

@@ -20,23 +20,22 @@ use Rattle.line_session.specs.Pieces.{EndsTheSame, GoesOnFrom, drawn_anew, with_
 use Rattle.line_session.specs.Pieces as pieces
 use Rattle.line_session.specs.Steps.{Ends, ItemTaken, Rules, Standing, Steps, TurnFrom, Waits, WaitsIn, comes_in, takes_items}
 use Rattle.line_session.specs.Steps as steps
-use Rattle.line_session.proofs.GoingLemmas.{same_hint}
+use Rattle.line_session.specs.declared.mode.Mode.{Mode}
+use Rattle.line_session.specs.declared.mode.Mode.TheVariants as modes
+use Rattle.line_session.proofs.DrawLemmas.{same_hint}
+use Rattle.line_session.proofs.StepLemmas.{key_alone, steps_then}
 
 -- more items stay behind a turn
 turn_more : (by : Rules) (from to : Standing) (answer : Answer) (more : List Item) → TurnFrom by from to answer
     → TurnFrom by (with_more more from) (with_more more to) answer
 turn_more by from to answer more turn = record {
   reads = turn.reads;
-  executed = turn.executed;
-  turn = record {
-    phrase = turn.turn.phrase;
-    read = turn.turn.read;
-    cut = ap (λ i. i ++ more) turn.turn.cut ∙ append_assoc turn.turn.phrase to.items more;
-    reads = turn.turn.reads;
-    input_left = turn.turn.input_left;
-    leaves = turn.turn.leaves;
-  };
-  next = turn.next;
+  phrase = turn.phrase;
+  read = turn.read;
+  cut = ap (λ i. i ++ more) turn.cut ∙ append_assoc turn.phrase to.items more;
+  comes = turn.comes;
+  input_left = turn.input_left;
+  does = turn.does;
 }
 
 item_more : (by : Rules) (from to : Standing) (more : List Item) → ItemTaken by from to → ItemTaken by (with_more more from) (with_more more to)
@@ -54,6 +53,8 @@ steps_more by start to more (steps.turn {found} {next} before turn) =
     steps.turn (steps_more by start found more before) (turn_more by found to proceeds more turn)
 steps_more by start to more (steps.item {found} {next} before puts) =
     steps.item (steps_more by start found more before) (item_more by found to more puts)
+steps_more by start to more (steps.resume {found} {next} before goes) =
+    steps.resume (steps_more by start found more before) (record { was = goes.was; is = ap (λ s. with_more more s) goes.is })
 
 -- the draft that the first key leaves is that of the same items with more behind them
 entered_more : (keymap : Keymap) (draft : Draft) (input : Input) (items more : List Item) → (items ≡ [] → ⊥)
@@ -138,20 +139,16 @@ module _ (by : Rules) (no_hint : (typed : KeyEvent) → KeyLooksAtNoHint by.keym
   -- a turn that is read again is the one from before the cut
   turn_again : (to : Standing) (answer : Answer) (turn : TurnFrom by (with_more more (cut_at found cut)) to answer)
       → LeftByCut by.environment (entered by.keymap found.editor.draft found.input (found.items ++ more)) cut
-      → HintMakesNoDifference by.keymap found.input (found.items ++ more) found.editor.draft cut (count_in_front turn.turn.reads) turn.turn.read
+      → HintMakesNoDifference by.keymap found.input (found.items ++ more) found.editor.draft cut (count_in_front turn.comes) turn.read
       → TurnFrom by (with_more more found) to answer
   turn_again to answer turn short as_before = record {
     reads = turn.reads;
-    executed = turn.executed;
-    turn = record {
-      phrase = turn.turn.phrase;
-      read = turn.turn.read;
-      cut = turn.turn.cut;
-      reads = phrase-first by.keymap by.environment found.editor.draft cut found.input (found.items ++ more) turn.turn.phrase to.items turn.turn.read turn.turn.cut short turn.turn.reads as_before;
-      input_left = turn.turn.input_left;
-      leaves = turn.turn.leaves;
-    };
-    next = turn.next;
+    phrase = turn.phrase;
+    read = turn.read;
+    cut = turn.cut;
+    comes = phrase-first by.keymap by.environment found.editor.draft cut found.input (found.items ++ more) turn.phrase to.items turn.read turn.cut short turn.comes as_before;
+    input_left = turn.input_left;
+    does = turn.does;
   }
 
   -- a turn that is read from the cut is one from where the items are read whole
@@ -163,7 +160,7 @@ module _ (by : Rules) (no_hint : (typed : KeyEvent) → KeyLooksAtNoHint by.keym
           let short : LeftByCut by.environment (entered by.keymap found.editor.draft found.input found.items) cut = inr (left.asked drawn) in
           let whole : LeftByCut by.environment (entered by.keymap found.editor.draft found.input (found.items ++ more)) cut =
           subst (λ d. LeftByCut by.environment d cut) (sym (entered_more by.keymap found.editor.draft found.input found.items more some)) short in
-          let within = drawn-again by.keymap by.environment found.editor.draft cut found.input found.items more turn.turn.phrase to.items turn.turn.read begins drawn short (first_looks found.items) turn.turn.cut turn.turn.reads in
+          let within = drawn-again by.keymap by.environment found.editor.draft cut found.input found.items more turn.phrase to.items turn.read begins drawn short (first_looks found.items) turn.cut turn.comes in
           turn_again to answer turn whole (inr (inr (within.whole, first_looks (found.items ++ more))))
       by_drawn false drawn some =
           let is = left.kept drawn in
@@ -184,11 +181,15 @@ module _ (by : Rules) (no_hint : (typed : KeyEvent) → KeyLooksAtNoHint by.keym
       by_items (key first ∷ rest) is =
           let front : key first ∷ rest ++ more ≡ puts.item ∷ to.items = ap (λ i. i ++ more) (sym is) ∙ puts.cut in
           let item : key first ≡ puts.item = cc in
-          let comes : takes_items found.mode ≡ true = subst (λ i. comes_in found.mode i ≡ true) (sym item) puts.comes in
+          let comes : takes_items found.mode ≡ true = key_alone found.mode first (subst (λ i. comes_in found.mode i ≡ true) (sym item) puts.comes) in
           absurd (let two : true ≡ false = sym comes ∙ reads in cc)
       by_items (paste text ∷ rest) is =
           let comes = subst (λ i. Phrase by.keymap by.environment found.editor.draft found.input (i ++ begins.rest) begins.read) is begins.comes in
           absurd (no_paste by.keymap by.environment found.editor.draft found.input text (rest ++ begins.rest) begins.read comes)
+
+  -- the program was not suspended
+  not_suspended : {B : Type 0} {m : Mode} → m ≡ found.mode → m ≡ modes.Suspended → B
+  not_suspended same was = absurd (let two : true ≡ false = sym (ap (λ n. takes_items n) was) ∙ ap (λ n. takes_items n) same ∙ reads in cc)
 
   -- steps from the cut, if there are any, are steps from where the items are read whole
   steps_whole : (start to : Standing) → Steps by start (with_more more found) → Steps by (with_more more (cut_at found cut)) to
@@ -202,6 +203,10 @@ module _ (by : Rules) (no_hint : (typed : KeyEvent) → KeyLooksAtNoHint by.keym
     | inl is ↦ steps.item front (item_whole to (subst (λ s. ItemTaken by s to) is puts))
     | inr there ↦ steps.item there puts
   ])
+  steps_whole start to front (steps.resume {found = middle} {next} before goes) = inr (elim (steps_whole start middle front before) [
+    | inl is ↦ not_suspended (ap (λ (s : Standing). s.mode) is) goes.was
+    | inr there ↦ steps.resume there goes
+  ])
 
   ends_whole : (start end : Standing) (answer : Answer) → Steps by start (with_more more found) → Ends by (with_more more (cut_at found cut)) end answer
       → Ends by start end answer
@@ -213,12 +218,6 @@ module _ (by : Rules) (no_hint : (typed : KeyEvent) → KeyLooksAtNoHint by.keym
     }
     | inr there ↦ record { found = ends.found; steps = there; last = ends.last }
   ]
-
--- steps, and then steps
-steps_then : (by : Rules) (start mid to : Standing) → Steps by start mid → Steps by mid to → Steps by start to
-steps_then by start mid to front steps.none = front
-steps_then by start mid to front (steps.turn {found} {next} before turn) = steps.turn (steps_then by start mid found front before) turn
-steps_then by start mid to front (steps.item {found} {next} before puts) = steps.item (steps_then by start mid found front before) puts
 
 -- where reading waited once
 ends_once : (by : Rules) (start left next end : Standing) (piece : List Item) (answer : Answer)

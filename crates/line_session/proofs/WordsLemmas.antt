@@ -1,5 +1,5 @@
 -- Words that begin with a text.
-use Rattle.std.proofs.Common.{◌≡◌, ◌∙◌, ℕ, ◌+◌, ◌<◌, suc, eqb, Bool, true, false, cond, List, [], ◌∷◌, ◌++◌, length, map, filter, take, take-suc, get_or, Option, None, refl, sym, ap, arith, append-nil, string_bytes, MatchBool, chars, drop}
+use Rattle.std.proofs.Common.{◌≡◌, ◌∙◌, ℕ, ◌+◌, ◌<◌, suc, eqb, Bool, true, false, cond, List, [], ◌∷◌, ◌++◌, length, map, filter, take, take-suc, get_or, None, refl, sym, ap, arith, append-nil, string_bytes, MatchBool, chars, drop}
 use Rattle.std.proofs.lemmas.List.{map-append}
 use Rattle.std.proofs.lemmas.List.Elements.{filter-append}
 use Rattle.std.proofs.lemmas.Str.Pattern.{starts_text}

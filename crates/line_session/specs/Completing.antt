@@ -1,5 +1,5 @@
 -- Completions: candidates that come into the line one after another, or as far as they agree, and lists of them.
-use Rattle.std.specs.Prelude.{◌≡◌, ◌<◌, ℕ, min, unwrap_or, ◌+◌, ◌-◌, ◌==◌, ◌||◌, nat_lt, Bool, true, false, if◌then◌else◌, MatchBool, List, [], ◌∷◌, length, map, slice_get, Option, Some, None, string_bytes}
+use Rattle.std.specs.Prelude.{◌≡◌, ◌<◌, ℕ, min, unwrap_or, ◌+◌, ◌-◌, ◌==◌, ◌||◌, nat_lt, Bool, false, if◌then◌else◌, MatchBool, List, [], ◌∷◌, length, map, slice_get, Option, Some, None, string_bytes}
 use Rattle.std.specs.declared.alloc.Global.{Global}
 use Rattle.std.specs.declared.vec.Vec.{Vec}
 use Rattle.line_config.specs.Settings.{Settings}

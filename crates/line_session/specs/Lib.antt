@@ -1,8 +1,10 @@
 pub mod Completing
 pub mod Kept
 pub mod OneChange
+pub mod OneSearch
 pub mod Pieces
 pub mod Reading
+pub mod Searching
 pub mod Sitting
 pub mod Steps
 pub mod Taken

@@ -1,5 +1,5 @@
 -- What an editor keeps between two calls, and what comes of the items that it reads.
-use Rattle.std.specs.Prelude.{◌≡◌, ◌++◌, ℕ, Bool, true, false, if◌then◌else◌, List, length, Option, Some, None, is_some, option_map, Result, Ok, string_bytes}
+use Rattle.std.specs.Prelude.{◌≡◌, ◌++◌, ℕ, Bool, true, false, if◌then◌else◌, List, length, Option, Some, None, is_some, option_map, unwrap_or, Result, Ok, string_bytes}
 use Rattle.line_buffer.specs.KillRing.{Ring, other, with_last}
 use Rattle.line_buffer.specs.declared.layout.GraphemeClusterMode.TheVariants.{Unicode}
 use Rattle.line_config.specs.Settings.{Settings}
@@ -19,7 +19,7 @@ use Rattle.line_editor.specs.Released.{KeptDraft}
 use Rattle.line_editor.specs.declared.run.Turned.{Turned}
 use Rattle.line_editor.specs.declared.run.Turned.TheVariants as turned
 use Rattle.line_term.specs.Decoder as decoding
-use Rattle.line_session.specs.Steps.{Ends, Rules, Standing, Waits, starting, unlisted}
+use Rattle.line_session.specs.Steps.{Ends, Rules, Standing, Waits, is_suspended, starting, unlisted}
 use Rattle.line_session.specs.declared.editor.Fed.{Fed}
 use Rattle.line_session.specs.declared.editor.Fed.TheVariants as fed
 use Rattle.line_session.specs.declared.mode.Mode.{Mode}
@@ -51,6 +51,10 @@ pub record Sitting (H : Type 0) : Type 0 where
 -- the draft of the line that has begun, what reading keys remembers, and what they are read as but in a list, if one has
 abbrev pub written_so_far : {H : Type 0} → Sitting H → Option (Draft × Input × Mode)
 written_so_far sitting = option_map (λ (begun : BegunLine). (begun.kept.draft, begun.input, unlisted begun.mode)) sitting.line
+
+-- whether the program is suspended
+abbrev pub suspends : {H : Type 0} → Sitting H → Bool
+suspends sitting = unwrap_or (option_map (λ (begun : BegunLine). is_suspended begun.mode) sitting.line) false
 
 -- nothing is lost where a call fails: the line that had begun is there, if one had, and so are the lines of the history
 pub record LosesNothing {H : Type 0} (old new : Sitting H) : Type 0 where

@@ -1,6 +1,6 @@
 -- Steps of reading: commands that are read, executed and answered, and items that are taken by themselves, from the items that are there to
 -- those that are left.
-use Rattle.std.specs.Prelude.{◌≡◌, ℕ, ◌-◌, ◌==◌, ◌&&◌, nat_le, Bool, true, false, if◌then◌else◌, [], ◌∷◌, List, Option, Some, None}
+use Rattle.std.specs.Prelude.{◌≡◌, ℕ, ◌-◌, ◌==◌, ◌&&◌, nat_le, Bool, true, false, if◌then◌else◌, [], ◌∷◌, ◌++◌, List, Option, Some, None}
 use Rattle.line_config.specs.Settings.{Settings}
 use Rattle.line_keys.specs.Command.{Command, insert, self_insert, unknown}
 use Rattle.line_keys.specs.Draft.{Draft, hinted}
@@ -11,19 +11,23 @@ use Rattle.line_keys.specs.declared.keys.KeyCode.TheVariants as codes
 use Rattle.line_keys.specs.declared.keys.KeyEvent.{KeyEvent}
 use Rattle.line_keys.specs.declared.keys.TheConstants.Modifiers.{CTRL, NONE}
 use Rattle.line_parts.specs.Environment.{Environment}
+use Rattle.line_parts.specs.declared.history.SearchDirection.TheVariants.{Forward, Reverse}
 use Rattle.line_editor.specs.Editor.{Answer, Editor, Leaves, Ruler, proceeds}
 use Rattle.line_editor.specs.Input.{Input}
 use Rattle.line_editor.specs.ItemShown.{ItemShown}
 use Rattle.line_editor.specs.Keymap.{Keymap}
 use Rattle.line_editor.specs.Left.{left_by}
-use Rattle.line_editor.specs.Phrase.{IsBeginning}
-use Rattle.line_editor.specs.Run.{CutShort, Turn, ready}
+use Rattle.line_editor.specs.Phrase.{IsBeginning, Phrase}
+use Rattle.line_editor.specs.Read.{Read}
+use Rattle.line_editor.specs.Run.{CutShort, ready}
 use Rattle.line_editor.specs.Step.{step}
 use Rattle.line_editor.specs.declared.left.Left.{Left}
 use Rattle.line_editor.specs.declared.left.Left.TheVariants as lefts
 use Rattle.line_session.specs.Completing.{BeginsCompletion, GivesUp, GoesOnTo, Lists, Replies, index_before, index_behind, reply_by}
+use Rattle.line_session.specs.Searching.{BeginsSearch, Search, Searches, search_cmd, search_of}
 use Rattle.line_session.specs.declared.mode.Mode.{Mode}
 use Rattle.line_session.specs.declared.mode.Mode.TheVariants as modes
+use Rattle.line_session.specs.declared.searching.SearchCmd.{SearchCmd}
 
 -- what commands are read and executed by, and the settings by which the program answers what they leave to it
 pub record Rules : Type 0 where
@@ -39,22 +43,37 @@ pub record Standing : Type 0 where
   pub items : List Item
   pub mode : Mode
 
--- the same once the line was drawn, where it is to be drawn: its hint was asked
-abbrev pub starting : Environment → Bool → Standing → Standing
-starting environment draws start = if draws then record start {
-  editor = record start.editor { draft = hinted environment start.editor.draft };
-} else start
+-- the same editor once the line was drawn: its hint was asked
+abbrev pub once_drawn : Environment → Editor → Editor
+once_drawn environment editor = record editor { draft = hinted environment editor.draft }
 
--- whether each item is taken by itself, and none is read as part of a command
+-- the same of where reading stands, where the line is to be drawn
+abbrev pub starting : Environment → Bool → Standing → Standing
+starting environment draws start = if draws then record start { editor = once_drawn environment start.editor } else start
+
+-- whether no item is read as part of a command: each is taken by itself, or none while the program is suspended
 abbrev pub takes_items : Mode → Bool
 takes_items modes.Quoting = true
 takes_items (modes.Listing listing) = true
+takes_items modes.Suspended = true
 takes_items _ = false
 
--- whether the line is shown while items are read so: in a list it is not
+-- whether the line is shown behind its own prompt while items are read so: not in a list, in a search, or while the program is suspended
 abbrev pub shows_line : Mode → Bool
 shows_line (modes.Listing listing) = false
+shows_line (modes.Searching searching) = false
+shows_line modes.Suspended = false
 shows_line _ = true
+
+-- whether it is a list
+abbrev pub is_list : Mode → Bool
+is_list (modes.Listing listing) = true
+is_list _ = false
+
+-- whether the program is suspended
+abbrev pub is_suspended : Mode → Bool
+is_suspended modes.Suspended = true
+is_suspended _ = false
 
 -- the same mode; but a list ends
 abbrev pub unlisted : Mode → Mode
@@ -72,6 +91,9 @@ Answers settings environment (Some lefts.Complete) mode old new next = BeginsCom
 Answers settings environment (Some lefts.CompleteBackward) (modes.Completing going) old new next =
     GoesOnTo environment going (index_before going) old new next
 Answers settings environment (Some lefts.Abort) (modes.Completing going) old new next = GivesUp environment going old new next
+Answers settings environment (Some lefts.ReverseSearchHistory) mode old new next = BeginsSearch environment Reverse old new next
+Answers settings environment (Some lefts.ForwardSearchHistory) mode old new next = BeginsSearch environment Forward old new next
+Answers settings environment (Some lefts.Suspend) mode old new next = (new ≡ old) × (next ≡ modes.Suspended)
 Answers settings environment left mode old new next = (new ≡ old) × (next ≡ modes.Editing)
 
 -- the same behind a turn with this answer: the program does something where it proceeds, and else nothing is under way any more
@@ -80,12 +102,34 @@ AnswersTurn by proceeds left mode old new next =
     Answers by.settings by.environment left mode old.draft new.draft next × (new.kills ≡ old.kills)
 AnswersTurn by _ left mode old new next = (new ≡ old) × (next ≡ modes.Editing)
 
--- a turn leads from one standing to another, with this answer: its command is executed, and then what it left is done
+-- a command is executed, and then what it left is done
+pub record Executes (by : Rules) (mode : Mode) (command : Command) (input : Input) (found new : Editor) (next : Mode) (answer : Answer) : Type 0 where
+  pub executed : Editor
+  pub leaves : Leaves (step by.ruler by.environment input found command) executed answer
+  pub answers : AnswersTurn by answer (left_by command) mode executed new next
+
+-- a search does what a command says to it; another command ends it, and is executed once the line was drawn behind its own prompt
+abbrev pub DoesInSearch : Rules → Search → Option SearchCmd → Command → Input → Editor → Editor → Mode → Answer → Type 0
+DoesInSearch by search (Some says) command input found new next answer =
+    (answer ≡ proceeds) × (new.kills ≡ found.kills) × Searches by.environment search says found.draft new.draft next
+DoesInSearch by search None command input found new next answer =
+    Executes by modes.Editing command input (once_drawn by.environment found) new next answer
+
+-- what a command does that is read in a mode
+abbrev pub DoesCommand : Rules → Mode → Command → Input → Editor → Editor → Mode → Answer → Type 0
+DoesCommand by (modes.Searching searching) command input found new next answer =
+    DoesInSearch by (search_of searching) (search_cmd command) command input found new next answer
+DoesCommand by mode command input found new next answer = Executes by mode command input found new next answer
+
+-- a turn leads from one standing to another, with this answer: the items begin with a phrase, and its command is done
 pub record TurnFrom (by : Rules) (from to : Standing) (answer : Answer) : Type 0 where
   pub reads : takes_items from.mode ≡ false
-  pub executed : Editor
-  pub turn : Turn by.keymap by.ruler by.environment from.editor from.input from.items executed to.input to.items answer
-  pub next : AnswersTurn by answer (left_by turn.read.command) from.mode executed to.editor to.mode
+  pub phrase : List Item
+  pub read : Read
+  pub cut : from.items ≡ phrase ++ to.items
+  pub comes : Phrase by.keymap by.environment from.editor.draft from.input phrase read
+  pub input_left : to.input ≡ read.input
+  pub does : DoesCommand by from.mode read.command read.input (ready read.command read.draft from.editor.kills) to.editor to.mode answer
 
 -- the control character that a key with Ctrl stands for, by the character that it is named for: 64 places before it
 abbrev pub control_character : ℕ → Option ℕ
@@ -123,18 +167,24 @@ as_it_is (key typed) = typing (character_of typed)
 as_it_is (paste text) = insert 1 text
 
 -- whether an item is taken by itself: any one behind a quoted insert and in a list; and a pasted text that stands alone, as the key
--- before it was read as the key of something else
+-- before it was read as the key of something else; but none while the program is suspended
 abbrev pub comes_in : Mode → Item → Bool
+comes_in modes.Suspended item = false
 comes_in mode (paste text) = true
 comes_in mode (key typed) = takes_items mode
 
--- what an item does that is taken by itself: it answers a list, or comes in as it is
+-- an item comes in as it is
+abbrev pub ComesIn : Rules → Input → Item → Editor → Editor → Type 0
+ComesIn by input item old new =
+    Leaves (step by.ruler by.environment input (ready (as_it_is item) old.draft old.kills) (as_it_is item)) new proceeds
+
+-- what an item does that is taken by itself: it answers a list, or comes in as it is, which ends a search
 abbrev pub DoesItem : Rules → Input → Mode → Item → Editor → Editor → Mode → Type 0
 DoesItem by input (modes.Listing listing) item old new next =
     Replies by.environment listing (reply_by listing.next item) old.draft new.draft next × (new.kills ≡ old.kills)
-DoesItem by input mode item old new next =
-    Leaves (step by.ruler by.environment input (ready (as_it_is item) old.draft old.kills) (as_it_is item)) new proceeds
-    × (next ≡ modes.Editing)
+DoesItem by input (modes.Searching searching) item old new next =
+    ComesIn by input item (once_drawn by.environment old) new × (next ≡ modes.Editing)
+DoesItem by input mode item old new next = ComesIn by input item old new × (next ≡ modes.Editing)
 
 -- an item is taken by itself
 pub record ItemTaken (by : Rules) (from to : Standing) : Type 0 where
@@ -144,11 +194,17 @@ pub record ItemTaken (by : Rules) (from to : Standing) : Type 0 where
   pub input : to.input ≡ from.input
   pub does : DoesItem by from.input from.mode item from.editor to.editor to.mode
 
--- steps lead from a start to a standing: turns that proceed, and items that are taken by themselves
+-- a program that was suspended goes on: the line is drawn, and commands are read
+pub record Resumed (by : Rules) (from to : Standing) : Type 0 where
+  pub was : from.mode ≡ modes.Suspended
+  pub is : to ≡ record from { editor = once_drawn by.environment from.editor; mode = modes.Editing }
+
+-- steps lead from a start to a standing: turns that proceed, items that are taken by themselves, and a program that goes on
 pub data Steps (by : Rules) (start : Standing) : Standing → Type 0 where
   none : Steps by start start
   turn : {found next : Standing} → Steps by start found → TurnFrom by found next proceeds → Steps by start next
   item : {found next : Standing} → Steps by start found → ItemTaken by found next → Steps by start next
+  resume : {found next : Standing} → Steps by start found → Resumed by found next → Steps by start next
 
 -- steps, and behind them a turn with this answer, lead from a start to an end
 pub record Ends (by : Rules) (start end : Standing) (answer : Answer) : Type 0 where
@@ -156,12 +212,16 @@ pub record Ends (by : Rules) (start end : Standing) (answer : Answer) : Type 0 w
   pub steps : Steps by start found
   pub last : TurnFrom by found end answer
 
+-- no item is taken by itself: there is none, or the program is suspended
+abbrev pub NoneComesIn : Mode → List Item → Type 0
+NoneComesIn mode items = (item : Item) (more : List Item) → items ≡ item ∷ more → comes_in mode item ≡ false
+
 -- what reading waits in, with what is drawn of the items: in items that are no phrase yet, which leave an editor as one whose items were
--- cut short; or where each item is taken by itself, and none is left
+-- cut short; or where no item is read as part of a command, and none is taken by itself
 pub data WaitsIn (by : Rules) (found : Standing) (left : Editor) : List ItemShown → Type 0 where
   phrase : takes_items found.mode ≡ false → (begins : IsBeginning by.keymap by.environment found.editor.draft found.input found.items)
       → CutShort by.keymap by.environment found.input found.items begins.shown found.editor left → WaitsIn by found left begins.shown
-  alone : takes_items found.mode ≡ true → found.items ≡ [] → left ≡ found.editor → WaitsIn by found left []
+  alone : takes_items found.mode ≡ true → NoneComesIn found.mode found.items → left ≡ found.editor → WaitsIn by found left []
 
 -- steps lead from a start to where reading waits for items; those that are there stay
 pub record Waits (by : Rules) (start left : Standing) : Type 0 where

@@ -2,22 +2,23 @@
 use Rattle.std.specs.Prelude.{◌≡◌, Bool, true, false, if◌then◌else◌, List, ◌∷◌, Option, Some, None, string_bytes}
 use Rattle.line_buffer.specs.KillRing.{Ring}
 use Rattle.line_config.specs.Settings.{Settings}
+use Rattle.line_keys.specs.Draft.{Draft, hinted}
 use Rattle.line_keys.specs.Frame.{Frame}
 use Rattle.line_keys.specs.Item.{Item, key, paste}
 use Rattle.line_keys.specs.ShownLine.{HasRightLayout, HasShownEnd, IsAtEnd, IsInPlace, ShowsNoHint}
 use Rattle.line_keys.specs.declared.editor_state.EditorState as editors
 use Rattle.line_keys.specs.declared.raw_reader.RawReader as readers
-use Rattle.line_editor.specs.Editor.{Leaves, ended, interrupted, own_ruler, proceeds, submitted}
+use Rattle.line_editor.specs.Editor.{Answer, Leaves, ended, interrupted, own_ruler, proceeds, submitted}
 use Rattle.line_editor.specs.Input.{Input}
 use Rattle.line_editor.specs.ItemShown.{any_drawn}
-use Rattle.line_editor.specs.Keymap.{keymap_of}
-use Rattle.line_editor.specs.Outcomes.{Session, editor_of}
+use Rattle.line_editor.specs.Keymap.{Keymap, keymap_of}
+use Rattle.line_editor.specs.Outcomes.{NeedsMoreItems, Session, editor_of}
 use Rattle.line_editor.specs.Run.{ready}
 use Rattle.line_editor.specs.Step.{step}
 use Rattle.line_editor.specs.declared.run.Turned.{Turned}
 use Rattle.line_editor.specs.declared.run.Turned.TheVariants as turned
 use Rattle.line_session.specs.Kept.{IsShownBy}
-use Rattle.line_session.specs.Steps.{Ends, Rules, Standing, Waits, as_it_is, comes_in, shows_line, starting}
+use Rattle.line_session.specs.Steps.{Ends, NoneComesIn, Rules, Standing, TurnFrom, Waits, as_it_is, comes_in, shows_line, starting}
 use Rattle.line_session.specs.declared.mode.AsItIs.{AsItIs}
 use Rattle.line_session.specs.declared.mode.AsItIs.TheVariants as as_is
 use Rattle.line_session.specs.Completing.{Replies, reply_by}
@@ -32,6 +33,14 @@ pub record WaitsBehind (settled : Bool) (by : Rules) (start left : Standing) : T
 -- whether nothing is shown of items that are no phrase yet: behind the own prompt, and in a list
 abbrev pub is_settled : Mode → Bool → Bool
 is_settled mode own_prompt = if shows_line mode then own_prompt else true
+
+-- a turn that ended so comes to this answer
+abbrev pub AnswersAs : Turned → (Answer → Type 0) → Type 0
+AnswersAs turned.Proceeds P = P proceeds
+AnswersAs turned.Submitted P = P submitted
+AnswersAs turned.Ended P = P ended
+AnswersAs turned.Interrupted P = P interrupted
+AnswersAs turned.NeedsMore P = ⊥
 
 -- how turns that were taken end: with the answer of the last one; or where more items are awaited
 abbrev pub ComesTo : Bool → Rules → Standing → Standing → Turned → Type 0
@@ -49,7 +58,7 @@ item_of (as_is.Text text) = paste (string_bytes text)
 -- the next item was taken, where it is taken by itself; and none where it is read as part of a command, or nothing is left
 abbrev pub TakesAsItIs : Mode → Option Item → List Item → List Item → Type 0
 TakesAsItIs mode (Some item) old new = (old ≡ item ∷ new) × (comes_in mode item ≡ true)
-TakesAsItIs mode None old new = ((item : Item) (more : List Item) → old ≡ item ∷ more → comes_in mode item ≡ false) × (new ≡ old)
+TakesAsItIs mode None old new = NoneComesIn mode old × (new ≡ old)
 
 module _ {X : Type 0} (e : editors.Ghosts X) where
   -- the line is shown, and the kept layout is right
@@ -65,28 +74,41 @@ module _ {X : Type 0} (e : editors.Ghosts X) where
   DrawnOnce mode turned.Interrupted state = IsAtEnd e state × IsInPlace e state × HasShownEnd e state
   DrawnOnce mode turned.NeedsMore state = shows_line mode ≡ true → (e.display state).layout.default_prompt ≡ true → IsShown state
 
-  -- an item was put in as it is, behind the own prompt
-  abbrev pub PutsIn : Settings → Input → Item → X → Ring → X → Ring → Type 0
-  PutsIn settings input item old kills new kills' =
-      Leaves (step (own_ruler (e.display old) settings.indent_size) (e.environment old) input (ready (as_it_is item) (e.draft old) kills) (as_it_is item))
+  -- an item was put into a draft as it is, behind the own prompt
+  abbrev pub PutsIn : Settings → Input → Item → X → Draft → Ring → X → Ring → Type 0
+  PutsIn settings input item old draft kills new kills' =
+      Leaves (step (own_ruler (e.display old) settings.indent_size) (e.environment old) input (ready (as_it_is item) draft kills) (as_it_is item))
       (editor_of e new kills') proceeds
 
   -- an item was taken by itself
   abbrev pub TakesItem : Settings → Input → Mode → Item → X → Ring → X → Ring → Mode → Type 0
   TakesItem settings input (modes.Listing listing) item old kills new kills' next =
       Replies (e.environment old) listing (reply_by listing.next item) (e.draft old) (e.draft new) next × (kills' ≡ kills)
+  TakesItem settings input (modes.Searching searching) item old kills new kills' next =
+      PutsIn settings input item old (hinted (e.environment old) (e.draft old)) kills new kills' × (next ≡ modes.Editing)
   TakesItem settings input mode item old kills new kills' next =
-      PutsIn settings input item old kills new kills' × (next ≡ modes.Editing)
+      PutsIn settings input item old (e.draft old) kills new kills' × (next ≡ modes.Editing)
+
+  -- what is drawn behind one turn that did not fail: where the next command is read the line, unless a list or a search is shown; else as it is
+  -- drawn once turns have ended
+  abbrev pub DrawnBehind : Mode → Turned → X → Type 0
+  DrawnBehind next turned.Proceeds state = shows_line next ≡ true → IsShown state
+  DrawnBehind next done state = DrawnOnce next done state
+
+  -- what the commands of a state are executed by, and read by a keymap
+  abbrev pub rules_by : Keymap → Settings → X → Rules
+  rules_by keymap settings state = record {
+    keymap = keymap;
+    ruler = own_ruler (e.display state) settings.indent_size;
+    environment = e.environment state;
+    settings = settings;
+  }
 
 module _ {X Y : Type 0} (e : editors.Ghosts X) (r : readers.Ghosts Y) where
   -- what the commands of a session are read and executed by
   abbrev pub rules_of : Settings → Session X Y → Rules
-  rules_of settings session = record {
-    keymap = keymap_of session.keys (r.own_binding (r.kept session.reader));
-    ruler = own_ruler (e.display session.state) settings.indent_size;
-    environment = e.environment session.state;
-    settings = settings;
-  }
+  rules_of settings session =
+      rules_by e (keymap_of session.keys (r.own_binding (r.kept session.reader))) settings session.state
 
   -- what stays of a session while turns are taken: what commands are read and executed by, and what no command changes of the editor
   pub record KeepsRules (before after : Session X Y) : Type 0 where
@@ -102,6 +124,19 @@ module _ {X Y : Type 0} (e : editors.Ghosts X) (r : readers.Ghosts Y) where
     items = r.rest session.reader;
     mode = mode;
   }
+
+  -- how one turn ended of a session, and what items are read as then: a phrase was read, and its command done; or the items are no phrase
+  -- yet, and the mode stays
+  abbrev pub TakesOne : Settings → Mode → Session X Y → Turned → Mode → Session X Y → Type 0
+  TakesOne settings mode before turned.NeedsMore next after = NeedsMoreItems e r before after × (next ≡ mode)
+  TakesOne settings mode before turned.Proceeds next after =
+      TurnFrom (rules_of settings before) (standing_of mode before) (standing_of next after) proceeds
+  TakesOne settings mode before turned.Submitted next after =
+      TurnFrom (rules_of settings before) (standing_of mode before) (standing_of next after) submitted × (next ≡ modes.Editing)
+  TakesOne settings mode before turned.Ended next after =
+      TurnFrom (rules_of settings before) (standing_of mode before) (standing_of next after) ended × (next ≡ modes.Editing)
+  TakesOne settings mode before turned.Interrupted next after =
+      TurnFrom (rules_of settings before) (standing_of mode before) (standing_of next after) interrupted × (next ≡ modes.Editing)
 
   -- the same once the line was drawn, where it is to be drawn: its hint was asked
   abbrev pub start_of : Bool → Mode → Session X Y → Standing

@@ -102,7 +102,7 @@ fn leave_list<'out, 'prompt, O: Write + Drop, H: Helper, P: Prompt, S: History>(
         Frame e state.old state.new }
     ensures faults { FaultsOnly result }
 {
-    if mode.shows_line() {
+    if !mode.is_list() {
         return Ok(());
     }
     state.move_cursor_at_leftmost(&mut KeyQueue::new(alloc))
@@ -324,6 +324,7 @@ impl<H: Helper> Begun<H> {
         let mut state = State::resume(alloc, line, screen, prompt, Some(helper), history);
         let mut input_state = InputState::resume(input, bindings);
         let turned = take_turns(
+            alloc,
             draws,
             &mut mode,
             &mut state,

@@ -6,7 +6,7 @@ ghost use Rattle.line_editor.specs.Binding.{bound_of};
 ghost use Rattle.line_parts.specs.History.{TellsTaken, added};
 ghost use Rattle.line_session.specs.Kept.{answers_of};
 ghost use Rattle.line_session.specs.Reading.{BindingsLookAtNoHint, HearsOnce, ReadsLine, answer_of};
-ghost use Rattle.line_session.specs.Sitting.{BegunLine, Came, CameBegun, EndsAs, Keeps, LosesNothing, StartsWith, written_so_far, with_turn};
+ghost use Rattle.line_session.specs.Sitting.{BegunLine, Came, CameBegun, EndsAs, Keeps, LosesNothing, StartsWith, suspends, with_turn, written_so_far};
 ghost use Rattle.line_buffer.specs.KillRing.{empty_ring};
 ghost use Rattle.line_term.specs.Decoder.{finished, flushed, fresh, is_waiting, read};
 
@@ -164,6 +164,17 @@ impl<O: Write + Drop, H: Helper + Drop, S: History + Drop> Editor<O, H, S> {
             keys: KeyQueue::new(alloc),
             prompt: (String::new(alloc), String::new(alloc)),
             line: None,
+        }
+    }
+
+    /// Returns whether the person asked to suspend the program, which has not gone on since. The next call that reads keys goes
+    /// on: it draws the line, below what stands there, and reads what was typed behind that key.
+    pub fn is_suspended(&self) -> bool
+        ensures { result ≡ suspends self.now }
+    {
+        match &self.line {
+            Some(begun) => begun.mode.is_suspended(),
+            None => false,
         }
     }
 

@@ -1,5 +1,6 @@
 //! Laws of the definitions that the contracts cite. No call of the editor is made here.
 ghost use Rattle.line_session.specs.OneChange.{CompletionIsOneChange, CompletionKeepsTheRest, GivingUpRestores};
+ghost use Rattle.line_session.specs.OneSearch.{GivingUpSearchRestores, SearchIsOneChange};
 ghost use Rattle.line_session.specs.Pieces.{EndsOnce, EndsTheSame};
 
 /// A line that ends, ends the same however its items come, where no binding looks at the hint: in pieces as all at once.
@@ -29,4 +30,14 @@ pub fn giving_up_restores()
 /// as it is usual.
 pub fn a_completion_keeps_the_rest()
     ensures { CompletionKeepsTheRest }
+{}
+
+/// However a search went on, it is one change: taking that back gives the text from before.
+pub fn a_search_is_one_change()
+    ensures { SearchIsOneChange }
+{}
+
+/// Giving a search up gives the line from before, with its cursor, as the line of the history that it was.
+pub fn giving_a_search_up_restores()
+    ensures { GivingUpSearchRestores }
 {}

@@ -9,5 +9,6 @@ pub mod laws;
 pub mod listing;
 pub mod mode;
 pub mod parts;
+pub mod searching;
 mod turns;
 pub mod words;

@@ -1,11 +1,12 @@
 //! What the items of a line are read as.
 ghost use Rattle.std.specs.Prelude.{◌≡◌};
 ghost use Rattle.line_keys.specs.Command.{command_of};
-ghost use Rattle.line_session.specs.Steps.{as_it_is, character_of, plain_character, shows_line, takes_items, unlisted, with_control};
+ghost use Rattle.line_session.specs.Steps.{as_it_is, character_of, is_list, is_suspended, plain_character, shows_line, takes_items, unlisted, with_control};
 ghost use Rattle.line_session.specs.Taken.{item_of};
 
 use crate::completing::Completing;
 use crate::listing::Listing;
+use crate::searching::Searching;
 use line_keys::cmd::Cmd;
 use line_keys::keys::{KeyCode, KeyEvent, Modifiers};
 use line_parts::completion::Pair;
@@ -23,16 +24,20 @@ pub enum Mode {
     Offering(Vec<Pair>),
     /// Keys, each by itself: candidates are listed, or it was asked whether to list them.
     Listing(Listing),
+    /// Commands, of which some search through the history.
+    Searching(Searching),
+    /// Nothing, until the program goes on: it was asked to suspend itself.
+    Suspended,
 }
 
 impl Mode {
-    /// Returns whether each item is taken by itself, and none is read as part of a command.
+    /// Returns whether no item is read as part of a command: each is taken by itself, or none.
     pub(crate) fn takes_items(&self) -> bool
         ensures { result ≡ takes_items self.now }
     {
         match self {
-            Mode::Quoting | Mode::Listing(_) => true,
-            Mode::Editing | Mode::Completing(_) | Mode::Offering(_) => false,
+            Mode::Quoting | Mode::Listing(_) | Mode::Suspended => true,
+            Mode::Editing | Mode::Completing(_) | Mode::Offering(_) | Mode::Searching(_) => false,
         }
     }
 
@@ -46,12 +51,34 @@ impl Mode {
         }
     }
 
-    /// Returns whether the line is shown: in a list it is not.
+    /// Returns whether it is a list.
+    pub(crate) fn is_list(&self) -> bool
+        ensures { result ≡ is_list self.now }
+    {
+        match self {
+            Mode::Listing(_) => true,
+            Mode::Editing | Mode::Quoting | Mode::Completing(_) => false,
+            Mode::Offering(_) | Mode::Searching(_) | Mode::Suspended => false,
+        }
+    }
+
+    /// Returns whether the program is suspended.
+    pub(crate) fn is_suspended(&self) -> bool
+        ensures { result ≡ is_suspended self.now }
+    {
+        match self {
+            Mode::Suspended => true,
+            Mode::Editing | Mode::Quoting | Mode::Completing(_) => false,
+            Mode::Offering(_) | Mode::Listing(_) | Mode::Searching(_) => false,
+        }
+    }
+
+    /// Returns whether the line is shown behind its own prompt: not in a list, in a search, or while the program is suspended.
     pub(crate) fn shows_line(&self) -> bool
         ensures { result ≡ shows_line self.now }
     {
         match self {
-            Mode::Listing(_) => false,
+            Mode::Listing(_) | Mode::Searching(_) | Mode::Suspended => false,
             Mode::Editing | Mode::Quoting | Mode::Completing(_) | Mode::Offering(_) => true,
         }
     }

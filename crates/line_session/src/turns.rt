@@ -1,26 +1,36 @@
 //! Turns that are taken one after another, for as long as there are items.
-ghost use Rattle.std.specs.Prelude.{◌≡◌, true, false, IfOk, None, OnErr, OnOk, option_map};
+ghost use Rattle.std.specs.Prelude.{◌≡◌, ◌⊎◌, ◌<◌, true, false, length, IfOk, None, OnErr, OnOk, option_map};
 ghost use Rattle.line_config.specs.Error.{FaultsOnly};
 ghost use Rattle.line_editor.specs.InputState.{input_of, keys_of};
-ghost use Rattle.line_editor.specs.Outcomes.{session};
+ghost use Rattle.line_editor.specs.Keymap.{Keymap};
+ghost use Rattle.line_editor.specs.Outcomes.{editor_of, session};
+ghost use Rattle.line_editor.specs.Reading.{KeepsReading};
+ghost use Rattle.line_editor.specs.Run.{kills_before};
+ghost use Rattle.line_keys.specs.Command.{command_of};
+ghost use Rattle.line_keys.specs.Draft.{hinted};
 ghost use Rattle.line_keys.specs.Frame.{Frame};
-ghost use Rattle.line_session.specs.Steps.{Answers, shows_line};
-ghost use Rattle.line_session.specs.Taken.{ComesTo, DrawnOnce, IsShown, KeepsRules, PutsIn, TakesAsItIs, TakesItem, is_settled, item_of, rules_of, standing_of, start_of};
+ghost use Rattle.line_session.specs.Searching.{search_cmd, search_of};
+ghost use Rattle.line_session.specs.Steps.{Answers, DoesInSearch, comes_in, shows_line, takes_items};
+ghost use Rattle.line_session.specs.Taken.{AnswersAs, ComesTo, DrawnBehind, DrawnOnce, IsShown, KeepsRules, PutsIn, TakesAsItIs, TakesItem, TakesOne, is_settled, item_of, rules_by, rules_of, standing_of, start_of};
 
 use crate::completing::complete;
 use crate::listing::list;
 use crate::mode::{AsItIs, Mode};
+use crate::searching::{SearchCmd, Searching, search};
 use line_buffer::KillRing;
 use line_config::{Config, Prompt, ReadlineError, Result};
 use line_editor::binding::ConditionalEventHandler;
 use line_editor::edit::State;
-use line_editor::{InputState, Left, Turned, execute, take_turn};
+use line_editor::{InputState, Left, Status, Turned, execute, take_turn};
+use line_keys::cmd::Cmd;
 use line_keys::editor_state::EditorState;
 use line_keys::raw_reader::RawReader;
 use line_keys::refresher::Refresher;
+use line_parts::history::SearchDirection;
 use line_parts::{Helper, History};
 use line_screen::KeyQueue;
 use line_term::Ansi;
+use std::alloc::Global;
 use std::io::Write;
 use std::mem;
 
@@ -30,11 +40,13 @@ use std::mem;
 ///
 /// Behind a quoted insert an item comes in as it is: a key as its character, if it has one. A pasted text that stands alone comes
 /// in as any pasted text does: the key before it was read as the key of something else, as the motion of an operator.
+/// Where a command asks to suspend the program, the items behind it are left for the next call, which draws the line first.
 ///
 /// # Errors
 /// Those of `take_turn`, of the helper and of drawing the line. An item that was taken is not taken again; and unless drawing the
 /// line failed at the first, a completion or a list has ended.
 pub(crate) fn take_turns<'out, 'prompt, O: Write + Drop, H: Helper, P: Prompt, S: History>(
+    alloc: Global,
     draws: bool,
     mode: &mut Mode,
     state: &mut State<'out, 'prompt, Ansi<O, KeyQueue>, H, P, S>,
@@ -63,15 +75,64 @@ pub(crate) fn take_turns<'out, 'prompt, O: Write + Drop, H: Helper, P: Prompt, S
     ensures faults { FaultsOnly result }
     ensures ring { kill_ring.new.size ≡ kill_ring.old.size }
 {
-    if !draws {
-        return turns(mode, state, input_state, keys, kill_ring, config);
+    if mode.is_suspended() {
+        resume(alloc, state)?;
+        *mode = Mode::Editing;
+        let turned = turns(alloc, mode, state, input_state, keys, kill_ring, config)?;
+        return Ok(turned);
     }
-    state.refresh_line()?;
-    turns(mode, state, input_state, keys, kill_ring, config)
+    if draws {
+        draw(alloc, mode, state)?;
+    }
+    turns(alloc, mode, state, input_state, keys, kill_ring, config)
+}
+
+/// Draws the line of a program that goes on: below what the terminal shows meanwhile.
+///
+/// # Errors
+/// Those of the helper and of the output: `Io` and `Memory`.
+fn resume<'out, 'prompt, O: Write + Drop, H: Helper, P: Prompt, S: History>(
+    alloc: Global,
+    state: &mut State<'out, 'prompt, Ansi<O, KeyQueue>, H, P, S>,
+) -> Result<()>
+    ensures draft { let e = ⟦<State<'out, 'prompt, Ansi<O, KeyQueue>, H, P, S> as EditorState>⟧ in
+        OnOk result (e.draft state.new ≡ hinted (e.environment state.old) (e.draft state.old)) }
+    ensures shown { let e = ⟦<State<'out, 'prompt, Ansi<O, KeyQueue>, H, P, S> as EditorState>⟧ in
+        OnOk result (IsShown e state.new) }
+    ensures frame { let e = ⟦<State<'out, 'prompt, Ansi<O, KeyQueue>, H, P, S> as EditorState>⟧ in
+        Frame e state.old state.new }
+    ensures faults { FaultsOnly result }
+{
+    state.move_cursor_at_leftmost(&mut KeyQueue::new(alloc))?;
+    state.refresh_line()
+}
+
+/// Draws the line: in a search behind its prompt, and else behind its own.
+///
+/// # Errors
+/// Those of the helper and of the output: `Io` and `Memory`.
+fn draw<'out, 'prompt, O: Write + Drop, H: Helper, P: Prompt, S: History>(
+    alloc: Global,
+    mode: &Mode,
+    state: &mut State<'out, 'prompt, Ansi<O, KeyQueue>, H, P, S>,
+) -> Result<()>
+    ensures draft { let e = ⟦<State<'out, 'prompt, Ansi<O, KeyQueue>, H, P, S> as EditorState>⟧ in
+        OnOk result (e.draft state.new ≡ hinted (e.environment state.old) (e.draft state.old)) }
+    ensures shown { let e = ⟦<State<'out, 'prompt, Ansi<O, KeyQueue>, H, P, S> as EditorState>⟧ in
+        OnOk result (shows_line mode.now ≡ true → IsShown e state.new) }
+    ensures frame { let e = ⟦<State<'out, 'prompt, Ansi<O, KeyQueue>, H, P, S> as EditorState>⟧ in
+        Frame e state.old state.new }
+    ensures faults { FaultsOnly result }
+{
+    match mode {
+        Mode::Searching(searching) => searching.draw(alloc, state),
+        _ => state.refresh_line(),
+    }
 }
 
 /// Takes turns as `take_turns` does, of a line that is shown. After an error commands are read.
 fn turns<'out, 'prompt, O: Write + Drop, H: Helper, P: Prompt, S: History>(
+    alloc: Global,
     mode: &mut Mode,
     state: &mut State<'out, 'prompt, Ansi<O, KeyQueue>, H, P, S>,
     input_state: &mut InputState<'_>,
@@ -111,11 +172,11 @@ fn turns<'out, 'prompt, O: Write + Drop, H: Helper, P: Prompt, S: History>(
             *mode = was;
             return Ok(Turned::NeedsMore);
         }
-        let (turned, left) = take_turn(state, input_state, keys, kill_ring, config)?;
+        let (turned, next) = turn(alloc, was, state, input_state, keys, kill_ring, config)?;
+        *mode = next;
         match turned {
-            Turned::Proceeds => *mode = answer(left, was, state, config)?,
+            Turned::Proceeds => {}
             Turned::NeedsMore => {
-                *mode = was;
                 keys.rewind();
                 return Ok(Turned::NeedsMore);
             }
@@ -125,7 +186,7 @@ fn turns<'out, 'prompt, O: Write + Drop, H: Helper, P: Prompt, S: History>(
 }
 
 /// Takes the next item and returns it, where it is taken by itself. Returns None, and takes nothing, where it is read as part of a
-/// command, or nothing is left.
+/// command, nothing is left, or the program is suspended.
 ///
 /// # Errors
 /// `Io` and `Memory`.
@@ -137,6 +198,9 @@ fn next_as_it_is(mode: &Mode, keys: &mut KeyQueue) -> Result<Option<AsItIs>>
     ensures binds { keys.new.binds ≡ keys.old.binds }
     ensures faults { FaultsOnly result }
 {
+    if mode.is_suspended() {
+        return Ok(None);
+    }
     if let Some(text) = keys.next_paste()? {
         return Ok(Some(AsItIs::Text(text)));
     }
@@ -150,12 +214,200 @@ fn next_as_it_is(mode: &Mode, keys: &mut KeyQueue) -> Result<Option<AsItIs>>
     }
 }
 
-/// Answers what a command left to the program: begins a completion or goes on with one, and beeps where nothing can be given up.
+/// Takes one turn, of keys that are read as a command. Returns how it ended, and what the next items are read as.
+///
+/// # Errors
+/// Those of `take_turn`, of the helper, the history and the output.
+fn turn<'out, 'prompt, O: Write + Drop, H: Helper, P: Prompt, S: History>(
+    alloc: Global,
+    mode: Mode,
+    state: &mut State<'out, 'prompt, Ansi<O, KeyQueue>, H, P, S>,
+    input_state: &mut InputState<'_>,
+    keys: &mut KeyQueue,
+    kill_ring: &mut KillRing,
+    config: &Config,
+) -> Result<(Turned, Mode)>
+    requires reads { takes_items mode ≡ false }
+    requires shown { let e = ⟦<State<'out, 'prompt, Ansi<O, KeyQueue>, H, P, S> as EditorState>⟧ in
+        shows_line mode ≡ true → IsShown e state.old }
+    ensures takes { let k = keys_of ⟦<dyn ConditionalEventHandler as ConditionalEventHandler>⟧ in
+        let e = ⟦<State<'out, 'prompt, Ansi<O, KeyQueue>, H, P, S> as EditorState>⟧ in
+        let r = ⟦<KeyQueue as RawReader>⟧ in
+        IfOk result (λ done. TakesOne e r config.now mode
+        (session state.old (k input_state.old) keys.old kill_ring.old) done.0 done.1
+        (session state.new (k input_state.new) keys.new kill_ring.new)) }
+    ensures drawn { let e = ⟦<State<'out, 'prompt, Ansi<O, KeyQueue>, H, P, S> as EditorState>⟧ in
+        IfOk result (λ done. DrawnBehind e done.1 done.0 state.new) }
+    ensures fewer { IfOk result (λ done. done.0 ≡ Turned.Proceeds
+        → length keys.new.rest < length keys.old.rest) }
+    ensures keeps { let k = keys_of ⟦<dyn ConditionalEventHandler as ConditionalEventHandler>⟧ in
+        KeepsReading ⟦<State<'out, 'prompt, Ansi<O, KeyQueue>, H, P, S> as EditorState>⟧
+        ⟦<KeyQueue as RawReader>⟧ state.old (k input_state.old) keys.old
+        state.new (k input_state.new) keys.new }
+    ensures faults { FaultsOnly result }
+    ensures ring { kill_ring.new.size ≡ kill_ring.old.size }
+{
+    match mode {
+        Mode::Searching(searching) => search_turn(
+            alloc,
+            searching,
+            state,
+            input_state,
+            keys,
+            kill_ring,
+            config,
+        ),
+        other => edit_turn(alloc, other, state, input_state, keys, kill_ring, config),
+    }
+}
+
+/// Takes one turn outside of a search: reads a command, executes it, and answers what it left to the program.
+fn edit_turn<'out, 'prompt, O: Write + Drop, H: Helper, P: Prompt, S: History>(
+    alloc: Global,
+    mode: Mode,
+    state: &mut State<'out, 'prompt, Ansi<O, KeyQueue>, H, P, S>,
+    input_state: &mut InputState<'_>,
+    keys: &mut KeyQueue,
+    kill_ring: &mut KillRing,
+    config: &Config,
+) -> Result<(Turned, Mode)>
+    requires reads { takes_items mode ≡ false }
+    requires edits { shows_line mode ≡ true }
+    requires shown { let e = ⟦<State<'out, 'prompt, Ansi<O, KeyQueue>, H, P, S> as EditorState>⟧ in
+        IsShown e state.old }
+    ensures takes { let k = keys_of ⟦<dyn ConditionalEventHandler as ConditionalEventHandler>⟧ in
+        let e = ⟦<State<'out, 'prompt, Ansi<O, KeyQueue>, H, P, S> as EditorState>⟧ in
+        let r = ⟦<KeyQueue as RawReader>⟧ in
+        IfOk result (λ done. TakesOne e r config.now mode
+        (session state.old (k input_state.old) keys.old kill_ring.old) done.0 done.1
+        (session state.new (k input_state.new) keys.new kill_ring.new)) }
+    ensures drawn { let e = ⟦<State<'out, 'prompt, Ansi<O, KeyQueue>, H, P, S> as EditorState>⟧ in
+        IfOk result (λ done. DrawnBehind e done.1 done.0 state.new) }
+    ensures fewer { IfOk result (λ done. done.0 ≡ Turned.Proceeds
+        → length keys.new.rest < length keys.old.rest) }
+    ensures keeps { let k = keys_of ⟦<dyn ConditionalEventHandler as ConditionalEventHandler>⟧ in
+        KeepsReading ⟦<State<'out, 'prompt, Ansi<O, KeyQueue>, H, P, S> as EditorState>⟧
+        ⟦<KeyQueue as RawReader>⟧ state.old (k input_state.old) keys.old
+        state.new (k input_state.new) keys.new }
+    ensures faults { FaultsOnly result }
+    ensures ring { kill_ring.new.size ≡ kill_ring.old.size }
+{
+    let (turned, left) = take_turn(state, input_state, keys, kill_ring, config)?;
+    match turned {
+        Turned::Proceeds => {
+            let next = answer(alloc, left, mode, state, config)?;
+            Ok((Turned::Proceeds, next))
+        }
+        Turned::NeedsMore => Ok((Turned::NeedsMore, mode)),
+        _ => Ok((turned, Mode::Editing)),
+    }
+}
+
+/// Takes one turn in a search: reads a command, and does what it says to the search. Another command ends it, and is executed.
+fn search_turn<'out, 'prompt, O: Write + Drop, H: Helper, P: Prompt, S: History>(
+    alloc: Global,
+    searching: Searching,
+    state: &mut State<'out, 'prompt, Ansi<O, KeyQueue>, H, P, S>,
+    input_state: &mut InputState<'_>,
+    keys: &mut KeyQueue,
+    kill_ring: &mut KillRing,
+    config: &Config,
+) -> Result<(Turned, Mode)>
+    requires { takes_items (Mode.Searching searching) ≡ false }
+    ensures takes { let k = keys_of ⟦<dyn ConditionalEventHandler as ConditionalEventHandler>⟧ in
+        let e = ⟦<State<'out, 'prompt, Ansi<O, KeyQueue>, H, P, S> as EditorState>⟧ in
+        let r = ⟦<KeyQueue as RawReader>⟧ in
+        IfOk result (λ done. TakesOne e r config.now (Mode.Searching searching)
+        (session state.old (k input_state.old) keys.old kill_ring.old) done.0 done.1
+        (session state.new (k input_state.new) keys.new kill_ring.new)) }
+    ensures drawn { let e = ⟦<State<'out, 'prompt, Ansi<O, KeyQueue>, H, P, S> as EditorState>⟧ in
+        IfOk result (λ done. DrawnBehind e done.1 done.0 state.new) }
+    ensures fewer { IfOk result (λ done. done.0 ≡ Turned.Proceeds
+        → length keys.new.rest < length keys.old.rest) }
+    ensures keeps { let k = keys_of ⟦<dyn ConditionalEventHandler as ConditionalEventHandler>⟧ in
+        KeepsReading ⟦<State<'out, 'prompt, Ansi<O, KeyQueue>, H, P, S> as EditorState>⟧
+        ⟦<KeyQueue as RawReader>⟧ state.old (k input_state.old) keys.old
+        state.new (k input_state.new) keys.new }
+    ensures faults { FaultsOnly result }
+    ensures ring { kill_ring.new.size ≡ kill_ring.old.size }
+{
+    let command = match state.next_cmd(input_state, keys, true) {
+        Ok(command) => command,
+        Err(ReadlineError::Eof) => return Ok((Turned::NeedsMore, Mode::Searching(searching))),
+        Err(error) => return Err(error),
+    };
+    reset_kills(&command, kill_ring);
+    let (turned, next) = do_in_search(
+        alloc,
+        searching,
+        command,
+        state,
+        input_state,
+        kill_ring,
+        config,
+    )?;
+    Ok((turned, next))
+}
+
+/// Resets the kill ring where a command says so.
+fn reset_kills(command: &Cmd, kill_ring: &mut KillRing)
+    ensures reset { kill_ring.new ≡ kills_before (command_of command.now) kill_ring.old }
+    ensures ring { kill_ring.new.size ≡ kill_ring.old.size }
+{
+    if command.should_reset_kill_ring() {
+        kill_ring.reset();
+    }
+}
+
+/// Does what a command says to a search; another one ends it, and is executed. Returns how the turn ended, and what the next items
+/// are read as.
+fn do_in_search<'out, 'prompt, O: Write + Drop, H: Helper, P: Prompt, S: History>(
+    alloc: Global,
+    searching: Searching,
+    command: Cmd,
+    state: &mut State<'out, 'prompt, Ansi<O, KeyQueue>, H, P, S>,
+    input_state: &InputState<'_>,
+    kill_ring: &mut KillRing,
+    config: &Config,
+) -> Result<(Turned, Mode)>
+    ensures does { let e = ⟦<State<'out, 'prompt, Ansi<O, KeyQueue>, H, P, S> as EditorState>⟧ in
+        (keymap : Keymap) → IfOk result (λ done. AnswersAs done.0 (DoesInSearch
+        (rules_by e keymap config.now state.old) (search_of searching)
+        (search_cmd (command_of command)) (command_of command) (input_of input_state.now)
+        (editor_of e state.old kill_ring.old) (editor_of e state.new kill_ring.new) done.1)) }
+    ensures drawn { let e = ⟦<State<'out, 'prompt, Ansi<O, KeyQueue>, H, P, S> as EditorState>⟧ in
+        IfOk result (λ done. DrawnBehind e done.1 done.0 state.new) }
+    ensures mode { IfOk result (λ done. done.0 ≡ Turned.Proceeds ⊎ done.1 ≡ Mode.Editing) }
+    ensures frame { let e = ⟦<State<'out, 'prompt, Ansi<O, KeyQueue>, H, P, S> as EditorState>⟧ in
+        Frame e state.old state.new }
+    ensures faults { FaultsOnly result }
+    ensures ring { kill_ring.new.size ≡ kill_ring.old.size }
+{
+    if let Some(says) = SearchCmd::by(&command) {
+        return Ok((Turned::Proceeds, searching.take(says, state)?));
+    }
+    state.refresh_line()?;
+    let left = Left::by(&command);
+    match execute(command, state, input_state, kill_ring, config) {
+        Ok(Status::Proceed) => {
+            let next = answer(alloc, left, Mode::Editing, state, config)?;
+            Ok((Turned::Proceeds, next))
+        }
+        Ok(Status::Submit) => Ok((Turned::Submitted, Mode::Editing)),
+        Err(ReadlineError::Eof) => Ok((Turned::Ended, Mode::Editing)),
+        Err(ReadlineError::Interrupted) => Ok((Turned::Interrupted, Mode::Editing)),
+        Err(error) => Err(error),
+    }
+}
+
+/// Answers what a command left to the program: begins a search or a completion, or goes on with one, and beeps where nothing can
+/// be given up.
 /// Another command ends what had begun. Returns what the next items are read as.
 ///
 /// # Errors
 /// Those of the helper and of the output: `Io` and `Memory`.
 fn answer<'out, 'prompt, O: Write + Drop, H: Helper, P: Prompt, S: History>(
+    alloc: Global,
     left: Option<Left>,
     mode: Mode,
     state: &mut State<'out, 'prompt, Ansi<O, KeyQueue>, H, P, S>,
@@ -183,6 +435,9 @@ fn answer<'out, 'prompt, O: Write + Drop, H: Helper, P: Prompt, S: History>(
             state.beep()?;
             Ok(Mode::Editing)
         }
+        (Some(Left::ReverseSearchHistory), _) => search(alloc, SearchDirection::Reverse, state),
+        (Some(Left::ForwardSearchHistory), _) => search(alloc, SearchDirection::Forward, state),
+        (Some(Left::Suspend), _) => Ok(Mode::Suspended),
         _ => Ok(Mode::Editing),
     }
 }
@@ -199,7 +454,8 @@ fn take_item<'out, 'prompt, O: Write + Drop, H: Helper, P: Prompt, S: History>(
     kill_ring: &mut KillRing,
     config: &Config,
 ) -> Result<Mode>
-    requires { let e = ⟦<State<'out, 'prompt, Ansi<O, KeyQueue>, H, P, S> as EditorState>⟧ in
+    requires taken { comes_in mode (item_of item) ≡ true }
+    requires shown { let e = ⟦<State<'out, 'prompt, Ansi<O, KeyQueue>, H, P, S> as EditorState>⟧ in
         shows_line mode ≡ true → IsShown e state.old }
     ensures takes { let e = ⟦<State<'out, 'prompt, Ansi<O, KeyQueue>, H, P, S> as EditorState>⟧ in
         IfOk result (TakesItem e config.now (input_of input_state.now) mode (item_of item)
@@ -213,6 +469,11 @@ fn take_item<'out, 'prompt, O: Write + Drop, H: Helper, P: Prompt, S: History>(
 {
     match mode {
         Mode::Listing(listing) => listing.answer(&item, state),
+        Mode::Searching(_) => {
+            state.refresh_line()?;
+            put_in(item, state, input_state, kill_ring, config)?;
+            Ok(Mode::Editing)
+        }
         _ => {
             put_in(item, state, input_state, kill_ring, config)?;
             Ok(Mode::Editing)
@@ -234,8 +495,8 @@ fn put_in<'out, 'prompt, O: Write + Drop, H: Helper, P: Prompt, S: History>(
     requires { let e = ⟦<State<'out, 'prompt, Ansi<O, KeyQueue>, H, P, S> as EditorState>⟧ in
         IsShown e state.old }
     ensures puts { let e = ⟦<State<'out, 'prompt, Ansi<O, KeyQueue>, H, P, S> as EditorState>⟧ in
-        OnOk result (PutsIn e config.now (input_of input_state.now)
-        (item_of item) state.old kill_ring.old state.new kill_ring.new) }
+        OnOk result (PutsIn e config.now (input_of input_state.now) (item_of item)
+        state.old (e.draft state.old) kill_ring.old state.new kill_ring.new) }
     ensures shown { let e = ⟦<State<'out, 'prompt, Ansi<O, KeyQueue>, H, P, S> as EditorState>⟧ in
         OnOk result (IsShown e state.new) }
     ensures frame { let e = ⟦<State<'out, 'prompt, Ansi<O, KeyQueue>, H, P, S> as EditorState>⟧ in

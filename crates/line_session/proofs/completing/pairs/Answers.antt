@@ -1,4 +1,4 @@
-use Rattle.std.proofs.Common.{◌∙◌, arith, ap, map, sym, take, take_all, refl}
+use Rattle.std.proofs.Common.{◌∙◌, arith, ap, map, take_all}
 use Rattle.line_parts.specs.Candidate.{offer_of, pair_offer}
 use Rattle.line_session.proofs.CompletingLemmas.{pairs_more}
 use Rattle.line_session.proofs.completing.pairs.Goals as goal

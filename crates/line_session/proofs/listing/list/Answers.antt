@@ -1,4 +1,4 @@
-use Rattle.std.proofs.Common.{◌≡◌, ◌∙◌, ap, arith, length, refl}
+use Rattle.std.proofs.Common.{ap, arith, length}
 use Rattle.line_session.proofs.CompletingLemmas.{lists_asked, lists_begun, map_ok}
 use Rattle.line_session.proofs.listing.list.Goals as goal
 

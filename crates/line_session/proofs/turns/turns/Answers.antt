@@ -1,10 +1,11 @@
-use Rattle.std.proofs.Common.{◌≡◌, ◌∙◌, true, false, [], ◌++◌, refl, sym, ap, subst}
+use Rattle.std.proofs.Common.{◌≡◌, ◌∙◌, true, false, List, [], ◌++◌, refl, sym, ap, subst}
+use Rattle.line_keys.specs.Item.{Item}
 use Rattle.line_screen.specs.KeyQueue.{Queued, queue_binding}
 use Rattle.line_editor.specs.InputState.{keys_of}
 use Rattle.line_editor.specs.Outcomes.{session}
-use Rattle.line_session.specs.Steps.{takes_items}
+use Rattle.line_session.specs.Steps.{NoneComesIn, takes_items}
 use Rattle.line_session.specs.Taken.{item_of}
-use Rattle.line_session.proofs.GoingLemmas.{begins_shown, goes_in, keeps_on, marked, none_left, proceeds_on, reads_shown, shown_on, shown_waiting, stops_drawn_in, stops_in, takes_on, waits, waits_alone}
+use Rattle.line_session.proofs.GoingLemmas.{begins_shown, goes_in, keeps_on, marked, stops, stops_drawn, takes_on, turns_on, waits, waits_alone}
 use Rattle.line_session.proofs.turns.turns.Goals as goal
 
 pub turns-init : goal.turns-init
@@ -32,18 +33,16 @@ returns-then-takes_items-clause-comes g c =
     let going = goes_in _ _ _ _ _ _ _ (marked _ _ _ _ _ _ (session c.turns.state (k c.turns.input_state) c.turns.keys c.turns.kill_ring) c.turns.invariant.0 c.next_as_it_is.new.keys rest own) c.replace-was.result c.replace-was.ensures.value in
     let taken = rw c.in_default.is at c.in_ok-item.ensures.takes in
     let takes : takes_items c.replace-was.result ≡ true = sym c.takes_items.ensures ∙ c.if-takes_items.true in
-    waits_alone _ _ _ _ _ _ _ going takes (taken.1 ∙ none_left c.replace-was.result takes c.mark.new.self.rest taken.0)
+    waits_alone _ _ _ _ _ _ _ going takes (subst (λ (items : List Item). NoneComesIn c.replace-was.result items) (sym taken.1) taken.0)
 
-pub answer-requires : goal.answer-requires
-answer-requires g c =
+pub turn-requires-clause-shown : goal.turn-requires-clause-shown
+turn-requires-clause-shown g c =
     let k = keys_of (λ v. (g.dyn-1.0.entry v).1) in
     let none : c.next_as_it_is.new.keys ≡ c.mark.new.self = c.in_ok-item.ensures.none c.in_default.is in
     let rest : c.next_as_it_is.new.keys.rest ≡ c.turns.keys.rest = ap (λ (q : Queued). q.rest) (none ∙ c.mark.ensures) in
     let own : queue_binding c.next_as_it_is.new.keys.binds ≡ queue_binding c.turns.keys.binds = ap (λ (q : Queued). queue_binding q.binds) (none ∙ c.mark.ensures) in
     let going = goes_in _ _ _ _ _ _ _ (marked _ _ _ _ _ _ (session c.turns.state (k c.turns.input_state) c.turns.keys c.turns.kill_ring) c.turns.invariant.0 c.next_as_it_is.new.keys rest own) c.replace-was.result c.replace-was.ensures.value in
-    let reads : takes_items c.replace-was.result ≡ false = sym c.takes_items.ensures ∙ c.if-takes_items.false in
-    let turn = rw c.in-Proceeds.is at c.in_ok-turned.ensures.advances in
-    shown_on _ _ _ _ _ _ _ going _ (reads_shown c.replace-was.result reads going.shown) turn
+    going.shown
 
 pub turns-preserved : goal.turns-preserved
 turns-preserved g c =
@@ -52,11 +51,9 @@ turns-preserved g c =
     let rest : c.next_as_it_is.new.keys.rest ≡ c.turns.keys.rest = ap (λ (q : Queued). q.rest) (none ∙ c.mark.ensures) in
     let own : queue_binding c.next_as_it_is.new.keys.binds ≡ queue_binding c.turns.keys.binds = ap (λ (q : Queued). queue_binding q.binds) (none ∙ c.mark.ensures) in
     let going = goes_in _ _ _ _ _ _ _ (marked _ _ _ _ _ _ (session c.turns.state (k c.turns.input_state) c.turns.keys c.turns.kill_ring) c.turns.invariant.0 c.next_as_it_is.new.keys rest own) c.replace-was.result c.replace-was.ensures.value in
-    let reads : takes_items c.replace-was.result ≡ false = sym c.takes_items.ensures ∙ c.if-takes_items.false in
-    let turn = rw c.in-Proceeds.is at c.in_ok-turned.ensures.advances in
-    let tells = rw c.in-Proceeds.is at c.in_ok-turned.ensures.left in
-    let done = c.in_ok-mode-in-Proceeds.ensures in (
-      proceeds_on _ _ _ _ _ _ _ going _ c.in_ok-turned.left _ _ reads (reads_shown c.replace-was.result reads going.shown) turn tells done.answers done.shown done.frame,
+    let turn = rw c.in-Proceeds.is at c.in_ok-turned.ensures.takes in
+    let drawn = rw c.in-Proceeds.is at c.in_ok-turned.ensures.drawn in (
+      turns_on _ _ _ _ _ _ _ going _ c.in_ok-turned.next turn drawn c.in_ok-turned.ensures.keeps,
       c.in_ok-turned.ensures.ring ∙ c.turns.invariant.1,
     )
 
@@ -68,22 +65,14 @@ returns-in-NeedsMore-clause-comes g c =
     let own : queue_binding c.next_as_it_is.new.keys.binds ≡ queue_binding c.turns.keys.binds = ap (λ (q : Queued). queue_binding q.binds) (none ∙ c.mark.ensures) in
     let going = goes_in _ _ _ _ _ _ _ (marked _ _ _ _ _ _ (session c.turns.state (k c.turns.input_state) c.turns.keys c.turns.kill_ring) c.turns.invariant.0 c.next_as_it_is.new.keys rest own) c.replace-was.result c.replace-was.ensures.value in
     let reads : takes_items c.replace-was.result ≡ false = sym c.takes_items.ensures ∙ c.if-takes_items.false in
-    let turn = rw c.in-NeedsMore.is at c.in_ok-turned.ensures.advances in
+    let turn = rw c.in-NeedsMore.is at c.in_ok-turned.ensures.takes in
     let marked_here : c.next_as_it_is.new.keys.read ≡ [] = ap (λ (q : Queued). q.read) (none ∙ c.mark.ensures) in
     let again : c.rewind.new.self.rest ≡ c.next_as_it_is.new.keys.rest =
-    ap (λ (q : Queued). q.rest) c.rewind.ensures ∙ ap (λ p. p.1) turn.stays.keeps.both.own ∙ ap (λ items. items ++ c.next_as_it_is.new.keys.rest) marked_here in
-    waits _ _ _ _ _ _ _ going _ c.rewind.new.self reads (reads_shown c.replace-was.result reads going.shown) again turn.turned
+    ap (λ (q : Queued). q.rest) c.rewind.ensures ∙ ap (λ p. p.1) c.in_ok-turned.ensures.keeps.both.own ∙ ap (λ items. items ++ c.next_as_it_is.new.keys.rest) marked_here in
+    waits _ _ _ _ _ _ _ going _ c.in_ok-turned.next c.rewind.new.self reads again turn
 
 pub returns-in-NeedsMore-clause-drawn : goal.returns-in-NeedsMore-clause-drawn
-returns-in-NeedsMore-clause-drawn g c =
-    let k = keys_of (λ v. (g.dyn-1.0.entry v).1) in
-    let none : c.next_as_it_is.new.keys ≡ c.mark.new.self = c.in_ok-item.ensures.none c.in_default.is in
-    let rest : c.next_as_it_is.new.keys.rest ≡ c.turns.keys.rest = ap (λ (q : Queued). q.rest) (none ∙ c.mark.ensures) in
-    let own : queue_binding c.next_as_it_is.new.keys.binds ≡ queue_binding c.turns.keys.binds = ap (λ (q : Queued). queue_binding q.binds) (none ∙ c.mark.ensures) in
-    let going = goes_in _ _ _ _ _ _ _ (marked _ _ _ _ _ _ (session c.turns.state (k c.turns.input_state) c.turns.keys c.turns.kill_ring) c.turns.invariant.0 c.next_as_it_is.new.keys rest own) c.replace-was.result c.replace-was.ensures.value in
-    let reads : takes_items c.replace-was.result ≡ false = sym c.takes_items.ensures ∙ c.if-takes_items.false in
-    let turn = rw c.in-NeedsMore.is at c.in_ok-turned.ensures.advances in
-    λ _. shown_waiting _ _ _ _ _ _ _ going _ (reads_shown c.replace-was.result reads going.shown) turn.stays.keeps.both.frame turn.turned
+returns-in-NeedsMore-clause-drawn g c = rw c.in-NeedsMore.is at c.in_ok-turned.ensures.drawn
 
 pub returns-in_default-turned : goal.returns-in_default-turned
 returns-in_default-turned g c =
@@ -92,14 +81,11 @@ returns-in_default-turned g c =
     let rest : c.next_as_it_is.new.keys.rest ≡ c.turns.keys.rest = ap (λ (q : Queued). q.rest) (none ∙ c.mark.ensures) in
     let own : queue_binding c.next_as_it_is.new.keys.binds ≡ queue_binding c.turns.keys.binds = ap (λ (q : Queued). queue_binding q.binds) (none ∙ c.mark.ensures) in
     let going = goes_in _ _ _ _ _ _ _ (marked _ _ _ _ _ _ (session c.turns.state (k c.turns.input_state) c.turns.keys c.turns.kill_ring) c.turns.invariant.0 c.next_as_it_is.new.keys rest own) c.replace-was.result c.replace-was.ensures.value in
-    let reads : takes_items c.replace-was.result ≡ false = sym c.takes_items.ensures ∙ c.if-takes_items.false in
-    let here = reads_shown c.replace-was.result reads going.shown in
-    let turn = c.in_ok-turned.ensures.advances in
     let end = c.in_default-turned in
     record {
-      comes = stops_in _ _ _ _ _ _ _ going _ _ c.replace-was.ensures.after reads here c.in_ok-turned.turned end.not-Proceeds end.not-NeedsMore turn;
-      drawn = stops_drawn_in _ _ _ _ _ _ _ going _ _ c.replace-was.ensures.after here c.in_ok-turned.turned end.not-Proceeds end.not-NeedsMore turn;
-      keeps = keeps_on _ _ _ _ _ _ _ going _ turn.stays.keeps;
+      comes = stops _ _ _ _ _ _ _ going _ c.in_ok-turned.turned c.in_ok-turned.next end.not-Proceeds end.not-NeedsMore c.in_ok-turned.ensures.takes;
+      drawn = stops_drawn _ c.in_ok-turned.turned c.in_ok-turned.next _ end.not-Proceeds c.in_ok-turned.ensures.drawn;
+      keeps = keeps_on _ _ _ _ _ _ _ going _ c.in_ok-turned.ensures.keeps;
       left = tt;
       faults = tt;
       ring = c.in_ok-turned.ensures.ring ∙ c.turns.invariant.1;

@@ -1,27 +1,15 @@
-use Rattle.std.proofs.Common.{◌≡◌, Bool, List, length, Option, option_map, string_bytes}
+use Rattle.std.proofs.Common.{◌≡◌, length, Option, option_map, string_bytes}
 use Rattle.std.specs.Borrow.{GName}
 use Rattle.line_buffer.specs.declared.layout.GraphemeClusterMode.TheVariants.{Unicode}
-use Rattle.line_keys.specs.Item.{Item}
 use Rattle.line_keys.specs.declared.editor_state.EditorState as editors
-use Rattle.line_keys.specs.declared.raw_reader.RawReader as readers
 use Rattle.line_parts.specs.Helped.{completion_by, hint_by, lights_by, sure_by, update_by, verdict_by}
 use Rattle.line_parts.specs.Hint.{suggestion_of}
-use Rattle.line_screen.specs.KeyQueue.{Queued, kept_by, queue_binding}
 use Rattle.line_screen.specs.Measure.{measured}
 use Rattle.line_editor.specs.InputState.{keys_of}
 use Rattle.line_editor.specs.Outcomes.{session}
 use Rattle.line_session.proofs.GoingLemmas.{Going}
+use Rattle.line_session.proofs.QueueViews.{reader}
 use Rattle.line_session.proofs.turns.turns.Given as goal
-
--- what contracts see of the queue
-abbrev pub reader : readers.Ghosts Queued
-reader = record {
-  rest = λ q. q.rest;
-  failures = λ q. q.failures;
-  Kept = Bool × List Item;
-  kept = kept_by;
-  own_binding = λ kept. queue_binding kept.0;
-}
 
 abbrev pub invariant-turns : goal.invariant-turns
 invariant-turns g l =
