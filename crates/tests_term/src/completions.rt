@@ -1,26 +1,41 @@
 //! What comes of completions, by the bytes that are typed, whole and in pieces.
 
-use crate::holds;
 use crate::lines::{BEGIN, PIECES, Step, Want, done, is_met};
 use crate::terminal::Counted;
+use crate::{holds, searches};
 use line_buffer::GraphemeClusterMode;
 use line_config::{CompletionType, Config, EditMode, Result};
 use line_editor::Bindings;
-use line_parts::MemHistory;
+use line_parts::{History, MemHistory};
 use line_session::editor::{Editor, Fed};
 use line_session::parts::Parts;
 use line_session::words::Words;
 use std::alloc::Global;
 use std::io::Write;
+use std::process::Abort;
 
 type Completing<O> = Editor<O, Parts<Words, (), (), ()>, MemHistory>;
 
-/// How candidates are offered.
-enum Offer {
+/// How candidates are offered, or what else is tried.
+pub(crate) enum Offer {
     /// One after another, in this style of editing.
     Round(EditMode),
     /// As a list, which is asked for past so many, at once or at another Tab.
     List(usize, bool),
+    /// None: a history is searched, in this style of editing, which is `LINES` for `+`.
+    Search(EditMode),
+}
+
+/// The lines of a history.
+const LINES: &str = "alpha one|beta two|gamma one|delta";
+
+/// A history of the lines of a text, and none where it is empty.
+fn history(alloc: Global, text: &str) -> Result<MemHistory> {
+    let mut history = MemHistory::new(alloc);
+    for line in text.split('|') {
+        history.add(line)?;
+    }
+    Ok(history)
 }
 
 /// The words of a text.
@@ -41,12 +56,19 @@ fn editor<O: Write + Drop>(
 ) -> Result<Completing<O>> {
     let builder = Config::builder(GraphemeClusterMode::Unicode);
     let config = match offer {
-        Offer::Round(edit_mode) => builder.edit_mode(*edit_mode).build(),
+        Offer::Round(edit_mode) | Offer::Search(edit_mode) => {
+            builder.edit_mode(*edit_mode).build()
+        }
         Offer::List(limit, at_once) => builder
             .completion_type(CompletionType::List)
             .completion_prompt_limit(*limit)
             .completion_show_all_if_ambiguous(*at_once)
             .build(),
+    };
+    let (text, lines) = match offer {
+        Offer::Search(_) if text == "+" => ("", LINES),
+        Offer::Search(_) => ("", text),
+        _ => (text, ""),
     };
     let helper = Parts {
         completer: words(alloc, text)?,
@@ -54,7 +76,7 @@ fn editor<O: Write + Drop>(
         highlighter: (),
         validator: (),
     };
-    let history = MemHistory::new(alloc);
+    let history = history(alloc, lines)?;
     Ok(Editor::new(alloc, config, out, 20, helper, history))
 }
 
@@ -62,8 +84,7 @@ const ROUND: Offer = Offer::Round(EditMode::Emacs);
 
 const LIST: Offer = Offer::List(100, false);
 
-/// How candidates are offered, the words, what is done, what is wanted of the line, and what is written to the terminal on the way.
-const CASES: &[(Offer, &str, &[Step], Want, &str)] = &[
+const CASES: &[Case] = &[
     // round by way of the line from before, and back
     (
         ROUND,
@@ -426,23 +447,32 @@ fn has(bytes: &[u8], part: &[u8]) -> bool {
             .any(|window| window == part)
 }
 
-#[test]
-fn completes_in_whatever_pieces(rt: HostRuntime) -> Result<()> {
-    for (number, (offer, text, steps, want, written)) in CASES.iter().enumerate() {
+/// How candidates are offered or what else is tried, the words or lines, what is done, what is wanted of the line, and what is written
+/// to the terminal on the way.
+pub(crate) type Case = (Offer, &'static str, &'static [Step], Want, &'static str);
+
+/// Does what cases say, with the bytes of a step whole and in pieces.
+pub(crate) fn all_hold(rt: &impl Abort, alloc: Global, cases: &[Case]) -> Result<()> {
+    for (number, (offer, text, steps, want, written)) in cases.iter().enumerate() {
         for piece in PIECES {
-            let bindings = Bindings::new(rt.alloc());
-            let mut session = editor(rt.alloc(), offer, text, Vec::new(rt.alloc()))?;
+            let bindings = Bindings::new(alloc);
+            let mut session = editor(alloc, offer, text, Vec::new(alloc))?;
             session.resize(20, 5)?;
             let mut fed = Fed::More;
             for step in *steps {
                 fed = done(&mut session, step, piece, &bindings)?;
             }
-            holds(&rt, is_met(want, &fed, &session), "a completion", number);
+            holds(rt, is_met(want, &fed, &session), "a line", number);
             let is_written = has(session.out().as_slice(), written.as_bytes());
-            holds(&rt, is_written, "what is written", number);
+            holds(rt, is_written, "what is written", number);
         }
     }
     Ok(())
+}
+
+#[test]
+fn completes_in_whatever_pieces(rt: HostRuntime) -> Result<()> {
+    all_hold(&rt, rt.alloc(), CASES)
 }
 
 /// How candidates are offered, the words, and what is typed.
@@ -452,6 +482,11 @@ const FAILING: &[(Offer, &str, &[u8])] = &[
     (Offer::List(1, true), "abc abd", b"a\tqy"),
     (LIST, MANY, b"a\t\tq\t\t"),
     (LIST, MANY, b"a\t\t\r\r "),
+    (
+        Offer::Search(EditMode::Emacs),
+        "alpha|beta",
+        b"x\x12ap\x7f\x12\x13\x07\x12a\x1b[D",
+    ),
 ];
 
 /// Types bytes until a call fails. Returns whether one has.

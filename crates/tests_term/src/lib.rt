@@ -1,5 +1,5 @@
 //! The tests of `line_term`: sequences of terminals, texts and pasted texts by their bytes, bytes that are made from a number, and what
-//! a terminal asks of its output; and of `line_session`: lines by the bytes that are typed, whole and in pieces, and completions.
+//! a terminal asks of its output; and of `line_session`: lines by the bytes that are typed, whole and in pieces, completions and searches.
 #![tactic(auto)]
 
 #[cfg(test)]
@@ -13,6 +13,8 @@ mod completions;
 mod lines;
 #[cfg(test)]
 mod random;
+#[cfg(test)]
+mod searches;
 #[cfg(test)]
 mod sequences;
 #[cfg(test)]

@@ -3,7 +3,9 @@
 use crate::holds;
 use line_buffer::GraphemeClusterMode;
 use line_config::{Config, EditMode, ReadlineError, Result};
-use line_editor::Bindings;
+use line_editor::{Bindings, Event, EventHandler};
+use line_keys::cmd::Cmd;
+use line_keys::keys::KeyEvent;
 use line_parts::{Helper, History, MemHistory};
 use line_session::editor::{Editor, Fed};
 use std::alloc::Global;
@@ -68,20 +70,29 @@ pub(crate) fn done<H: Helper + Drop>(
     }
 }
 
-/// What is wanted: the line and its cursor, where it goes on; or how it ended.
+/// What is wanted: the line and its cursor, where it goes on, or the program is suspended; or how it ended.
 pub(crate) enum Want {
     More(&'static str, usize),
+    Suspended(&'static str, usize),
     NoLine,
     Submitted(&'static str),
     Ended,
     Interrupted,
 }
 
+/// Whether this is the line, with its cursor.
+fn stands_so<H: Helper + Drop>(session: &Session<H>, line: &str, cursor: usize) -> bool {
+    session.line() == Some(line) && session.pos() == Some(cursor)
+}
+
 /// Whether this came of it.
 pub(crate) fn is_met<H: Helper + Drop>(want: &Want, fed: &Fed, session: &Session<H>) -> bool {
     match (want, fed) {
         (Want::More(line, cursor), Fed::More) => {
-            session.line() == Some(*line) && session.pos() == Some(*cursor)
+            stands_so(session, line, *cursor) && !session.is_suspended()
+        }
+        (Want::Suspended(line, cursor), Fed::More) => {
+            stands_so(session, line, *cursor) && session.is_suspended()
         }
         (Want::Submitted(line), Fed::Submitted(text)) => text.as_str() == *line,
         (Want::NoLine, Fed::More) => session.line().is_none(),
@@ -140,6 +151,37 @@ const CASES: &[(EditMode, &[Step], Want)] = &[
         EditMode::Emacs,
         &[BEGIN, Step::Feed("ab\x18\x15")],
         Want::More("", 0),
+    ),
+    // the program is suspended, and goes on with what was typed behind that key
+    (
+        EditMode::Emacs,
+        &[BEGIN, Step::Feed("ab\x02\x1a")],
+        Want::Suspended("ab", 1),
+    ),
+    (
+        EditMode::Emacs,
+        &[BEGIN, Step::Feed("ab\x1a"), Step::Feed("c")],
+        Want::More("abc", 3),
+    ),
+    (
+        EditMode::Emacs,
+        &[BEGIN, Step::Feed("ab\x1ac"), Step::Flush],
+        Want::More("abc", 3),
+    ),
+    (
+        EditMode::Emacs,
+        &[
+            BEGIN,
+            Step::Feed("ab\x1a"),
+            Step::Resize(30, 5),
+            Step::Feed("\x1b[200~c\x1b[201~"),
+        ],
+        Want::More("abc", 3),
+    ),
+    (
+        EditMode::Vi,
+        &[BEGIN, Step::Feed("ab\x1a"), Step::Feed("c\r")],
+        Want::Submitted("abc"),
     ),
     // a count and an operator, cut anywhere
     (
@@ -288,11 +330,19 @@ const CASES: &[(EditMode, &[Step], Want)] = &[
     ),
 ];
 
+/// Bindings of C-z, which suspends.
+fn bindings(alloc: Global) -> Result<Bindings> {
+    let mut bindings = Bindings::new(alloc);
+    let key = Event::from_key(alloc, KeyEvent::ctrl('Z'))?;
+    bindings.insert(key, EventHandler::from(Cmd::Suspend))?;
+    Ok(bindings)
+}
+
 #[test]
 fn gives_the_line_in_whatever_pieces(rt: HostRuntime) -> Result<()> {
     for (number, (edit_mode, steps, want)) in CASES.iter().enumerate() {
         for piece in PIECES {
-            let bindings = Bindings::new(rt.alloc());
+            let bindings = bindings(rt.alloc())?;
             let mut session = editor(rt.alloc(), *edit_mode)?;
             let mut fed = Fed::More;
             for step in *steps {
