@@ -1,5 +1,5 @@
 -- Facts on what comes of a line.
-use Rattle.std.proofs.Common.{◌≡◌, ◌∙◌, ℕ, true, not, cond, List, ◌++◌, Option, Some, None, Result, Ok, Err, IfOk, OnOk, refl, sym, ap, subst, option_map, string_bytes, if◌then◌else◌}
+use Rattle.std.proofs.Common.{◌≡◌, ◌∙◌, ℕ, Bool, true, false, not, cond, List, ◌++◌, Option, Some, None, Result, Ok, Err, IfOk, OnOk, refl, sym, ap, subst, option_map, string_bytes, if◌then◌else◌}
 use Rattle.line_buffer.specs.KillRing.{other, with_last}
 use Rattle.line_buffer.specs.declared.layout.GraphemeClusterMode.TheVariants.{Unicode}
 use Rattle.line_buffer.specs.declared.layout.Position.{Position}
@@ -28,15 +28,15 @@ use Rattle.line_session.specs.declared.mode.Mode.TheVariants.{Editing}
 
 module _ {H : Type 0} where
   -- what came of a line, by what is equal
-  pub came_alike : (by by' : Rules) (start start' : Standing) (old old' new : Sitting H) → by ≡ by' → start ≡ start'
+  pub came_alike : (by by' : Rules) (over_calls : Bool) (start start' : Standing) (old old' new : Sitting H) → by ≡ by' → start ≡ start'
       → old.lines ≡ old'.lines → old.takes ≡ old'.takes → old.settings ≡ old'.settings
-      → (f : Fed) → CameFrom by start old new f → CameFrom by' start' old' new f
-  came_alike by by' start start' old old' new same_rules same_start same_lines same_takes same_settings f came =
-      let P : Rules → Type 0 = λ b. CameFrom b start' old' new f in
-      let Q : Standing → Type 0 = λ s. CameFrom by s old' new f in
+      → (f : Fed) → CameFrom by over_calls start old new f → CameFrom by' over_calls start' old' new f
+  came_alike by by' over_calls start start' old old' new same_rules same_start same_lines same_takes same_settings f came =
+      let P : Rules → Type 0 = λ b. CameFrom b over_calls start' old' new f in
+      let Q : Standing → Type 0 = λ s. CameFrom by over_calls s old' new f in
       subst P same_rules (subst Q same_start (by_fed f came))
     where
-      by_fed : (f : Fed) → CameFrom by start old new f → CameFrom by start old' new f
+      by_fed : (f : Fed) → CameFrom by over_calls start old new f → CameFrom by over_calls start old' new f
       by_fed fed.More came = (came.0, came.1 ∙ same_lines)
       by_fed (fed.Submitted text) came = record {
         ends = came.ends;
@@ -53,14 +53,14 @@ module _ {H : Type 0} where
   pub came_of : (by : Rules) (start : Standing) (old mid new : Sitting H) (left : BegunLine) (done : Result Turned ReadlineError) (f : Fed)
       → mid.line ≡ Some left → left.kept.drawing.prompt_end.col ≡ by.ruler.prompt_column → mid.lines ≡ old.lines → mid.takes ≡ old.takes → mid.settings ≡ old.settings
       → IfOk done (ComesTo (not left.draws) by start (standing_with left.kept.draft left.input left.mode mid.items mid.kills)) → EndsAs done mid new f
-      → CameFrom by start old new f
+      → CameFrom by false start old new f
   came_of by start old mid new left done f line column lines takes settings comes ends =
-      came_alike by by start start mid old new refl refl lines takes settings f (by_fed f done comes ends)
+      came_alike by by false start start mid old new refl refl lines takes settings f (by_fed f done comes ends)
     where
       Comes : Result Turned ReadlineError → Type 0
       Comes done = IfOk done (ComesTo (not left.draws) by start (standing_with left.kept.draft left.input left.mode mid.items mid.kills))
 
-      goes : (done : Result Turned ReadlineError) → Comes done → goes_on done ≡ true → CameFrom by start mid mid fed.More
+      goes : (done : Result Turned ReadlineError) → Comes done → goes_on done ≡ true → CameFrom by false start mid mid fed.More
       goes (Ok turned.Proceeds) comes on = absurd comes
       goes (Ok turned.NeedsMore) comes on =
           (record { left = left; line = line; waits = comes.waits; drawn = λ yes. comes.drawn (ap (λ b. not b) yes); column = column }, refl)
@@ -69,11 +69,11 @@ module _ {H : Type 0} where
       goes (Ok turned.Interrupted) comes on = absurd (cc)
       goes (Err error) comes on = absurd (cc)
 
-      by_fed : (f : Fed) (done : Result Turned ReadlineError) → Comes done → EndsAs done mid new f → CameFrom by start mid new f
-      by_fed fed.More done comes ends = subst (λ n. CameFrom by start mid n fed.More) (sym ends.1) (goes done comes ends.0)
+      by_fed : (f : Fed) (done : Result Turned ReadlineError) → Comes done → EndsAs done mid new f → CameFrom by false start mid new f
+      by_fed fed.More done comes ends = subst (λ n. CameFrom by false start mid n fed.More) (sym ends.1) (goes done comes ends.0)
       by_fed (fed.Submitted text) done comes ends =
-          let P : Sitting H → Type 0 = λ n. CameFrom by start mid n (fed.Submitted text) in
-          let there : Ends by start (standing_with left.kept.draft left.input left.mode mid.items mid.kills) submitted = subst (λ d. Comes d) ends.0 comes in
+          let P : Sitting H → Type 0 = λ n. CameFrom by false start mid n (fed.Submitted text) in
+          let there : Ends by false start (standing_with left.kept.draft left.input left.mode mid.items mid.kills) submitted = subst (λ d. Comes d) ends.0 comes in
           let texts : Some (string_bytes text) ≡ Some left.kept.draft.line.text = ends.1 ∙ ap (λ o. option_map (λ (b : BegunLine). b.kept.draft.line.text) o) line in
           let here : P (record mid {
             line = None;
@@ -85,14 +85,14 @@ module _ {H : Type 0} where
           } in
           subst P (sym ends.2) here
       by_fed fed.Ended done comes ends =
-          let P : Sitting H → Type 0 = λ n. CameFrom by start mid n fed.Ended in
-          let there : Ends by start (standing_with left.kept.draft left.input left.mode mid.items mid.kills) ended = subst (λ d. Comes d) ends.0 comes in
+          let P : Sitting H → Type 0 = λ n. CameFrom by false start mid n fed.Ended in
+          let there : Ends by false start (standing_with left.kept.draft left.input left.mode mid.items mid.kills) ended = subst (λ d. Comes d) ends.0 comes in
           let here : P (record mid { line = None }) =
           (record { end = standing_with left.kept.draft left.input left.mode mid.items mid.kills; ends = there; gone = refl; kills = refl; items = refl }, refl) in
           subst P (sym ends.1) here
       by_fed fed.Interrupted done comes ends =
-          let P : Sitting H → Type 0 = λ n. CameFrom by start mid n fed.Interrupted in
-          let there : Ends by start (standing_with left.kept.draft left.input left.mode mid.items mid.kills) interrupted = subst (λ d. Comes d) ends.0 comes in
+          let P : Sitting H → Type 0 = λ n. CameFrom by false start mid n fed.Interrupted in
+          let there : Ends by false start (standing_with left.kept.draft left.input left.mode mid.items mid.kills) interrupted = subst (λ d. Comes d) ends.0 comes in
           let here : P (record mid { line = None }) =
           (record { end = standing_with left.kept.draft left.input left.mode mid.items mid.kills; ends = there; gone = refl; kills = refl; items = refl }, refl) in
           subst P (sym ends.1) here
@@ -128,7 +128,7 @@ module _ {H : Type 0} where
         ∙ ap (λ m. starting (answers old.helper old.lines) true (standing_with (begun_with left right old.lines) (first_input old.settings.edit_mode) m mid.items mid.kills)) starts.mode
         ∙ ap (λ i. starting (answers old.helper old.lines) true (standing_with (begun_with left right old.lines) (first_input old.settings.edit_mode) Editing i mid.kills)) starts.items
         ∙ ap (λ k. starting (answers old.helper old.lines) true (standing_with (begun_with left right old.lines) (first_input old.settings.edit_mode) Editing old.items k)) starts.kills in
-        came_alike _ _ _ _ mid old new same_rules same_start starts.lines starts.keeps.takes starts.keeps.settings f came
+        came_alike _ _ false _ _ mid old new same_rules same_start starts.lines starts.keeps.takes starts.keeps.settings f came
 
     -- what came of the line that had begun, of which this is left before it ends
     pub came_so : (bound : Bound) (old mid new : Sitting H) (begun left : BegunLine) (done : Result Turned ReadlineError) (result : Result Fed ReadlineError)

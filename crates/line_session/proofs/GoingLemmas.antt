@@ -24,18 +24,15 @@ use Rattle.line_editor.specs.Step.{step}
 use Rattle.line_editor.specs.declared.run.Turned.{Turned}
 use Rattle.line_editor.specs.declared.run.Turned.TheVariants as turned
 use Rattle.line_editor.proofs.DrawnLemmas.{frame_then}
-use Rattle.line_session.specs.Steps.{DoesItem, Ends, ItemTaken, NoneComesIn, Resumed, Rules, Standing, Steps, TurnFrom, as_it_is, character_of, comes_in, is_suspended, takes_items, typing}
+use Rattle.line_session.specs.Steps.{DoesItem, Ends, ItemTaken, NoneComesIn, Rules, Standing, Steps, TurnFrom, as_it_is, character_of, comes_in, is_suspended, resumed, takes_items, typing}
 use Rattle.line_session.specs.Steps as steps
-use Rattle.line_session.specs.Taken.{ComesTo, DrawnBehind, DrawnOnce, IsShown, KeepsRules, PutsIn, TakesItem, TakesOne, WaitsBehind, is_settled, rules_by, rules_of, standing_of, start_of}
+use Rattle.line_session.specs.Taken.{ComesTo, DrawnBehind, DrawnOnce, IsShown, IsShownIn, IsShownWith, KeepsRules, PutsIn, TakesItem, TakesOne, WaitsBehind, is_settled, rules_by, rules_of, standing_of, start_of}
 use Rattle.line_session.specs.declared.mode.Mode.{Mode}
 use Rattle.line_session.specs.declared.mode.Mode.TheVariants as modes
 use Rattle.line_session.proofs.DrawLemmas.{drawn_or_kept, line_by, shown_by}
-use Rattle.line_session.proofs.StepLemmas.{steps_then, suspended_is}
+use Rattle.line_session.proofs.ModeLemmas.{settled_by, shown_with}
+use Rattle.line_session.proofs.StepLemmas.{starts_so}
 use Rattle.line_session.proofs.TurnLemmas.{own_there, rules_stay}
-
--- whether the line is shown in a mode
-abbrev line_shown : Mode → Bool
-line_shown mode = steps.shows_line mode
 
 -- the command that puts an item in proceeds, opens no group, and a kill joins none of those before
 typing_ready : (typed : Option ℕ) (draft : Draft) (kills : Ring) → ready (typing typed) draft kills ≡ record { draft = draft; kills = with_last kills rings.other }
@@ -82,12 +79,12 @@ module _ {X Y : Type 0} (e : editors.Ghosts X) (r : readers.Ghosts Y) (settings 
   module _ (first : Mode) (start : Session X Y) where
     -- turns are being taken: steps lead here, and the line is shown
     pub record Going (mode : Mode) (now : Session X Y) : Type 0 where
-      pub steps : Steps (rules_of e r settings start) (standing_of e r first start) (standing_of e r mode now)
+      pub steps : Steps (rules_of e r settings start) false (standing_of e r first start) (standing_of e r mode now)
       pub keeps : KeepsRules e r start now
-      pub shown : line_shown mode ≡ true → IsShown e now.state
+      pub shown : IsShownWith e mode (r.rest now.reader) now.state
 
     -- they begin where the line is shown
-    pub begins_shown : (line_shown first ≡ true → IsShown e start.state) → Going first start
+    pub begins_shown : IsShownWith e first (r.rest start.reader) start.state → Going first start
     begins_shown shown = record {
       steps = steps.none;
       keeps = record {
@@ -110,12 +107,12 @@ module _ {X Y : Type 0} (e : editors.Ghosts X) (r : readers.Ghosts Y) (settings 
       pub marked : (reader : Y) → r.rest reader ≡ r.rest now.reader → r.own_binding (r.kept reader) ≡ r.own_binding (r.kept now.reader)
           → Going mode (session now.state now.keys reader now.kills)
       marked reader rest own =
-          let P : List Item → Type 0 = λ items. Steps (rules_of e r settings start) (standing_of e r first start)
+          let P : List Item → Type 0 = λ items. Steps (rules_of e r settings start) false (standing_of e r first start)
           (record { editor = editor_of e now.state now.kills; input = now.keys.input; items = items; mode = mode }) in
           record {
             steps = subst P (sym rest) going.steps;
             keeps = record { frame = going.keeps.frame; own = own ∙ going.keeps.own; bound = going.keeps.bound };
-            shown = going.shown;
+            shown = subst (λ items. IsShownWith e mode items now.state) (sym rest) going.shown;
           }
 
       -- the same in a mode that is equal
@@ -124,7 +121,7 @@ module _ {X Y : Type 0} (e : editors.Ghosts X) (r : readers.Ghosts Y) (settings 
 
       -- an item was taken by itself
       pub takes_on : (next : Mode) (item : Item) (state : X) (reader : Y) (kills : Ring) → TakesItem e settings now.keys.input mode item now.state now.kills state kills next
-          → (line_shown next ≡ true → IsShown e state) → Frame e now.state state → r.rest now.reader ≡ item ∷ r.rest reader → comes_in mode item ≡ true
+          → IsShownIn e next state → Frame e now.state state → r.rest now.reader ≡ item ∷ r.rest reader → comes_in mode item ≡ true
           → r.own_binding (r.kept reader) ≡ r.own_binding (r.kept now.reader)
           → Going next (session state now.keys reader kills)
       takes_on next item state reader kills takes shown frame cut comes own =
@@ -137,7 +134,7 @@ module _ {X Y : Type 0} (e : editors.Ghosts X) (r : readers.Ghosts Y) (settings 
               own = own ∙ going.keeps.own;
               bound = going.keeps.bound;
             };
-            shown = shown;
+            shown = shown_with (e.environment state) (e.display state) (e.draft state) next (r.rest reader) shown;
           }
         where
           does_item : (m : Mode) → TakesItem e settings now.keys.input m item now.state now.kills state kills next
@@ -150,14 +147,8 @@ module _ {X Y : Type 0} (e : editors.Ghosts X) (r : readers.Ghosts Y) (settings 
           does_item (modes.Searching searching) takes = takes
           does_item modes.Suspended takes = takes
 
-      settled : (m : Mode) → (line_shown m ≡ true → IsShown e now.state) → is_settled m (e.display now.state).layout.default_prompt ≡ true
-      settled modes.Editing shown = (shown refl).own_prompt
-      settled modes.Quoting shown = (shown refl).own_prompt
-      settled (modes.Completing going) shown = (shown refl).own_prompt
-      settled (modes.Offering candidates) shown = (shown refl).own_prompt
-      settled (modes.Listing listing) shown = refl
-      settled (modes.Searching searching) shown = refl
-      settled modes.Suspended shown = refl
+      settled : is_settled mode (e.display now.state).layout.default_prompt ≡ true
+      settled = settled_by (e.environment now.state) (e.display now.state) (e.draft now.state) mode (r.rest now.reader) going.shown
 
       -- no item is read as part of a command, and none is taken by itself
       pub waits_alone : takes_items mode ≡ true → NoneComesIn mode (r.rest now.reader)
@@ -172,7 +163,7 @@ module _ {X Y : Type 0} (e : editors.Ghosts X) (r : readers.Ghosts Y) (settings 
           items = refl;
           mode = refl;
         };
-        drawn = λ other. absurd (let two : true ≡ false = sym (settled mode going.shown) ∙ other in cc);
+        drawn = λ other. absurd (let two : true ≡ false = sym settled ∙ other in cc);
       }
 
       module _ (next : Session X Y) where
@@ -185,12 +176,12 @@ module _ {X Y : Type 0} (e : editors.Ghosts X) (r : readers.Ghosts Y) (settings 
         }
 
         -- a turn that proceeds
-        pub turns_on : (then_ : Mode) → TakesOne e r settings mode now turned.Proceeds then_ next → DrawnBehind e then_ turned.Proceeds next.state
+        pub turns_on : (then_ : Mode) → TakesOne e r settings mode now turned.Proceeds then_ next → IsShownIn e then_ next.state
             → KeepsReading e r now.state now.keys now.reader next.state next.keys next.reader → Going then_ next
         turns_on then_ turn drawn keeps = record {
           steps = steps.turn going.steps (subst (λ by. TurnFrom by (standing_of e r mode now) (standing_of e r then_ next) proceeds) same_rules turn);
           keeps = keeps_on keeps;
-          shown = drawn;
+          shown = shown_with (e.environment next.state) (e.display next.state) (e.draft next.state) then_ (r.rest next.reader) drawn;
         }
 
         -- the items are no phrase yet, and are to be read again
@@ -231,11 +222,11 @@ module _ {X Y : Type 0} (e : editors.Ghosts X) (r : readers.Ghosts Y) (settings 
               | inr last ↦ still here last dry_up.out.drew other
             ]
 
-            other_then : (m : Mode) → (line_shown m ≡ true → IsShown e now.state) → is_settled m (e.display next.state).layout.default_prompt ≡ false → any_drawn dry_up.out.lacks.shown ≡ true
-            other_then modes.Editing shown unsettled = other_prompt (shown refl) unsettled
-            other_then modes.Quoting shown unsettled = other_prompt (shown refl) unsettled
-            other_then (modes.Completing going) shown unsettled = other_prompt (shown refl) unsettled
-            other_then (modes.Offering candidates) shown unsettled = other_prompt (shown refl) unsettled
+            other_then : (m : Mode) → IsShownWith e m (r.rest now.reader) now.state → is_settled m (e.display next.state).layout.default_prompt ≡ false → any_drawn dry_up.out.lacks.shown ≡ true
+            other_then modes.Editing shown unsettled = other_prompt shown unsettled
+            other_then modes.Quoting shown unsettled = other_prompt shown unsettled
+            other_then (modes.Completing going) shown unsettled = other_prompt shown unsettled
+            other_then (modes.Offering candidates) shown unsettled = other_prompt shown unsettled
             other_then (modes.Listing listing) shown unsettled = absurd (let two : true ≡ false = unsettled in cc)
             other_then (modes.Searching searching) shown unsettled = absurd (let two : true ≡ false = unsettled in cc)
             other_then modes.Suspended shown unsettled = absurd (let two : true ≡ false = unsettled in cc)
@@ -248,8 +239,13 @@ module _ {X Y : Type 0} (e : editors.Ghosts X) (r : readers.Ghosts Y) (settings 
             subst (λ m. WaitsBehind (is_settled m (e.display next.state).layout.default_prompt) (rules_of e r settings start) (standing_of e r first start)
             (standing_of e r m (session next.state next.keys reader next.kills))) (sym turn.1) (waits_in reader reads again turn.0)
 
+        -- and this is drawn then
+        pub waits_drawn : (then_ : Mode) (reader : Y) → r.rest reader ≡ r.rest now.reader → DrawnBehind e (r.rest now.reader) then_ turned.NeedsMore next.state
+            → DrawnOnce e then_ (r.rest reader) turned.NeedsMore next.state
+        waits_drawn then_ reader again drawn = subst (λ items. DrawnOnce e then_ items turned.NeedsMore next.state) (sym again) drawn
+
         ends_in : (answer : Answer) (then_ : Mode) → TurnFrom (rules_of e r settings now) (standing_of e r mode now) (standing_of e r then_ next) answer
-            → Ends (rules_of e r settings start) (standing_of e r first start) (standing_of e r then_ next) answer
+            → Ends (rules_of e r settings start) false (standing_of e r first start) (standing_of e r then_ next) answer
         ends_in answer then_ turn = record {
           found = standing_of e r mode now;
           steps = going.steps;
@@ -267,24 +263,26 @@ module _ {X Y : Type 0} (e : editors.Ghosts X) (r : readers.Ghosts Y) (settings 
         stops turned.NeedsMore then_ goes more turn = absurd (more refl)
 
 -- what is drawn where turns end otherwise
-pub stops_drawn : {X : Type 0} (e : editors.Ghosts X) (done : Turned) (then_ : Mode) (state : X) → (done ≡ turned.Proceeds → ⊥) → DrawnBehind e then_ done state → DrawnOnce e then_ done state
-stops_drawn e turned.Proceeds then_ state goes drawn = absurd (goes refl)
-stops_drawn e turned.Submitted then_ state goes drawn = drawn
-stops_drawn e turned.Ended then_ state goes drawn = drawn
-stops_drawn e turned.Interrupted then_ state goes drawn = drawn
-stops_drawn e turned.NeedsMore then_ state goes drawn = drawn
+pub stops_drawn : {X : Type 0} (e : editors.Ghosts X) (items items' : List Item) (done : Turned) (then_ : Mode) (state : X) → (done ≡ turned.Proceeds → ⊥) → (done ≡ turned.NeedsMore → ⊥)
+    → DrawnBehind e items then_ done state → DrawnOnce e then_ items' done state
+stops_drawn e items items' turned.Proceeds then_ state goes more drawn = absurd (goes refl)
+stops_drawn e items items' turned.Submitted then_ state goes more drawn = drawn
+stops_drawn e items items' turned.Ended then_ state goes more drawn = drawn
+stops_drawn e items items' turned.Interrupted then_ state goes more drawn = drawn
+stops_drawn e items items' turned.NeedsMore then_ state goes more drawn = absurd (more refl)
 
--- a program that goes on draws the line, and then turns are taken
-pub goes_on_drawn : {X Y : Type 0} (e : editors.Ghosts X) (r : readers.Ghosts Y) (settings : Settings) (draws : Bool) (mode : Mode) (before mid : Session X Y) (settled : Bool) (end : Standing) (done : Turned)
-    → is_suspended mode ≡ true → e.draft mid.state ≡ hinted (e.environment before.state) (e.draft before.state) → Frame e before.state mid.state
-    → mid.keys ≡ before.keys → mid.reader ≡ before.reader → mid.kills ≡ before.kills
+-- turns that were taken once a program that was suspended had drawn the line come from where the call begins
+pub comes_resumed : {X Y : Type 0} (e : editors.Ghosts X) (r : readers.Ghosts Y) (settings : Settings) (draws : Bool) (mode : Mode) (before mid : Session X Y) (settled : Bool) (end : Standing) (done : Turned)
+    → e.draft mid.state ≡ hinted (e.environment before.state) (e.draft before.state) → Frame e before.state mid.state
+    → mid.keys ≡ before.keys → mid.reader ≡ before.reader → mid.kills ≡ before.kills → is_suspended mode ≡ true
     → ComesTo settled (rules_of e r settings mid) (standing_of e r modes.Editing mid) end done
     → ComesTo settled (rules_of e r settings before) (start_of e r draws mode before) end done
-goes_on_drawn e r settings draws mode before mid settled end done suspended draft frame keys reader kills comes =
-    subst (λ m. ComesTo settled (rules_of e r settings before) (start_of e r draws m before) end done) (sym (suspended_is mode suspended)) (by_done done (subst (λ by. ComesTo settled by drawn end done) same_rules (subst (λ s. ComesTo settled (rules_of e r settings mid) s end done) same comes)))
+comes_resumed e r settings draws mode before mid settled end done draft frame keys reader kills suspended comes =
+    subst (λ s. ComesTo settled (rules_of e r settings before) s end done) (sym (starts_so (e.environment before.state) draws (standing_of e r mode before) true suspended))
+    (subst (λ by. ComesTo settled by drawn end done) rules_same (subst (λ s. ComesTo settled (rules_of e r settings mid) s end done) same comes))
   where
     drawn : Standing
-    drawn = record (standing_of e r modes.Editing before) { editor = record { draft = hinted (e.environment before.state) (e.draft before.state); kills = before.kills } }
+    drawn = resumed (e.environment before.state) (standing_of e r mode before)
 
     same : standing_of e r modes.Editing mid ≡ drawn
     same = ap (λ d. record { editor = record { draft = d; kills = mid.kills }; input = mid.keys.input; items = r.rest mid.reader; mode = modes.Editing }) draft
@@ -292,32 +290,7 @@ goes_on_drawn e r settings draws mode before mid settled end done suspended draf
         ∙ ap (λ (k : KeyState). record { editor = record { draft = hinted (e.environment before.state) (e.draft before.state); kills = before.kills }; input = k.input; items = r.rest mid.reader; mode = modes.Editing }) keys
         ∙ ap (λ x. record { editor = record { draft = hinted (e.environment before.state) (e.draft before.state); kills = before.kills }; input = before.keys.input; items = r.rest x; mode = modes.Editing }) reader
 
-    same_rules : rules_of e r settings mid ≡ rules_of e r settings before
-    same_rules = ap (λ (k : KeyState). rules_by e (keymap_of k (r.own_binding (r.kept mid.reader))) settings mid.state) keys
+    rules_same : rules_of e r settings mid ≡ rules_of e r settings before
+    rules_same = ap (λ (k : KeyState). rules_by e (keymap_of k (r.own_binding (r.kept mid.reader))) settings mid.state) keys
         ∙ ap (λ x. rules_by e (keymap_of before.keys (r.own_binding (r.kept x))) settings mid.state) reader
         ∙ rules_stay e (keymap_of before.keys (r.own_binding (r.kept before.reader))) settings before.state mid.state frame
-
-    goes_from : (b : Bool) → Resumed (rules_of e r settings before) (start_of e r b modes.Suspended before) drawn
-    goes_from true = record { was = refl; is = refl }
-    goes_from false = record { was = refl; is = refl }
-
-    first : Steps (rules_of e r settings before) (start_of e r draws modes.Suspended before) drawn
-    first = steps.resume steps.none (goes_from draws)
-
-    by_done : (done : Turned) → ComesTo settled (rules_of e r settings before) drawn end done → ComesTo settled (rules_of e r settings before) (start_of e r draws modes.Suspended before) end done
-    by_done turned.Proceeds comes = comes
-    by_done turned.Submitted comes = record { found = comes.found; steps = steps_then _ _ _ _ first comes.steps; last = comes.last }
-    by_done turned.Ended comes = record { found = comes.found; steps = steps_then _ _ _ _ first comes.steps; last = comes.last }
-    by_done turned.Interrupted comes = record { found = comes.found; steps = steps_then _ _ _ _ first comes.steps; last = comes.last }
-    by_done turned.NeedsMore comes = record {
-      waits = record {
-        found = comes.waits.found;
-        steps = steps_then _ _ _ _ first comes.waits.steps;
-        shown = comes.waits.shown;
-        waits = comes.waits.waits;
-        input = comes.waits.input;
-        items = comes.waits.items;
-        mode = comes.waits.mode;
-      };
-      drawn = comes.drawn;
-    }

@@ -1,5 +1,6 @@
 -- Facts on a line that is kept.
-use Rattle.std.proofs.Common.{◌≡◌, ℕ, Bool, List, Option, Some, Result, Ok, Err, IfOk, refl, sym, ◌∙◌, ap, subst}
+use Rattle.std.proofs.Common.{◌≡◌, ℕ, Bool, List, [], ◌∷◌, ◌++◌, Option, Some, None, Result, Ok, Err, IfOk, OnOk, OnErr, refl, sym, ◌∙◌, ap, subst}
+use Rattle.std.specs.Prelude.{IfSome}
 use Rattle.std.specs.Borrow.{MutBor}
 use Rattle.line_config.specs.Settings.{Settings}
 use Rattle.line_keys.specs.Display.{Display, Screen, Surface}
@@ -15,28 +16,25 @@ use Rattle.line_buffer.specs.KillRing.{Ring}
 use Rattle.line_keys.specs.Command.{Command}
 use Rattle.line_keys.specs.Item.{Item}
 use Rattle.line_keys.specs.declared.keys.KeyEvent.{KeyEvent}
+use Rattle.line_screen.specs.KeyQueue.{Queued}
 use Rattle.line_editor.specs.Binding.{Bound}
 use Rattle.line_editor.specs.Editor.{Ruler, own_ruler}
 use Rattle.line_editor.specs.Input.{Input}
 use Rattle.line_editor.specs.Released.{KeptDraft}
 use Rattle.line_editor.specs.declared.run.Turned.{Turned}
 use Rattle.line_editor.specs.declared.run.Turned.TheVariants as turned
-use Rattle.line_session.specs.Kept.{Fits, IsShownBy, answers_of}
+use Rattle.line_session.specs.Kept.{Fits, IsShownWithItems, answers_of}
 use Rattle.line_session.specs.Sitting.{standing_with}
 use Rattle.line_session.specs.Steps.{Rules, Standing, starting}
 use Rattle.line_session.specs.Taken.{ComesTo, WaitsBehind}
 use Rattle.line_session.specs.declared.mode.Mode.{Mode}
+use Rattle.line_session.specs.declared.mode.Mode.TheVariants as modes
 
 -- a helper that is lent answers as it does
 pub lent_answers : {H C : Type 0} (hint_at : H → Shown → Option Suggestion) (verdict_at : H → List ℕ → Verdict) (lights : H → List ℕ → ℕ → CmdKind → Bool) (completer : completers.Ghosts H C) (helper : MutBor H) (lines : List (List ℕ))
     → environment_by hint_at verdict_at lights completer (Some helper) lines ≡ answers_of hint_at verdict_at lights completer helper.now lines
 unfolding hint_by verdict_by lights_by completion_by update_by
 lent_answers hint_at verdict_at lights completer helper lines = refl
-
--- a line is shown by what is equal
-pub shown_alike : (w w' : Environment) (d d' : Display) (t t' : Draft) → w ≡ w' → d ≡ d' → t ≡ t' → IsShownBy w' d' t' → IsShownBy w d t
-shown_alike w w' d d' t t' same_environment same_display same_draft shown =
-    subst (λ x. IsShownBy x d t) (sym same_environment) (subst (λ x. IsShownBy w' x t) (sym same_display) (subst (λ x. IsShownBy w' d' x) (sym same_draft) shown))
 
 -- a helper that comes back answers as it did
 pub answers_back : {H C : Type 0} (hint_at : H → Shown → Option Suggestion) (verdict_at : H → List ℕ → Verdict) (lights : H → List ℕ → ℕ → CmdKind → Bool) (completer : completers.Ghosts H C)
@@ -49,12 +47,12 @@ answers_back hint_at verdict_at lights completer helper lent back w w' lines is 
     ∙ ap (λ l. answers_of hint_at verdict_at lights completer lent.now l) lines_stay
 
 -- a line that is kept fits what is equal
-pub fits_alike : {A : Type 0} (surface : A → Surface) (screen : A → Screen) (kept : KeptDraft) (mode : Mode) (draws : Bool) (a b : A) (p p' : List ℕ) (w w' : Environment)
-    → a ≡ b → p ≡ p' → w ≡ w' → Fits kept mode draws (surface b) (screen b) p' w' → Fits kept mode draws (surface a) (screen a) p w
-fits_alike surface screen kept mode draws a b p p' w w' same_screen same_prompt same_answers fits =
-    subst (λ x. Fits kept mode draws (surface a) (screen a) p x) (sym same_answers)
-    (subst (λ x. Fits kept mode draws (surface a) (screen a) x w') (sym same_prompt)
-    (subst (λ x. Fits kept mode draws (surface x) (screen x) p' w') (sym same_screen) fits))
+pub fits_alike : {A : Type 0} (surface : A → Surface) (screen : A → Screen) (kept : KeptDraft) (mode : Mode) (draws : Bool) (items : List Item) (a b : A) (p p' : List ℕ) (w w' : Environment)
+    → a ≡ b → p ≡ p' → w ≡ w' → Fits kept mode draws items (surface b) (screen b) p' w' → Fits kept mode draws items (surface a) (screen a) p w
+fits_alike surface screen kept mode draws items a b p p' w w' same_screen same_prompt same_answers fits =
+    subst (λ x. Fits kept mode draws items (surface a) (screen a) p x) (sym same_answers)
+    (subst (λ x. Fits kept mode draws items (surface a) (screen a) x w') (sym same_prompt)
+    (subst (λ x. Fits kept mode draws items (surface x) (screen x) p' w') (sym same_screen) fits))
 
 -- those who answer alike with one history answer alike with any
 pub answers_any : {H C : Type 0} (hint_at : H → Shown → Option Suggestion) (verdict_at : H → List ℕ → Verdict) (lights : H → List ℕ → ℕ → CmdKind → Bool) (completer : completers.Ghosts H C)
@@ -114,3 +112,41 @@ pub stands_alike : (draft draft' : Draft) (input input' : Input) (mode : Mode) (
     → standing_with draft input mode items kills ≡ standing_with draft' input' mode items kills
 stands_alike draft draft' input input' mode items kills same_draft same_input =
     ap (λ x. standing_with x input mode items kills) same_draft ∙ ap (λ x. standing_with draft' x mode items kills) same_input
+
+-- of turns that ended so in this way, this holds
+pub ended_so : {T E : Type 0} (P : T → Type 0) (one two : Result T E) (done : T) → IfOk two (λ t. one ≡ Ok t) → IfOk one P → two ≡ Ok done → P done
+ended_so P one two done same holds is = let there : one ≡ Ok done = subst (λ r. IfOk r (λ t. one ≡ Ok t)) is same in subst (λ r. IfOk r P) there holds
+
+-- what follows from a success and from an error follows
+pub either_way : {T E C : Type 0} (result : Result T E) (A B : Type 0) → OnOk result A → OnErr result B → (A → C) → (B → C) → C
+either_way (Ok done) A B ok err by_ok by_err = by_ok ok
+either_way (Err error) A B ok err by_ok by_err = by_err err
+
+-- items and others behind them are none only where those are none
+none_before : (items given : List Item) → items ++ given ≡ [] → items ≡ []
+none_before [] given none = refl
+none_before (first ∷ rest) given none = absurd (let is = none in cc)
+
+pub none_left : (before after : Queued) (given : List Item) → after ≡ record before { rest = before.rest ++ given } → after.rest ≡ [] → before.rest ≡ []
+none_left before after given is none = none_before before.rest given (sym (ap (λ (q : Queued). q.rest) is) ∙ none)
+
+-- a line that is shown with some items is shown with more of them
+with_items : (m : Mode) (items items' : List Item) (w : Environment) (d : Display) (t : Draft) → (items' ≡ [] → items ≡ []) → IsShownWithItems m items w d t → IsShownWithItems m items' w d t
+with_items modes.Editing items items' w d t none shown = shown
+with_items modes.Quoting items items' w d t none shown = shown
+with_items (modes.Completing going) items items' w d t none shown = shown
+with_items (modes.Offering candidates) items items' w d t none shown = shown
+with_items (modes.Listing listing) items items' w d t none shown = tt
+with_items (modes.Searching searching) items items' w d t none shown = λ is. shown (none is)
+with_items modes.Suspended items items' w d t none shown = tt
+
+-- and so does a line fit that is kept, if one is
+pub still_fits : {B : Type 0} (line : Option B) (kept : B → KeptDraft) (mode : B → Mode) (draws : B → Bool) (items items' : List Item) (surface : Surface) (screen : Screen) (prompt : List ℕ) (w : Environment)
+    → (items' ≡ [] → items ≡ []) → IfSome line (λ b. Fits (kept b) (mode b) (draws b) items surface screen prompt w)
+    → IfSome line (λ b. Fits (kept b) (mode b) (draws b) items' surface screen prompt w)
+still_fits None kept mode draws items items' surface screen prompt w none fits = tt
+still_fits (Some b) kept mode draws items items' surface screen prompt w none fits = record {
+  left = fits.left;
+  within = fits.within;
+  shown = λ off. with_items (mode b) items items' w _ _ none (fits.shown off);
+}

@@ -3,6 +3,7 @@ pub mod CompletingLemmas
 pub mod DrawLemmas
 pub mod GoingLemmas
 pub mod KeptLemmas
+pub mod ModeLemmas
 pub mod OneChangeLaws
 pub mod OneSearchLaws
 pub mod OnceLaws

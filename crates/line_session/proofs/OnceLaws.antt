@@ -361,120 +361,121 @@ module _ (by : Rules) (none : (shown : Shown) → by.environment.own_completion 
         plain = ap (λ m. is_plain m) both.1;
       }
 
-  -- no completion begins on the way
-  plain_steps : (from to : Standing) → is_plain from.mode ≡ true → Steps by from to → is_plain to.mode ≡ true
-  plain_steps from to plain steps.none = plain
-  plain_steps from to plain (steps.turn {found} {next} before turn) = (one_turn found to to proceeds proceeds (plain_steps from found plain before) turn turn).plain
-  plain_steps from to plain (steps.item {found} {next} before taken) = (one_item found to to (plain_steps from found plain before) taken taken).plain
-  plain_steps from to plain (steps.resume {found} {next} before goes) = ap (λ (s : Standing). is_plain s.mode) goes.is
+  module _ (over_calls : Bool) where
+    -- no completion begins on the way
+    plain_steps : (from to : Standing) → is_plain from.mode ≡ true → Steps by over_calls from to → is_plain to.mode ≡ true
+    plain_steps from to plain steps.none = plain
+    plain_steps from to plain (steps.turn {found} {next} before turn) = (one_turn found to to proceeds proceeds (plain_steps from found plain before) turn turn).plain
+    plain_steps from to plain (steps.item {found} {next} before taken) = (one_item found to to (plain_steps from found plain before) taken taken).plain
+    plain_steps from to plain (steps.resume {found} {next} over before goes) = ap (λ (s : Standing). is_plain s.mode) goes.is
 
-  -- one step: a turn that proceeds, an item that is taken by itself, or a program that goes on
-  abbrev OneStep : Standing → Standing → Type 0
-  OneStep from to = TurnFrom by from to proceeds ⊎ ItemTaken by from to ⊎ Resumed by from to
+    -- one step: a turn that proceeds, an item that is taken by itself, or a program that goes on
+    abbrev OneStep : Standing → Standing → Type 0
+    OneStep from to = TurnFrom by from to proceeds ⊎ ItemTaken by from to ⊎ ((over_calls ≡ true) × Resumed by from to)
 
-  resumed_alike : (from from' to : Standing) → Alike from from' → Resumed by from' to → Resumed by from to
-  resumed_alike from from' to alike goes = by_mode alike.mode
-    where
-      by_mode : AlikeModes from.mode from'.mode → Resumed by from to
-      by_mode (inl same) =
-          let middle : Standing = record from' { mode = from.mode } in
-          let there : Resumed by middle to = record { was = same ∙ goes.was; is = goes.is } in
-          subst (λ s. Resumed by s to) (sym (stands from middle alike.editor alike.input alike.items refl)) there
-      by_mode (inr both) = absurd (let two : modes.Searching both.searching' ≡ modes.Suspended = sym both.is' ∙ goes.was in cc)
+    resumed_alike : (from from' to : Standing) → Alike from from' → Resumed by from' to → Resumed by from to
+    resumed_alike from from' to alike goes = by_mode alike.mode
+      where
+        by_mode : AlikeModes from.mode from'.mode → Resumed by from to
+        by_mode (inl same) =
+            let middle : Standing = record from' { mode = from.mode } in
+            let there : Resumed by middle to = record { was = same ∙ goes.was; is = goes.is } in
+            subst (λ s. Resumed by s to) (sym (stands from middle alike.editor alike.input alike.items refl)) there
+        by_mode (inr both) = absurd (let two : modes.Searching both.searching' ≡ modes.Suspended = sym both.is' ∙ goes.was in cc)
 
-  step_alike : (from from' to : Standing) → Alike from from' → OneStep from' to → OneStep from to
-  step_alike from from' to alike (inl turn) = inl (turn_alike from from' to proceeds alike turn)
-  step_alike from from' to alike (inr (inl taken)) = inr (inl (item_alike from from' to alike taken))
-  step_alike from from' to alike (inr (inr goes)) = inr (inr (resumed_alike from from' to alike goes))
+    step_alike : (from from' to : Standing) → Alike from from' → OneStep from' to → OneStep from to
+    step_alike from from' to alike (inl turn) = inl (turn_alike from from' to proceeds alike turn)
+    step_alike from from' to alike (inr (inl taken)) = inr (inl (item_alike from from' to alike taken))
+    step_alike from from' to alike (inr (inr (over, goes))) = inr (inr (over, resumed_alike from from' to alike goes))
 
-  -- while the program is suspended no turn is taken, and no item
-  no_turn : {B : Type 0} (from to to' : Standing) (answer : Answer) → TurnFrom by from to answer → Resumed by from to' → B
-  no_turn from to to' answer turn goes = absurd (let two : true ≡ false = sym (ap (λ m. takes_items m) goes.was) ∙ turn.reads in cc)
+    -- while the program is suspended no turn is taken, and no item
+    no_turn : {B : Type 0} (from to to' : Standing) (answer : Answer) → TurnFrom by from to answer → Resumed by from to' → B
+    no_turn from to to' answer turn goes = absurd (let two : true ≡ false = sym (ap (λ m. takes_items m) goes.was) ∙ turn.reads in cc)
 
-  no_item : {B : Type 0} (from to to' : Standing) → ItemTaken by from to → Resumed by from to' → B
-  no_item from to to' taken goes = absurd (let two : false ≡ true = sym (ap (λ m. comes_in m taken.item) goes.was) ∙ taken.comes in cc)
+    no_item : {B : Type 0} (from to to' : Standing) → ItemTaken by from to → Resumed by from to' → B
+    no_item from to to' taken goes = absurd (let two : false ≡ true = sym (ap (λ m. comes_in m taken.item) goes.was) ∙ taken.comes in cc)
 
-  one_step : (from to to' : Standing) → is_plain from.mode ≡ true → OneStep from to → OneStep from to' → Alike to to'
-  one_step from to to' plain (inl one) (inl other) = (one_turn from to to' proceeds proceeds plain one other).alike
-  one_step from to to' plain (inl one) (inr (inl other)) = item_alone from to to' proceeds one other
-  one_step from to to' plain (inl one) (inr (inr other)) = no_turn from to to' proceeds one other
-  one_step from to to' plain (inr (inl one)) (inl other) = item_alone from to' to proceeds other one
-  one_step from to to' plain (inr (inl one)) (inr (inl other)) = (one_item from to to' plain one other).alike
-  one_step from to to' plain (inr (inl one)) (inr (inr other)) = no_item from to to' one other
-  one_step from to to' plain (inr (inr one)) (inl other) = no_turn from to' to proceeds other one
-  one_step from to to' plain (inr (inr one)) (inr (inl other)) = no_item from to' to other one
-  one_step from to to' plain (inr (inr one)) (inr (inr other)) =
-      subst (λ s. Alike s to') (sym (one.is ∙ sym other.is)) (same_alike to')
+    one_step : (from to to' : Standing) → is_plain from.mode ≡ true → OneStep from to → OneStep from to' → Alike to to'
+    one_step from to to' plain (inl one) (inl other) = (one_turn from to to' proceeds proceeds plain one other).alike
+    one_step from to to' plain (inl one) (inr (inl other)) = item_alone from to to' proceeds one other
+    one_step from to to' plain (inl one) (inr (inr (over, other))) = no_turn from to to' proceeds one other
+    one_step from to to' plain (inr (inl one)) (inl other) = item_alone from to' to proceeds other one
+    one_step from to to' plain (inr (inl one)) (inr (inl other)) = (one_item from to to' plain one other).alike
+    one_step from to to' plain (inr (inl one)) (inr (inr (over, other))) = no_item from to to' one other
+    one_step from to to' plain (inr (inr (over, one))) (inl other) = no_turn from to' to proceeds other one
+    one_step from to to' plain (inr (inr (over, one))) (inr (inl other)) = no_item from to' to other one
+    one_step from to to' plain (inr (inr (over, one))) (inr (inr (again, other))) =
+        subst (λ s. Alike s to') (sym (one.is ∙ sym other.is)) (same_alike to')
 
-  -- steps are none, or a first one and others
-  record First (from to : Standing) : Type 0 where
-    next : Standing
-    one : OneStep from next
-    rest : Steps by next to
+    -- steps are none, or a first one and others
+    record First (from to : Standing) : Type 0 where
+      next : Standing
+      one : OneStep from next
+      rest : Steps by over_calls next to
 
-  first_of : (from to : Standing) → Steps by from to → (to ≡ from) ⊎ First from to
-  first_of from to steps.none = inl refl
-  first_of from to (steps.turn {found} {next} before turn) = elim (first_of from found before) [
-    | inl is ↦ inr (record { next = to; one = inl (subst (λ s. TurnFrom by s to proceeds) is turn); rest = steps.none })
-    | inr f ↦ inr (record { next = f.next; one = f.one; rest = steps.turn f.rest turn })
-  ]
-  first_of from to (steps.item {found} {next} before puts) = elim (first_of from found before) [
-    | inl is ↦ inr (record { next = to; one = inr (inl (subst (λ s. ItemTaken by s to) is puts)); rest = steps.none })
-    | inr f ↦ inr (record { next = f.next; one = f.one; rest = steps.item f.rest puts })
-  ]
-  first_of from to (steps.resume {found} {next} before goes) = elim (first_of from found before) [
-    | inl is ↦ inr (record { next = to; one = inr (inr (subst (λ s. Resumed by s to) is goes)); rest = steps.none })
-    | inr f ↦ inr (record { next = f.next; one = f.one; rest = steps.resume f.rest goes })
-  ]
+    first_of : (from to : Standing) → Steps by over_calls from to → (to ≡ from) ⊎ First from to
+    first_of from to steps.none = inl refl
+    first_of from to (steps.turn {found} {next} before turn) = elim (first_of from found before) [
+      | inl is ↦ inr (record { next = to; one = inl (subst (λ s. TurnFrom by s to proceeds) is turn); rest = steps.none })
+      | inr f ↦ inr (record { next = f.next; one = f.one; rest = steps.turn f.rest turn })
+    ]
+    first_of from to (steps.item {found} {next} before puts) = elim (first_of from found before) [
+      | inl is ↦ inr (record { next = to; one = inr (inl (subst (λ s. ItemTaken by s to) is puts)); rest = steps.none })
+      | inr f ↦ inr (record { next = f.next; one = f.one; rest = steps.item f.rest puts })
+    ]
+    first_of from to (steps.resume {found} {next} over before goes) = elim (first_of from found before) [
+      | inl is ↦ inr (record { next = to; one = inr (inr (over, subst (λ s. Resumed by s to) is goes)); rest = steps.none })
+      | inr f ↦ inr (record { next = f.next; one = f.one; rest = steps.resume over f.rest goes })
+    ]
 
-  -- of steps from one start the ones come as far as the others, or go on from there, or the others do
-  abbrev OnEach : Standing → Standing → Type 0
-  OnEach one other = Alike one other ⊎ First one other ⊎ First other one
+    -- of steps from one start the ones come as far as the others, or go on from there, or the others do
+    abbrev OnEach : Standing → Standing → Type 0
+    OnEach one other = Alike one other ⊎ First one other ⊎ First other one
 
-  steps_then : (from mid to : Standing) → Steps by from mid → OneStep mid to → Steps by from to
-  steps_then from mid to before (inl turn) = steps.turn before turn
-  steps_then from mid to before (inr (inl puts)) = steps.item before puts
-  steps_then from mid to before (inr (inr goes)) = steps.resume before goes
+    steps_then : (from mid to : Standing) → Steps by over_calls from mid → OneStep mid to → Steps by over_calls from to
+    steps_then from mid to before (inl turn) = steps.turn before turn
+    steps_then from mid to before (inr (inl puts)) = steps.item before puts
+    steps_then from mid to before (inr (inr (over, goes))) = steps.resume over before goes
 
-  extend : (one other next : Standing) → is_plain other.mode ≡ true → OneStep other next → OnEach one other → OnEach one next
-  extend one other next plain last (inl alike) = inr (inl (record { next = next; one = step_alike one other next alike last; rest = steps.none }))
-  extend one other next plain last (inr (inl f)) = inr (inl (record { next = f.next; one = f.one; rest = steps_then f.next other next f.rest last }))
-  extend one other next plain last (inr (inr f)) =
-      let same : Alike next f.next = one_step other next f.next plain last f.one in
-      elim (first_of f.next one f.rest) [
-        | inl is ↦ inl (other_way next one (subst (λ s. Alike next s) (sym is) same))
-        | inr g ↦ inr (inr (record { next = g.next; one = step_alike next f.next g.next same g.one; rest = g.rest }))
-      ]
+    extend : (one other next : Standing) → is_plain other.mode ≡ true → OneStep other next → OnEach one other → OnEach one next
+    extend one other next plain last (inl alike) = inr (inl (record { next = next; one = step_alike one other next alike last; rest = steps.none }))
+    extend one other next plain last (inr (inl f)) = inr (inl (record { next = f.next; one = f.one; rest = steps_then f.next other next f.rest last }))
+    extend one other next plain last (inr (inr f)) =
+        let same : Alike next f.next = one_step other next f.next plain last f.one in
+        elim (first_of f.next one f.rest) [
+          | inl is ↦ inl (other_way next one (subst (λ s. Alike next s) (sym is) same))
+          | inr g ↦ inr (inr (record { next = g.next; one = step_alike next f.next g.next same g.one; rest = g.rest }))
+        ]
 
-  on_each : (start one other : Standing) → is_plain start.mode ≡ true → Steps by start one → Steps by start other → OnEach one other
-  on_each start one other plain first steps.none = elim (first_of start one first) [
-    | inl is ↦ inl (subst (λ s. Alike s start) (sym is) (same_alike start))
-    | inr f ↦ inr (inr f)
-  ]
-  on_each start one other plain first (steps.turn {found} {next} before turn) =
-      extend one found other (plain_steps start found plain before) (inl turn) (on_each start one found plain first before)
-  on_each start one other plain first (steps.item {found} {next} before taken) =
-      extend one found other (plain_steps start found plain before) (inr (inl taken)) (on_each start one found plain first before)
-  on_each start one other plain first (steps.resume {found} {next} before goes) =
-      extend one found other (plain_steps start found plain before) (inr (inr goes)) (on_each start one found plain first before)
+    on_each : (start one other : Standing) → is_plain start.mode ≡ true → Steps by over_calls start one → Steps by over_calls start other → OnEach one other
+    on_each start one other plain first steps.none = elim (first_of start one first) [
+      | inl is ↦ inl (subst (λ s. Alike s start) (sym is) (same_alike start))
+      | inr f ↦ inr (inr f)
+    ]
+    on_each start one other plain first (steps.turn {found} {next} before turn) =
+        extend one found other (plain_steps start found plain before) (inl turn) (on_each start one found plain first before)
+    on_each start one other plain first (steps.item {found} {next} before taken) =
+        extend one found other (plain_steps start found plain before) (inr (inl taken)) (on_each start one found plain first before)
+    on_each start one other plain first (steps.resume {found} {next} over before goes) =
+        extend one found other (plain_steps start found plain before) (inr (inr (over, goes))) (on_each start one found plain first before)
 
-  -- where a turn ends the line no step goes on
-  no_step : {B : Type 0} (found end to : Standing) (answer : Answer) → answer ≢ proceeds → is_plain found.mode ≡ true → TurnFrom by found end answer → First found to → B
-  no_step found end to answer ends plain turn f = elim f.one [
-    | inl goes ↦ absurd (ends (one_turn found end f.next answer proceeds plain turn goes).answered)
-    | inr (inl puts) ↦ item_alone found end f.next answer turn puts
-    | inr (inr goes) ↦ no_turn found end f.next answer turn goes
-  ]
+    -- where a turn ends the line no step goes on
+    no_step : {B : Type 0} (found end to : Standing) (answer : Answer) → answer ≢ proceeds → is_plain found.mode ≡ true → TurnFrom by found end answer → First found to → B
+    no_step found end to answer ends plain turn f = elim f.one [
+      | inl goes ↦ absurd (ends (one_turn found end f.next answer proceeds plain turn goes).answered)
+      | inr (inl puts) ↦ item_alone found end f.next answer turn puts
+      | inr (inr goes) ↦ no_turn found end f.next answer turn goes.1
+    ]
 
 pub ends-once : EndsOnce
-ends-once by start end end' answer answer' over over' none editing one other =
+ends-once by over_calls start end end' answer answer' over over' none editing one other =
     let plain : is_plain start.mode ≡ true = ap (λ m. is_plain m) editing in
-    let here = plain_steps by none start one.found plain one.steps in
-    let there = plain_steps by none start other.found plain other.steps in
-    elim (on_each by none start one.found other.found plain one.steps other.steps) [
+    let here = plain_steps by none over_calls start one.found plain one.steps in
+    let there = plain_steps by none over_calls start other.found plain other.steps in
+    elim (on_each by none over_calls start one.found other.found plain one.steps other.steps) [
       | inl alike ↦ same_end here alike
-      | inr (inl f) ↦ no_step by none one.found end other.found answer over here one.last f
-      | inr (inr f) ↦ no_step by none other.found end' one.found answer' over' there other.last f
+      | inr (inl f) ↦ no_step by none over_calls one.found end other.found answer over here one.last f
+      | inr (inr f) ↦ no_step by none over_calls other.found end' one.found answer' over' there other.last f
     ]
   where
     same_end : is_plain one.found.mode ≡ true → Alike by none one.found other.found → (end ≡ end') × (answer ≡ answer')

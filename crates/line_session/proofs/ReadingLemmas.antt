@@ -27,7 +27,18 @@ use Rattle.line_session.specs.Steps.{Rules, Standing, starting}
 use Rattle.line_session.specs.declared.editor.Fed.{Fed}
 use Rattle.line_session.specs.declared.editor.Fed.TheVariants as fed
 use Rattle.line_session.proofs.CameLemmas.{came_alike}
+use Rattle.line_session.proofs.StepLemmas.{ends_over, starts_more}
 use Rattle.line_session.proofs.WholeLaws.{ends-same}
+
+-- a line that has ended in a call has ended over several
+abbrev line_over : {H : Type 0} (by : Rules) (start : Standing) (new : Sitting H) (answer : Answer) → EndsLine by false start new answer → EndsLine by true start new answer
+line_over by start new answer ends = record {
+  end = ends.end;
+  ends = ends_over by start ends.end answer ends.ends;
+  gone = ends.gone;
+  kills = ends.kills;
+  items = ends.items;
+}
 
 module _ {H : Type 0} (answers : H → List (List ℕ) → Environment) (bound : Bound) (pauses : Bool) (input : Option (List ℕ)) (prompt before behind : List ℕ) (old : Sitting H) where
   abbrev by : Rules
@@ -57,7 +68,7 @@ module _ {H : Type 0} (answers : H → List (List ℕ) → Environment) (bound :
       whole : start ≡ with_more [] start
       whole = ap (λ i. record start { items = i }) (sym (append-nil start.items))
 
-      by_fed : (came : Fed) → CameFrom by start old now came → CameOver by start [] old now came
+      by_fed : (came : Fed) → CameFrom by false start old now came → CameOver by start [] old now came
       by_fed fed.More begun = (
         record {
           left = begun.0.left;
@@ -69,9 +80,10 @@ module _ {H : Type 0} (answers : H → List (List ℕ) → Environment) (bound :
         },
         begun.1,
       )
-      by_fed (fed.Submitted text) begun = subst (λ s. CameFrom by s old now (fed.Submitted text)) whole begun
-      by_fed fed.Ended begun = subst (λ s. CameFrom by s old now fed.Ended) whole begun
-      by_fed fed.Interrupted begun = subst (λ s. CameFrom by s old now fed.Interrupted) whole begun
+      by_fed (fed.Submitted text) begun = subst (λ s. CameFrom by true s old now (fed.Submitted text)) whole
+          (record { ends = line_over by start now submitted begun.ends; text_left = begun.text_left; lines = begun.lines })
+      by_fed fed.Ended begun = subst (λ s. CameFrom by true s old now fed.Ended) whole (line_over by start now ended begun.0, begun.1)
+      by_fed fed.Interrupted begun = subst (λ s. CameFrom by true s old now fed.Interrupted) whole (line_over by start now interrupted begun.0, begun.1)
 
   module _ (no_hint : BindingsLookAtNoHint bound) (now : Sitting H) (at : Option (List ℕ)) (reads : Reads answers bound pauses input at prompt before behind old now fed.More) where
     abbrev left : BegunLine
@@ -95,15 +107,16 @@ module _ {H : Type 0} (answers : H → List (List ℕ) → Environment) (bound :
       where
         by_draws : (draws : Bool) → left.draws ≡ draws → GoesOnAt piece
         by_draws false is = record {
-          next = waiting;
+          next = starting by.environment false waiting;
           goes = inl refl;
-          is = ap (λ b. starting (answers now.helper now.lines) b (standing_with left.kept.draft left.input left.mode (now.items ++ piece) now.kills)) is;
+          is = ap (λ b. starting (answers now.helper now.lines) b (with_more piece waiting)) is
+              ∙ ap (λ w. starting w false (with_more piece waiting)) asked ∙ starts_more by.environment false piece waiting;
         }
         by_draws true is = record {
           next = drawn_anew by waiting;
           goes = inr (reads.over.0.draws is, refl);
-          is = ap (λ b. starting (answers now.helper now.lines) b (standing_with left.kept.draft left.input left.mode (now.items ++ piece) now.kills)) is
-              ∙ ap (λ w. starting w true (standing_with left.kept.draft left.input left.mode (now.items ++ piece) now.kills)) asked;
+          is = ap (λ b. starting (answers now.helper now.lines) b (with_more piece waiting)) is
+              ∙ ap (λ w. starting w true (with_more piece waiting)) asked ∙ starts_more by.environment true piece waiting;
         }
 
     -- more was heard, and this came of it
@@ -117,8 +130,8 @@ module _ {H : Type 0} (answers : H → List (List ℕ) → Environment) (bound :
         ∙ ap (λ (s : Settings). rules_for bound old.binds s left.kept.drawing.prompt_end.col (answers now.helper now.lines)) reads.keeps.settings
         ∙ ap (λ c. rules_for bound old.binds old.settings c (answers now.helper now.lines)) reads.over.0.column
         ∙ ap (λ w. rules_for bound old.binds old.settings (measured old.columns prompt corner).col w) asked in
-        let came_here : CameFrom by (with_more turn.items here.next) old new came =
-        came_alike _ _ _ _ (with_turn turn now) old new same_rules here.is reads.over.1 reads.keeps.takes reads.keeps.settings came hears.came in
+        let came_here : CameFrom by false (with_more turn.items here.next) old new came =
+        came_alike _ _ false _ _ (with_turn turn now) old new same_rules here.is reads.over.1 reads.keeps.takes reads.keeps.settings came hears.came in
         record {
           items = reads.items ++ turn.items;
           heard = subst (λ d. Heard pauses input old.decoder later (reads.items ++ turn.items) d) (sym hears.keeps.decoder) (hears.heard reads.heard);
@@ -134,9 +147,9 @@ module _ {H : Type 0} (answers : H → List (List ℕ) → Environment) (bound :
           };
         }
       where
-        ends_over : (piece : List Item) (here : GoesOnAt piece) (answer : Answer) → EndsLine by (with_more piece here.next) new answer
-            → EndsLine by (with_more (reads.items ++ piece) start) new answer
-        ends_over piece here answer ends = record {
+        line_whole : (piece : List Item) (here : GoesOnAt piece) (answer : Answer) → EndsLine by false (with_more piece here.next) new answer
+            → EndsLine by true (with_more (reads.items ++ piece) start) new answer
+        line_whole piece here answer ends = record {
           end = ends.end;
           ends = ends-same by start waiting here.next ends.end reads.items piece reads.over.0.drawn answer no_hint reads.over.0.waited here.goes ends.ends;
           gone = ends.gone;
@@ -144,7 +157,7 @@ module _ {H : Type 0} (answers : H → List (List ℕ) → Environment) (bound :
           items = ends.items;
         }
 
-        by_fed : (piece : List Item) (here : GoesOnAt piece) (came : Fed) → CameFrom by (with_more piece here.next) old new came
+        by_fed : (piece : List Item) (here : GoesOnAt piece) (came : Fed) → CameFrom by false (with_more piece here.next) old new came
             → CameOver by start (reads.items ++ piece) old new came
         by_fed piece here fed.More came = (
           record {
@@ -158,12 +171,12 @@ module _ {H : Type 0} (answers : H → List (List ℕ) → Environment) (bound :
           came.1,
         )
         by_fed piece here (fed.Submitted text) came = record {
-          ends = ends_over piece here submitted came.ends;
+          ends = line_whole piece here submitted came.ends;
           text_left = came.text_left;
           lines = came.lines;
         }
-        by_fed piece here fed.Ended came = (ends_over piece here ended came.0, came.1)
-        by_fed piece here fed.Interrupted came = (ends_over piece here interrupted came.0, came.1)
+        by_fed piece here fed.Ended came = (line_whole piece here ended came.0, came.1)
+        by_fed piece here fed.Interrupted came = (line_whole piece here interrupted came.0, came.1)
 
 -- a turn of the bytes that was heard, and what came of it
 pub hears_turn : {H : Type 0} (answers : H → List (List ℕ) → Environment) (bound : Bound) (pauses : Bool) (input input' : Option (List ℕ)) (old new : Sitting H) (begun : BegunLine) (turn : decoding.Turn) (came : Fed)

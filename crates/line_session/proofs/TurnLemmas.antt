@@ -33,15 +33,16 @@ use Rattle.line_editor.specs.declared.run.Turned.TheVariants as turned
 use Rattle.line_editor.proofs.DrawnLemmas.{hint_trails, line_stays}
 use Rattle.line_editor.proofs.ShownLemmas.{none-last}
 use Rattle.line_editor.proofs.TurnLemmas.{needs_more}
-use Rattle.line_session.specs.Searching.{Search, search_cmd, search_of}
+use Rattle.line_session.specs.Searching.{IsShownBehind, Search, aim_of, search_cmd, search_of, search_prompt}
 use Rattle.line_session.specs.Steps.{Answers, AnswersTurn, DoesCommand, DoesInSearch, Executes, Rules, TurnFrom, once_drawn, takes_items}
 use Rattle.line_session.specs.Steps as steps
-use Rattle.line_session.specs.Taken.{AnswersAs, DrawnBehind, IsShown, TakesOne, rules_by, rules_of, standing_of}
+use Rattle.line_session.specs.Taken.{AnswersAs, DrawnBehind, IsShown, IsShownWith, TakesOne, rules_by, rules_of, standing_of}
 use Rattle.line_session.specs.declared.mode.Mode.{Mode}
 use Rattle.line_session.specs.declared.mode.Mode.TheVariants as modes
 use Rattle.line_session.specs.declared.searching.SearchCmd.{SearchCmd}
 use Rattle.line_session.specs.declared.searching.Searching.{Searching}
 use Rattle.line_session.proofs.DrawLemmas.{line_by, same_hint, same_line, shown_by}
+use Rattle.line_session.proofs.ModeLemmas.{shown_waiting_in}
 
 -- outside of a search and a list a command is executed
 does_in : (by : Rules) (m : Mode) (command : Command) (input : Input) (found new : Editor) (next : Mode) (answer : Answer) → steps.shows_line m ≡ true
@@ -129,7 +130,7 @@ module _ {X Y : Type 0} (e : editors.Ghosts X) (r : readers.Ghosts Y) (settings 
 
     -- and what is drawn then
     pub stops_drawn : (done : Turned) → (done ≡ turned.Proceeds → ⊥) → (done ≡ turned.NeedsMore → ⊥)
-        → Advances e r settings.indent_size (Ok done) now next → DrawnBehind e modes.Editing done next.state
+        → Advances e r settings.indent_size (Ok done) now next → DrawnBehind e (r.rest now.reader) modes.Editing done next.state
     stops_drawn turned.Proceeds goes more advances = absurd (goes refl)
     stops_drawn turned.Submitted goes more advances = (advances.turned.drawn.right shown.right, advances.turned.drawn.no_hint (line_by e now.state shown))
     stops_drawn turned.Ended goes more advances = (advances.turned.drawn.right shown.right, advances.turned.drawn.no_hint (line_by e now.state shown))
@@ -144,8 +145,8 @@ module _ {X Y : Type 0} (e : editors.Ghosts X) (r : readers.Ghosts Y) (settings 
     from = entered keymap (e.draft now.state) now.keys.input (r.rest now.reader)
 
     -- where the items are no phrase yet the line is shown, unless another prompt is
-    pub shown_waiting : Frame e now.state next.state → NeedsMoreItems e r now next → (e.display next.state).layout.default_prompt ≡ true → IsShown e next.state
-    shown_waiting frame dry_up own_prompt =
+    shown_alone : Frame e now.state next.state → NeedsMoreItems e r now next → (e.display next.state).layout.default_prompt ≡ true → IsShown e next.state
+    shown_alone frame dry_up own_prompt =
         by_last (last_drawn dry_up.out.lacks.shown) refl dry_up.out.drew
       where
         by_last : (last : ItemShown) → last_drawn dry_up.out.lacks.shown ≡ last
@@ -161,6 +162,10 @@ module _ {X Y : Type 0} (e : editors.Ghosts X) (r : readers.Ghosts Y) (settings 
             let Q : Line → Type 0 = λ l. IsRight (e.display next.state) l in
             shown_by e next.state (subst Q (sym line) (subst P (sym drew.display) shown.right))
             (line_stays e now.state next.state frame.environment (ap (λ (l : Line). l.text) line) hint drew line (line_by e now.state shown))
+
+    -- and that is so in the mode
+    pub shown_waiting : Frame e now.state next.state → NeedsMoreItems e r now next → DrawnBehind e (r.rest now.reader) mode turned.NeedsMore next.state
+    shown_waiting frame dry_up = shown_waiting_in (e.environment next.state) (e.display next.state) (e.draft next.state) mode (r.rest now.reader) edits (shown_alone frame dry_up)
 
 -- a command that ends a search is executed, once the line was drawn behind its own prompt
 module _ {X : Type 0} (e : editors.Ghosts X) (settings : Settings) (keymap : Keymap) (search : Search) (says : Option SearchCmd) (command : Command) (input : Input) (old mid new last : X) (kills kills' : Ring)
@@ -243,3 +248,13 @@ pub dries_up : {X Y : Type 0} (e : editors.Ghosts X) (r : readers.Ghosts Y) (set
 dries_up e r settings searching old new keys keys' reader reader' kills f read eof =
     let done = needs_more e r old new keys keys' settings.indent_size reader reader' kills f read eof in
     (done.turned, refl)
+
+-- and where there was none the search is shown as before
+pub dried_shown : {X Y : Type 0} (e : editors.Ghosts X) (r : readers.Ghosts Y) (settings : Settings) (searching : Searching) (old new : X) (keys keys' : KeyState) (reader reader' : Y) (kills : Ring) (f : ReadlineError)
+    → ReadsCommand e r grouped (Err f) old keys reader new keys' reader' → f ≡ Eof → IsShownWith e (modes.Searching searching) (r.rest reader) old
+    → DrawnBehind e (r.rest reader) (modes.Searching searching) turned.NeedsMore new
+dried_shown e r settings searching old new keys keys' reader reader' kills f read eof shown = λ _ none.
+    let done = needs_more e r old new keys keys' settings.indent_size reader reader' kills f read eof in
+    let still = done.turned.nothing_read none in
+    let prompt = search_prompt (aim_of searching.now) in
+    subst (λ d. IsShownBehind prompt d (e.draft new)) (sym still.1.display) (subst (λ t. IsShownBehind prompt (e.display old) t) (sym still.0) (shown none))

@@ -16,14 +16,14 @@ use Rattle.line_editor.specs.Run.{CutShort}
 use Rattle.line_editor.proofs.AgainLaws.{phrase-first}
 use Rattle.line_editor.proofs.DrawnAgainLaws.{drawn-again}
 use Rattle.line_parts.specs.Environment.{Environment}
-use Rattle.line_session.specs.Pieces.{EndsTheSame, GoesOnFrom, drawn_anew, with_more}
+use Rattle.line_session.specs.Pieces.{EndsTheSame, GoesOnFrom, Waited, with_more}
 use Rattle.line_session.specs.Pieces as pieces
-use Rattle.line_session.specs.Steps.{Ends, ItemTaken, Rules, Standing, Steps, TurnFrom, Waits, WaitsIn, comes_in, takes_items}
+use Rattle.line_session.specs.Steps.{Ends, ItemTaken, Rules, Standing, Steps, TurnFrom, Waits, WaitsIn, comes_in, is_suspended, starting, takes_items}
 use Rattle.line_session.specs.Steps as steps
 use Rattle.line_session.specs.declared.mode.Mode.{Mode}
 use Rattle.line_session.specs.declared.mode.Mode.TheVariants as modes
 use Rattle.line_session.proofs.DrawLemmas.{same_hint}
-use Rattle.line_session.proofs.StepLemmas.{key_alone, steps_then}
+use Rattle.line_session.proofs.StepLemmas.{ends_over, key_alone, not_suspended, starts_by, starts_so, steps_over, steps_then, suspended_is}
 
 -- more items stay behind a turn
 turn_more : (by : Rules) (from to : Standing) (answer : Answer) (more : List Item) → TurnFrom by from to answer
@@ -47,14 +47,14 @@ item_more by from to more puts = record {
   does = puts.does;
 }
 
-steps_more : (by : Rules) (start found : Standing) (more : List Item) → Steps by start found → Steps by (with_more more start) (with_more more found)
+steps_more : (by : Rules) (start found : Standing) (more : List Item) → Steps by true start found → Steps by true (with_more more start) (with_more more found)
 steps_more by start to more steps.none = steps.none
 steps_more by start to more (steps.turn {found} {next} before turn) =
     steps.turn (steps_more by start found more before) (turn_more by found to proceeds more turn)
 steps_more by start to more (steps.item {found} {next} before puts) =
     steps.item (steps_more by start found more before) (item_more by found to more puts)
-steps_more by start to more (steps.resume {found} {next} before goes) =
-    steps.resume (steps_more by start found more before) (record { was = goes.was; is = ap (λ s. with_more more s) goes.is })
+steps_more by start to more (steps.resume {found} {next} over before goes) =
+    steps.resume over (steps_more by start found more before) (record { was = goes.was; is = ap (λ s. with_more more s) goes.is })
 
 -- the draft that the first key leaves is that of the same items with more behind them
 entered_more : (keymap : Keymap) (draft : Draft) (input : Input) (items more : List Item) → (items ≡ [] → ⊥)
@@ -108,17 +108,18 @@ stands one other editor input items mode =
 
 goes_on : (by : Rules) (found left next : Standing) (begins : IsBeginning by.keymap by.environment found.editor.draft found.input found.items)
     → CutShort by.keymap by.environment found.input found.items begins.shown found.editor left.editor
-    → left.input ≡ found.input → left.items ≡ found.items → left.mode ≡ found.mode → GoesOnFrom by left (any_drawn begins.shown) next
-    → GoesOn by found (any_drawn begins.shown) next
-goes_on by found left next begins short input items mode goes =
+    → takes_items found.mode ≡ false → left.input ≡ found.input → left.items ≡ found.items → left.mode ≡ found.mode
+    → GoesOnFrom by left (any_drawn begins.shown) next → GoesOn by found (any_drawn begins.shown) next
+goes_on by found left next begins short reads input items mode goes =
+    let none : is_suspended left.mode ≡ false = ap (λ m. is_suspended m) mode ∙ not_suspended found.mode reads in
     let whole : left ≡ cut_at found left.editor.draft =
     stands left (cut_at found left.editor.draft) (ap (λ k. record { draft = left.editor.draft; kills = k }) short.kills) input items mode in
     let there = cut_by by found (any_drawn begins.shown) left.editor.draft short.draft in
     elim goes [
-      | inl same ↦ record { cut = left.editor.draft; is = same ∙ whole; left = there }
+      | inl same ↦ record { cut = left.editor.draft; is = same ∙ starts_so by.environment false left false none ∙ whole; left = there }
       | inr anew ↦ record {
         cut = hinted by.environment left.editor.draft;
-        is = anew.1 ∙ ap (λ s. drawn_anew by s) whole;
+        is = anew.1 ∙ starts_so by.environment true left false none ∙ ap (λ s. starts_by by.environment true s false) whole;
         left = record {
           kept = λ no. absurd (let yes = anew.0 in cc);
           asked = λ yes. ap (λ d. hinted by.environment d) (there.asked yes);
@@ -188,12 +189,12 @@ module _ (by : Rules) (no_hint : (typed : KeyEvent) → KeyLooksAtNoHint by.keym
           absurd (no_paste by.keymap by.environment found.editor.draft found.input text (rest ++ begins.rest) begins.read comes)
 
   -- the program was not suspended
-  not_suspended : {B : Type 0} {m : Mode} → m ≡ found.mode → m ≡ modes.Suspended → B
-  not_suspended same was = absurd (let two : true ≡ false = sym (ap (λ n. takes_items n) was) ∙ ap (λ n. takes_items n) same ∙ reads in cc)
+  none_suspended : {B : Type 0} {m : Mode} → m ≡ found.mode → m ≡ modes.Suspended → B
+  none_suspended same was = absurd (let two : true ≡ false = sym (ap (λ n. takes_items n) was) ∙ ap (λ n. takes_items n) same ∙ reads in cc)
 
   -- steps from the cut, if there are any, are steps from where the items are read whole
-  steps_whole : (start to : Standing) → Steps by start (with_more more found) → Steps by (with_more more (cut_at found cut)) to
-      → (to ≡ with_more more (cut_at found cut)) ⊎ Steps by start to
+  steps_whole : (start to : Standing) → Steps by true start (with_more more found) → Steps by true (with_more more (cut_at found cut)) to
+      → (to ≡ with_more more (cut_at found cut)) ⊎ Steps by true start to
   steps_whole start to front steps.none = inl refl
   steps_whole start to front (steps.turn {found = middle} {next} before turn) = inr (elim (steps_whole start middle front before) [
     | inl is ↦ steps.turn front (turn_whole to proceeds (subst (λ s. TurnFrom by s to proceeds) is turn))
@@ -203,13 +204,13 @@ module _ (by : Rules) (no_hint : (typed : KeyEvent) → KeyLooksAtNoHint by.keym
     | inl is ↦ steps.item front (item_whole to (subst (λ s. ItemTaken by s to) is puts))
     | inr there ↦ steps.item there puts
   ])
-  steps_whole start to front (steps.resume {found = middle} {next} before goes) = inr (elim (steps_whole start middle front before) [
-    | inl is ↦ not_suspended (ap (λ (s : Standing). s.mode) is) goes.was
-    | inr there ↦ steps.resume there goes
+  steps_whole start to front (steps.resume {found = middle} {next} over before goes) = inr (elim (steps_whole start middle front before) [
+    | inl is ↦ none_suspended (ap (λ (s : Standing). s.mode) is) goes.was
+    | inr there ↦ steps.resume over there goes
   ])
 
-  ends_whole : (start end : Standing) (answer : Answer) → Steps by start (with_more more found) → Ends by (with_more more (cut_at found cut)) end answer
-      → Ends by start end answer
+  ends_whole : (start end : Standing) (answer : Answer) → Steps by true start (with_more more found) → Ends by true (with_more more (cut_at found cut)) end answer
+      → Ends by true start end answer
   ends_whole start end answer front ends = elim (steps_whole start ends.found front ends.steps) [
     | inl is ↦ record {
       found = with_more more found;
@@ -219,35 +220,62 @@ module _ (by : Rules) (no_hint : (typed : KeyEvent) → KeyLooksAtNoHint by.keym
     | inr there ↦ record { found = ends.found; steps = there; last = ends.last }
   ]
 
--- where reading waited once
+-- where a call waited once
 ends_once : (by : Rules) (start left next end : Standing) (piece : List Item) (answer : Answer)
     → ((typed : KeyEvent) → KeyLooksAtNoHint by.keymap.bound typed)
-    → (waits : Waits by start left) → GoesOnFrom by left (any_drawn waits.shown) next → Ends by (with_more piece next) end answer
-    → Ends by (with_more piece start) end answer
+    → (waits : Waits by start left) → GoesOnFrom by left (any_drawn waits.shown) next → Ends by true (with_more piece next) end answer
+    → Ends by true (with_more piece start) end answer
 ends_once by start left next end piece answer no_hint waits goes ends = by_kind waits.shown waits.waits goes
   where
-    by_kind : (shown : List ItemShown) → WaitsIn by waits.found left.editor shown → GoesOnFrom by left (any_drawn shown) next → Ends by (with_more piece start) end answer
+    w : Environment
+    w = by.environment
+
+    front : Steps by true (with_more piece start) (with_more piece waits.found)
+    front = steps_more by start waits.found piece (steps_over by start waits.found waits.steps)
+
+    -- steps, and then the end
+    ends_then : Steps by true (with_more piece start) (with_more piece next) → Ends by true (with_more piece start) end answer
+    ends_then there = record {
+      found = ends.found;
+      steps = steps_then by true (with_more piece start) (with_more piece next) ends.found there ends.steps;
+      last = ends.last;
+    }
+
+    -- a program that was suspended goes on, and else a call begins where the one before waited
+    goes_alone : (suspended : Bool) → is_suspended waits.found.mode ≡ suspended → next ≡ starts_by w false waits.found suspended
+        → Steps by true (with_more piece start) (with_more piece next)
+    goes_alone true is next_is = steps.resume refl front (record {
+      was = suspended_is waits.found.mode is;
+      is = ap (λ s. with_more piece s) next_is;
+    })
+    goes_alone false is next_is = subst (λ s. Steps by true (with_more piece start) (with_more piece s)) (sym next_is) front
+
+    by_kind : (shown : List ItemShown) → WaitsIn by waits.found left.editor shown → GoesOnFrom by left (any_drawn shown) next
+        → Ends by true (with_more piece start) end answer
     by_kind _ (steps.phrase reads begins short) goes =
-        let here = goes_on by waits.found left next begins short waits.input waits.items waits.mode goes in
-        ends_whole by no_hint waits.found piece reads begins here.cut here.left (with_more piece start) end answer
-        (steps_more by start waits.found piece waits.steps)
-        (subst (λ s. Ends by (with_more piece s) end answer) here.is ends)
+        let here = goes_on by waits.found left next begins short reads waits.input waits.items waits.mode goes in
+        ends_whole by no_hint waits.found piece reads begins here.cut here.left (with_more piece start) end answer front
+        (subst (λ s. Ends by true (with_more piece s) end answer) here.is ends)
     by_kind _ (steps.alone takes none same) (inr anew) = absurd (let no = anew.0 in cc)
     by_kind _ (steps.alone takes none same) (inl is) =
-        let there : next ≡ waits.found = is ∙ stands left waits.found same waits.input waits.items waits.mode in
-        let ends_there = subst (λ s. Ends by (with_more piece s) end answer) there ends in
-        record {
-          found = ends_there.found;
-          steps = steps_then by (with_more piece start) (with_more piece waits.found) ends_there.found (steps_more by start waits.found piece waits.steps) ends_there.steps;
-          last = ends_there.last;
-        }
+        let here : left ≡ waits.found = stands left waits.found same waits.input waits.items waits.mode in
+        let next_is : next ≡ starts_by w false waits.found (is_suspended waits.found.mode) = is ∙ ap (λ s. starting w false s) here in
+        ends_then (goes_alone (is_suspended waits.found.mode) refl next_is)
+
+-- the same of an end over several calls
+ends_over_calls : (by : Rules) (start left next end : Standing) (items piece : List Item) (drawn : Bool) (answer : Answer)
+    → ((typed : KeyEvent) → KeyLooksAtNoHint by.keymap.bound typed)
+    → Waited by start items left drawn → GoesOnFrom by left drawn next → Ends by true (with_more piece next) end answer
+    → Ends by true (with_more (items ++ piece) start) end answer
+ends_over_calls by start left next end items piece drawn answer no_hint (pieces.first waits) goes ends =
+    ends_once by start left next end piece answer no_hint waits goes ends
+ends_over_calls by start left' next' end items' piece' drawn' answer no_hint (pieces.again {items} {left} {next} {later} {drawn} piece waited goes waits) goes' ends =
+    let once = ends_once by (with_more piece next) left' next' end piece' answer no_hint waits goes' ends in
+    let both : Ends by true (with_more (piece ++ piece') next) end answer =
+    subst (λ i. Ends by true (record next { items = i }) end answer) (append_assoc next.items piece piece') once in
+    let whole = ends_over_calls by start left next end items (piece ++ piece') drawn answer no_hint waited goes both in
+    subst (λ i. Ends by true (with_more i start) end answer) (sym (append_assoc items piece piece')) whole
 
 pub ends-same : EndsTheSame
-ends-same by start left next end items piece drawn answer no_hint (pieces.first waits) goes ends =
-    ends_once by start left next end piece answer no_hint waits goes ends
-ends-same by start left' next' end items' piece' drawn' answer no_hint (pieces.again {items} {left} {next} {later} {drawn} piece waited goes waits) goes' ends =
-    let once = ends_once by (with_more piece next) left' next' end piece' answer no_hint waits goes' ends in
-    let both : Ends by (with_more (piece ++ piece') next) end answer =
-    subst (λ i. Ends by (record next { items = i }) end answer) (append_assoc next.items piece piece') once in
-    let whole = ends-same by start left next end items (piece ++ piece') drawn answer no_hint waited goes both in
-    subst (λ i. Ends by (with_more i start) end answer) (sym (append_assoc items piece piece')) whole
+ends-same by start left next end items piece drawn answer no_hint waited goes ends =
+    ends_over_calls by start left next end items piece drawn answer no_hint waited goes (ends_over by (with_more piece next) end answer ends)

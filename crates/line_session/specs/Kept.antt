@@ -1,7 +1,8 @@
 -- A line between two calls, and what it is edited with.
-use Rattle.std.specs.Prelude.{◌≡◌, ◌≤◌, ℕ, Bool, true, false, List, Option, Some, length}
+use Rattle.std.specs.Prelude.{◌≡◌, ◌≤◌, ℕ, Bool, true, false, List, [], Option, Some, length}
 use Rattle.line_keys.specs.Display.{Display, IsRight, Screen, ShowsInFull, Surface}
 use Rattle.line_keys.specs.Draft.{Draft}
+use Rattle.line_keys.specs.Item.{Item}
 use Rattle.line_keys.specs.ShownLine.{MayTrail}
 use Rattle.line_parts.specs.Environment.{Environment}
 use Rattle.line_parts.specs.Hint.{Suggestion}
@@ -11,8 +12,9 @@ use Rattle.line_parts.specs.declared.completion.Completer as completers
 use Rattle.line_parts.specs.declared.highlight.CmdKind.{CmdKind}
 use Rattle.line_state.specs.Kept.{IsLeftOn, display_on}
 use Rattle.line_editor.specs.Released.{KeptDraft}
-use Rattle.line_session.specs.Steps.{shows_line}
+use Rattle.line_session.specs.Searching.{IsShownBehind, aim_of, search_prompt}
 use Rattle.line_session.specs.declared.mode.Mode.{Mode}
+use Rattle.line_session.specs.declared.mode.Mode.TheVariants as modes
 
 -- what answers for a line: a helper and the lines of a history
 abbrev pub answers_of : {H C : Type 0} → (H → Shown → Option Suggestion) → (H → List ℕ → Verdict) → (H → List ℕ → ℕ → CmdKind → Bool)
@@ -34,9 +36,23 @@ pub record IsShownBy (environment : Environment) (display : Display) (draft : Dr
   pub own_prompt : display.layout.default_prompt ≡ true
   pub trails : MayTrail environment draft trailing
 
--- a line that is kept fits a screen, a prompt, and those who answer: what is known of the screen holds, the history has the line of its
--- history index, and it is shown unless it is to be drawn or a list is shown
-pub record Fits (kept : KeptDraft) (mode : Mode) (draws : Bool) (surface : Surface) (screen : Screen) (prompt : List ℕ) (environment : Environment) : Type 0 where
+-- the line is shown as it is in a mode: behind its own prompt, and in a search behind that of the search. A list, and a program that is
+-- suspended, show it no more
+abbrev pub IsShownByMode : Mode → Environment → Display → Draft → Type 0
+IsShownByMode (modes.Searching searching) environment display draft = IsShownBehind (search_prompt (aim_of searching.now)) display draft
+IsShownByMode (modes.Listing listing) environment display draft = Unit {0}
+IsShownByMode modes.Suspended environment display draft = Unit {0}
+IsShownByMode mode environment display draft = IsShownBy environment display draft
+
+-- the same with items that are no command yet, of which something may be shown in a search
+abbrev pub IsShownWithItems : Mode → List Item → Environment → Display → Draft → Type 0
+IsShownWithItems (modes.Searching searching) items environment display draft =
+    items ≡ [] → IsShownBehind (search_prompt (aim_of searching.now)) display draft
+IsShownWithItems mode items environment display draft = IsShownByMode mode environment display draft
+
+-- a line that is kept with the items that are left fits a screen, a prompt, and those who answer: what is known of the screen holds, the
+-- history has the line of its history index, and it is shown unless it is to be drawn
+pub record Fits (kept : KeptDraft) (mode : Mode) (draws : Bool) (items : List Item) (surface : Surface) (screen : Screen) (prompt : List ℕ) (environment : Environment) : Type 0 where
   pub left : IsLeftOn kept.drawing surface screen prompt
   pub within : kept.draft.index ≤ length environment.lines
-  pub shown : draws ≡ false → shows_line mode ≡ true → IsShownBy environment (display_on kept.drawing surface screen prompt) kept.draft
+  pub shown : draws ≡ false → IsShownWithItems mode items environment (display_on kept.drawing surface screen prompt) kept.draft

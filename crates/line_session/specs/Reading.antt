@@ -57,7 +57,7 @@ module _ {H : Type 0} where
   -- what came of a line over all these items: it goes on; or it has ended, as it does where they are all there at once
   abbrev pub CameOver : Rules → Standing → List Item → Sitting H → Sitting H → Fed → Type 0
   CameOver by start items old now fed.More = GoesOnOver by start items now × (now.lines ≡ old.lines)
-  CameOver by start items old now ended = CameFrom by (with_more items start) old now ended
+  CameOver by start items old now ended = CameFrom by true (with_more items start) old now ended
 
   module _ (answers : H → List (List ℕ) → Environment) (bound : Bound) (pauses : Bool) where
     -- what came of a line that began behind a prompt, with these texts before and behind the cursor, over all that was read of the input

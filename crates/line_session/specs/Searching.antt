@@ -2,9 +2,8 @@
 use Rattle.std.specs.Prelude.{◌≡◌, ℕ, ◌+◌, ◌-◌, ◌==◌, nat_lt, Bool, true, false, if◌then◌else◌, MatchBool, List, [], ◌∷◌, ◌++◌, length, map, reverse, codes, encode_utf8, Option, Some, None, option_and_then, string_bytes}
 use Rattle.line_buffer.specs.declared.movement.Movement.TheVariants as movements
 use Rattle.line_keys.specs.Command.{Command, abort, forward_search_history, kill, reverse_search_history, self_insert}
-use Rattle.line_keys.specs.Display.{ShowsInFull, corner}
+use Rattle.line_keys.specs.Display.{Display, ShowsInFull, corner}
 use Rattle.line_keys.specs.Draft.{Draft, hint_shown, hinted}
-use Rattle.line_keys.specs.declared.editor_state.EditorState as editors
 use Rattle.line_parts.specs.Environment.{Environment}
 use Rattle.line_parts.specs.History.{Found, search_in}
 use Rattle.line_parts.specs.declared.history.SearchDirection.{SearchDirection}
@@ -167,6 +166,5 @@ abbrev pub search_prompt : Aim → List ℕ
 search_prompt aim = prompt_front aim.failed ++ aim.term ++ codes "': "
 
 -- the line is shown in full with its hint behind another prompt, with the cursor where the line's is
-abbrev pub IsShownBehind : {X : Type 0} → editors.Ghosts X → List ℕ → X → Type 0
-IsShownBehind e prompt state =
-    ShowsInFull (e.display state) ((e.display state).surface.measure prompt corner) (e.draft state).line (hint_shown (e.draft state))
+abbrev pub IsShownBehind : List ℕ → Display → Draft → Type 0
+IsShownBehind prompt display draft = ShowsInFull display (display.surface.measure prompt corner) draft.line (hint_shown draft)

@@ -106,16 +106,16 @@ first_standing left right old = standing_with (begun_with left right old.lines) 
 
 module _ {H : Type 0} where
   -- the line has ended by this answer: it is gone, and what is left are the items and the kill ring of its end
-  pub record EndsLine (by : Rules) (start : Standing) (new : Sitting H) (answer : Answer) : Type 0 where
+  pub record EndsLine (by : Rules) (over_calls : Bool) (start : Standing) (new : Sitting H) (answer : Answer) : Type 0 where
     pub end : Standing
-    pub ends : Ends by start end answer
+    pub ends : Ends by over_calls start end answer
     pub gone : new.line ≡ None
     pub kills : new.kills ≡ end.editor.kills
     pub items : new.items ≡ end.items
 
   -- the line was submitted with this text, which is in the history where the settings say so
-  pub record SubmitsLine (by : Rules) (start : Standing) (old new : Sitting H) (text : List ℕ) : Type 0 where
-    pub ends : EndsLine by start new submitted
+  pub record SubmitsLine (by : Rules) (over_calls : Bool) (start : Standing) (old new : Sitting H) (text : List ℕ) : Type 0 where
+    pub ends : EndsLine by over_calls start new submitted
     pub text_left : text ≡ ends.end.editor.draft.line.text
     pub lines : new.lines ≡ (if old.settings.auto_add_history then added old.takes old.lines text else old.lines)
 
@@ -127,12 +127,12 @@ module _ {H : Type 0} where
     pub drawn : left.draws ≡ true → any_drawn waits.shown ≡ true
     pub column : left.kept.drawing.prompt_end.col ≡ by.ruler.prompt_column
 
-  -- what came of a line whose turns were taken, from where its reading stood
-  abbrev pub CameFrom : Rules → Standing → Sitting H → Sitting H → Fed → Type 0
-  CameFrom by start old new fed.More = GoesOn by start new × (new.lines ≡ old.lines)
-  CameFrom by start old new (fed.Submitted text) = SubmitsLine by start old new (string_bytes text)
-  CameFrom by start old new fed.Ended = EndsLine by start new ended × (new.lines ≡ old.lines)
-  CameFrom by start old new fed.Interrupted = EndsLine by start new interrupted × (new.lines ≡ old.lines)
+  -- what came of a line whose turns were taken, in a call or over several, from where the first one began
+  abbrev pub CameFrom : Rules → Bool → Standing → Sitting H → Sitting H → Fed → Type 0
+  CameFrom by over_calls start old new fed.More = GoesOn by start new × (new.lines ≡ old.lines)
+  CameFrom by over_calls start old new (fed.Submitted text) = SubmitsLine by over_calls start old new (string_bytes text)
+  CameFrom by over_calls start old new fed.Ended = EndsLine by over_calls start new ended × (new.lines ≡ old.lines)
+  CameFrom by over_calls start old new fed.Interrupted = EndsLine by over_calls start new interrupted × (new.lines ≡ old.lines)
 
   -- the line that has begun ends as its last command says: it goes on; it is submitted with its text, which is in the history where the
   -- settings say so; or it is dropped
@@ -153,13 +153,13 @@ module _ {H : Type 0} where
 
       -- what came of the line that has begun
       abbrev pub Came : Sitting H → BegunLine → Sitting H → Fed → Type 0
-      Came old begun = CameFrom (rules_at old begun.kept.drawing.prompt_end.col)
+      Came old begun = CameFrom (rules_at old begun.kept.drawing.prompt_end.col) false
           (starting (answers old.helper old.lines) begun.draws
           (standing_with begun.kept.draft begun.input begun.mode old.items old.kills)) old
 
       -- what came of a line that began behind a prompt, with these texts before and behind the cursor
       abbrev pub CameBegun : List ℕ → List ℕ → List ℕ → Sitting H → Sitting H → Fed → Type 0
-      CameBegun prompt left right old = CameFrom (rules_at old (measured old.columns prompt corner).col)
+      CameBegun prompt left right old = CameFrom (rules_at old (measured old.columns prompt corner).col) false
           (starting (answers old.helper old.lines) true (first_standing left right old)) old
 
     -- what stays while turns are taken: those who answer, the lines that the history takes, the keys that the queue binds, what the bytes

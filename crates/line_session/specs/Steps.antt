@@ -47,10 +47,6 @@ pub record Standing : Type 0 where
 abbrev pub once_drawn : Environment → Editor → Editor
 once_drawn environment editor = record editor { draft = hinted environment editor.draft }
 
--- the same of where reading stands, where the line is to be drawn
-abbrev pub starting : Environment → Bool → Standing → Standing
-starting environment draws start = if draws then record start { editor = once_drawn environment start.editor } else start
-
 -- whether no item is read as part of a command: each is taken by itself, or none while the program is suspended
 abbrev pub takes_items : Mode → Bool
 takes_items modes.Quoting = true
@@ -74,6 +70,16 @@ is_list _ = false
 abbrev pub is_suspended : Mode → Bool
 is_suspended modes.Suspended = true
 is_suspended _ = false
+
+-- a program that was suspended goes on: the line is drawn, and commands are read
+abbrev pub resumed : Environment → Standing → Standing
+resumed environment found = record found { editor = once_drawn environment found.editor; mode = modes.Editing }
+
+-- where the steps of a call begin: a program that was suspended goes on; and the line is drawn, where it is to be drawn
+abbrev pub starting : Environment → Bool → Standing → Standing
+starting environment draws found =
+    if is_suspended found.mode then resumed environment found
+    else if draws then record found { editor = once_drawn environment found.editor } else found
 
 -- the same mode; but a list ends
 abbrev pub unlisted : Mode → Mode
@@ -194,22 +200,23 @@ pub record ItemTaken (by : Rules) (from to : Standing) : Type 0 where
   pub input : to.input ≡ from.input
   pub does : DoesItem by from.input from.mode item from.editor to.editor to.mode
 
--- a program that was suspended goes on: the line is drawn, and commands are read
+-- a program that was suspended goes on
 pub record Resumed (by : Rules) (from to : Standing) : Type 0 where
   pub was : from.mode ≡ modes.Suspended
-  pub is : to ≡ record from { editor = once_drawn by.environment from.editor; mode = modes.Editing }
+  pub is : to ≡ resumed by.environment from
 
--- steps lead from a start to a standing: turns that proceed, items that are taken by themselves, and a program that goes on
-pub data Steps (by : Rules) (start : Standing) : Standing → Type 0 where
-  none : Steps by start start
-  turn : {found next : Standing} → Steps by start found → TurnFrom by found next proceeds → Steps by start next
-  item : {found next : Standing} → Steps by start found → ItemTaken by found next → Steps by start next
-  resume : {found next : Standing} → Steps by start found → Resumed by found next → Steps by start next
+-- steps lead from a start to a standing: turns that proceed, and items that are taken by themselves. Where the program is suspended they
+-- stop; but over several calls it goes on
+pub data Steps (by : Rules) (over_calls : Bool) (start : Standing) : Standing → Type 0 where
+  none : Steps by over_calls start start
+  turn : {found next : Standing} → Steps by over_calls start found → TurnFrom by found next proceeds → Steps by over_calls start next
+  item : {found next : Standing} → Steps by over_calls start found → ItemTaken by found next → Steps by over_calls start next
+  resume : {found next : Standing} → over_calls ≡ true → Steps by over_calls start found → Resumed by found next → Steps by over_calls start next
 
 -- steps, and behind them a turn with this answer, lead from a start to an end
-pub record Ends (by : Rules) (start end : Standing) (answer : Answer) : Type 0 where
+pub record Ends (by : Rules) (over_calls : Bool) (start end : Standing) (answer : Answer) : Type 0 where
   pub found : Standing
-  pub steps : Steps by start found
+  pub steps : Steps by over_calls start found
   pub last : TurnFrom by found end answer
 
 -- no item is taken by itself: there is none, or the program is suspended
@@ -223,10 +230,10 @@ pub data WaitsIn (by : Rules) (found : Standing) (left : Editor) : List ItemShow
       → CutShort by.keymap by.environment found.input found.items begins.shown found.editor left → WaitsIn by found left begins.shown
   alone : takes_items found.mode ≡ true → NoneComesIn found.mode found.items → left ≡ found.editor → WaitsIn by found left []
 
--- steps lead from a start to where reading waits for items; those that are there stay
+-- steps lead from a start to where a call waits for items; those that are there stay
 pub record Waits (by : Rules) (start left : Standing) : Type 0 where
   pub found : Standing
-  pub steps : Steps by start found
+  pub steps : Steps by false start found
   pub shown : List ItemShown
   pub waits : WaitsIn by found left.editor shown
   pub input : left.input ≡ found.input

@@ -17,7 +17,7 @@ use Rattle.line_editor.specs.Run.{ready}
 use Rattle.line_editor.specs.Step.{step}
 use Rattle.line_editor.specs.declared.run.Turned.{Turned}
 use Rattle.line_editor.specs.declared.run.Turned.TheVariants as turned
-use Rattle.line_session.specs.Kept.{IsShownBy}
+use Rattle.line_session.specs.Kept.{IsShownBy, IsShownByMode, IsShownWithItems}
 use Rattle.line_session.specs.Steps.{Ends, NoneComesIn, Rules, Standing, TurnFrom, Waits, as_it_is, comes_in, shows_line, starting}
 use Rattle.line_session.specs.declared.mode.AsItIs.{AsItIs}
 use Rattle.line_session.specs.declared.mode.AsItIs.TheVariants as as_is
@@ -42,12 +42,12 @@ AnswersAs turned.Ended P = P ended
 AnswersAs turned.Interrupted P = P interrupted
 AnswersAs turned.NeedsMore P = ⊥
 
--- how turns that were taken end: with the answer of the last one; or where more items are awaited
+-- how turns end that were taken in a call: with the answer of the last one; or where more items are awaited
 abbrev pub ComesTo : Bool → Rules → Standing → Standing → Turned → Type 0
 ComesTo settled by start end turned.Proceeds = ⊥
-ComesTo settled by start end turned.Submitted = Ends by start end submitted
-ComesTo settled by start end turned.Ended = Ends by start end ended
-ComesTo settled by start end turned.Interrupted = Ends by start end interrupted
+ComesTo settled by start end turned.Submitted = Ends by false start end submitted
+ComesTo settled by start end turned.Ended = Ends by false start end ended
+ComesTo settled by start end turned.Interrupted = Ends by false start end interrupted
 ComesTo settled by start end turned.NeedsMore = WaitsBehind settled by start end
 
 -- an item that comes in as it is, as the reader gives it
@@ -65,14 +65,22 @@ module _ {X : Type 0} (e : editors.Ghosts X) where
   abbrev pub IsShown : X → Type 0
   IsShown state = IsShownBy (e.environment state) (e.display state) (e.draft state)
 
-  -- what is drawn once turns have ended: the line without a hint; the cursor at the end of what is shown; and where items are awaited,
-  -- the line, unless a list or another prompt is shown
-  abbrev pub DrawnOnce : Mode → Turned → X → Type 0
-  DrawnOnce mode turned.Proceeds state = ⊥
-  DrawnOnce mode turned.Submitted state = HasRightLayout e state × ShowsNoHint e state
-  DrawnOnce mode turned.Ended state = HasRightLayout e state × ShowsNoHint e state
-  DrawnOnce mode turned.Interrupted state = IsAtEnd e state × IsInPlace e state × HasShownEnd e state
-  DrawnOnce mode turned.NeedsMore state = shows_line mode ≡ true → (e.display state).layout.default_prompt ≡ true → IsShown state
+  -- the line is shown as it is in a mode
+  abbrev pub IsShownIn : Mode → X → Type 0
+  IsShownIn mode state = IsShownByMode mode (e.environment state) (e.display state) (e.draft state)
+
+  -- and with items that are no command yet
+  abbrev pub IsShownWith : Mode → List Item → X → Type 0
+  IsShownWith mode items state = IsShownWithItems mode items (e.environment state) (e.display state) (e.draft state)
+
+  -- what is drawn once turns have ended: the line without a hint; the cursor at the end of what is shown; and where more items are awaited
+  -- behind these, the line, unless something else is shown of them
+  abbrev pub DrawnOnce : Mode → List Item → Turned → X → Type 0
+  DrawnOnce mode items turned.Proceeds state = ⊥
+  DrawnOnce mode items turned.Submitted state = HasRightLayout e state × ShowsNoHint e state
+  DrawnOnce mode items turned.Ended state = HasRightLayout e state × ShowsNoHint e state
+  DrawnOnce mode items turned.Interrupted state = IsAtEnd e state × IsInPlace e state × HasShownEnd e state
+  DrawnOnce mode items turned.NeedsMore state = is_settled mode (e.display state).layout.default_prompt ≡ true → IsShownWith mode items state
 
   -- an item was put into a draft as it is, behind the own prompt
   abbrev pub PutsIn : Settings → Input → Item → X → Draft → Ring → X → Ring → Type 0
@@ -89,11 +97,11 @@ module _ {X : Type 0} (e : editors.Ghosts X) where
   TakesItem settings input mode item old kills new kills' next =
       PutsIn settings input item old (e.draft old) kills new kills' × (next ≡ modes.Editing)
 
-  -- what is drawn behind one turn that did not fail: where the next command is read the line, unless a list or a search is shown; else as it is
+  -- what is drawn behind one turn of items that did not fail: where the next command is read the line, as it is in the mode; else as it is
   -- drawn once turns have ended
-  abbrev pub DrawnBehind : Mode → Turned → X → Type 0
-  DrawnBehind next turned.Proceeds state = shows_line next ≡ true → IsShown state
-  DrawnBehind next done state = DrawnOnce next done state
+  abbrev pub DrawnBehind : List Item → Mode → Turned → X → Type 0
+  DrawnBehind items next turned.Proceeds state = IsShownIn next state
+  DrawnBehind items next done state = DrawnOnce next items done state
 
   -- what the commands of a state are executed by, and read by a keymap
   abbrev pub rules_by : Keymap → Settings → X → Rules
@@ -138,6 +146,6 @@ module _ {X Y : Type 0} (e : editors.Ghosts X) (r : readers.Ghosts Y) where
   TakesOne settings mode before turned.Interrupted next after =
       TurnFrom (rules_of settings before) (standing_of mode before) (standing_of next after) interrupted × (next ≡ modes.Editing)
 
-  -- the same once the line was drawn, where it is to be drawn: its hint was asked
+  -- where the steps of a call begin that finds a session in a mode
   abbrev pub start_of : Bool → Mode → Session X Y → Standing
   start_of draws mode session = starting (e.environment session.state) draws (standing_of mode session)

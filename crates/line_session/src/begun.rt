@@ -5,14 +5,15 @@ ghost use Rattle.line_editor.specs.Binding.{bound_of};
 ghost use Rattle.line_editor.specs.Editor.{Begins};
 ghost use Rattle.line_editor.specs.Input.{first_input};
 ghost use Rattle.line_keys.specs.Frame.{Frame};
+ghost use Rattle.line_keys.specs.Item.{Item};
 ghost use Rattle.line_keys.specs.Display.{corner, never_drawn};
 ghost use Rattle.line_keys.specs.Draft.{empty_draft};
 ghost use Rattle.line_parts.specs.Helped.{environment_by, sure_by};
 ghost use Rattle.line_screen.specs.KeyQueue.{queue_binding};
 ghost use Rattle.line_session.specs.Kept.{Fits, answers_of};
 ghost use Rattle.line_session.specs.Sitting.{begun_with, rules_for, standing_with};
-ghost use Rattle.line_session.specs.Steps.{shows_line, starting, unlisted};
-ghost use Rattle.line_session.specs.Taken.{ComesTo, DrawnOnce, IsShown, is_settled};
+ghost use Rattle.line_session.specs.Steps.{starting, unlisted};
+ghost use Rattle.line_session.specs.Taken.{ComesTo, is_settled};
 
 use crate::mode::Mode;
 use crate::turns::take_turns;
@@ -61,19 +62,14 @@ fn give_back<T, U>(one: &mut T, other: &mut U)
     let _ = other;
 }
 
-/// Leaves the terminal's cursor below a line that has ended. Returns how it ended.
+/// Leaves the terminal's cursor below a line that has ended. Returns how it ended. Where more is awaited all stays.
 fn leave<'out, 'prompt, O: Write + Drop, H: Helper, P: Prompt, S: History>(
     alloc: Global,
-    mode: &Mode,
     turned: Result<Turned>,
     state: &mut State<'out, 'prompt, Ansi<O, KeyQueue>, H, P, S>,
 ) -> Result<Turned>
-    requires { let e = ⟦<State<'out, 'prompt, Ansi<O, KeyQueue>, H, P, S> as EditorState>⟧ in
-        IfOk turned (λ done. DrawnOnce e mode.now done state.old) }
     ensures ended { IfOk result (λ done. turned ≡ Ok done) }
-    ensures drawn { let e = ⟦<State<'out, 'prompt, Ansi<O, KeyQueue>, H, P, S> as EditorState>⟧ in
-        result ≡ Ok Turned.NeedsMore → DrawnOnce e mode.now Turned.NeedsMore state.new }
-    ensures prompt { let e = ⟦<State<'out, 'prompt, Ansi<O, KeyQueue>, H, P, S> as EditorState>⟧ in
+    ensures display { let e = ⟦<State<'out, 'prompt, Ansi<O, KeyQueue>, H, P, S> as EditorState>⟧ in
         result ≡ Ok Turned.NeedsMore → e.display state.new ≡ e.display state.old }
     ensures draft { let e = ⟦<State<'out, 'prompt, Ansi<O, KeyQueue>, H, P, S> as EditorState>⟧ in
         e.draft state.new ≡ e.draft state.old }
@@ -115,10 +111,7 @@ fn is_to_be_drawn<'out, 'prompt, O: Write + Drop, H: Helper, P: Prompt, S: Histo
     turned: &Result<Turned>,
     state: &State<'out, 'prompt, Ansi<O, KeyQueue>, H, P, S>,
 ) -> bool
-    requires { let e = ⟦<State<'out, 'prompt, Ansi<O, KeyQueue>, H, P, S> as EditorState>⟧ in
-        turned.now ≡ Ok Turned.NeedsMore → DrawnOnce e mode.now Turned.NeedsMore state.now }
-    ensures shown { let e = ⟦<State<'out, 'prompt, Ansi<O, KeyQueue>, H, P, S> as EditorState>⟧ in
-        result ≡ false → shows_line mode.now ≡ true → IsShown e state.now }
+    ensures more { result ≡ false → turned.now ≡ Ok Turned.NeedsMore }
     ensures prompt { let e = ⟦<State<'out, 'prompt, Ansi<O, KeyQueue>, H, P, S> as EditorState>⟧ in
         turned.now ≡ Ok Turned.NeedsMore
         → not result ≡ is_settled mode.now (e.display state.now).layout.default_prompt }
@@ -143,7 +136,8 @@ pub(crate) fn begin<'out, 'prompt, O: Write + Drop, H: Helper, S: History>(
     right: &str,
     config: &Config,
 ) -> Result<Begun<H>>
-    ensures fits { IfOk result (λ begun. Fits begun.line begun.mode begun.draws
+    ensures fits { (items : List Item) → IfOk result (λ begun.
+        Fits begun.line begun.mode begun.draws items
         (⟦<Ansi<O, KeyQueue> as ScreenState>⟧.surface screen.new)
         (⟦<Ansi<O, KeyQueue> as ScreenState>⟧.screen screen.new) (string_bytes prompt.now.0)
         (answers_of H.hint_at H.verdict_at H.lights H.Completer
@@ -230,12 +224,12 @@ impl<H: Helper> Begun<H> {
         rows: Unit,
     ) -> (Begun<H>, Result<()>)
         requires columns { 0 < columns }
-        requires fits { Fits self.line self.mode self.draws
+        requires fits { (items : List Item) × Fits self.line self.mode self.draws items
             (⟦<Ansi<O, KeyQueue> as ScreenState>⟧.surface screen.old)
             (⟦<Ansi<O, KeyQueue> as ScreenState>⟧.screen screen.old) (string_bytes prompt.now.0)
             (answers_of H.hint_at H.verdict_at H.lights H.Completer
             helper.old (S.lines history.now)) }
-        ensures fits { Fits result.0.line result.0.mode result.0.draws
+        ensures fits { (items : List Item) → Fits result.0.line result.0.mode result.0.draws items
             (⟦<Ansi<O, KeyQueue> as ScreenState>⟧.surface screen.new)
             (⟦<Ansi<O, KeyQueue> as ScreenState>⟧.screen screen.new) (string_bytes prompt.now.0)
             (answers_of H.hint_at H.verdict_at H.lights H.Completer
@@ -286,12 +280,12 @@ impl<H: Helper> Begun<H> {
         kill_ring: &mut KillRing,
         config: &Config,
     ) -> (Begun<H>, Result<Turned>)
-        requires { Fits self.line self.mode self.draws
+        requires { Fits self.line self.mode self.draws keys.old.rest
             (⟦<Ansi<O, KeyQueue> as ScreenState>⟧.surface screen.old)
             (⟦<Ansi<O, KeyQueue> as ScreenState>⟧.screen screen.old) (string_bytes prompt.now.0)
             (answers_of H.hint_at H.verdict_at H.lights H.Completer
             helper.old (S.lines history.now)) }
-        ensures fits { Fits result.0.line result.0.mode result.0.draws
+        ensures fits { Fits result.0.line result.0.mode result.0.draws keys.new.rest
             (⟦<Ansi<O, KeyQueue> as ScreenState>⟧.surface screen.new)
             (⟦<Ansi<O, KeyQueue> as ScreenState>⟧.screen screen.new) (string_bytes prompt.now.0)
             (answers_of H.hint_at H.verdict_at H.lights H.Completer
@@ -333,7 +327,7 @@ impl<H: Helper> Begun<H> {
             kill_ring,
             config,
         );
-        let turned = leave(alloc, &mode, turned, &mut state);
+        let turned = leave(alloc, turned, &mut state);
         let draws = is_to_be_drawn(&mode, &turned, &state);
         let input = input_state.release();
         let (line, out, lent) = state.release();

@@ -5,8 +5,7 @@ ghost use Rattle.line_editor.specs.Completing.{taken_back_once};
 ghost use Rattle.line_keys.specs.Frame.{Frame};
 ghost use Rattle.line_parts.specs.Candidate.{offer_of, pair_offer};
 ghost use Rattle.line_session.specs.Completing.{Agree, BeginsCompletion, Elects, GivesUp, GoesOnTo, PutsInCommon, Shows, index_before, index_behind};
-ghost use Rattle.line_session.specs.Taken.{IsShown};
-ghost use Rattle.line_session.specs.Steps.{shows_line};
+ghost use Rattle.line_session.specs.Taken.{IsShown, IsShownIn};
 
 use crate::listing::list;
 use crate::mode::Mode;
@@ -49,7 +48,7 @@ pub(crate) fn complete<'out, 'prompt, O: Write + Drop, H: Helper, P: Prompt, S: 
         IfOk result (BeginsCompletion config.now (e.environment state.old)
         (e.draft state.old) (e.draft state.new)) }
     ensures shown { let e = ⟦<State<'out, 'prompt, Ansi<O, KeyQueue>, H, P, S> as EditorState>⟧ in
-        IfOk result (λ mode. shows_line mode ≡ true → IsShown e state.new) }
+        IfOk result (λ mode. IsShownIn e mode state.new) }
     ensures frame { let e = ⟦<State<'out, 'prompt, Ansi<O, KeyQueue>, H, P, S> as EditorState>⟧ in
         Frame e state.old state.new }
     ensures faults { FaultsOnly result }
@@ -121,7 +120,7 @@ fn complete_in_common<'out, 'prompt, O: Write + Drop, H: Helper, P: Prompt, S: H
         IfOk result (PutsInCommon config.now (e.environment state.old) start candidates
         (e.draft state.old) (e.draft state.new)) }
     ensures shown { let e = ⟦<State<'out, 'prompt, Ansi<O, KeyQueue>, H, P, S> as EditorState>⟧ in
-        IfOk result (λ mode. shows_line mode ≡ true → IsShown e state.new) }
+        IfOk result (λ mode. IsShownIn e mode state.new) }
     ensures frame { let e = ⟦<State<'out, 'prompt, Ansi<O, KeyQueue>, H, P, S> as EditorState>⟧ in
         Frame e state.old state.new }
     ensures faults { FaultsOnly result }
@@ -203,7 +202,7 @@ impl Completing {
             in IfOk result (GoesOnTo (e.environment state.old) self (index_behind self)
             (e.draft state.old) (e.draft state.new)) }
         ensures shown { let e = ⟦<State<'out, 'prompt, Ansi<O, KeyQueue>, H, P, S> as EditorState>⟧
-            in OnOk result (IsShown e state.new) }
+            in IfOk result (λ mode. IsShownIn e mode state.new) }
         ensures frame { let e = ⟦<State<'out, 'prompt, Ansi<O, KeyQueue>, H, P, S> as EditorState>⟧
             in Frame e state.old state.new }
         ensures faults { FaultsOnly result }
@@ -228,7 +227,7 @@ impl Completing {
             in IfOk result (GoesOnTo (e.environment state.old) self (index_before self)
             (e.draft state.old) (e.draft state.new)) }
         ensures shown { let e = ⟦<State<'out, 'prompt, Ansi<O, KeyQueue>, H, P, S> as EditorState>⟧
-            in OnOk result (IsShown e state.new) }
+            in IfOk result (λ mode. IsShownIn e mode state.new) }
         ensures frame { let e = ⟦<State<'out, 'prompt, Ansi<O, KeyQueue>, H, P, S> as EditorState>⟧
             in Frame e state.old state.new }
         ensures faults { FaultsOnly result }
@@ -251,7 +250,7 @@ impl Completing {
             in IfOk result (GoesOnTo (e.environment state.old) self index
             (e.draft state.old) (e.draft state.new)) }
         ensures shown { let e = ⟦<State<'out, 'prompt, Ansi<O, KeyQueue>, H, P, S> as EditorState>⟧
-            in OnOk result (IsShown e state.new) }
+            in IfOk result (λ mode. IsShownIn e mode state.new) }
         ensures frame { let e = ⟦<State<'out, 'prompt, Ansi<O, KeyQueue>, H, P, S> as EditorState>⟧
             in Frame e state.old state.new }
         ensures faults { FaultsOnly result }
@@ -284,7 +283,7 @@ impl Completing {
             in IfOk result (GivesUp (e.environment state.old) self
             (e.draft state.old) (e.draft state.new)) }
         ensures shown { let e = ⟦<State<'out, 'prompt, Ansi<O, KeyQueue>, H, P, S> as EditorState>⟧
-            in OnOk result (IsShown e state.new) }
+            in IfOk result (λ mode. IsShownIn e mode state.new) }
         ensures frame { let e = ⟦<State<'out, 'prompt, Ansi<O, KeyQueue>, H, P, S> as EditorState>⟧
             in Frame e state.old state.new }
         ensures faults { FaultsOnly result }

@@ -118,7 +118,7 @@ impl<O: Write + Drop, H: Helper + Drop, S: History + Drop> Model for Editor<O, H
     } };
 
     // The line that has begun fits the screen, its prompt, and those who answer.
-    ghost invariant = { λ e. IfSome e.line (λ begun. Fits begun.line begun.mode begun.draws
+    ghost invariant = { λ e. IfSome e.line (λ begun. Fits begun.line begun.mode begun.draws e.keys.rest
         (record {
           measure = measured e.screen.shown.columns;
           columns = e.screen.shown.columns;

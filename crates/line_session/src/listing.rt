@@ -3,8 +3,7 @@ ghost use Rattle.std.specs.Prelude.{◌≡◌, ◌<◌, None, Some, true, IfOk, 
 ghost use Rattle.line_config.specs.Error.{FaultsOnly, MemoryOnly};
 ghost use Rattle.line_keys.specs.Frame.{Frame};
 ghost use Rattle.line_session.specs.Completing.{EndsList, Lists, ListsPage, ListsRows, Replies, reply_by, reply_of, reply_to_more, reply_to_question, unctrled};
-ghost use Rattle.line_session.specs.Taken.{IsShown, item_of};
-ghost use Rattle.line_session.specs.Steps.{shows_line};
+ghost use Rattle.line_session.specs.Taken.{IsShownIn, item_of};
 
 use crate::mode::{AsItIs, Mode};
 use line_buffer::Position;
@@ -52,7 +51,7 @@ pub enum Reply {
 /// Lists candidates above the line; where they are more than the settings' limit, it asks first.
 ///
 /// # Errors
-/// Those of the output and of the helper's hints: `Io` and `Memory`.
+/// Those of the output and of the helper's hints: `Io` and `Memory`. The line is drawn below what there is of the list then.
 pub(crate) fn list<'out, 'prompt, O: Write + Drop, H: Helper, P: Prompt, S: History>(
     candidates: Vec<Pair>,
     state: &mut State<'out, 'prompt, Ansi<O, KeyQueue>, H, P, S>,
@@ -62,7 +61,7 @@ pub(crate) fn list<'out, 'prompt, O: Write + Drop, H: Helper, P: Prompt, S: Hist
         IfOk result (Lists config.now (e.environment state.old) candidates
         (e.draft state.old) (e.draft state.new)) }
     ensures shown { let e = ⟦<State<'out, 'prompt, Ansi<O, KeyQueue>, H, P, S> as EditorState>⟧ in
-        IfOk result (λ mode. shows_line mode ≡ true → IsShown e state.new) }
+        IfOk result (λ mode. IsShownIn e mode state.new) }
     ensures frame { let e = ⟦<State<'out, 'prompt, Ansi<O, KeyQueue>, H, P, S> as EditorState>⟧ in
         Frame e state.old state.new }
     ensures faults { FaultsOnly result }
@@ -130,7 +129,7 @@ impl Listing {
             in IfOk result (Replies (e.environment state.old) self
             (reply_by self.next (item_of item.now)) (e.draft state.old) (e.draft state.new)) }
         ensures shown { let e = ⟦<State<'out, 'prompt, Ansi<O, KeyQueue>, H, P, S> as EditorState>⟧
-            in IfOk result (λ mode. shows_line mode ≡ true → IsShown e state.new) }
+            in IfOk result (λ mode. IsShownIn e mode state.new) }
         ensures frame { let e = ⟦<State<'out, 'prompt, Ansi<O, KeyQueue>, H, P, S> as EditorState>⟧
             in Frame e state.old state.new }
         ensures faults { FaultsOnly result }
@@ -152,7 +151,7 @@ impl Listing {
             in IfOk result (ListsPage (e.environment state.old) self
             (e.draft state.old) (e.draft state.new)) }
         ensures shown { let e = ⟦<State<'out, 'prompt, Ansi<O, KeyQueue>, H, P, S> as EditorState>⟧
-            in IfOk result (λ mode. shows_line mode ≡ true → IsShown e state.new) }
+            in IfOk result (λ mode. IsShownIn e mode state.new) }
         ensures frame { let e = ⟦<State<'out, 'prompt, Ansi<O, KeyQueue>, H, P, S> as EditorState>⟧
             in Frame e state.old state.new }
         ensures faults { FaultsOnly result }
@@ -171,7 +170,7 @@ impl Listing {
             in IfOk result (ListsRows (e.environment state.old) self count
             (e.draft state.old) (e.draft state.new)) }
         ensures shown { let e = ⟦<State<'out, 'prompt, Ansi<O, KeyQueue>, H, P, S> as EditorState>⟧
-            in IfOk result (λ mode. shows_line mode ≡ true → IsShown e state.new) }
+            in IfOk result (λ mode. IsShownIn e mode state.new) }
         ensures frame { let e = ⟦<State<'out, 'prompt, Ansi<O, KeyQueue>, H, P, S> as EditorState>⟧
             in Frame e state.old state.new }
         ensures faults { FaultsOnly result }
@@ -179,6 +178,7 @@ impl Listing {
         let alloc = *self.candidates.allocator();
         let from = self.next.unwrap_or(0);
         let until = from.saturating_add(count).min(self.rows);
+        write_above(alloc, "", state)?;
         let text = self.text(alloc, state.out(), from, until)?;
         write_above(alloc, text.as_str(), state)?;
         if until < self.rows {
@@ -271,7 +271,7 @@ fn width_of<O: Write + Drop>(candidate: &Pair, screen: &Ansi<O, KeyQueue>) -> us
     end.col.into()
 }
 
-/// Writes a text above the line, which is to be drawn below it.
+/// Writes a text above the line, which is to be drawn below it. Where that fails, the cursor goes below what was written, if it can.
 fn write_above<'out, 'prompt, O: Write + Drop, H: Helper, P: Prompt, S: History>(
     alloc: Global,
     text: &str,
@@ -283,7 +283,13 @@ fn write_above<'out, 'prompt, O: Write + Drop, H: Helper, P: Prompt, S: History>
         Frame e state.old state.new }
     ensures faults { FaultsOnly result }
 {
-    state.write_above(text, &mut KeyQueue::new(alloc))
+    match state.write_above(text, &mut KeyQueue::new(alloc)) {
+        Ok(()) => Ok(()),
+        Err(error) => {
+            let _ = state.move_cursor_at_leftmost(&mut KeyQueue::new(alloc));
+            Err(error)
+        }
+    }
 }
 
 /// Ends a list: draws the line below it.
@@ -294,7 +300,7 @@ fn end<'out, 'prompt, O: Write + Drop, H: Helper, P: Prompt, S: History>(
     ensures ends { let e = ⟦<State<'out, 'prompt, Ansi<O, KeyQueue>, H, P, S> as EditorState>⟧ in
         IfOk result (EndsList (e.environment state.old) (e.draft state.old) (e.draft state.new)) }
     ensures shown { let e = ⟦<State<'out, 'prompt, Ansi<O, KeyQueue>, H, P, S> as EditorState>⟧ in
-        OnOk result (IsShown e state.new) }
+        IfOk result (λ mode. IsShownIn e mode state.new) }
     ensures frame { let e = ⟦<State<'out, 'prompt, Ansi<O, KeyQueue>, H, P, S> as EditorState>⟧ in
         Frame e state.old state.new }
     ensures faults { FaultsOnly result }

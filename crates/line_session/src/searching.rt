@@ -7,8 +7,7 @@ ghost use Rattle.line_keys.specs.Drawing.{Undrawn};
 ghost use Rattle.line_keys.specs.Frame.{Frame};
 ghost use Rattle.line_parts.specs.History.{search_in};
 ghost use Rattle.line_session.specs.Searching.{Searches, BeginsSearch, IsShownBehind, ShowsSearch, aim_of, aim_put, aimed, before_search, grown_by, next_start, search_cmd, search_of, search_prompt};
-ghost use Rattle.line_session.specs.Steps.{shows_line};
-ghost use Rattle.line_session.specs.Taken.{IsShown};
+ghost use Rattle.line_session.specs.Taken.{IsShown, IsShownIn};
 
 use crate::mode::Mode;
 use line_buffer::Movement;
@@ -98,7 +97,7 @@ pub(crate) fn search<'out, 'prompt, O: Write + Drop, H: Helper, P: Prompt, S: Hi
         IfOk result (BeginsSearch (e.environment state.old) direction
         (e.draft state.old) (e.draft state.new)) }
     ensures shown { let e = ⟦<State<'out, 'prompt, Ansi<O, KeyQueue>, H, P, S> as EditorState>⟧ in
-        IfOk result (λ mode. shows_line mode ≡ true → IsShown e state.new) }
+        IfOk result (λ mode. IsShownIn e mode state.new) }
     ensures frame { let e = ⟦<State<'out, 'prompt, Ansi<O, KeyQueue>, H, P, S> as EditorState>⟧ in
         Frame e state.old state.new }
     ensures faults { FaultsOnly result }
@@ -130,7 +129,8 @@ impl Searching {
     /// Does what a command says to the search, and draws. Returns what the next items are read as.
     ///
     /// # Errors
-    /// Those of the history, the helper and the output: `Io` and `Memory`. Where the history fails the line is as it was.
+    /// Those of the history, the helper and the output: `Io` and `Memory`. The line is then as it was, the one from before the
+    /// search, or the one that was found.
     pub(crate) fn take<'out, 'prompt, O: Write + Drop, H: Helper, P: Prompt, S: History>(
         self,
         command: SearchCmd,
@@ -140,7 +140,7 @@ impl Searching {
             in IfOk result (Searches (e.environment state.old) (search_of self) command
             (e.draft state.old) (e.draft state.new)) }
         ensures shown { let e = ⟦<State<'out, 'prompt, Ansi<O, KeyQueue>, H, P, S> as EditorState>⟧
-            in IfOk result (λ mode. shows_line mode ≡ true → IsShown e state.new) }
+            in IfOk result (λ mode. IsShownIn e mode state.new) }
         ensures frame { let e = ⟦<State<'out, 'prompt, Ansi<O, KeyQueue>, H, P, S> as EditorState>⟧
             in Frame e state.old state.new }
         ensures faults { FaultsOnly result }
@@ -164,7 +164,8 @@ impl Searching {
         ensures takes { let e = ⟦<State<'out, 'prompt, Ansi<O, KeyQueue>, H, P, S> as EditorState>⟧
             in IfOk result (Searches (e.environment state.old) (search_of self)
             (SearchCmd.Extend c) (e.draft state.old) (e.draft state.new)) }
-        ensures mode { IfOk result (λ mode. shows_line mode ≡ false) }
+        ensures shown { let e = ⟦<State<'out, 'prompt, Ansi<O, KeyQueue>, H, P, S> as EditorState>⟧
+            in IfOk result (λ mode. IsShownIn e mode state.new) }
         ensures frame { let e = ⟦<State<'out, 'prompt, Ansi<O, KeyQueue>, H, P, S> as EditorState>⟧
             in Frame e state.old state.new }
         ensures faults { FaultsOnly result }
@@ -202,7 +203,8 @@ impl Searching {
         ensures takes { let e = ⟦<State<'out, 'prompt, Ansi<O, KeyQueue>, H, P, S> as EditorState>⟧
             in IfOk result (Searches (e.environment state.old) (search_of self)
             SearchCmd.Shorten (e.draft state.old) (e.draft state.new)) }
-        ensures mode { IfOk result (λ mode. shows_line mode ≡ false) }
+        ensures shown { let e = ⟦<State<'out, 'prompt, Ansi<O, KeyQueue>, H, P, S> as EditorState>⟧
+            in IfOk result (λ mode. IsShownIn e mode state.new) }
         ensures frame { let e = ⟦<State<'out, 'prompt, Ansi<O, KeyQueue>, H, P, S> as EditorState>⟧
             in Frame e state.old state.new }
         ensures faults { FaultsOnly result }
@@ -238,7 +240,8 @@ impl Searching {
         ensures goes { let e = ⟦<State<'out, 'prompt, Ansi<O, KeyQueue>, H, P, S> as EditorState>⟧
             in IfOk result (Searches (e.environment state.old) (search_of self)
             (SearchCmd.GoOn direction) (e.draft state.old) (e.draft state.new)) }
-        ensures mode { IfOk result (λ mode. shows_line mode ≡ false) }
+        ensures shown { let e = ⟦<State<'out, 'prompt, Ansi<O, KeyQueue>, H, P, S> as EditorState>⟧
+            in IfOk result (λ mode. IsShownIn e mode state.new) }
         ensures frame { let e = ⟦<State<'out, 'prompt, Ansi<O, KeyQueue>, H, P, S> as EditorState>⟧
             in Frame e state.old state.new }
         ensures faults { FaultsOnly result }
@@ -276,7 +279,7 @@ impl Searching {
             in IfOk result (Searches (e.environment state.old) (search_of self)
             SearchCmd.GiveUp (e.draft state.old) (e.draft state.new)) }
         ensures shown { let e = ⟦<State<'out, 'prompt, Ansi<O, KeyQueue>, H, P, S> as EditorState>⟧
-            in OnOk result (IsShown e state.new) }
+            in IfOk result (λ mode. IsShownIn e mode state.new) }
         ensures frame { let e = ⟦<State<'out, 'prompt, Ansi<O, KeyQueue>, H, P, S> as EditorState>⟧
             in Frame e state.old state.new }
         ensures faults { FaultsOnly result }
@@ -296,9 +299,8 @@ impl Searching {
             in IfOk result (ShowsSearch (e.environment state.old) (search_of self)
             (before_search (e.environment state.old) (search_of self) (e.draft state.old))
             (e.draft state.new)) }
-        ensures mode { IfOk result (λ mode. shows_line mode ≡ false) }
-        ensures drawn { let e = ⟦<State<'out, 'prompt, Ansi<O, KeyQueue>, H, P, S> as EditorState>⟧
-            in OnOk result (IsShownBehind e (search_prompt (aim_of self.now)) state.new) }
+        ensures shown { let e = ⟦<State<'out, 'prompt, Ansi<O, KeyQueue>, H, P, S> as EditorState>⟧
+            in IfOk result (λ mode. IsShownIn e mode state.new) }
         ensures frame { let e = ⟦<State<'out, 'prompt, Ansi<O, KeyQueue>, H, P, S> as EditorState>⟧
             in Frame e state.old state.new }
         ensures faults { FaultsOnly result }
@@ -357,7 +359,8 @@ impl Searching {
             in OnOk result (e.draft state.new
             ≡ hinted (e.environment state.old) (e.draft state.old)) }
         ensures drawn { let e = ⟦<State<'out, 'prompt, Ansi<O, KeyQueue>, H, P, S> as EditorState>⟧
-            in OnOk result (IsShownBehind e (search_prompt (aim_of self.entry.now.now)) state.new) }
+            in OnOk result (IsShownBehind (search_prompt (aim_of self.entry.now.now))
+            (e.display state.new) (e.draft state.new)) }
         ensures frame { let e = ⟦<State<'out, 'prompt, Ansi<O, KeyQueue>, H, P, S> as EditorState>⟧
             in Frame e state.old state.new }
         ensures faults { FaultsOnly result }

@@ -1,5 +1,5 @@
 //! Turns that are taken one after another, for as long as there are items.
-ghost use Rattle.std.specs.Prelude.{◌≡◌, ◌⊎◌, ◌<◌, true, false, length, IfOk, None, OnErr, OnOk, option_map};
+ghost use Rattle.std.specs.Prelude.{◌≡◌, ◌⊎◌, ◌<◌, true, false, List, length, IfOk, None, OnErr, OnOk, option_map};
 ghost use Rattle.line_config.specs.Error.{FaultsOnly};
 ghost use Rattle.line_editor.specs.InputState.{input_of, keys_of};
 ghost use Rattle.line_editor.specs.Keymap.{Keymap};
@@ -9,9 +9,10 @@ ghost use Rattle.line_editor.specs.Run.{kills_before};
 ghost use Rattle.line_keys.specs.Command.{command_of};
 ghost use Rattle.line_keys.specs.Draft.{hinted};
 ghost use Rattle.line_keys.specs.Frame.{Frame};
+ghost use Rattle.line_keys.specs.Item.{Item};
 ghost use Rattle.line_session.specs.Searching.{search_cmd, search_of};
 ghost use Rattle.line_session.specs.Steps.{Answers, DoesInSearch, comes_in, shows_line, takes_items};
-ghost use Rattle.line_session.specs.Taken.{AnswersAs, ComesTo, DrawnBehind, DrawnOnce, IsShown, KeepsRules, PutsIn, TakesAsItIs, TakesItem, TakesOne, is_settled, item_of, rules_by, rules_of, standing_of, start_of};
+ghost use Rattle.line_session.specs.Taken.{AnswersAs, ComesTo, DrawnBehind, DrawnOnce, IsShown, IsShownIn, IsShownWith, KeepsRules, PutsIn, TakesAsItIs, TakesItem, TakesOne, is_settled, item_of, rules_by, rules_of, standing_of, start_of};
 
 use crate::completing::complete;
 use crate::listing::list;
@@ -55,8 +56,8 @@ pub(crate) fn take_turns<'out, 'prompt, O: Write + Drop, H: Helper, P: Prompt, S
     kill_ring: &mut KillRing,
     config: &Config,
 ) -> Result<Turned>
-    requires shown { draws ≡ false → shows_line mode.old ≡ true
-        → IsShown ⟦<State<'out, 'prompt, Ansi<O, KeyQueue>, H, P, S> as EditorState>⟧ state.old }
+    requires shown { let e = ⟦<State<'out, 'prompt, Ansi<O, KeyQueue>, H, P, S> as EditorState>⟧ in
+        draws ≡ false → IsShownWith e mode.old keys.old.rest state.old }
     ensures comes { let k = keys_of ⟦<dyn ConditionalEventHandler as ConditionalEventHandler>⟧ in
         let e = ⟦<State<'out, 'prompt, Ansi<O, KeyQueue>, H, P, S> as EditorState>⟧ in
         let r = ⟦<KeyQueue as RawReader>⟧ in
@@ -66,7 +67,7 @@ pub(crate) fn take_turns<'out, 'prompt, O: Write + Drop, H: Helper, P: Prompt, S
         (rules_of e r config.now before)
         (start_of e r draws mode.old before) (standing_of e r mode.new after)) }
     ensures drawn { let e = ⟦<State<'out, 'prompt, Ansi<O, KeyQueue>, H, P, S> as EditorState>⟧ in
-        IfOk result (λ turned. DrawnOnce e mode.new turned state.new) }
+        IfOk result (λ turned. DrawnOnce e mode.new keys.new.rest turned state.new) }
     ensures keeps { let k = keys_of ⟦<dyn ConditionalEventHandler as ConditionalEventHandler>⟧ in
         KeepsRules ⟦<State<'out, 'prompt, Ansi<O, KeyQueue>, H, P, S> as EditorState>⟧
         ⟦<KeyQueue as RawReader>⟧
@@ -119,7 +120,7 @@ fn draw<'out, 'prompt, O: Write + Drop, H: Helper, P: Prompt, S: History>(
     ensures draft { let e = ⟦<State<'out, 'prompt, Ansi<O, KeyQueue>, H, P, S> as EditorState>⟧ in
         OnOk result (e.draft state.new ≡ hinted (e.environment state.old) (e.draft state.old)) }
     ensures shown { let e = ⟦<State<'out, 'prompt, Ansi<O, KeyQueue>, H, P, S> as EditorState>⟧ in
-        OnOk result (shows_line mode.now ≡ true → IsShown e state.new) }
+        OnOk result (IsShownIn e mode.now state.new) }
     ensures frame { let e = ⟦<State<'out, 'prompt, Ansi<O, KeyQueue>, H, P, S> as EditorState>⟧ in
         Frame e state.old state.new }
     ensures faults { FaultsOnly result }
@@ -141,7 +142,7 @@ fn turns<'out, 'prompt, O: Write + Drop, H: Helper, P: Prompt, S: History>(
     config: &Config,
 ) -> Result<Turned>
     requires { let e = ⟦<State<'out, 'prompt, Ansi<O, KeyQueue>, H, P, S> as EditorState>⟧ in
-        shows_line mode.old ≡ true → IsShown e state.old }
+        IsShownWith e mode.old keys.old.rest state.old }
     ensures comes { let k = keys_of ⟦<dyn ConditionalEventHandler as ConditionalEventHandler>⟧ in
         let e = ⟦<State<'out, 'prompt, Ansi<O, KeyQueue>, H, P, S> as EditorState>⟧ in
         let r = ⟦<KeyQueue as RawReader>⟧ in
@@ -151,7 +152,7 @@ fn turns<'out, 'prompt, O: Write + Drop, H: Helper, P: Prompt, S: History>(
         (rules_of e r config.now before)
         (standing_of e r mode.old before) (standing_of e r mode.new after)) }
     ensures drawn { let e = ⟦<State<'out, 'prompt, Ansi<O, KeyQueue>, H, P, S> as EditorState>⟧ in
-        IfOk result (λ turned. DrawnOnce e mode.new turned state.new) }
+        IfOk result (λ turned. DrawnOnce e mode.new keys.new.rest turned state.new) }
     ensures keeps { let k = keys_of ⟦<dyn ConditionalEventHandler as ConditionalEventHandler>⟧ in
         KeepsRules ⟦<State<'out, 'prompt, Ansi<O, KeyQueue>, H, P, S> as EditorState>⟧
         ⟦<KeyQueue as RawReader>⟧
@@ -229,7 +230,7 @@ fn turn<'out, 'prompt, O: Write + Drop, H: Helper, P: Prompt, S: History>(
 ) -> Result<(Turned, Mode)>
     requires reads { takes_items mode ≡ false }
     requires shown { let e = ⟦<State<'out, 'prompt, Ansi<O, KeyQueue>, H, P, S> as EditorState>⟧ in
-        shows_line mode ≡ true → IsShown e state.old }
+        IsShownWith e mode keys.old.rest state.old }
     ensures takes { let k = keys_of ⟦<dyn ConditionalEventHandler as ConditionalEventHandler>⟧ in
         let e = ⟦<State<'out, 'prompt, Ansi<O, KeyQueue>, H, P, S> as EditorState>⟧ in
         let r = ⟦<KeyQueue as RawReader>⟧ in
@@ -237,7 +238,7 @@ fn turn<'out, 'prompt, O: Write + Drop, H: Helper, P: Prompt, S: History>(
         (session state.old (k input_state.old) keys.old kill_ring.old) done.0 done.1
         (session state.new (k input_state.new) keys.new kill_ring.new)) }
     ensures drawn { let e = ⟦<State<'out, 'prompt, Ansi<O, KeyQueue>, H, P, S> as EditorState>⟧ in
-        IfOk result (λ done. DrawnBehind e done.1 done.0 state.new) }
+        IfOk result (λ done. DrawnBehind e keys.old.rest done.1 done.0 state.new) }
     ensures fewer { IfOk result (λ done. done.0 ≡ Turned.Proceeds
         → length keys.new.rest < length keys.old.rest) }
     ensures keeps { let k = keys_of ⟦<dyn ConditionalEventHandler as ConditionalEventHandler>⟧ in
@@ -282,7 +283,7 @@ fn edit_turn<'out, 'prompt, O: Write + Drop, H: Helper, P: Prompt, S: History>(
         (session state.old (k input_state.old) keys.old kill_ring.old) done.0 done.1
         (session state.new (k input_state.new) keys.new kill_ring.new)) }
     ensures drawn { let e = ⟦<State<'out, 'prompt, Ansi<O, KeyQueue>, H, P, S> as EditorState>⟧ in
-        IfOk result (λ done. DrawnBehind e done.1 done.0 state.new) }
+        IfOk result (λ done. DrawnBehind e keys.old.rest done.1 done.0 state.new) }
     ensures fewer { IfOk result (λ done. done.0 ≡ Turned.Proceeds
         → length keys.new.rest < length keys.old.rest) }
     ensures keeps { let k = keys_of ⟦<dyn ConditionalEventHandler as ConditionalEventHandler>⟧ in
@@ -313,7 +314,9 @@ fn search_turn<'out, 'prompt, O: Write + Drop, H: Helper, P: Prompt, S: History>
     kill_ring: &mut KillRing,
     config: &Config,
 ) -> Result<(Turned, Mode)>
-    requires { takes_items (Mode.Searching searching) ≡ false }
+    requires reads { takes_items (Mode.Searching searching) ≡ false }
+    requires shown { let e = ⟦<State<'out, 'prompt, Ansi<O, KeyQueue>, H, P, S> as EditorState>⟧ in
+        IsShownWith e (Mode.Searching searching) keys.old.rest state.old }
     ensures takes { let k = keys_of ⟦<dyn ConditionalEventHandler as ConditionalEventHandler>⟧ in
         let e = ⟦<State<'out, 'prompt, Ansi<O, KeyQueue>, H, P, S> as EditorState>⟧ in
         let r = ⟦<KeyQueue as RawReader>⟧ in
@@ -321,7 +324,7 @@ fn search_turn<'out, 'prompt, O: Write + Drop, H: Helper, P: Prompt, S: History>
         (session state.old (k input_state.old) keys.old kill_ring.old) done.0 done.1
         (session state.new (k input_state.new) keys.new kill_ring.new)) }
     ensures drawn { let e = ⟦<State<'out, 'prompt, Ansi<O, KeyQueue>, H, P, S> as EditorState>⟧ in
-        IfOk result (λ done. DrawnBehind e done.1 done.0 state.new) }
+        IfOk result (λ done. DrawnBehind e keys.old.rest done.1 done.0 state.new) }
     ensures fewer { IfOk result (λ done. done.0 ≡ Turned.Proceeds
         → length keys.new.rest < length keys.old.rest) }
     ensures keeps { let k = keys_of ⟦<dyn ConditionalEventHandler as ConditionalEventHandler>⟧ in
@@ -376,7 +379,8 @@ fn do_in_search<'out, 'prompt, O: Write + Drop, H: Helper, P: Prompt, S: History
         (search_cmd (command_of command)) (command_of command) (input_of input_state.now)
         (editor_of e state.old kill_ring.old) (editor_of e state.new kill_ring.new) done.1)) }
     ensures drawn { let e = ⟦<State<'out, 'prompt, Ansi<O, KeyQueue>, H, P, S> as EditorState>⟧ in
-        IfOk result (λ done. DrawnBehind e done.1 done.0 state.new) }
+        (items : List Item) → IfOk result (λ done.
+        DrawnBehind e items done.1 done.0 state.new) }
     ensures mode { IfOk result (λ done. done.0 ≡ Turned.Proceeds ⊎ done.1 ≡ Mode.Editing) }
     ensures frame { let e = ⟦<State<'out, 'prompt, Ansi<O, KeyQueue>, H, P, S> as EditorState>⟧ in
         Frame e state.old state.new }
@@ -419,7 +423,7 @@ fn answer<'out, 'prompt, O: Write + Drop, H: Helper, P: Prompt, S: History>(
         IfOk result (Answers config.now (e.environment state.old) left mode
         (e.draft state.old) (e.draft state.new)) }
     ensures shown { let e = ⟦<State<'out, 'prompt, Ansi<O, KeyQueue>, H, P, S> as EditorState>⟧ in
-        IfOk result (λ mode. shows_line mode ≡ true → IsShown e state.new) }
+        IfOk result (λ mode. IsShownIn e mode state.new) }
     ensures frame { let e = ⟦<State<'out, 'prompt, Ansi<O, KeyQueue>, H, P, S> as EditorState>⟧ in
         Frame e state.old state.new }
     ensures faults { FaultsOnly result }
@@ -461,7 +465,7 @@ fn take_item<'out, 'prompt, O: Write + Drop, H: Helper, P: Prompt, S: History>(
         IfOk result (TakesItem e config.now (input_of input_state.now) mode (item_of item)
         state.old kill_ring.old state.new kill_ring.new) }
     ensures shown { let e = ⟦<State<'out, 'prompt, Ansi<O, KeyQueue>, H, P, S> as EditorState>⟧ in
-        IfOk result (λ mode. shows_line mode ≡ true → IsShown e state.new) }
+        IfOk result (λ mode. IsShownIn e mode state.new) }
     ensures frame { let e = ⟦<State<'out, 'prompt, Ansi<O, KeyQueue>, H, P, S> as EditorState>⟧ in
         Frame e state.old state.new }
     ensures faults { FaultsOnly result }

@@ -15,7 +15,7 @@ returns-in_ok-next-in-Proceeds-clause-takes g c =
 pub returns-in-NeedsMore-clause-drawn : goal.returns-in-NeedsMore-clause-drawn
 returns-in-NeedsMore-clause-drawn g c =
     let turn = rw c.in-NeedsMore.is at c.in_ok-turned.ensures.advances in
-    λ _. shown_waiting _ _ c.args.config.now c.args.mode _ _ c.requires.reads c.requires.edits c.requires.shown turn.stays.keeps.both.frame turn.turned
+    shown_waiting _ _ c.args.config.now c.args.mode _ _ c.requires.reads c.requires.edits c.requires.shown turn.stays.keeps.both.frame turn.turned
 
 pub returns-in_default : goal.returns-in_default
 returns-in_default g c =

@@ -3,6 +3,7 @@ use Rattle.std.specs.Prelude.{OnOk}
 use Rattle.line_term.specs.Decoder.{read}
 use Rattle.line_session.specs.Sitting.{Sitting, with_turn}
 use Rattle.line_session.proofs.CameLemmas.{turn_so}
+use Rattle.line_session.proofs.KeptLemmas.{either_way, none_left, still_fits}
 use Rattle.line_session.proofs.editor.Editor.read.Goals as goal
 
 pub returns-clause-reads : goal.returns-clause-reads
@@ -23,3 +24,9 @@ returns-clause-reads g c =
     let mid : Sitting g.row.H.Denot = record old { items = c.feed.new.keys.rest; binds = c.feed.new.keys.binds; decoder = c.feed.new.self } in
     subst (λ o. OnOk c.feed.result (mid ≡ with_turn (read o.decoder c.args.bytes.now) o)) c.self.view_is
     (turn_so old mid (read old.decoder c.args.bytes.now) c.feed.new.self c.self.inside.keys c.feed.new.keys c.feed.result c.feed.ensures.fed refl refl refl)
+
+pub invariant_of-self : goal.invariant_of-self
+invariant_of-self g c =
+    still_fits c.self.inside.line (λ b. b.line) (λ b. b.mode) (λ b. b.draws) _ _ _ _ _ _
+    (either_way c.feed.result _ _ c.feed.ensures.fed c.feed.ensures.cut (λ gives. none_left _ _ _ gives.items) (λ cut. none_left _ _ _ cut.items))
+    c.self.invariant

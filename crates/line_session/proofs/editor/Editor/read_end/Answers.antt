@@ -3,6 +3,7 @@ use Rattle.std.specs.Prelude.{OnOk}
 use Rattle.line_term.specs.Decoder.{finished}
 use Rattle.line_session.specs.Sitting.{Sitting, with_turn}
 use Rattle.line_session.proofs.CameLemmas.{turn_so}
+use Rattle.line_session.proofs.KeptLemmas.{either_way, none_left, still_fits}
 use Rattle.line_session.proofs.editor.Editor.read_end.Goals as goal
 
 pub returns-clause-reads : goal.returns-clause-reads
@@ -23,3 +24,9 @@ returns-clause-reads g c =
     let mid : Sitting g.row.H.Denot = record old { items = c.finish.new.keys.rest; binds = c.finish.new.keys.binds; decoder = c.finish.new.self } in
     subst (λ o. OnOk c.finish.result (mid ≡ with_turn (finished o.decoder) o)) c.self.view_is
     (turn_so old mid (finished old.decoder) c.finish.new.self c.self.inside.keys c.finish.new.keys c.finish.result c.finish.ensures.finished refl refl refl)
+
+pub invariant_of-self : goal.invariant_of-self
+invariant_of-self g c =
+    still_fits c.self.inside.line (λ b. b.line) (λ b. b.mode) (λ b. b.draws) _ _ _ _ _ _
+    (either_way c.finish.result _ _ c.finish.ensures.finished c.finish.ensures.cut (λ gives. none_left _ _ _ gives.items) (λ cut. none_left _ _ _ cut.items))
+    c.self.invariant

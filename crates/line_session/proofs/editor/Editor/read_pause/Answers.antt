@@ -3,6 +3,7 @@ use Rattle.std.specs.Prelude.{OnOk}
 use Rattle.line_term.specs.Decoder.{flushed}
 use Rattle.line_session.specs.Sitting.{Sitting, with_turn}
 use Rattle.line_session.proofs.CameLemmas.{turn_so}
+use Rattle.line_session.proofs.KeptLemmas.{either_way, none_left, still_fits}
 use Rattle.line_session.proofs.editor.Editor.read_pause.Goals as goal
 
 pub returns-clause-reads : goal.returns-clause-reads
@@ -23,3 +24,9 @@ returns-clause-reads g c =
     let mid : Sitting g.row.H.Denot = record old { items = c.flush.new.keys.rest; binds = c.flush.new.keys.binds; decoder = c.flush.new.self } in
     subst (λ o. OnOk c.flush.result (mid ≡ with_turn (flushed o.decoder) o)) c.self.view_is
     (turn_so old mid (flushed old.decoder) c.flush.new.self c.self.inside.keys c.flush.new.keys c.flush.result c.flush.ensures.flushed refl refl refl)
+
+pub invariant_of-self : goal.invariant_of-self
+invariant_of-self g c =
+    still_fits c.self.inside.line (λ b. b.line) (λ b. b.mode) (λ b. b.draws) _ _ _ _ _ _
+    (either_way c.flush.result _ _ c.flush.ensures.flushed c.flush.ensures.cut (λ gives. none_left _ _ _ gives.items) (λ cut. none_left _ _ _ cut.items))
+    c.self.invariant

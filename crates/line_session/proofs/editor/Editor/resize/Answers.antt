@@ -28,3 +28,6 @@ returns-clause-keeps g c =
     } in
     subst (λ o. Keeps asked (record o { columns = c.args.columns; rows = c.args.rows }) new) c.self.view_is
     (record { answers_alike = resized.ensures.answers; takes = refl; own = refl; decoder = refl; settings = refl; columns = resized.ensures.columns; rows = resized.ensures.rows })
+
+pub invariant_of-self-2 : goal.invariant_of-self-2
+invariant_of-self-2 g c = c.resized-begun.ensures.fits c.self.inside.keys.rest

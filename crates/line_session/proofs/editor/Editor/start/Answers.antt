@@ -27,3 +27,6 @@ returns-clause-starts g c =
     } in
     starts_so asked _ _ _ _ _ mid _ begun (c.self.view_is ∙ c.in_ok-ask_for_paste_marks.ensures.stays) refl made.ensures.draft made.ensures.input made.ensures.mode made.ensures.draws made.ensures.prompt
     c.in_ok-self-inside.ensures.raw refl c.reset.ensures columns rows made.ensures.answers
+
+pub invariant_of-self-2 : goal.invariant_of-self-2
+invariant_of-self-2 g c = c.in_ok-begun.ensures.fits c.self.inside.keys.rest
