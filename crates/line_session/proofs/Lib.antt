@@ -1,3 +1,4 @@
+pub mod ArgumentLemmas
 pub mod CameLemmas
 pub mod CompletingLemmas
 pub mod DrawLemmas

@@ -1,3 +1,4 @@
+pub mod Arguments
 pub mod Completing
 pub mod Kept
 pub mod OneChange

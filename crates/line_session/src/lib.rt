@@ -1,6 +1,7 @@
 //! Reads a line from a terminal.
 #![tactic(auto)]
 
+pub mod arguments;
 mod begun;
 pub mod completing;
 pub mod editor;
