@@ -24,7 +24,7 @@ use Rattle.line_editor.specs.Step.{step}
 use Rattle.line_editor.specs.declared.run.Turned.{Turned}
 use Rattle.line_editor.specs.declared.run.Turned.TheVariants as turned
 use Rattle.line_editor.proofs.DrawnLemmas.{frame_then}
-use Rattle.line_session.specs.Steps.{DoesItem, Ends, ItemTaken, NoneComesIn, Rules, Standing, Steps, TurnFrom, as_it_is, character_of, comes_in, is_suspended, resumed, takes_items, typing}
+use Rattle.line_session.specs.Steps.{DoesItem, Ends, ItemTaken, NoneComesIn, Rules, Standing, Steps, TurnFrom, as_it_is, character_of, comes_in, is_suspended, resumed, reads_no_command, typing}
 use Rattle.line_session.specs.Steps as steps
 use Rattle.line_session.specs.Taken.{ComesTo, DrawnBehind, DrawnOnce, IsShown, IsShownIn, IsShownWith, KeepsRules, PutsIn, TakesItem, TakesOne, WaitsBehind, is_settled, rules_by, rules_of, standing_of, start_of}
 use Rattle.line_session.specs.declared.mode.Mode.{Mode}
@@ -151,7 +151,7 @@ module _ {X Y : Type 0} (e : editors.Ghosts X) (r : readers.Ghosts Y) (settings 
       settled = settled_by (e.environment now.state) (e.display now.state) (e.draft now.state) mode (r.rest now.reader) going.shown
 
       -- no item is read as part of a command, and none is taken by itself
-      pub waits_alone : takes_items mode ≡ true → NoneComesIn mode (r.rest now.reader)
+      pub waits_alone : reads_no_command mode ≡ true → NoneComesIn mode (r.rest now.reader)
           → WaitsBehind (is_settled mode (e.display now.state).layout.default_prompt) (rules_of e r settings start) (standing_of e r first start) (standing_of e r mode now)
       waits_alone takes none = record {
         waits = record {
@@ -185,7 +185,7 @@ module _ {X Y : Type 0} (e : editors.Ghosts X) (r : readers.Ghosts Y) (settings 
         }
 
         -- the items are no phrase yet, and are to be read again
-        waits_in : (reader : Y) → takes_items mode ≡ false → r.rest reader ≡ r.rest now.reader → NeedsMoreItems e r now next
+        waits_in : (reader : Y) → reads_no_command mode ≡ false → r.rest reader ≡ r.rest now.reader → NeedsMoreItems e r now next
             → WaitsBehind (is_settled mode (e.display next.state).layout.default_prompt) (rules_of e r settings start) (standing_of e r first start)
             (standing_of e r mode (session next.state next.keys reader next.kills))
         waits_in reader reads again dry_up =
@@ -232,7 +232,7 @@ module _ {X Y : Type 0} (e : editors.Ghosts X) (r : readers.Ghosts Y) (settings 
             other_then modes.Suspended shown unsettled = absurd (let two : true ≡ false = unsettled in cc)
 
         -- the same in a mode that is equal
-        pub waits : (then_ : Mode) (reader : Y) → takes_items mode ≡ false → r.rest reader ≡ r.rest now.reader → TakesOne e r settings mode now turned.NeedsMore then_ next
+        pub waits : (then_ : Mode) (reader : Y) → reads_no_command mode ≡ false → r.rest reader ≡ r.rest now.reader → TakesOne e r settings mode now turned.NeedsMore then_ next
             → WaitsBehind (is_settled then_ (e.display next.state).layout.default_prompt) (rules_of e r settings start) (standing_of e r first start)
             (standing_of e r then_ (session next.state next.keys reader next.kills))
         waits then_ reader reads again turn =

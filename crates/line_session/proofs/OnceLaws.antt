@@ -26,7 +26,7 @@ use Rattle.line_editor.proofs.RunLaws.{one-phrase}
 use Rattle.line_session.specs.Completing.{BeginsCompletion, ByCandidates}
 use Rattle.line_session.specs.Pieces.{EndsOnce}
 use Rattle.line_session.specs.Searching.{BeginsSearch, Search, Searches, ShowsSearch, before_search, extended, first_search, gone_on, search_cmd, search_of, shortened}
-use Rattle.line_session.specs.Steps.{Answers, AnswersTurn, DoesCommand, DoesInSearch, DoesItem, Executes, ItemTaken, Resumed, Rules, Standing, Steps, TurnFrom, comes_in, once_drawn, takes_items}
+use Rattle.line_session.specs.Steps.{Answers, AnswersTurn, DoesCommand, DoesInSearch, DoesItem, Executes, ItemTaken, Resumed, Rules, Standing, Steps, TurnFrom, comes_in, once_drawn, reads_no_command}
 use Rattle.line_session.specs.Steps as steps
 use Rattle.line_session.specs.declared.mode.Mode.{Mode}
 use Rattle.line_session.specs.declared.mode.Mode.TheVariants as modes
@@ -69,9 +69,9 @@ alike_back : (one other : Mode) → AlikeModes one other → AlikeModes other on
 alike_back one other (inl same) = inl (sym same)
 alike_back one other (inr both) = inr (record { searching = both.searching'; searching' = both.searching; is = both.is'; is' = both.is; same = sym both.same })
 
-takes_alike : (one other : Mode) → AlikeModes one other → takes_items one ≡ takes_items other
-takes_alike one other (inl same) = ap (λ m. takes_items m) same
-takes_alike one other (inr both) = ap (λ m. takes_items m) both.is ∙ sym (ap (λ m. takes_items m) both.is')
+takes_alike : (one other : Mode) → AlikeModes one other → reads_no_command one ≡ reads_no_command other
+takes_alike one other (inl same) = ap (λ m. reads_no_command m) same
+takes_alike one other (inr both) = ap (λ m. reads_no_command m) both.is ∙ sym (ap (λ m. reads_no_command m) both.is')
 
 comes_alike : (one other : Mode) (item : Item) → AlikeModes one other → comes_in one item ≡ comes_in other item
 comes_alike one other item (inl same) = ap (λ m. comes_in m item) same
@@ -219,7 +219,7 @@ module _ (by : Rules) (none : (shown : Shown) → by.environment.own_completion 
   search_once search None command input found new new' next next' answer answer' one other =
       executes_once command input (once_drawn by.environment found) new new' next next' answer answer' one other
 
-  does_once : (m : Mode) → is_plain m ≡ true → takes_items m ≡ false → (command : Command) (input : Input) (found new new' : Editor) (next next' : Mode) (answer answer' : Answer)
+  does_once : (m : Mode) → is_plain m ≡ true → reads_no_command m ≡ false → (command : Command) (input : Input) (found new new' : Editor) (next next' : Mode) (answer answer' : Answer)
       → DoesCommand by m command input found new next answer → DoesCommand by m command input found new' next' answer' → Once new new' next next' answer answer'
   does_once modes.Editing plain reads command input found new new' next next' answer answer' one other =
       executes_once command input found new new' next next' answer answer' one other
@@ -390,7 +390,7 @@ module _ (by : Rules) (none : (shown : Shown) → by.environment.own_completion 
 
     -- while the program is suspended no turn is taken, and no item
     no_turn : {B : Type 0} (from to to' : Standing) (answer : Answer) → TurnFrom by from to answer → Resumed by from to' → B
-    no_turn from to to' answer turn goes = absurd (let two : true ≡ false = sym (ap (λ m. takes_items m) goes.was) ∙ turn.reads in cc)
+    no_turn from to to' answer turn goes = absurd (let two : true ≡ false = sym (ap (λ m. reads_no_command m) goes.was) ∙ turn.reads in cc)
 
     no_item : {B : Type 0} (from to to' : Standing) → ItemTaken by from to → Resumed by from to' → B
     no_item from to to' taken goes = absurd (let two : false ≡ true = sym (ap (λ m. comes_in m taken.item) goes.was) ∙ taken.comes in cc)

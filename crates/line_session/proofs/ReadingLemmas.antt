@@ -1,8 +1,8 @@
 -- Facts on a line that is read piece by piece.
-use Rattle.std.proofs.Common.{◌≡◌, ◌∙◌, inl, inr, ℕ, Bool, true, false, List, [], ◌++◌, Option, refl, sym, ap, subst, None, Result, Ok, Err}
+use Rattle.std.proofs.Common.{◌≡◌, ◌∙◌, inl, inr, ℕ, Bool, true, false, List, [], ◌++◌, Option, refl, sym, ap, subst, None, Some, Result, Ok, Err}
 use Rattle.std.proofs.lemmas.List.{append-nil}
 use Rattle.line_buffer.specs.declared.layout.GraphemeClusterMode.TheVariants.{Unicode}
-use Rattle.std.specs.Io.KnownBytes.{IsAtEnd}
+use Rattle.std.specs.Io.KnownBytes.{Consumes, IsAtEnd}
 use Rattle.std.specs.declared.alloc.Global.{Global}
 use Rattle.std.specs.declared.string.String.{String}
 use Rattle.line_config.specs.Error.{UnlessFault}
@@ -22,7 +22,7 @@ use Rattle.line_session.specs.Pieces.{GoesOnFrom, drawn_anew, with_more}
 use Rattle.line_session.specs.Pieces as pieces
 use Rattle.line_session.specs.Reading.{BindingsLookAtNoHint, CameOver, Heard, HearsOnce, Reads, ReadsLine, answer_of}
 use Rattle.line_session.specs.Reading as reading
-use Rattle.line_session.specs.Sitting.{BegunLine, Came, CameBegun, CameFrom, EndsLine, Keeps, Sitting, first_standing, rules_at, rules_for, standing_with, with_turn}
+use Rattle.line_session.specs.Sitting.{BegunLine, Came, CameBegun, CameFrom, EndsLine, Keeps, Sitting, first_standing, rules_at, rules_for, standing_with, suspends, with_turn}
 use Rattle.line_session.specs.Steps.{Rules, Standing, starting}
 use Rattle.line_session.specs.declared.editor.Fed.{Fed}
 use Rattle.line_session.specs.declared.editor.Fed.TheVariants as fed
@@ -190,9 +190,14 @@ hears_turn answers bound pauses input input' old new begun turn came heard comes
   keeps = keeps;
 }
 
+-- nothing was read
+pub reads_none : (at : Option (List ℕ)) → Consumes at at []
+reads_none None = tt
+reads_none (Some bytes) = refl
+
 -- what is answered of a line that was read, once no line goes on
 pub answers_line : {H : Type 0} (answers : H → List (List ℕ) → Environment) (bound : Bound) (pauses : Bool) (input input' : Option (List ℕ)) (prompt before behind : List ℕ) (old last new : Sitting H) (came : Fed)
-    (result : Result (String Global) ReadlineError) → Reads answers bound pauses input input' prompt before behind old last came → (came ≡ fed.More → IsAtEnd input')
+    (result : Result (String Global) ReadlineError) → Reads answers bound pauses input input' prompt before behind old last came → (came ≡ fed.More → IsAtEnd input' × (suspends last ≡ false))
     → UnlessFault result ((result ≡ answer_of came) × (new ≡ record last { line = None }))
     → UnlessFault result (ReadsLine answers bound pauses input input' prompt before behind old new result)
 answers_line answers bound pauses input input' prompt before behind old last new came (Ok text) reads at_end told =

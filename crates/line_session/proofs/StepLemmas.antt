@@ -5,7 +5,7 @@ use Rattle.line_keys.specs.Item.{Item, key}
 use Rattle.line_keys.specs.declared.keys.KeyEvent.{KeyEvent}
 use Rattle.line_parts.specs.Environment.{Environment}
 use Rattle.line_session.specs.Pieces.{with_more}
-use Rattle.line_session.specs.Steps.{Ends, Rules, Standing, Steps, comes_in, is_suspended, once_drawn, resumed, shows_line, starting, takes_items}
+use Rattle.line_session.specs.Steps.{Ends, Rules, Standing, Steps, comes_in, is_suspended, once_drawn, resumed, shows_line, starting, reads_no_command}
 use Rattle.line_session.specs.Steps as steps
 use Rattle.line_session.specs.declared.listing.Listing.{Listing}
 use Rattle.line_session.specs.declared.mode.Mode.{Mode}
@@ -31,7 +31,7 @@ pub ends_over : (by : Rules) (start end : Standing) (answer : Answer) → Ends b
 ends_over by start end answer ends = record { found = ends.found; steps = steps_over by start ends.found ends.steps; last = ends.last }
 
 -- where a key is taken by itself no item is read as part of a command
-pub key_alone : (m : Mode) (typed : KeyEvent) → comes_in m (key typed) ≡ true → takes_items m ≡ true
+pub key_alone : (m : Mode) (typed : KeyEvent) → comes_in m (key typed) ≡ true → reads_no_command m ≡ true
 key_alone modes.Editing typed comes = comes
 key_alone modes.Quoting typed comes = comes
 key_alone (modes.Completing going) typed comes = comes
@@ -61,7 +61,7 @@ suspended_is (modes.Searching searching) is = absurd (let two : false ≡ true =
 suspended_is modes.Suspended is = refl
 
 -- where items are read as commands the program is not suspended
-pub not_suspended : (m : Mode) → takes_items m ≡ false → is_suspended m ≡ false
+pub not_suspended : (m : Mode) → reads_no_command m ≡ false → is_suspended m ≡ false
 not_suspended modes.Editing reads = refl
 not_suspended modes.Quoting reads = refl
 not_suspended (modes.Completing going) reads = refl

@@ -34,7 +34,7 @@ use Rattle.line_editor.proofs.DrawnLemmas.{hint_trails, line_stays}
 use Rattle.line_editor.proofs.ShownLemmas.{none-last}
 use Rattle.line_editor.proofs.TurnLemmas.{needs_more}
 use Rattle.line_session.specs.Searching.{IsShownBehind, Search, aim_of, search_cmd, search_of, search_prompt}
-use Rattle.line_session.specs.Steps.{Answers, AnswersTurn, DoesCommand, DoesInSearch, Executes, Rules, TurnFrom, once_drawn, takes_items}
+use Rattle.line_session.specs.Steps.{Answers, AnswersTurn, DoesCommand, DoesInSearch, Executes, Rules, TurnFrom, once_drawn, reads_no_command}
 use Rattle.line_session.specs.Steps as steps
 use Rattle.line_session.specs.Taken.{AnswersAs, DrawnBehind, IsShown, IsShownWith, TakesOne, rules_by, rules_of, standing_of}
 use Rattle.line_session.specs.declared.mode.Mode.{Mode}
@@ -81,7 +81,7 @@ rules_stay e keymap settings old new frame =
     ap column frame.prompt_end ∙ ap mode frame.surface ∙ ap asked frame.environment
 
 module _ {X Y : Type 0} (e : editors.Ghosts X) (r : readers.Ghosts Y) (settings : Settings) (mode : Mode) (now next : Session X Y) where
-  module _ (reads : takes_items mode ≡ false) (edits : steps.shows_line mode ≡ true) (shown : IsShown e now.state) where
+  module _ (reads : reads_no_command mode ≡ false) (edits : steps.shows_line mode ≡ true) (shown : IsShown e now.state) where
     -- a turn that was made, and what was done about what it left
     turn_here : (answer : Answer) (then_ : Mode) (last : Editor) → (turn : TakesTurn e r settings.indent_size now next answer)
         → AnswersTurn (rules_of e r settings now) answer (left_by turn.turn.read.command) mode (editor_of e next.state next.kills) last then_

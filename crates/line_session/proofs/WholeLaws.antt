@@ -18,7 +18,7 @@ use Rattle.line_editor.proofs.DrawnAgainLaws.{drawn-again}
 use Rattle.line_parts.specs.Environment.{Environment}
 use Rattle.line_session.specs.Pieces.{EndsTheSame, GoesOnFrom, Waited, with_more}
 use Rattle.line_session.specs.Pieces as pieces
-use Rattle.line_session.specs.Steps.{Ends, ItemTaken, Rules, Standing, Steps, TurnFrom, Waits, WaitsIn, comes_in, is_suspended, starting, takes_items}
+use Rattle.line_session.specs.Steps.{Ends, ItemTaken, Rules, Standing, Steps, TurnFrom, Waits, WaitsIn, comes_in, is_suspended, starting, reads_no_command}
 use Rattle.line_session.specs.Steps as steps
 use Rattle.line_session.specs.declared.mode.Mode.{Mode}
 use Rattle.line_session.specs.declared.mode.Mode.TheVariants as modes
@@ -108,7 +108,7 @@ stands one other editor input items mode =
 
 goes_on : (by : Rules) (found left next : Standing) (begins : IsBeginning by.keymap by.environment found.editor.draft found.input found.items)
     → CutShort by.keymap by.environment found.input found.items begins.shown found.editor left.editor
-    → takes_items found.mode ≡ false → left.input ≡ found.input → left.items ≡ found.items → left.mode ≡ found.mode
+    → reads_no_command found.mode ≡ false → left.input ≡ found.input → left.items ≡ found.items → left.mode ≡ found.mode
     → GoesOnFrom by left (any_drawn begins.shown) next → GoesOn by found (any_drawn begins.shown) next
 goes_on by found left next begins short reads input items mode goes =
     let none : is_suspended left.mode ≡ false = ap (λ m. is_suspended m) mode ∙ not_suspended found.mode reads in
@@ -128,7 +128,7 @@ goes_on by found left next begins short reads input items mode goes =
     ]
 
 module _ (by : Rules) (no_hint : (typed : KeyEvent) → KeyLooksAtNoHint by.keymap.bound typed) (found : Standing) (more : List Item)
-    (reads : takes_items found.mode ≡ false) (begins : IsBeginning by.keymap by.environment found.editor.draft found.input found.items) (cut : Draft)
+    (reads : reads_no_command found.mode ≡ false) (begins : IsBeginning by.keymap by.environment found.editor.draft found.input found.items) (cut : Draft)
     (left : IsCut by found (any_drawn begins.shown) cut) where
   first_looks : (items : List Item) → FirstLooksAtNoHint by.keymap.bound found.input items
   first_looks items = λ first rest is. (no_hint first, λ plain stands. no_hint plain)
@@ -182,7 +182,7 @@ module _ (by : Rules) (no_hint : (typed : KeyEvent) → KeyLooksAtNoHint by.keym
       by_items (key first ∷ rest) is =
           let front : key first ∷ rest ++ more ≡ puts.item ∷ to.items = ap (λ i. i ++ more) (sym is) ∙ puts.cut in
           let item : key first ≡ puts.item = cc in
-          let comes : takes_items found.mode ≡ true = key_alone found.mode first (subst (λ i. comes_in found.mode i ≡ true) (sym item) puts.comes) in
+          let comes : reads_no_command found.mode ≡ true = key_alone found.mode first (subst (λ i. comes_in found.mode i ≡ true) (sym item) puts.comes) in
           absurd (let two : true ≡ false = sym comes ∙ reads in cc)
       by_items (paste text ∷ rest) is =
           let comes = subst (λ i. Phrase by.keymap by.environment found.editor.draft found.input (i ++ begins.rest) begins.read) is begins.comes in
@@ -190,7 +190,7 @@ module _ (by : Rules) (no_hint : (typed : KeyEvent) → KeyLooksAtNoHint by.keym
 
   -- the program was not suspended
   none_suspended : {B : Type 0} {m : Mode} → m ≡ found.mode → m ≡ modes.Suspended → B
-  none_suspended same was = absurd (let two : true ≡ false = sym (ap (λ n. takes_items n) was) ∙ ap (λ n. takes_items n) same ∙ reads in cc)
+  none_suspended same was = absurd (let two : true ≡ false = sym (ap (λ n. reads_no_command n) was) ∙ ap (λ n. reads_no_command n) same ∙ reads in cc)
 
   -- steps from the cut, if there are any, are steps from where the items are read whole
   steps_whole : (start to : Standing) → Steps by true start (with_more more found) → Steps by true (with_more more (cut_at found cut)) to

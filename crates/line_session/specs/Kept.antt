@@ -44,7 +44,7 @@ IsShownByMode (modes.Listing listing) environment display draft = Unit {0}
 IsShownByMode modes.Suspended environment display draft = Unit {0}
 IsShownByMode mode environment display draft = IsShownBy environment display draft
 
--- the same with items that are no command yet, of which something may be shown in a search
+-- the same with these items left. In a search with items left nothing is said, as some of them may be shown
 abbrev pub IsShownWithItems : Mode → List Item → Environment → Display → Draft → Type 0
 IsShownWithItems (modes.Searching searching) items environment display draft =
     items ≡ [] → IsShownBehind (search_prompt (aim_of searching.now)) display draft

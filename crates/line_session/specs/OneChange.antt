@@ -17,7 +17,7 @@ pub data GoneThrough (environment : Environment) (start : Draft) : Completing �
       → (goes : GoesOnTo environment going index draft new mode) → GoneThrough environment start goes.next new
 
 -- however a completion was gone through, taking back the change by which the shown candidate came in, if it changed anything, gives the line
--- from before, with its cursor, where the helper puts texts in as it is usual
+-- from before, with its cursor, where the helper puts texts in place of what stands from the start to the cursor
 abbrev pub CompletionIsOneChange : Type 0
 CompletionIsOneChange = (environment : Environment) (old new : Draft) (going : Completing)
     → ((written : Written) (start : ℕ) (text : List ℕ) → environment.own_update written start text ≡ None)

@@ -17,7 +17,8 @@ with_more more standing = record standing { items = standing.items ++ more }
 abbrev pub drawn_anew : Rules → Standing → Standing
 drawn_anew by standing = starting by.environment true standing
 
--- a call begins where reading waited; or, where something was drawn of the items that are no phrase yet, once the line was drawn anew
+-- a call begins where reading waited, and a program that was suspended goes on; or, where something was drawn of the items that are no
+-- phrase yet, once the line was drawn anew
 abbrev pub GoesOnFrom : Rules → Standing → Bool → Standing → Type 0
 GoesOnFrom by left drawn next = (next ≡ starting by.environment false left) ⊎ ((drawn ≡ true) × (next ≡ drawn_anew by left))
 
@@ -29,14 +30,15 @@ pub data Waited (by : Rules) (start : Standing) : List Item → Standing → Boo
       → Waited by start items left drawn → GoesOnFrom by left drawn next → (waits : Waits by (with_more piece next) later)
       → Waited by start (items ++ piece) later (any_drawn waits.shown)
 
--- a line that ends ends the same however its items come, where no binding looks at the hint: in pieces, with a call for each, as all at once
+-- a line that ends ends the same however its items come, where no binding looks at the hint: in pieces, with a call for each, as all at once. A
+-- call stops where the program is suspended, so all at once means by as many calls as it takes
 abbrev pub EndsTheSame : Type 0
 EndsTheSame = (by : Rules) (start left next end : Standing) (items piece : List Item) (drawn : Bool) (answer : Answer)
     → ((typed : KeyEvent) → KeyLooksAtNoHint by.keymap.bound typed)
     → Waited by start items left drawn → GoesOnFrom by left drawn next → Ends by false (with_more piece next) end answer
     → Ends by true (with_more (items ++ piece) start) end answer
 
--- from one start at which commands are read a line ends once, where the helper completes nothing by itself: its end and the answer are one
+-- from one start at which commands are read a line ends once, where the helper offers no candidates: its end and the answer are one
 abbrev pub EndsOnce : Type 0
 EndsOnce = (by : Rules) (over_calls : Bool) (start end end' : Standing) (answer answer' : Answer) → answer ≢ proceeds → answer' ≢ proceeds
     → ((shown : Shown) → by.environment.own_completion shown ≡ None) → start.mode ≡ Editing

@@ -14,7 +14,7 @@ use Rattle.line_editor.specs.Binding.{Bound}
 use Rattle.line_editor.specs.Keymap.{KeyLooksAtNoHint}
 use Rattle.line_term.specs.Decoder as decoding
 use Rattle.line_session.specs.Pieces.{Waited, with_more}
-use Rattle.line_session.specs.Sitting.{BegunLine, Came, CameFrom, Keeps, Sitting, first_standing, rules_at, standing_with, with_turn}
+use Rattle.line_session.specs.Sitting.{BegunLine, Came, CameFrom, Keeps, Sitting, first_standing, rules_at, standing_with, suspends, with_turn}
 use Rattle.line_session.specs.Steps.{Rules, Standing, starting}
 use Rattle.line_session.specs.declared.editor.Fed.{Fed}
 use Rattle.line_session.specs.declared.editor.Fed.TheVariants as fed
@@ -69,13 +69,13 @@ module _ {H : Type 0} where
       pub keeps : Keeps answers (record old { decoder = now.decoder }) now
 
     -- a line was read of the input, and this is answered: the line; that the person interrupted; or the end of the input, by a key or as it
-    -- has ended while the line goes on. No line goes on then
+    -- has ended while the line goes on, and nothing is left behind Suspend. No line goes on then
     pub record ReadsLine (input input' : Option (List ℕ)) (prompt left right : List ℕ) (old new : Sitting H) (result : Result (String Global) ReadlineError) : Type 0 where
       pub came : Fed
       pub last : Sitting H
       pub told : result ≡ answer_of came
       pub reads : Reads input input' prompt left right old last came
-      pub ended : came ≡ fed.More → IsAtEnd input'
+      pub ended : came ≡ fed.More → IsAtEnd input' × (suspends last ≡ false)
       pub gone : new ≡ record last { line = None }
 
     -- the input was read once, and this came of the line that had begun

@@ -19,7 +19,7 @@ use Rattle.line_editor.specs.Released.{KeptDraft}
 use Rattle.line_editor.specs.declared.run.Turned.{Turned}
 use Rattle.line_editor.specs.declared.run.Turned.TheVariants as turned
 use Rattle.line_term.specs.Decoder as decoding
-use Rattle.line_session.specs.Steps.{Ends, Rules, Standing, Waits, is_suspended, starting, unlisted}
+use Rattle.line_session.specs.Steps.{Ends, Rules, Standing, Waits, is_suspended, starting, once_resized}
 use Rattle.line_session.specs.declared.editor.Fed.{Fed}
 use Rattle.line_session.specs.declared.editor.Fed.TheVariants as fed
 use Rattle.line_session.specs.declared.mode.Mode.{Mode}
@@ -48,9 +48,9 @@ pub record Sitting (H : Type 0) : Type 0 where
   pub columns : ℕ
   pub rows : ℕ
 
--- the draft of the line that has begun, what reading keys remembers, and what they are read as but in a list, if one has
+-- the draft of the line that has begun, what reading keys remembers, and the mode behind a resize, if a line has begun
 abbrev pub written_so_far : {H : Type 0} → Sitting H → Option (Draft × Input × Mode)
-written_so_far sitting = option_map (λ (begun : BegunLine). (begun.kept.draft, begun.input, unlisted begun.mode)) sitting.line
+written_so_far sitting = option_map (λ (begun : BegunLine). (begun.kept.draft, begun.input, once_resized begun.mode)) sitting.line
 
 -- whether the program is suspended
 abbrev pub suspends : {H : Type 0} → Sitting H → Bool

@@ -47,24 +47,19 @@ pub record Standing : Type 0 where
 abbrev pub once_drawn : Environment → Editor → Editor
 once_drawn environment editor = record editor { draft = hinted environment editor.draft }
 
--- whether no item is read as part of a command: each is taken by itself, or none while the program is suspended
-abbrev pub takes_items : Mode → Bool
-takes_items modes.Quoting = true
-takes_items (modes.Listing listing) = true
-takes_items modes.Suspended = true
-takes_items _ = false
+-- whether items are not read as commands in this mode: each is taken by itself, or none while the program is suspended
+abbrev pub reads_no_command : Mode → Bool
+reads_no_command modes.Quoting = true
+reads_no_command (modes.Listing listing) = true
+reads_no_command modes.Suspended = true
+reads_no_command _ = false
 
--- whether the line is shown behind its own prompt while items are read so: not in a list, in a search, or while the program is suspended
+-- whether the line is shown behind its own prompt in this mode: not in a list, in a search, or while the program is suspended
 abbrev pub shows_line : Mode → Bool
 shows_line (modes.Listing listing) = false
 shows_line (modes.Searching searching) = false
 shows_line modes.Suspended = false
 shows_line _ = true
-
--- whether it is a list
-abbrev pub is_list : Mode → Bool
-is_list (modes.Listing listing) = true
-is_list _ = false
 
 -- whether the program is suspended
 abbrev pub is_suspended : Mode → Bool
@@ -81,10 +76,11 @@ starting environment draws found =
     if is_suspended found.mode then resumed environment found
     else if draws then record found { editor = once_drawn environment found.editor } else found
 
--- the same mode; but a list ends
-abbrev pub unlisted : Mode → Mode
-unlisted (modes.Listing listing) = modes.Editing
-unlisted mode = mode
+-- the same mode behind a resize: a list ends, and a program that was suspended goes on
+abbrev pub once_resized : Mode → Mode
+once_resized (modes.Listing listing) = modes.Editing
+once_resized modes.Suspended = modes.Editing
+once_resized mode = mode
 
 -- what the program does about what a command left to it: to the draft, and to what the next items are read as
 abbrev pub Answers : Settings → Environment → Option Left → Mode → Draft → Draft → Mode → Type 0
@@ -129,7 +125,7 @@ DoesCommand by mode command input found new next answer = Executes by mode comma
 
 -- a turn leads from one standing to another, with this answer: the items begin with a phrase, and its command is done
 pub record TurnFrom (by : Rules) (from to : Standing) (answer : Answer) : Type 0 where
-  pub reads : takes_items from.mode ≡ false
+  pub reads : reads_no_command from.mode ≡ false
   pub phrase : List Item
   pub read : Read
   pub cut : from.items ≡ phrase ++ to.items
@@ -177,7 +173,7 @@ as_it_is (paste text) = insert 1 text
 abbrev pub comes_in : Mode → Item → Bool
 comes_in modes.Suspended item = false
 comes_in mode (paste text) = true
-comes_in mode (key typed) = takes_items mode
+comes_in mode (key typed) = reads_no_command mode
 
 -- an item comes in as it is
 abbrev pub ComesIn : Rules → Input → Item → Editor → Editor → Type 0
@@ -219,16 +215,16 @@ pub record Ends (by : Rules) (over_calls : Bool) (start end : Standing) (answer 
   pub steps : Steps by over_calls start found
   pub last : TurnFrom by found end answer
 
--- no item is taken by itself: there is none, or the program is suspended
+-- the first item, if there is one, is not taken by itself
 abbrev pub NoneComesIn : Mode → List Item → Type 0
 NoneComesIn mode items = (item : Item) (more : List Item) → items ≡ item ∷ more → comes_in mode item ≡ false
 
--- what reading waits in, with what is drawn of the items: in items that are no phrase yet, which leave an editor as one whose items were
--- cut short; or where no item is read as part of a command, and none is taken by itself
+-- where reading waits, and what is drawn of the items. Either commands are read, and the items are the beginning of a phrase. Or no command
+-- is read, and the first item is not taken by itself
 pub data WaitsIn (by : Rules) (found : Standing) (left : Editor) : List ItemShown → Type 0 where
-  phrase : takes_items found.mode ≡ false → (begins : IsBeginning by.keymap by.environment found.editor.draft found.input found.items)
+  phrase : reads_no_command found.mode ≡ false → (begins : IsBeginning by.keymap by.environment found.editor.draft found.input found.items)
       → CutShort by.keymap by.environment found.input found.items begins.shown found.editor left → WaitsIn by found left begins.shown
-  alone : takes_items found.mode ≡ true → NoneComesIn found.mode found.items → left ≡ found.editor → WaitsIn by found left []
+  alone : reads_no_command found.mode ≡ true → NoneComesIn found.mode found.items → left ≡ found.editor → WaitsIn by found left []
 
 -- steps lead from a start to where a call waits for items; those that are there stay
 pub record Waits (by : Rules) (start left : Standing) : Type 0 where

@@ -30,7 +30,7 @@ pub record WaitsBehind (settled : Bool) (by : Rules) (start left : Standing) : T
   pub waits : Waits by start left
   pub drawn : settled ≡ false → any_drawn waits.shown ≡ true
 
--- whether nothing is shown of items that are no phrase yet: behind the own prompt, and in a list
+-- whether the line need not be drawn before the next key is read: it stands behind its own prompt, or the mode does not show it there
 abbrev pub is_settled : Mode → Bool → Bool
 is_settled mode own_prompt = if shows_line mode then own_prompt else true
 
@@ -69,12 +69,12 @@ module _ {X : Type 0} (e : editors.Ghosts X) where
   abbrev pub IsShownIn : Mode → X → Type 0
   IsShownIn mode state = IsShownByMode mode (e.environment state) (e.display state) (e.draft state)
 
-  -- and with items that are no command yet
+  -- the same with these items, which are no command yet
   abbrev pub IsShownWith : Mode → List Item → X → Type 0
   IsShownWith mode items state = IsShownWithItems mode items (e.environment state) (e.display state) (e.draft state)
 
-  -- what is drawn once turns have ended: the line without a hint; the cursor at the end of what is shown; and where more items are awaited
-  -- behind these, the line, unless something else is shown of them
+  -- what is drawn once turns have ended: after a submit or an end the line without a hint; after an interrupt the cursor stands at the end
+  -- of what is shown; and where more is awaited after these items the line is shown, unless it is drawn before the next key
   abbrev pub DrawnOnce : Mode → List Item → Turned → X → Type 0
   DrawnOnce mode items turned.Proceeds state = ⊥
   DrawnOnce mode items turned.Submitted state = HasRightLayout e state × ShowsNoHint e state
@@ -97,8 +97,8 @@ module _ {X : Type 0} (e : editors.Ghosts X) where
   TakesItem settings input mode item old kills new kills' next =
       PutsIn settings input item old (e.draft old) kills new kills' × (next ≡ modes.Editing)
 
-  -- what is drawn behind one turn of items that did not fail: where the next command is read the line, as it is in the mode; else as it is
-  -- drawn once turns have ended
+  -- what is drawn after one turn, before which there were these items: where it proceeds the line, as it is in the next mode; and else what
+  -- is drawn once turns have ended
   abbrev pub DrawnBehind : List Item → Mode → Turned → X → Type 0
   DrawnBehind items next turned.Proceeds state = IsShownIn next state
   DrawnBehind items next done state = DrawnOnce next items done state

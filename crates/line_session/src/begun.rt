@@ -12,7 +12,7 @@ ghost use Rattle.line_parts.specs.Helped.{environment_by, sure_by};
 ghost use Rattle.line_screen.specs.KeyQueue.{queue_binding};
 ghost use Rattle.line_session.specs.Kept.{Fits, answers_of};
 ghost use Rattle.line_session.specs.Sitting.{begun_with, rules_for, standing_with};
-ghost use Rattle.line_session.specs.Steps.{starting, unlisted};
+ghost use Rattle.line_session.specs.Steps.{starting, once_resized};
 ghost use Rattle.line_session.specs.Taken.{ComesTo, is_settled};
 
 use crate::mode::Mode;
@@ -86,8 +86,8 @@ fn leave<'out, 'prompt, O: Write + Drop, H: Helper, P: Prompt, S: History>(
     Ok(done)
 }
 
-/// Takes the terminal's cursor below a list, if one is shown.
-fn leave_list<'out, 'prompt, O: Write + Drop, H: Helper, P: Prompt, S: History>(
+/// Takes the terminal's cursor to the first column, below what stands there of a list or of another program, if something may.
+fn leave_others<'out, 'prompt, O: Write + Drop, H: Helper, P: Prompt, S: History>(
     alloc: Global,
     mode: &Mode,
     state: &mut State<'out, 'prompt, Ansi<O, KeyQueue>, H, P, S>,
@@ -98,7 +98,7 @@ fn leave_list<'out, 'prompt, O: Write + Drop, H: Helper, P: Prompt, S: History>(
         Frame e state.old state.new }
     ensures faults { FaultsOnly result }
 {
-    if !mode.is_list() {
+    if !mode.is_above_others() {
         return Ok(());
     }
     state.move_cursor_at_leftmost(&mut KeyQueue::new(alloc))
@@ -211,8 +211,8 @@ fn state_of<'out, 'prompt, O: Write + Drop, H: Helper, P: Prompt, S: History>(
 }
 
 impl<H: Helper> Begun<H> {
-    /// Gives the screen of a line another number of columns and of rows, draws the line, and keeps it again. A list ends, and the
-    /// line is drawn below it. Where drawing fails, the line is to be drawn.
+    /// Gives the screen of a line another number of columns and of rows, draws the line, and keeps it again. A list ends, and a
+    /// program that was suspended goes on: the line is drawn below what stands there. Where drawing fails, the line is to be drawn.
     pub(crate) fn resized<'out, 'prompt, O: Write + Drop, S: History>(
         self,
         alloc: Global,
@@ -236,7 +236,7 @@ impl<H: Helper> Begun<H> {
             helper.new (S.lines history.now)) }
         ensures draft { result.0.line.draft ≡ self.line.draft }
         ensures input { result.0.input ≡ self.input }
-        ensures mode { result.0.mode ≡ unlisted self.mode }
+        ensures mode { result.0.mode ≡ once_resized self.mode }
         ensures columns { let w = ⟦<Ansi<O, KeyQueue> as ScreenState>⟧ in
             (w.surface screen.new).columns ≡ columns }
         ensures rows { let w = ⟦<Ansi<O, KeyQueue> as ScreenState>⟧ in
@@ -253,14 +253,14 @@ impl<H: Helper> Begun<H> {
             draws: _,
         } = self;
         let mut state = State::resume(alloc, line, screen, prompt, Some(helper), history);
-        let left = leave_list(alloc, &mode, &mut state);
+        let left = leave_others(alloc, &mode, &mut state);
         let drawn = state.resized(columns, rows);
         let (line, out, lent) = state.release();
         let lent = lent.unwrap();
         let begun = Begun {
             line,
             input,
-            mode: mode.unlisted(),
+            mode: mode.once_resized(),
             draws: true,
         };
         give_back(out, lent);

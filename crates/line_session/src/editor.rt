@@ -32,7 +32,7 @@ const BUFFER_SIZE: usize = 1024;
 /// What came of bytes that were read.
 #[derive(Debug, PartialEq, Eq, Drop)]
 pub enum Fed {
-    /// The line goes on: more bytes are to be read.
+    /// The line goes on: more bytes are to be read, or the program is to suspend itself, where `Editor::is_suspended` says so.
     More,
     /// The line was submitted.
     Submitted(String),
@@ -40,19 +40,6 @@ pub enum Fed {
     Ended,
     /// The person interrupted.
     Interrupted,
-}
-
-impl Fed {
-    /// Returns whether the line goes on, with an input that does or does not.
-    fn awaits_more(&self, input_goes_on: bool) -> bool
-        ensures yes { result ≡ true → (self.now ≡ Fed.More) × (input_goes_on ≡ true) }
-        ensures no { result ≡ false → self.now ≡ Fed.More → input_goes_on ≡ false }
-    {
-        match self {
-            Fed::More => input_goes_on,
-            _ => false,
-        }
-    }
 }
 
 /// An editor that reads lines from a terminal, and draws them by writing to `O`.
@@ -167,8 +154,9 @@ impl<O: Write + Drop, H: Helper + Drop, S: History + Drop> Editor<O, H, S> {
         }
     }
 
-    /// Returns whether the person asked to suspend the program, which has not gone on since. The next call that reads keys goes
-    /// on: it draws the line, below what stands there, and reads what was typed behind that key.
+    /// Returns whether the person asked to suspend the program, which has not gone on since. The next call that reads keys or
+    /// resizes goes on: it draws the line, below what stands there. A call that reads keys then reads what was typed after that
+    /// key; `feed` without bytes does only that.
     pub fn is_suspended(&self) -> bool
         ensures { result ≡ suspends self.now }
     {
@@ -468,12 +456,24 @@ impl<O: Write + Drop, H: Helper + Drop, S: History + Drop> Editor<O, H, S> {
         let mut fed = self.begin_with(prompt, initial, bindings)?;
         let mut goes_on = true;
         for _ in 0..u64::MAX {
-            if !fed.awaits_more(goes_on) {
+            if !self.awaits_more(&fed, goes_on) {
                 return self.answered(fed);
             }
-            (fed, goes_on) = self.hear(input, pauses, &mut buffer, bindings)?;
+            (fed, goes_on) = self.hear(input, goes_on, pauses, &mut buffer, bindings)?;
         }
         Err(io::Error::from(io::ErrorKind::Other).into())
+    }
+
+    /// Returns whether more comes of a line: it goes on, with an input that does, or as it was left behind Suspend.
+    fn awaits_more(&self, fed: &Fed, goes_on: bool) -> bool
+        ensures yes { result ≡ true → fed.now ≡ Fed.More }
+        ensures no { result ≡ false → fed.now ≡ Fed.More
+            → (goes_on ≡ false) × (suspends self.now ≡ false) }
+    {
+        match fed {
+            Fed::More => goes_on || self.is_suspended(),
+            _ => false,
+        }
     }
 
     /// Returns what a line is answered with. No line goes on then.
@@ -497,18 +497,21 @@ impl<O: Write + Drop, H: Helper + Drop, S: History + Drop> Editor<O, H, S> {
         }
     }
 
-    /// Reads from the input once, and takes the turns of what came. Returns what came of it, and whether the input goes on.
+    /// Reads from the input once, and takes the turns of what came; behind Suspend it takes those of what was typed before. Returns
+    /// what came of it, and whether the input goes on.
     ///
     /// # Errors
     /// `Io`, where the input, the output or a party fails, and `Memory`.
     fn hear<R: Read>(
         &mut self,
         input: &mut R,
+        goes_on: bool,
         pauses: bool,
         buffer: &mut [u8],
         bindings: &Bindings,
     ) -> Result<(Fed, bool)>
-        requires { 0 < length buffer.old }
+        requires buffer { 0 < length buffer.old }
+        requires end { goes_on ≡ false → IsAtEnd (R.remaining input.old) }
         ensures hears { (begun : BegunLine) → self.old.line ≡ Some begun →
             let g = ⟦<dyn ConditionalEventHandler as ConditionalEventHandler>⟧ in
             IfOk result (λ told. HearsOnce (answers_of H.hint_at H.verdict_at H.lights H.Completer)
@@ -517,6 +520,9 @@ impl<O: Write + Drop, H: Helper + Drop, S: History + Drop> Editor<O, H, S> {
         ensures end { IfOk result (λ told. told.1 ≡ false → IsAtEnd (R.remaining input.new)) }
         ensures faults { FaultsOnly result }
     {
+        if self.is_suspended() {
+            return Ok((self.feed(&[], bindings)?, goes_on));
+        }
         match input.read(buffer)? {
             0 if pauses => Ok((self.flush(bindings)?, true)),
             0 => Ok((self.finish(bindings)?, false)),

@@ -3,31 +3,32 @@ ghost use Rattle.line_session.specs.OneChange.{CompletionIsOneChange, Completion
 ghost use Rattle.line_session.specs.OneSearch.{GivingUpSearchRestores, SearchIsOneChange};
 ghost use Rattle.line_session.specs.Pieces.{EndsOnce, EndsTheSame};
 
-/// A line that ends, ends the same however its items come, where no binding looks at the hint: in pieces as all at once.
+/// A line that ends, ends the same however its items come, where no binding looks at the hint: in pieces as all at once, by as many
+/// calls as it takes, since a call stops where the program is suspended.
 pub fn a_line_in_pieces_ends_the_same()
     ensures { EndsTheSame }
 {}
 
-/// From one start at which commands are read a line ends once, where the helper completes nothing by itself: its end is one, and so
-/// is how it ends.
+/// From one start at which commands are read a line ends once, where the helper offers no candidates: its end is one, and so is how
+/// it ends.
 pub fn a_line_ends_once()
     ensures { EndsOnce }
 {}
 
 /// However a completion was gone through, it is one change: taking that back gives the line from before, with its cursor, where
-/// the helper puts candidates in as it is usual.
+/// the helper puts candidates in place of what stands from the start to the cursor.
 pub fn a_completion_is_one_change()
     ensures { CompletionIsOneChange }
 {}
 
-/// Giving the candidates of a completion up gives the line from before, with its cursor, where the helper puts candidates in as it
-/// is usual.
+/// Giving the candidates of a completion up gives the line from before, with its cursor, where the helper puts candidates in
+/// place of what stands from the start to the cursor.
 pub fn giving_up_restores()
     ensures { GivingUpRestores }
 {}
 
 /// A candidate that comes in leaves the text before the completed part and behind the cursor, where the helper puts candidates in
-/// as it is usual.
+/// place of what stands from the start to the cursor.
 pub fn a_completion_keeps_the_rest()
     ensures { CompletionKeepsTheRest }
 {}

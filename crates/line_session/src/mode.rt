@@ -1,7 +1,7 @@
 //! What the items of a line are read as.
 ghost use Rattle.std.specs.Prelude.{◌≡◌};
 ghost use Rattle.line_keys.specs.Command.{command_of};
-ghost use Rattle.line_session.specs.Steps.{as_it_is, character_of, is_list, is_suspended, plain_character, shows_line, takes_items, unlisted, with_control};
+ghost use Rattle.line_session.specs.Steps.{as_it_is, character_of, is_suspended, plain_character, shows_line, reads_no_command, once_resized, with_control};
 ghost use Rattle.line_session.specs.Taken.{item_of};
 
 use crate::completing::Completing;
@@ -32,8 +32,8 @@ pub enum Mode {
 
 impl Mode {
     /// Returns whether no item is read as part of a command: each is taken by itself, or none.
-    pub(crate) fn takes_items(&self) -> bool
-        ensures { result ≡ takes_items self.now }
+    pub(crate) fn reads_no_command(&self) -> bool
+        ensures { result ≡ reads_no_command self.now }
     {
         match self {
             Mode::Quoting | Mode::Listing(_) | Mode::Suspended => true,
@@ -41,24 +41,22 @@ impl Mode {
         }
     }
 
-    /// Returns the same mode; but a list ends.
-    pub(crate) fn unlisted(self) -> Mode
-        ensures { result ≡ unlisted self }
+    /// Returns the same mode behind a resize: a list ends, and a program that was suspended goes on.
+    pub(crate) fn once_resized(self) -> Mode
+        ensures { result ≡ once_resized self }
     {
         match self {
-            Mode::Listing(_) => Mode::Editing,
+            Mode::Listing(_) | Mode::Suspended => Mode::Editing,
             other => other,
         }
     }
 
-    /// Returns whether it is a list.
-    pub(crate) fn is_list(&self) -> bool
-        ensures { result ≡ is_list self.now }
-    {
+    /// Returns whether something else may stand below the line: a list, or what another program has written.
+    pub(crate) fn is_above_others(&self) -> bool {
         match self {
-            Mode::Listing(_) => true,
+            Mode::Listing(_) | Mode::Suspended => true,
             Mode::Editing | Mode::Quoting | Mode::Completing(_) => false,
-            Mode::Offering(_) | Mode::Searching(_) | Mode::Suspended => false,
+            Mode::Offering(_) | Mode::Searching(_) => false,
         }
     }
 

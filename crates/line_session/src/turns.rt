@@ -11,7 +11,7 @@ ghost use Rattle.line_keys.specs.Draft.{hinted};
 ghost use Rattle.line_keys.specs.Frame.{Frame};
 ghost use Rattle.line_keys.specs.Item.{Item};
 ghost use Rattle.line_session.specs.Searching.{search_cmd, search_of};
-ghost use Rattle.line_session.specs.Steps.{Answers, DoesInSearch, comes_in, shows_line, takes_items};
+ghost use Rattle.line_session.specs.Steps.{Answers, DoesInSearch, comes_in, shows_line, reads_no_command};
 ghost use Rattle.line_session.specs.Taken.{AnswersAs, ComesTo, DrawnBehind, DrawnOnce, IsShown, IsShownIn, IsShownWith, KeepsRules, PutsIn, TakesAsItIs, TakesItem, TakesOne, is_settled, item_of, rules_by, rules_of, standing_of, start_of};
 
 use crate::completing::complete;
@@ -36,8 +36,8 @@ use std::io::Write;
 use std::mem;
 
 /// Takes turns until the line ends, or more items are awaited: where those that are left are no phrase yet, they are left to be
-/// read again, with more behind them; and where each is taken by itself, behind a quoted insert and in a list, none is left. Where `draws` says so, the line is drawn first.
-/// Returns how the last turn ended, which is never `Proceeds`.
+/// read again, with more behind them; and where each is taken by itself, behind a quoted insert and in a list, none is left. Where
+/// `draws` says so, the line is drawn first. Returns how the last turn ended, which is never `Proceeds`.
 ///
 /// Behind a quoted insert an item comes in as it is: a key as its character, if it has one. A pasted text that stands alone comes
 /// in as any pasted text does: the key before it was read as the key of something else, as the motion of an operator.
@@ -45,7 +45,7 @@ use std::mem;
 ///
 /// # Errors
 /// Those of `take_turn`, of the helper and of drawing the line. An item that was taken is not taken again; and unless drawing the
-/// line failed at the first, a completion or a list has ended.
+/// line failed at the first, commands are read next: a completion, a list, a search and a quoted insert have ended.
 pub(crate) fn take_turns<'out, 'prompt, O: Write + Drop, H: Helper, P: Prompt, S: History>(
     alloc: Global,
     draws: bool,
@@ -169,7 +169,7 @@ fn turns<'out, 'prompt, O: Write + Drop, H: Helper, P: Prompt, S: History>(
             *mode = take_item(was, item, state, input_state, kill_ring, config)?;
             continue;
         }
-        if was.takes_items() {
+        if was.reads_no_command() {
             *mode = was;
             return Ok(Turned::NeedsMore);
         }
@@ -205,7 +205,7 @@ fn next_as_it_is(mode: &Mode, keys: &mut KeyQueue) -> Result<Option<AsItIs>>
     if let Some(text) = keys.next_paste()? {
         return Ok(Some(AsItIs::Text(text)));
     }
-    if !mode.takes_items() {
+    if !mode.reads_no_command() {
         return Ok(None);
     }
     match keys.next_key(false) {
@@ -228,7 +228,7 @@ fn turn<'out, 'prompt, O: Write + Drop, H: Helper, P: Prompt, S: History>(
     kill_ring: &mut KillRing,
     config: &Config,
 ) -> Result<(Turned, Mode)>
-    requires reads { takes_items mode ≡ false }
+    requires reads { reads_no_command mode ≡ false }
     requires shown { let e = ⟦<State<'out, 'prompt, Ansi<O, KeyQueue>, H, P, S> as EditorState>⟧ in
         IsShownWith e mode keys.old.rest state.old }
     ensures takes { let k = keys_of ⟦<dyn ConditionalEventHandler as ConditionalEventHandler>⟧ in
@@ -272,7 +272,7 @@ fn edit_turn<'out, 'prompt, O: Write + Drop, H: Helper, P: Prompt, S: History>(
     kill_ring: &mut KillRing,
     config: &Config,
 ) -> Result<(Turned, Mode)>
-    requires reads { takes_items mode ≡ false }
+    requires reads { reads_no_command mode ≡ false }
     requires edits { shows_line mode ≡ true }
     requires shown { let e = ⟦<State<'out, 'prompt, Ansi<O, KeyQueue>, H, P, S> as EditorState>⟧ in
         IsShown e state.old }
@@ -314,7 +314,7 @@ fn search_turn<'out, 'prompt, O: Write + Drop, H: Helper, P: Prompt, S: History>
     kill_ring: &mut KillRing,
     config: &Config,
 ) -> Result<(Turned, Mode)>
-    requires reads { takes_items (Mode.Searching searching) ≡ false }
+    requires reads { reads_no_command (Mode.Searching searching) ≡ false }
     requires shown { let e = ⟦<State<'out, 'prompt, Ansi<O, KeyQueue>, H, P, S> as EditorState>⟧ in
         IsShownWith e (Mode.Searching searching) keys.old.rest state.old }
     ensures takes { let k = keys_of ⟦<dyn ConditionalEventHandler as ConditionalEventHandler>⟧ in
@@ -404,9 +404,9 @@ fn do_in_search<'out, 'prompt, O: Write + Drop, H: Helper, P: Prompt, S: History
     }
 }
 
-/// Answers what a command left to the program: begins a search or a completion, or goes on with one, and beeps where nothing can
-/// be given up.
-/// Another command ends what had begun. Returns what the next items are read as.
+/// Answers what a command left to the program: begins a search or a completion, or goes on with one; beeps where nothing can be
+/// given up; and takes the cursor below the line where the program is asked to suspend itself. Another command ends what had begun.
+/// Returns what the next items are read as.
 ///
 /// # Errors
 /// Those of the helper and of the output: `Io` and `Memory`.
@@ -441,7 +441,11 @@ fn answer<'out, 'prompt, O: Write + Drop, H: Helper, P: Prompt, S: History>(
         }
         (Some(Left::ReverseSearchHistory), _) => search(alloc, SearchDirection::Reverse, state),
         (Some(Left::ForwardSearchHistory), _) => search(alloc, SearchDirection::Forward, state),
-        (Some(Left::Suspend), _) => Ok(Mode::Suspended),
+        (Some(Left::Suspend), _) => {
+            state.move_cursor_to_end()?;
+            state.move_cursor_at_leftmost(&mut KeyQueue::new(alloc))?;
+            Ok(Mode::Suspended)
+        }
         _ => Ok(Mode::Editing),
     }
 }

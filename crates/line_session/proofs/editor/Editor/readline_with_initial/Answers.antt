@@ -9,7 +9,7 @@ pub loop-preserved : goal.loop-preserved
 loop-preserved g c =
     let more = c.if-not-awaits_more.ensures.yes refl in (
       λ no_hint.
-          let reads = rw more.0 at (c.loop.invariant.0 no_hint) in
+          let reads = rw more at (c.loop.invariant.0 no_hint) in
           reads_on _ _ _ _ _ _ _ _ no_hint _ _ reads _ _ _ (c.in_ok-fed-2.ensures.hears reads.over.0.left reads.over.0.line),
       c.in_ok-fed-2.ensures.end,
     )
@@ -17,5 +17,5 @@ loop-preserved g c =
 pub returns-then-not-awaits_more : goal.returns-then-not-awaits_more
 returns-then-not-awaits_more g c = record {
   reads = λ no_hint. answers_line _ _ _ _ _ _ _ _ _ _ _ _ _ (c.loop.invariant.0 no_hint)
-      (λ more. c.loop.invariant.1 (c.if-not-awaits_more.ensures.no refl more)) c.answered.ensures;
+      (λ more. let none = c.if-not-awaits_more.ensures.no refl more in (c.loop.invariant.1 none.0, none.1)) c.answered.ensures;
 }
