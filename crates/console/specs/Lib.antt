@@ -1,6 +1,7 @@
 pub mod Dim
 pub mod Expression
 pub mod Grammar
+pub mod Here
 pub mod Line
 pub mod Names
 pub mod Parts

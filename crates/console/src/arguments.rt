@@ -4,13 +4,16 @@ use line_term::Size;
 use std::env::Args;
 
 /// How the console is called.
-pub(crate) const USAGE: &str = "usage: console [--vi] [--history FILE] [--terminal COLUMNS ROWS]";
+pub(crate) const USAGE: &str =
+    "usage: console [--vi] [--list] [--history FILE] [--terminal COLUMNS ROWS]";
 
 /// What the arguments say.
 #[derive(Drop)]
 pub(crate) struct Arguments {
     /// Whether keys are those of Vi.
     pub(crate) vi: bool,
+    /// Whether completions are listed.
+    pub(crate) list: bool,
     /// The file of the history.
     pub(crate) history: Option<String>,
     /// The size of the terminal, where lines are read from one.
@@ -32,6 +35,7 @@ impl Arguments {
         words.next();
         let mut arguments = Arguments {
             vi: false,
+            list: false,
             history: None,
             size: None,
         };
@@ -70,6 +74,10 @@ impl Arguments {
         match word {
             "--vi" => {
                 self.vi = true;
+                Some(Next::Word)
+            }
+            "--list" => {
+                self.list = true;
                 Some(Next::Word)
             }
             "--history" => Some(Next::History),

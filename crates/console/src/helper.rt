@@ -1,10 +1,14 @@
-//! Hints from the history, shown dim; brackets that are matched, and lit; words that are completed.
+//! Hints from the history, shown dim; brackets that are matched, and lit; words and names of files that are completed.
 ghost use Rattle.std.specs.Prelude.{Some, true};
 
+use crate::arithmetic::Names;
+use crate::folder::Folder;
 use line_config::Result;
 use line_parts::{
-    CmdKind, Highlighter, HistoryHinter, MatchingBracketHighlighter, MatchingBracketValidator,
+    CmdKind, FilenameCompleter, Highlighter, HistoryHinter, MatchingBracketHighlighter,
+    MatchingBracketValidator,
 };
+use line_session::arguments::CommandArguments;
 use line_session::parts::{Parts, SteadyHighlighter};
 use line_session::words::Words;
 use std::alloc::Global;
@@ -18,22 +22,32 @@ pub(crate) struct ConsoleHighlighter {
 
 /// The helper of the console.
 pub(crate) type ConsoleHelper = Parts<
-    Words,
+    CommandArguments<FilenameCompleter<Folder>, Words>,
     HistoryHinter,
     ConsoleHighlighter,
     MatchingBracketValidator,
 >;
 
-/// Returns the helper of the console, which completes these words.
-pub(crate) fn console_helper(words: Vec<String>) -> ConsoleHelper {
-    Parts {
-        completer: Words { words },
+/// Returns the helper of the console, which completes the names in a folder behind the command that loads a file.
+///
+/// # Errors
+/// `Memory`.
+pub(crate) fn console_helper(alloc: Global, folder: Folder) -> Result<ConsoleHelper> {
+    let completer = CommandArguments {
+        command: String::from_str(alloc, ":load")?,
+        arguments: FilenameCompleter::new(folder),
+        others: Words {
+            words: Names::new(alloc).words(alloc)?,
+        },
+    };
+    Ok(Parts {
+        completer,
         hinter: HistoryHinter::new(),
         highlighter: ConsoleHighlighter {
             brackets: MatchingBracketHighlighter::new(),
         },
         validator: MatchingBracketValidator::new(),
-    }
+    })
 }
 
 impl Highlighter for ConsoleHighlighter {

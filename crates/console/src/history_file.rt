@@ -1,7 +1,7 @@
 //! The file of the history.
 
 use line_buffer::GraphemeClusterMode;
-use line_config::{Config, EditMode, Result};
+use line_config::{CompletionType, Config, EditMode, Result};
 use line_parts::FileHistory;
 use std::alloc::Global;
 use std::fs::{self, OpenOptions};
@@ -14,15 +14,21 @@ const LINES_KEPT: usize = 1000;
 /// The first line of the file.
 const HEADER: &str = "#V3\n";
 
-/// Returns the settings of the console, with the keys of Vi or of Emacs.
-pub(crate) fn settings(vi: bool) -> Result<Config> {
+/// Returns the settings of the console, with the keys of Vi or of Emacs, and with completions that are listed or gone through.
+pub(crate) fn settings(vi: bool, list: bool) -> Result<Config> {
     let edit_mode = if vi { EditMode::Vi } else { EditMode::Emacs };
+    let completion = if list {
+        CompletionType::List
+    } else {
+        CompletionType::Circular
+    };
     let builder = Config::builder(GraphemeClusterMode::Unicode)
         .max_history_size(LINES_KEPT)?
         .history_ignore_dups(true)?
         .history_ignore_space(true)
         .auto_add_history(true)
-        .edit_mode(edit_mode);
+        .edit_mode(edit_mode)
+        .completion_type(completion);
     Ok(builder.build())
 }
 

@@ -7,8 +7,11 @@ Up Down                 a row up, down; from the first row to older lines, from 
 Enter C-j C-m           submits the line, or breaks it while a bracket is open
 Delete                  deletes the character at the cursor
 Right at the end        takes the hint that is shown
+Tab S-Tab               completes a word, or the name of a file behind :load; goes through the candidates, or lists them
+C-r C-s                 searches older lines, newer ones
 C-c                     drops the line
 C-d on an empty line    ends the console
+:load FILE              answers the lines of a file
 C-u C-w                 kills to the start, to the last blank
 C-y                     puts back what was killed last
 C-t                     changes two characters round

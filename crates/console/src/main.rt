@@ -4,6 +4,7 @@
 mod answers;
 mod arguments;
 mod arithmetic;
+mod folder;
 mod helper;
 mod history_file;
 mod key_tables;
@@ -13,6 +14,7 @@ mod watch;
 use crate::answers::answer_to;
 use crate::arguments::Arguments;
 use crate::arithmetic::Names;
+use crate::folder::Folder;
 use crate::helper::console_helper;
 use crate::history_file::{open, settings};
 use crate::terminal::converse;
@@ -48,7 +50,7 @@ fn run(rt: &HostRuntime) -> Result<ExitCode> {
 
 /// Reads and answers lines of a terminal of this size.
 fn on_terminal(rt: &HostRuntime, arguments: &Arguments, size: Size) -> Result<ExitCode> {
-    let config = settings(arguments.vi)?;
+    let config = settings(arguments.vi, arguments.list)?;
     let mut history = FileHistory::with_config(rt.alloc(), &config);
     let mut file = match &arguments.history {
         Some(path) => match open(rt, path.as_str(), &mut history) {
@@ -65,12 +67,12 @@ fn on_terminal(rt: &HostRuntime, arguments: &Arguments, size: Size) -> Result<Ex
         config,
         io::writer(rt),
         size.columns.max(1),
-        console_helper(Names::new(rt.alloc()).words(rt.alloc())?),
+        console_helper(rt.alloc(), Folder::read(rt)?)?,
         history,
     );
     editor.resize(size.columns.max(1), size.rows)?;
     converse(
-        rt.alloc(),
+        rt,
         &mut rt.reader(),
         &mut io::writer(rt),
         &mut editor,
@@ -86,7 +88,7 @@ fn on_text(rt: &HostRuntime, vi: bool) -> Result<ExitCode> {
     let mut names = Names::new(rt.alloc());
     let mut out = io::writer(rt);
     for line in rt.lines(rt.alloc()) {
-        if let Some(answer) = answer_to(rt.alloc(), line?.as_str(), &mut names, vi)? {
+        if let Some(answer) = answer_to(rt, line?.as_str(), &mut names, vi)? {
             writeln!(out, "{answer}")?;
         }
     }

@@ -2,14 +2,16 @@
 
 use crate::answers::answer_to;
 use crate::arithmetic::Names;
+use crate::folder::Folder;
 use crate::history_file::keep;
 use crate::watch::{BUFFER_SIZE, LineEditor, Watch};
 use line_config::Result;
 use line_editor::Bindings;
+use line_parts::FilenameCompleter;
 use line_session::editor::Fed;
 use line_term::Size;
-use std::alloc::Global;
 use std::io::{Read, Write};
+use std::rt::Files;
 
 /// The prompt, without styles and with them.
 const PROMPT: (&str, &str) = ("> ", "\x1b[1;32m> \x1b[0m");
@@ -21,9 +23,15 @@ const WELCOME: &str = "Comvizga: :keys lists the keys, C-d ends.";
 ///
 /// # Errors
 /// `Io`, where the input, the output or the file fails, and `Memory`.
-pub(crate) fn converse<R: Read, W: Write, O: Write + Drop, F: Write>(
-    alloc: Global,
-    input: &mut R,
+pub(crate) fn converse<
+    R: Files + AllocGlobal + Clone + Drop,
+    I: Read,
+    W: Write,
+    O: Write + Drop,
+    F: Write,
+>(
+    rt: &R,
+    input: &mut I,
     out: &mut W,
     editor: &mut LineEditor<O>,
     file: &mut Option<F>,
@@ -31,22 +39,22 @@ pub(crate) fn converse<R: Read, W: Write, O: Write + Drop, F: Write>(
     vi: bool,
 ) -> Result<()> {
     write_lines(out, WELCOME)?;
-    let bindings = Bindings::new(alloc);
+    let bindings = Bindings::new(rt.alloc());
     let mut watch = Watch::new(size);
-    let mut names = Names::new(alloc);
+    let mut names = Names::new(rt.alloc());
     for _ in 0..u64::MAX {
         let fed = read_line(input, out, editor, &bindings, &mut watch)?;
         if fed == Fed::Ended {
             return watch.settle(input, editor, &bindings);
         }
-        answer(alloc, fed, out, editor, file, &mut names, vi)?;
+        answer(rt, fed, out, editor, file, &mut names, vi)?;
     }
     Ok(())
 }
 
 /// Answers a line that was submitted, once it is in the file.
-fn answer<W: Write, O: Write + Drop, F: Write>(
-    alloc: Global,
+fn answer<R: Files + AllocGlobal + Clone + Drop, W: Write, O: Write + Drop, F: Write>(
+    rt: &R,
     fed: Fed,
     out: &mut W,
     editor: &mut LineEditor<O>,
@@ -60,11 +68,12 @@ fn answer<W: Write, O: Write + Drop, F: Write>(
     if let Some(history) = editor.history_mut() {
         keep(history, file)?;
     }
-    if let Some(answer) = answer_to(alloc, line.as_str(), names, vi)? {
+    if let Some(answer) = answer_to(rt, line.as_str(), names, vi)? {
         write_lines(out, answer.as_str())?;
     }
     if let Some(helper) = editor.helper_mut() {
-        helper.completer.words = names.words(alloc)?;
+        helper.completer.arguments = FilenameCompleter::new(Folder::read(rt)?);
+        helper.completer.others.words = names.words(rt.alloc())?;
     }
     Ok(())
 }

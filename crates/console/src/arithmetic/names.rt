@@ -28,13 +28,14 @@ impl Names {
         self.values.get(name).copied()
     }
 
-    /// Returns what can be completed: the names, and the word of the command.
+    /// Returns what can be completed: the names, and the words of the commands.
     ///
     /// # Errors
     /// `Memory`.
     pub fn words(&self, alloc: Global) -> line_config::Result<Vec<String>> {
         let mut words = Vec::new(alloc);
         words.push(String::from_str(alloc, "keys")?)?;
+        words.push(String::from_str(alloc, "load")?)?;
         for name in self.values.keys() {
             words.push(name.clone()?)?;
         }
