@@ -10,13 +10,19 @@ mod by_bytes;
 #[cfg(test)]
 mod completions;
 #[cfg(test)]
+mod faults;
+#[cfg(test)]
 mod lines;
+#[cfg(test)]
+mod parties;
 #[cfg(test)]
 mod random;
 #[cfg(test)]
 mod searches;
 #[cfg(test)]
 mod sequences;
+#[cfg(test)]
+mod sessions;
 #[cfg(test)]
 mod terminal;
 #[cfg(test)]

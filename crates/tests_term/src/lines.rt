@@ -1,375 +1,102 @@
 //! What comes of bytes that are typed.
 
 use crate::holds;
+use crate::sessions::{ADD, ADD_VI, Case, bindings, comes_true};
 use line_buffer::GraphemeClusterMode;
-use line_config::{Config, EditMode, ReadlineError, Result};
-use line_editor::{Bindings, Event, EventHandler};
-use line_keys::cmd::Cmd;
-use line_keys::keys::KeyEvent;
-use line_parts::{Helper, History, MemHistory};
-use line_session::editor::{Editor, Fed};
-use std::alloc::Global;
+use line_config::{Config, ReadlineError};
+use line_parts::MemHistory;
+use line_session::editor::Editor;
 
-type Session<H> = Editor<Vec<u8>, H, MemHistory>;
-
-/// How many bytes are fed at once: all, or one after another.
-pub(crate) const PIECES: [usize; 3] = [usize::MAX, 1, 3];
-
-/// An editor with one line in its history, which submitted lines join.
-fn editor(alloc: Global, edit_mode: EditMode) -> Result<Session<()>> {
-    let config = Config::builder(GraphemeClusterMode::Unicode)
-        .edit_mode(edit_mode)
-        .auto_add_history(true)
-        .build();
-    let mut history = MemHistory::new(alloc);
-    history.add("old")?;
-    Ok(Editor::new(alloc, config, Vec::new(alloc), 20, (), history))
-}
-
-/// What is done.
-pub(crate) enum Step {
-    /// Begins a line, with these texts before and behind the cursor.
-    Begin(&'static str, &'static str),
-    /// Feeds bytes.
-    Feed(&'static str),
-    Flush,
-    Finish,
-    Resize(u16, u16),
-}
-
-/// Feeds bytes in pieces of at most this length, up to where the line ends.
-fn fed<H: Helper + Drop>(
-    session: &mut Session<H>,
-    bytes: &[u8],
-    piece: usize,
-    bindings: &Bindings,
-) -> Result<Fed> {
-    let mut last = Fed::More;
-    for bytes in bytes.chunks(piece.max(1)) {
-        last = session.feed(bytes, bindings)?;
-    }
-    Ok(last)
-}
-
-/// Does a step.
-pub(crate) fn done<H: Helper + Drop>(
-    session: &mut Session<H>,
-    step: &Step,
-    piece: usize,
-    bindings: &Bindings,
-) -> Result<Fed> {
-    match step {
-        Step::Begin(left, right) => session.begin_with(&"> ", (*left, *right), bindings),
-        Step::Feed(bytes) => fed(session, bytes.as_bytes(), piece, bindings),
-        Step::Flush => session.flush(bindings),
-        Step::Finish => session.finish(bindings),
-        Step::Resize(columns, rows) => {
-            session.resize((*columns).max(1), *rows)?;
-            Ok(Fed::More)
-        }
-    }
-}
-
-/// What is wanted: the line and its cursor, where it goes on, or the program is suspended; or how it ended.
-pub(crate) enum Want {
-    More(&'static str, usize),
-    Suspended(&'static str, usize),
-    NoLine,
-    Submitted(&'static str),
-    Ended,
-    Interrupted,
-}
-
-/// Whether this is the line, with its cursor.
-fn stands_so<H: Helper + Drop>(session: &Session<H>, line: &str, cursor: usize) -> bool {
-    session.line() == Some(line) && session.pos() == Some(cursor)
-}
-
-/// Whether this came of it.
-pub(crate) fn is_met<H: Helper + Drop>(want: &Want, fed: &Fed, session: &Session<H>) -> bool {
-    match (want, fed) {
-        (Want::More(line, cursor), Fed::More) => {
-            stands_so(session, line, *cursor) && !session.is_suspended()
-        }
-        (Want::Suspended(line, cursor), Fed::More) => {
-            stands_so(session, line, *cursor) && session.is_suspended()
-        }
-        (Want::Submitted(line), Fed::Submitted(text)) => text.as_str() == *line,
-        (Want::NoLine, Fed::More) => session.line().is_none(),
-        (Want::Ended, Fed::Ended) => session.line().is_none(),
-        (Want::Interrupted, Fed::Interrupted) => session.line().is_none(),
-        _ => false,
-    }
-}
-
-pub(crate) const BEGIN: Step = Step::Begin("", "");
-
-const CASES: &[(EditMode, &[Step], Want)] = &[
+const CASES: &[Case] = &[
     // keys and commands of both styles
-    (
-        EditMode::Emacs,
-        &[BEGIN, Step::Feed("abc\r")],
-        Want::Submitted("abc"),
-    ),
-    (
-        EditMode::Emacs,
-        &[BEGIN, Step::Feed("\r")],
-        Want::Submitted(""),
-    ),
-    (
-        EditMode::Emacs,
-        &[BEGIN, Step::Feed("ab\x02c")],
-        Want::More("acb", 2),
-    ),
-    (
-        EditMode::Emacs,
-        &[BEGIN, Step::Feed("é日\x02x")],
-        Want::More("éx日", 3),
-    ),
-    (EditMode::Emacs, &[BEGIN, Step::Feed("\x04")], Want::Ended),
-    (
-        EditMode::Emacs,
-        &[BEGIN, Step::Feed("a\x03")],
-        Want::Interrupted,
-    ),
-    (
-        EditMode::Emacs,
-        &[BEGIN, Step::Feed("a\x1b[Db\r")],
-        Want::Submitted("ba"),
-    ),
-    (
-        EditMode::Emacs,
-        &[BEGIN, Step::Feed("\x10")],
-        Want::More("old", 3),
-    ),
-    (
-        EditMode::Emacs,
-        &[BEGIN, Step::Feed("ab\x1b3x\r")],
-        Want::Submitted("abxxx"),
-    ),
-    (
-        EditMode::Emacs,
-        &[BEGIN, Step::Feed("ab\x18\x15")],
-        Want::More("", 0),
-    ),
+    (ADD, "old", "»¦abc\r", "⏎abc", ""),
+    (ADD, "old", "»¦\r", "⏎", ""),
+    (ADD, "old", "»¦ab\x02c", "ac|b", ""),
+    (ADD, "old", "»¦é日\x02x", "éx|日", ""),
+    (ADD, "old", "»¦\x04", "■", ""),
+    (ADD, "old", "»¦a\x03", "×", ""),
+    (ADD, "old", "»¦a\x1b[Db\r", "⏎ba", ""),
+    (ADD, "old", "»¦\x10", "old|", ""),
+    (ADD, "old", "»¦ab\x1b3x\r", "⏎abxxx", ""),
+    (ADD, "old", "»¦ab\x18\x15", "|", ""),
     // the program is suspended, and goes on with what was typed behind that key
-    (
-        EditMode::Emacs,
-        &[BEGIN, Step::Feed("ab\x02\x1a")],
-        Want::Suspended("ab", 1),
-    ),
-    (
-        EditMode::Emacs,
-        &[BEGIN, Step::Feed("ab\x1a"), Step::Feed("c")],
-        Want::More("abc", 3),
-    ),
-    (
-        EditMode::Emacs,
-        &[BEGIN, Step::Feed("ab\x1ac"), Step::Flush],
-        Want::More("abc", 3),
-    ),
-    (
-        EditMode::Emacs,
-        &[
-            BEGIN,
-            Step::Feed("ab\x1a"),
-            Step::Resize(30, 5),
-            Step::Feed("\x1b[200~c\x1b[201~"),
-        ],
-        Want::More("abc", 3),
-    ),
-    (
-        EditMode::Vi,
-        &[BEGIN, Step::Feed("ab\x1a"), Step::Feed("c\r")],
-        Want::Submitted("abc"),
-    ),
+    (ADD, "old", "»¦ab\x02\x1a", "‖a|b", ""),
+    (ADD, "old", "»¦ab\x1a¦c", "abc|", ""),
+    (ADD, "old", "»¦ab\x1ac¦…", "abc|", ""),
+    (ADD, "old", "»¦ab\x1a¦↔30¦\x1b[200~c\x1b[201~", "abc|", ""),
+    (ADD_VI, "old", "»¦ab\x1a¦c\r", "⏎abc", ""),
     // a count and an operator, cut anywhere
-    (
-        EditMode::Vi,
-        &[
-            BEGIN,
-            Step::Feed("a b c d\x1b"),
-            Step::Flush,
-            Step::Feed("0d3w"),
-        ],
-        Want::More("d", 0),
-    ),
-    (
-        EditMode::Vi,
-        &[
-            BEGIN,
-            Step::Feed("a b c d e f\x1b"),
-            Step::Flush,
-            Step::Feed("02d2w"),
-        ],
-        Want::More("e f", 0),
-    ),
-    (
-        EditMode::Vi,
-        &[
-            BEGIN,
-            Step::Feed("abc\x1b"),
-            Step::Flush,
-            Step::Feed("0fcx"),
-        ],
-        Want::More("ab", 2),
-    ),
+    (ADD_VI, "old", "»¦a b c d\x1b¦…¦0d3w", "|d", ""),
+    (ADD_VI, "old", "»¦a b c d e f\x1b¦…¦02d2w", "|e f", ""),
+    (ADD_VI, "old", "»¦abc\x1b¦…¦0fcx", "ab|", ""),
     // a lone Esc is a key once the bytes pause
-    (
-        EditMode::Vi,
-        &[BEGIN, Step::Feed("ab\x1b")],
-        Want::More("ab", 2),
-    ),
-    (
-        EditMode::Vi,
-        &[BEGIN, Step::Feed("ab\x1b"), Step::Flush],
-        Want::More("ab", 1),
-    ),
-    (
-        EditMode::Vi,
-        &[BEGIN, Step::Feed("ab\x1b"), Step::Finish],
-        Want::More("ab", 1),
-    ),
+    (ADD_VI, "old", "»¦ab\x1b", "ab|", ""),
+    (ADD_VI, "old", "»¦ab\x1b¦…", "a|b", ""),
+    (ADD_VI, "old", "»¦ab\x1b¦■", "a|b", ""),
     // a pasted text, and one where a key is read: the text comes in
+    (ADD, "old", "»¦a\x1b[200~x\ny\x1b[201~\r", "⏎ax\ny", ""),
+    (ADD, "old", "»¦a\x18\x1b[200~x\x1b[201~b\r", "⏎axb", ""),
     (
-        EditMode::Emacs,
-        &[BEGIN, Step::Feed("a\x1b[200~x\ny\x1b[201~\r")],
-        Want::Submitted("ax\ny"),
-    ),
-    (
-        EditMode::Emacs,
-        &[BEGIN, Step::Feed("a\x18\x1b[200~x\x1b[201~b\r")],
-        Want::Submitted("axb"),
-    ),
-    (
-        EditMode::Vi,
-        &[
-            BEGIN,
-            Step::Feed("ab\x1b"),
-            Step::Flush,
-            Step::Feed("d\x1b[200~xy\x1b[201~\r"),
-        ],
-        Want::Submitted("axyb"),
+        ADD_VI,
+        "old",
+        "»¦ab\x1b¦…¦d\x1b[200~xy\x1b[201~\r",
+        "⏎axyb",
+        "",
     ),
     // behind a quoted insert the next item comes in as it is: a key's character, if it has one, or a pasted text
+    (ADD, "old", "»¦a\x16\tb\x11\x01\r", "⏎a\tb\x01", ""),
+    (ADD, "old", "»¦a\x16\rb\x16\x7f", "a\rb\x7f|", ""),
+    (ADD, "old", "»¦a\x16\x1b¦…¦b", "a\x1bb|", ""),
+    (ADD, "old", "»¦ab\x16\x1b[Dc", "abc|", ""),
     (
-        EditMode::Emacs,
-        &[BEGIN, Step::Feed("a\x16\tb\x11\x01\r")],
-        Want::Submitted("a\tb\x01"),
+        ADD,
+        "old",
+        "»¦a\x16\x1b[200~x\x1b[201~\x16\x16\r",
+        "⏎ax\x16",
+        "",
     ),
-    (
-        EditMode::Emacs,
-        &[BEGIN, Step::Feed("a\x16\rb\x16\x7f")],
-        Want::More("a\rb\x7f", 4),
-    ),
-    (
-        EditMode::Emacs,
-        &[BEGIN, Step::Feed("a\x16\x1b"), Step::Flush, Step::Feed("b")],
-        Want::More("a\x1bb", 3),
-    ),
-    (
-        EditMode::Emacs,
-        &[BEGIN, Step::Feed("ab\x16\x1b[Dc")],
-        Want::More("abc", 3),
-    ),
-    (
-        EditMode::Emacs,
-        &[BEGIN, Step::Feed("a\x16\x1b[200~x\x1b[201~\x16\x16\r")],
-        Want::Submitted("ax\x16"),
-    ),
-    (
-        EditMode::Vi,
-        &[BEGIN, Step::Feed("a\x16\x03b\r")],
-        Want::Submitted("a\x03b"),
-    ),
+    (ADD_VI, "old", "»¦a\x16\x03b\r", "⏎a\x03b", ""),
     // what cannot be given up stays
-    (
-        EditMode::Emacs,
-        &[BEGIN, Step::Feed("ab\x07c")],
-        Want::More("abc", 3),
-    ),
+    (ADD, "old", "»¦ab\x07c", "abc|", ""),
     // what is typed before a line begins and behind its end is kept
-    (EditMode::Emacs, &[Step::Feed("a")], Want::NoLine),
-    (
-        EditMode::Emacs,
-        &[Step::Feed("a"), Step::Begin("x", "y")],
-        Want::More("xay", 2),
-    ),
-    (
-        EditMode::Emacs,
-        &[Step::Feed("a\rb\r"), BEGIN, BEGIN],
-        Want::Submitted("b"),
-    ),
-    (
-        EditMode::Emacs,
-        &[Step::Feed("a\rb\r"), BEGIN, BEGIN, BEGIN],
-        Want::More("", 0),
-    ),
+    (ADD, "old", "a", "", ""),
+    (ADD, "old", "a¦»x|y", "xa|y", ""),
+    (ADD, "old", "a\rb\r¦»¦»", "⏎b", ""),
+    (ADD, "old", "a\rb\r¦»¦»¦»", "|", ""),
     // a submitted line is in the history, and a line that is dropped is not
-    (
-        EditMode::Emacs,
-        &[BEGIN, Step::Feed("a\r"), BEGIN, Step::Feed("\x10")],
-        Want::More("a", 1),
-    ),
-    (
-        EditMode::Emacs,
-        &[BEGIN, Step::Feed("a"), BEGIN, Step::Feed("\x10")],
-        Want::More("old", 3),
-    ),
+    (ADD, "old", "»¦a\r¦»¦\x10", "a|", ""),
+    (ADD, "old", "»¦a¦»¦\x10", "old|", ""),
     // other columns
-    (EditMode::Emacs, &[Step::Resize(7, 5)], Want::NoLine),
-    (
-        EditMode::Emacs,
-        &[
-            BEGIN,
-            Step::Feed("abcdefgh\x02"),
-            Step::Resize(4, 5),
-            Step::Feed("x"),
-        ],
-        Want::More("abcdefgxh", 8),
-    ),
+    (ADD, "old", "↔7", "", ""),
+    (ADD, "old", "»¦abcdefgh\x02¦↔4¦x", "abcdefgx|h", ""),
 ];
 
-/// Bindings of C-z, which suspends.
-fn bindings(alloc: Global) -> Result<Bindings> {
-    let mut bindings = Bindings::new(alloc);
-    let key = Event::from_key(alloc, KeyEvent::ctrl('Z'))?;
-    bindings.insert(key, EventHandler::from(Cmd::Suspend))?;
-    Ok(bindings)
-}
-
 #[test]
-fn gives_the_line_in_whatever_pieces(rt: HostRuntime) -> Result<()> {
-    for (number, (edit_mode, steps, want)) in CASES.iter().enumerate() {
-        for piece in PIECES {
-            let bindings = bindings(rt.alloc())?;
-            let mut session = editor(rt.alloc(), *edit_mode)?;
-            let mut fed = Fed::More;
-            for step in *steps {
-                fed = done(&mut session, step, piece, &bindings)?;
-            }
-            holds(&rt, is_met(want, &fed, &session), "a case", number);
-        }
+fn gives_the_line_in_whatever_pieces(rt: HostRuntime) {
+    for case in CASES {
+        comes_true(&rt, rt.alloc(), case);
     }
-    Ok(())
 }
 
-/// What each line comes to that is read of an input: its text, or an interrupt.
-const LINES: &[Option<&str>] = &[Some("abc"), Some("de"), None];
+/// What each line comes to that is read of an input: its text, or nothing where the person interrupts. Suspend stops none of them.
+const LINES: &[&str] = &["abc", "de", "hij", ""];
 
 #[test]
-fn reads_lines_of_an_input(rt: HostRuntime) -> Result<()> {
-    let bindings = Bindings::new(rt.alloc());
-    let mut session = editor(rt.alloc(), EditMode::Emacs)?;
-    let mut input: &[u8] = b"abc\rde\x02\rf\x03g";
+fn reads_lines_of_an_input(rt: HostRuntime) {
+    let bindings = bindings(rt.alloc()).expect(&rt, "bindings");
+    let config = Config::new(GraphemeClusterMode::Unicode);
+    let history = MemHistory::new(rt.alloc());
+    let out: Vec<u8> = Vec::new(rt.alloc());
+    let mut session = Editor::new(rt.alloc(), config, out, 20, (), history);
+    let mut input: &[u8] = b"abc\rde\x02\rh\x1ai\x1aj\rf\x03g";
     let mut lines = 0usize;
     for (number, read) in session
         .iter(&mut input, false, &"> ", &bindings)
         .enumerate()
     {
         let is_so = match (LINES.get(number), read) {
-            (Some(Some(line)), Ok(read)) => *line == read.as_str(),
-            (Some(None), Err(ReadlineError::Interrupted)) => true,
+            (Some(line), Ok(read)) => !line.is_empty() && *line == read.as_str(),
+            (Some(line), Err(ReadlineError::Interrupted)) => line.is_empty(),
             _ => false,
         };
         holds(&rt, is_so, "a line", number);
@@ -377,5 +104,4 @@ fn reads_lines_of_an_input(rt: HostRuntime) -> Result<()> {
     }
     let has_ended = lines == LINES.len() && session.line().is_none();
     holds(&rt, has_ended, "the end", lines);
-    Ok(())
 }

@@ -1,18 +1,15 @@
 //! What a terminal asks of its output, and what comes of failures.
-ghost use Rattle.std.specs.Prelude.{None, false};
-ghost use Rattle.line_config.specs.Error.{FaultsOnly};
-ghost use Rattle.line_parts.specs.Colored.{IsShownAs};
 
 use crate::holds;
+use crate::parties::{Failing, NOBODY, Party, fault};
 use line_buffer::{GraphemeClusterMode, Layout, LineBuffer, Position};
 use line_config::{ReadlineError, Result};
-use line_parts::{CmdKind, Highlighter};
 use line_screen::KeyQueue;
 use line_state::Renderer;
 use line_term::Ansi;
 use std::alloc::Global;
-use std::borrow::CowStr;
 use std::io::{self, ErrorKind, Write};
+use tests_parties::fault::Fault;
 
 /// An output that counts what it is asked for. It takes at most so many bytes at once. Its write of this number, from 1 on, fails; or
 /// each flush, where the number is the greatest.
@@ -23,19 +20,34 @@ pub(crate) struct Counted {
     flushes: usize,
     most: usize,
     failing: usize,
-    kind: ErrorKind,
+    fault: Fault,
 }
 
 impl Counted {
-    /// An output that takes all at once, and whose write of this number fails.
-    pub(crate) fn failing(alloc: Global, failing: usize) -> Counted {
-        Counted {
-            bytes: Vec::new(alloc),
+    /// An output that takes all at once, and whose write fails if it is the one that does. It has memory for what a session writes.
+    pub(crate) fn failing(alloc: Global, failing: Failing) -> Result<Counted> {
+        let (name, call) = failing;
+        Ok(Counted {
+            bytes: Vec::with_capacity(alloc, 10_000)?,
             writes: 0,
             flushes: 0,
             most: usize::MAX,
-            failing,
-            kind: ErrorKind::BrokenPipe,
+            failing: if name == "output" { call } else { 0 },
+            fault: fault(name),
+        })
+    }
+
+    /// Whether it was asked to write this text, among others.
+    pub(crate) fn has(&self, text: &str) -> bool {
+        str::from_utf8(self.bytes.as_slice()).is_ok_and(|written| written.contains(text))
+    }
+
+    /// Whether what was written behind the last of these texts begins on a new row. An empty text stands nowhere.
+    pub(crate) fn goes_on_below(&self, text: &str) -> bool {
+        let written = str::from_utf8(self.bytes.as_slice()).unwrap_or("");
+        match written.rsplit_once(text) {
+            Some((_, behind)) => text.is_empty() || behind.starts_with("\r\n"),
+            None => true,
         }
     }
 }
@@ -44,7 +56,7 @@ impl Write for Counted {
     fn write(&mut self, buf: &[u8]) -> io::Result<usize> {
         self.writes = self.writes.saturating_add(1);
         if self.writes == self.failing {
-            return Err(io::Error::from(self.kind));
+            return Err(self.fault.cause());
         }
         let count = buf.len().min(self.most);
         self.bytes.extend_from_slice(&buf[..count])?;
@@ -53,53 +65,10 @@ impl Write for Counted {
 
     fn flush(&mut self) -> io::Result<()> {
         if self.failing == usize::MAX {
-            return Err(io::Error::from(self.kind));
+            return Err(self.fault.cause());
         }
         self.flushes = self.flushes.saturating_add(1);
         Ok(())
-    }
-}
-
-/// A highlighter that fails where it is to show a prompt, a line, or a hint.
-#[derive(Drop)]
-struct Failing(&'static str);
-
-impl Failing {
-    fn shown<'t>(&self, name: &str, text: &'t str) -> Result<CowStr<'t>>
-        ensures text { IsShownAs result text.now None }
-        ensures faults { FaultsOnly result }
-    {
-        if self.0 == name {
-            return Err(ReadlineError::from(ErrorKind::NotConnected));
-        }
-        Ok(CowStr::Borrowed(text))
-    }
-}
-
-impl Highlighter for Failing {
-    ghost sure = { λ _. false };
-
-    ghost lights = { λ _ _ _ _. false };
-
-    fn highlight<'l>(&self, _alloc: Global, line: &'l str, _pos: usize) -> Result<CowStr<'l>> {
-        self.shown("line", line)
-    }
-
-    fn highlight_prompt<'b, 's: 'b, 'p: 'b>(
-        &'s self,
-        _alloc: Global,
-        prompt: &'p str,
-        _default: bool,
-    ) -> Result<CowStr<'b>> {
-        self.shown("prompt", prompt)
-    }
-
-    fn highlight_hint<'h>(&self, _alloc: Global, hint: &'h str) -> Result<CowStr<'h>> {
-        self.shown("hint", hint)
-    }
-
-    fn highlight_char(&mut self, _line: &str, _pos: usize, _kind: CmdKind) -> bool {
-        false
     }
 }
 
@@ -113,13 +82,16 @@ fn terminal(alloc: Global, most: usize, failing: usize, kind: ErrorKind) -> Term
         flushes: 0,
         most,
         failing,
-        kind,
+        fault: Fault {
+            kind,
+            text: "the output",
+        },
     };
     Ansi::new(alloc, out, 10, true, true)
 }
 
 /// Draws a line in full, with a hint behind it.
-fn redraw(alloc: Global, terminal: &mut Terminal, failing: &'static str) -> Result<()> {
+fn redraw(alloc: Global, terminal: &mut Terminal, failing: Failing) -> Result<()> {
     let line = LineBuffer::init(alloc, "ab", 2)?;
     let begin = terminal.calculate_position("> ", Position { row: 0, col: 0 });
     let layout = terminal.compute_layout(begin, true, &line, Some("c"));
@@ -129,7 +101,7 @@ fn redraw(alloc: Global, terminal: &mut Terminal, failing: &'static str) -> Resu
         Some("c"),
         None,
         &layout,
-        Some(&Failing(failing)),
+        Some(&Party::new(alloc, "highlighter", failing)),
     )
 }
 
@@ -170,7 +142,7 @@ fn call(alloc: Global, terminal: &mut Terminal, name: &str) -> Result<()> {
         "disable_bracketed_paste" => terminal.disable_bracketed_paste(),
         "begin_synchronized_update" => terminal.begin_synchronized_update(),
         "end_synchronized_update" => terminal.end_synchronized_update(),
-        _ => redraw(alloc, terminal, ""),
+        _ => redraw(alloc, terminal, NOBODY),
     }
 }
 
@@ -227,14 +199,16 @@ fn hands_on_the_failures_of_its_output(rt: HostRuntime) {
     }
 }
 
+/// It is asked for the prompt, the line and the hint.
 #[test]
 fn hands_on_the_failures_of_a_highlighter(rt: HostRuntime) {
-    for name in ["prompt", "line", "hint"] {
+    for call in 1..=3 {
         let mut terminal = terminal(rt.alloc(), usize::MAX, 0, ErrorKind::Other);
-        let outcome = redraw(rt.alloc(), &mut terminal, name);
+        let outcome = redraw(rt.alloc(), &mut terminal, ("highlighter", call));
         let is_same =
-            matches!(&outcome, Err(ReadlineError::Io(e)) if e.kind() == ErrorKind::NotConnected);
-        holds(&rt, is_same && terminal.into_out().writes == 0, name, 0);
+            matches!(&outcome, Err(ReadlineError::Io(e)) if e.kind() == ErrorKind::PermissionDenied);
+        let is_silent = terminal.into_out().writes == 0;
+        holds(&rt, is_same && is_silent, "highlighter", call);
     }
 }
 

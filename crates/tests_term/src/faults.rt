@@ -1,0 +1,260 @@
+//! What is left where a party fails, at each of its calls, and where memory runs out: commands are read on.
+
+use crate::holds;
+use crate::parties::{Failing, NOBODY, fault};
+use crate::sessions::{
+    ASK, ASK_AT_ONCE, CURSOR, LINES, LIST, LIST_AT_ONCE, MANY, ROUND, ROUND_VI, SEARCH, SEARCH_VI,
+    Session, bindings, marked, new_session,
+};
+use line_config::{ReadlineError, Result};
+use line_editor::Bindings;
+use line_parts::History;
+use line_parts::history::SearchDirection;
+use line_session::editor::Fed;
+use std::alloc::Global;
+use std::process::Abort;
+
+/// Who fails in turn, what is tried, the words or the lines of the history, what is typed, the line from before a completion or a
+/// search, and behind which text of a list the line is drawn on a new row.
+type Case = (
+    &'static str,
+    &'static str,
+    &'static str,
+    &'static str,
+    &'static str,
+    &'static str,
+);
+
+/// Who is asked where a line is drawn.
+const DRAWN: &str = "output hinter highlighter";
+
+/// Who is asked in a completion.
+const HELPED: &str = "output hinter highlighter completer";
+
+/// Who is asked in a completion of a line that is submitted.
+const CHECKED: &str = "output hinter highlighter completer validator";
+
+/// Who is asked in a search.
+const LED: &str = "output hinter highlighter history";
+
+const CASES: &[Case] = &[
+    // candidates are gone through
+    (HELPED, ROUND, "ab ac", "x a\t\t\t\t\x1b[Z\x07", "x a", ""),
+    (HELPED, ROUND_VI, "ab ac", "x a\t\t\t\t\x1b[Zb", "x a", ""),
+    (CHECKED, ROUND, "ab ac", "a\t\x02\r", "a", ""),
+    // a list is offered
+    (HELPED, LIST, "abc abd", "x a\t\t", "x a", ""),
+    (HELPED, LIST_AT_ONCE, "abc abd", "x a\tz", "x a", ""),
+    (CHECKED, LIST, "abc abd", "a\t\r", "a", ""),
+    // it is asked whether to list
+    (HELPED, ASK_AT_ONCE, "abc abd", "a\tqy", "a", "(y or n)"),
+    (HELPED, ASK, "abc abd", "a\t\txyz", "a", "(y or n)"),
+    (HELPED, ASK, "abc abd", "a\t\tn\t\t\x7f", "a", "(y or n)"),
+    // a list goes on by pages and rows
+    (HELPED, LIST, MANY, "a\t\tq\t\t", "a", "--More--"),
+    (HELPED, LIST, MANY, "a\t\t\r\r ", "a", "--More--"),
+    (HELPED, LIST, MANY, "a\t\tx z", "a", "--More--"),
+    (HELPED, LIST, MANY, "a\t\t\rn", "a", "--More--"),
+    // a history is searched
+    (
+        LED,
+        SEARCH,
+        "alpha|beta",
+        "x\x12ap\x7f\x12\x13\x07\x12a\x1b[D",
+        "x",
+        "",
+    ),
+    (LED, SEARCH, LINES, "x\x12one\x12\x12z\x7f\x13", "x", ""),
+    (LED, SEARCH_VI, LINES, "x\x12o\x1b[D", "x", ""),
+    ("validator history", SEARCH, LINES, "x\x12o\r", "x", ""),
+    // a history is walked through
+    (LED, SEARCH, LINES, "ab\x10\x10\x0e\x0e", "ab", ""),
+    // an item comes in as it is
+    (DRAWN, ROUND, "ab", "a\x16\tb\x16\x01", "a", ""),
+    (LED, SEARCH, LINES, "a\x12o\x16\tb", "a", ""),
+    // the program is suspended
+    (DRAWN, ROUND, "ab", "ab\x1acd", "ab", ""),
+];
+
+/// Types a character into a session. Returns whether it comes in at the cursor, as where commands are read.
+fn types_on(alloc: Global, session: &mut Session, bindings: &Bindings) -> Result<bool> {
+    let line = marked(alloc, session)?;
+    let Some((before, behind)) = line.as_str().split_once(CURSOR) else {
+        return Ok(false);
+    };
+    let wanted = format!(in alloc; "{before}z{CURSOR}{behind}")?;
+    session.feed(b"z", bindings)?;
+    Ok(marked(alloc, session)? == wanted)
+}
+
+/// Whether a history has the lines of another.
+fn has_lines<S: History>(one: &S, other: &S) -> Result<bool> {
+    let mut has = one.len() == other.len();
+    for index in 0..one.len() {
+        let line = one.get(index, SearchDirection::Forward)?;
+        has = has && line == other.get(index, SearchDirection::Forward)?;
+    }
+    Ok(has)
+}
+
+/// Whether the line is this one.
+fn stands(session: &Session, line: &str) -> bool {
+    match session.line() {
+        Some(text) => text == line,
+        None => false,
+    }
+}
+
+/// Whether the line is the one of another session.
+fn stands_as(session: &Session, other: &Session) -> bool {
+    match other.line() {
+        Some(line) => stands(session, line),
+        None => false,
+    }
+}
+
+/// What is wrong about what a failure left: a session with the error of the party that fails or of refused memory, behind a key;
+/// and one in which nothing failed, with its line from before that key. Of what was typed nothing is lost but that key: one that was
+/// not taken is taken at the next call. Nothing is wrong where this is empty.
+fn wrong(
+    alloc: Global,
+    (_, _, _, _, start, list): &Case,
+    failing: Failing,
+    outcome: &Result<Fed>,
+    before: &str,
+    twins: &mut Twins,
+) -> Result<&'static str> {
+    let Twins {
+        session,
+        twin,
+        bindings,
+    } = twins;
+    let is_memory = failing == NOBODY && matches!(outcome, Err(ReadlineError::Memory));
+    if !is_memory && !fault(failing.0).is_answer(alloc, outcome)? {
+        return Ok("another error");
+    }
+    if session.line().is_none() && stands(twin, "") && (is_memory || failing == ("output", 1)) {
+        return Ok("");
+    }
+    for _ in 0..2 {
+        if !(stands(session, before) || stands(session, start) || stands_as(session, twin)) {
+            return Ok("another line, or none");
+        }
+        session.flush(bindings)?;
+    }
+    if !has_lines(session.history(), twin.history())? {
+        return Ok("another history");
+    }
+    if !types_on(alloc, session, bindings)? {
+        return Ok("no command is read");
+    }
+    if !session.out().goes_on_below(list) {
+        return Ok("the row of a list");
+    }
+    Ok("")
+}
+
+/// A session whose party fails, and its twin, in which nothing fails.
+struct Twins {
+    session: Session,
+    twin: Session,
+    bindings: Bindings,
+}
+
+impl Drop for Twins {
+    fn drop(self) {
+        let Twins {
+            session: _,
+            twin: _,
+            bindings: _,
+        } = self;
+    }
+}
+
+/// The two sessions of a case.
+fn new_twins(alloc: Global, case: &Case, failing: Failing) -> Result<Twins> {
+    let bindings = bindings(alloc)?;
+    let session = new_session(alloc, case.1, case.2, failing)?;
+    let twin = new_session(alloc, case.1, case.2, NOBODY)?;
+    Ok(Twins {
+        session,
+        twin,
+        bindings,
+    })
+}
+
+/// Types what a case says into two sessions, key by key. Returns None where nothing failed, and else what is wrong then.
+fn typed(
+    alloc: Global,
+    case: &Case,
+    failing: Failing,
+    twins: &mut Twins,
+) -> Result<Option<&'static str>> {
+    let mut before = String::new(alloc);
+    let mut outcome = twins.session.begin(&"> ", &twins.bindings);
+    twins.twin.begin(&"> ", &twins.bindings)?;
+    for key in case.3.as_bytes() {
+        if outcome.is_err() {
+            break;
+        }
+        before = String::from_str(alloc, twins.twin.line().unwrap_or(""))?;
+        outcome = twins.session.feed(&[*key], &twins.bindings);
+        twins.twin.feed(&[*key], &twins.bindings)?;
+    }
+    if outcome.is_ok() {
+        return Ok(None);
+    }
+    Ok(Some(wrong(alloc, case, failing, &outcome, before.as_str(), twins)?))
+}
+
+/// Does what a case says with a party that fails. Returns None where nothing failed, and else what is wrong then.
+fn failed(alloc: Global, case: &Case, failing: Failing) -> Result<Option<&'static str>> {
+    let mut twins = new_twins(alloc, case, failing)?;
+    typed(alloc, case, failing, &mut twins)
+}
+
+/// How many calls past the last one are tried.
+const PAST: usize = 10;
+
+/// Fails each call of each party of a case, the first of which comes. What is left is right; and each failure is told, so behind a
+/// call that does not come none does.
+fn each_fails(rt: &impl Abort, alloc: Global, case: &Case) {
+    for name in case.0.split(' ') {
+        let mut past: usize = 0;
+        for call in 1..200 {
+            let failed = failed(alloc, case, (name, call)).expect(rt, "no other fault");
+            holds(rt, failed.is_some() || call > 1, name, call);
+            let Some(wrong) = failed else {
+                past = past.saturating_add(1);
+                if past == PAST {
+                    break;
+                }
+                continue;
+            };
+            assert!(rt;
+                wrong == "" && past == 0,
+                "{wrong}: {name} {call} of {:?}",
+                case.3
+            );
+        }
+    }
+}
+
+#[test]
+fn goes_on_where_a_party_fails(rt: HostRuntime) {
+    for case in CASES {
+        each_fails(&rt, rt.alloc(), case);
+    }
+}
+
+/// Run with any one allocation refused, this passes: what is left is right, or the refusal came before the line began.
+#[test]
+fn goes_on_where_memory_runs_out(rt: HostRuntime) {
+    for case in CASES {
+        match failed(rt.alloc(), case, NOBODY) {
+            Ok(None) | Err(ReadlineError::Memory) => {}
+            Ok(Some(wrong)) => assert!(&rt; wrong == "", "{wrong}: {:?}", case.3),
+            Err(error) => panic!(&rt; "{error}"),
+        }
+    }
+}

@@ -1,0 +1,164 @@
+//! Parties of a session, of whose calls one can fail.
+ghost use Rattle.std.specs.Prelude.{◌≡◌, None, Some, false, map, string_bytes};
+ghost use Rattle.line_config.specs.Error.{FaultsOnly};
+ghost use Rattle.line_parts.specs.Colored.{IsShownAs};
+ghost use Rattle.line_parts.specs.Verdict.{valid};
+
+use line_buffer::{Changeset, LineBuffer};
+use line_config::Result;
+use line_parts::{
+    CmdKind, Completer, Context, Highlighter, Hinter, History, ValidationContext, ValidationResult,
+    Validator,
+};
+use line_session::parts::SteadyHighlighter;
+use line_session::words::Words;
+use std::alloc::Global;
+use std::borrow::CowStr;
+use std::io::ErrorKind;
+use tests_parties::countdown::Countdown;
+use tests_parties::fault::Fault;
+
+/// Who fails, by an error of this name, and at which of its calls, from 1 on; at none where that is 0.
+pub(crate) type Failing = (&'static str, usize);
+
+/// Nobody fails.
+pub(crate) const NOBODY: Failing = ("", 0);
+
+/// The fault of the party of this name.
+pub(crate) fn fault(name: &'static str) -> Fault {
+    Fault {
+        kind: ErrorKind::PermissionDenied,
+        text: name,
+    }
+}
+
+/// The calls of the party of this name, of which one fails if it is the one that does.
+pub(crate) fn calls(name: &str, failing: Failing) -> Countdown {
+    let (fails, call) = failing;
+    Countdown::with(if fails == name { call as u64 } else { 0 }, fault(fails))
+}
+
+/// A part of a helper: a completer of words, a hinter that knows nothing, a highlighter without colors, or a validator that takes
+/// each line. One of its calls can fail.
+#[derive(Drop)]
+pub(crate) struct Party {
+    pub(crate) words: Words,
+    pub(crate) calls: Countdown,
+}
+
+impl Party {
+    /// A part of this name without words.
+    pub(crate) fn new(alloc: Global, name: &str, failing: Failing) -> Party {
+        Party {
+            words: Words {
+                words: Vec::new(alloc),
+            },
+            calls: calls(name, failing),
+        }
+    }
+
+    /// A text as it stands.
+    fn shown<'t>(&self, text: &'t str) -> Result<CowStr<'t>>
+        ensures text { IsShownAs result text.now None }
+        ensures faults { FaultsOnly result }
+    {
+        self.calls.call()?;
+        Ok(CowStr::Borrowed(text))
+    }
+}
+
+impl Completer for Party {
+    ghost use Rattle.line_session.specs.Words.{completed_among};
+
+    type Candidate = String;
+
+    ghost sure = { λ _. false };
+
+    ghost own_completion = { λ party shown.
+        Some (completed_among (map string_bytes party.words.words.items) shown.text shown.cursor) };
+
+    fn complete<S: History>(
+        &self,
+        alloc: Global,
+        line: &str,
+        pos: usize,
+        ctx: &Context<'_, S>,
+    ) -> Result<(usize, Vec<String>)> {
+        self.calls.call()?;
+        self.words.complete(alloc, line, pos, ctx)
+    }
+
+    fn update(
+        &self,
+        line: &mut LineBuffer,
+        start: usize,
+        elected: &str,
+        changes: &mut Changeset,
+    ) -> Result<()> {
+        self.calls.call()?;
+        self.words.update(line, start, elected, changes)
+    }
+}
+
+impl Hinter for Party {
+    type Hint = String;
+
+    ghost sure = { λ _. false };
+
+    ghost hint_at = { λ _ _. None };
+
+    fn hint<S: History>(
+        &self,
+        _alloc: Global,
+        _line: &str,
+        _pos: usize,
+        _ctx: &Context<'_, S>,
+    ) -> Result<Option<String>> {
+        self.calls.call()?;
+        Ok(None)
+    }
+}
+
+impl Highlighter for Party {
+    ghost sure = { λ _. false };
+
+    ghost lights = { λ _ _ _ _. false };
+
+    fn highlight<'l>(&self, _alloc: Global, line: &'l str, _pos: usize) -> Result<CowStr<'l>> {
+        self.shown(line)
+    }
+
+    fn highlight_prompt<'b, 's: 'b, 'p: 'b>(
+        &'s self,
+        _alloc: Global,
+        prompt: &'p str,
+        _default: bool,
+    ) -> Result<CowStr<'b>> {
+        self.shown(prompt)
+    }
+
+    fn highlight_hint<'h>(&self, _alloc: Global, hint: &'h str) -> Result<CowStr<'h>> {
+        self.shown(hint)
+    }
+
+    fn highlight_char(&mut self, _line: &str, _pos: usize, _kind: CmdKind) -> bool {
+        false
+    }
+}
+
+impl SteadyHighlighter for Party {
+    ghost use Rattle.std.proofs.Common.{refl};
+
+    ghost lights_steady = { λ _ _ _. refl };
+}
+
+impl Validator for Party {
+    ghost sure = { λ _. false };
+
+    ghost verdict_at = { λ _ _. valid None };
+
+    fn validate(&self, _alloc: Global, _ctx: &ValidationContext<'_>) -> Result<ValidationResult> {
+        self.calls.call()?;
+        Ok(ValidationResult::Valid(None))
+    }
+}

@@ -1,0 +1,227 @@
+//! Sessions that are typed into, whole and in pieces, and what comes of it.
+
+use crate::holds;
+use crate::parties::{Failing, NOBODY, Party, fault};
+use crate::terminal::Counted;
+use line_buffer::GraphemeClusterMode;
+use line_config::{CompletionType, Config, EditMode, Result};
+use line_editor::{Bindings, Event, EventHandler};
+use line_keys::cmd::Cmd;
+use line_keys::keys::KeyEvent;
+use line_parts::History;
+use line_session::editor::{Editor, Fed};
+use line_session::parts::Parts;
+use std::alloc::Global;
+use std::process::Abort;
+use tests_parties::shelf::Shelf;
+
+/// A session whose parties can fail.
+pub(crate) type Session = Editor<Counted, Parts<Party, Party, Party, Party>, Shelf>;
+
+/// What is tried, the words or the lines of the history, what is typed, what comes of it, and what is written to the terminal on the
+/// way.
+pub(crate) type Case = (
+    &'static str,
+    &'static str,
+    &'static str,
+    &'static str,
+    &'static str,
+);
+
+// What is tried.
+/// Candidates come one after another, in the style of Emacs.
+pub(crate) const ROUND: &str = "round";
+/// The same in the style of Vi.
+pub(crate) const ROUND_VI: &str = "round vi";
+/// Candidates are listed at another Tab.
+pub(crate) const LIST: &str = "list";
+/// They are listed at once.
+pub(crate) const LIST_AT_ONCE: &str = "list at once";
+/// Past one candidate it is asked whether to list them.
+pub(crate) const ASK: &str = "list, ask";
+/// Past one candidate it is asked at once.
+pub(crate) const ASK_AT_ONCE: &str = "list, ask at once";
+/// A history is searched, in the style of Emacs.
+pub(crate) const SEARCH: &str = "search";
+/// The same in the style of Vi.
+pub(crate) const SEARCH_VI: &str = "search vi";
+/// A history takes the lines that are submitted, in the style of Emacs.
+pub(crate) const ADD: &str = "add";
+/// The same in the style of Vi.
+pub(crate) const ADD_VI: &str = "add vi";
+
+/// The lines of a history.
+pub(crate) const LINES: &str = "alpha one|beta two|gamma one|delta";
+
+/// Words in six rows of two columns.
+pub(crate) const MANY: &str = "a1 a2 a3 a4 a5 a6 a7 a8 a9 aa ab abcdefgh";
+
+// What is typed is cut into steps, each of which is fed at once, but for those that begin so.
+/// Ends a step.
+const CUT: char = '¦';
+/// Begins a line, with the texts behind it before and behind the cursor.
+const BEGIN: char = '»';
+/// Gives the screen the number of columns behind it.
+const SIZE: char = '↔';
+/// The bytes pause.
+const PAUSE: &str = "…";
+/// The bytes end.
+const END: &str = "■";
+
+// What comes of it begins so, unless the line goes on: then it is the line alone, or nothing where none goes on.
+/// The line was submitted.
+const SUBMITTED: char = '⏎';
+/// The input ended.
+const ENDED: char = '■';
+/// The person interrupted.
+const INTERRUPTED: char = '×';
+/// The program is suspended.
+const SUSPENDED: char = '‖';
+
+/// Stands at the cursor of a line.
+pub(crate) const CURSOR: char = '|';
+
+/// How many bytes are fed at once: all, or so many.
+const PIECES: [usize; 3] = [usize::MAX, 1, 3];
+
+/// Bindings of C-z, which suspends.
+pub(crate) fn bindings(alloc: Global) -> Result<Bindings> {
+    let mut bindings = Bindings::new(alloc);
+    let key = Event::from_key(alloc, KeyEvent::ctrl('Z'))?;
+    bindings.insert(key, EventHandler::from(Cmd::Suspend))?;
+    Ok(bindings)
+}
+
+/// A completer of the words of a text.
+fn completer(alloc: Global, text: &str, failing: Failing) -> Result<Party> {
+    let mut party = Party::new(alloc, "completer", failing);
+    for word in text.split(' ') {
+        party.words.words.push(String::from_str(alloc, word)?)?;
+    }
+    Ok(party)
+}
+
+/// A history of the lines of a text, and none where it is empty.
+fn history(alloc: Global, text: &str, failing: Failing) -> Result<Shelf> {
+    let mut history = Shelf::new(alloc, 0);
+    for line in text.split('|') {
+        history.add(line)?;
+    }
+    let (name, call) = failing;
+    if name == "history" {
+        history.fail_by(call as u64, fault(name));
+    }
+    Ok(history)
+}
+
+/// A session on a screen of 20 columns and 5 rows.
+pub(crate) fn new_session(
+    alloc: Global,
+    how: &str,
+    text: &str,
+    failing: Failing,
+) -> Result<Session> {
+    let edit_mode = if how.ends_with("vi") {
+        EditMode::Vi
+    } else {
+        EditMode::Emacs
+    };
+    let lists = how.starts_with("list");
+    let completion_type = if lists {
+        CompletionType::List
+    } else {
+        CompletionType::Circular
+    };
+    let config = Config::builder(GraphemeClusterMode::Unicode)
+        .edit_mode(edit_mode)
+        .completion_type(completion_type)
+        .completion_prompt_limit(if how.contains("ask") { 1 } else { 100 })
+        .completion_show_all_if_ambiguous(how.ends_with("at once"))
+        .auto_add_history(how.starts_with("add"))
+        .build();
+    let completes = lists || how.starts_with("round");
+    let (words, lines) = if completes { (text, "") } else { ("", text) };
+    let completer = completer(alloc, words, failing)?;
+    let history = history(alloc, lines, failing)?;
+    let out = Counted::failing(alloc, failing)?;
+    let helper = Parts {
+        completer,
+        hinter: Party::new(alloc, "hinter", failing),
+        highlighter: Party::new(alloc, "highlighter", failing),
+        validator: Party::new(alloc, "validator", failing),
+    };
+    let mut session = Editor::new(alloc, config, out, 20, helper, history);
+    let _ = session.resize(20, 5);
+    Ok(session)
+}
+
+/// Does a step. What is fed goes in by pieces of at most this length.
+fn done(session: &mut Session, step: &str, piece: usize, bindings: &Bindings) -> Result<Fed> {
+    if let Some(texts) = step.strip_prefix(BEGIN) {
+        return begun(session, texts, bindings);
+    }
+    if let Some(columns) = step.strip_prefix(SIZE) {
+        let columns: u16 = columns.parse().unwrap_or(20);
+        session.resize(columns.max(1), 5)?;
+        return Ok(Fed::More);
+    }
+    if step == PAUSE {
+        return session.flush(bindings);
+    }
+    if step == END {
+        return session.finish(bindings);
+    }
+    let mut fed = Fed::More;
+    for bytes in step.as_bytes().chunks(piece.max(1)) {
+        fed = session.feed(bytes, bindings)?;
+    }
+    Ok(fed)
+}
+
+/// Begins a line with the texts before and behind the mark of the cursor, or an empty one where there is no mark.
+fn begun(session: &mut Session, texts: &str, bindings: &Bindings) -> Result<Fed> {
+    match texts.split_once(CURSOR) {
+        Some(texts) => session.begin_with(&"> ", texts, bindings),
+        None => session.begin(&"> ", bindings),
+    }
+}
+
+/// The line with its cursor, and nothing where none goes on.
+pub(crate) fn marked(alloc: Global, session: &Session) -> Result<String> {
+    let line = session.line().unwrap_or("");
+    match session.pos() {
+        Some(pos) => {
+            let (before, behind) = line.split_at_checked(pos).unwrap_or(("", ""));
+            Ok(format!(in alloc; "{before}{CURSOR}{behind}")?)
+        }
+        None => Ok(String::new(alloc)),
+    }
+}
+
+/// What came of it, told as in a case.
+fn came(alloc: Global, fed: &Fed, session: &Session) -> Result<String> {
+    let line = marked(alloc, session)?;
+    Ok(match fed {
+        Fed::Submitted(text) => format!(in alloc; "{SUBMITTED}{text}{line}")?,
+        Fed::Ended => format!(in alloc; "{ENDED}{line}")?,
+        Fed::Interrupted => format!(in alloc; "{INTERRUPTED}{line}")?,
+        Fed::More if session.is_suspended() => format!(in alloc; "{SUSPENDED}{line}")?,
+        Fed::More => line,
+    })
+}
+
+/// Does what a case says, with the bytes of a step whole and in pieces.
+pub(crate) fn comes_true(rt: &impl Abort, alloc: Global, case: &Case) {
+    let (how, text, keys, wanted, written) = *case;
+    for piece in PIECES {
+        let bindings = bindings(alloc).expect(rt, "bindings");
+        let mut session = new_session(alloc, how, text, NOBODY).expect(rt, "a session");
+        let mut fed = Fed::More;
+        for step in keys.split(CUT) {
+            fed = done(&mut session, step, piece, &bindings).expect(rt, "no fault");
+        }
+        let came = came(alloc, &fed, &session).expect(rt, "memory");
+        holds(rt, came.as_str() == wanted, keys, piece);
+        holds(rt, session.out().has(written), keys, piece);
+    }
+}
