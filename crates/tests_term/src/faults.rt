@@ -121,14 +121,11 @@ fn wrong(
     (_, _, _, _, start, list): &Case,
     failing: Failing,
     outcome: &Result<Fed>,
+    session: &mut Session,
+    twin: &Session,
     before: &str,
-    twins: &mut Twins,
+    bindings: &Bindings,
 ) -> Result<&'static str> {
-    let Twins {
-        session,
-        twin,
-        bindings,
-    } = twins;
     let is_memory = failing == NOBODY && matches!(outcome, Err(ReadlineError::Memory));
     if !is_memory && !fault(failing.0).is_answer(alloc, outcome)? {
         return Ok("another error");
@@ -158,7 +155,6 @@ fn wrong(
 struct Twins {
     session: Session,
     twin: Session,
-    bindings: Bindings,
 }
 
 impl Drop for Twins {
@@ -166,21 +162,15 @@ impl Drop for Twins {
         let Twins {
             session: _,
             twin: _,
-            bindings: _,
         } = self;
     }
 }
 
 /// The two sessions of a case.
 fn new_twins(alloc: Global, case: &Case, failing: Failing) -> Result<Twins> {
-    let bindings = bindings(alloc)?;
     let session = new_session(alloc, case.1, case.2, failing)?;
     let twin = new_session(alloc, case.1, case.2, NOBODY)?;
-    Ok(Twins {
-        session,
-        twin,
-        bindings,
-    })
+    Ok(Twins { session, twin })
 }
 
 /// Types what a case says into two sessions, key by key. Returns None where nothing failed, and else what is wrong then.
@@ -188,29 +178,36 @@ fn typed(
     alloc: Global,
     case: &Case,
     failing: Failing,
-    twins: &mut Twins,
+    session: &mut Session,
+    twin: &mut Session,
+    bindings: &Bindings,
 ) -> Result<Option<&'static str>> {
     let mut before = String::new(alloc);
-    let mut outcome = twins.session.begin(&"> ", &twins.bindings);
-    twins.twin.begin(&"> ", &twins.bindings)?;
+    let mut outcome = session.begin(&"> ", bindings);
+    twin.begin(&"> ", bindings)?;
     for key in case.3.as_bytes() {
         if outcome.is_err() {
             break;
         }
-        before = String::from_str(alloc, twins.twin.line().unwrap_or(""))?;
-        outcome = twins.session.feed(&[*key], &twins.bindings);
-        twins.twin.feed(&[*key], &twins.bindings)?;
+        before = String::from_str(alloc, twin.line().unwrap_or(""))?;
+        outcome = session.feed(&[*key], bindings);
+        twin.feed(&[*key], bindings)?;
     }
     if outcome.is_ok() {
         return Ok(None);
     }
-    Ok(Some(wrong(alloc, case, failing, &outcome, before.as_str(), twins)?))
+    let before = before.as_str();
+    Ok(Some(wrong(
+        alloc, case, failing, &outcome, session, twin, before, bindings,
+    )?))
 }
 
 /// Does what a case says with a party that fails. Returns None where nothing failed, and else what is wrong then.
 fn failed(alloc: Global, case: &Case, failing: Failing) -> Result<Option<&'static str>> {
+    let bindings = bindings(alloc)?;
     let mut twins = new_twins(alloc, case, failing)?;
-    typed(alloc, case, failing, &mut twins)
+    let Twins { session, twin } = &mut twins;
+    typed(alloc, case, failing, session, twin, &bindings)
 }
 
 /// How many calls past the last one are tried.
