@@ -81,7 +81,8 @@ back_to (aim ∷ shorter) search = record search { now = aim; shorter = shorter 
 abbrev pub shortened : Search → Search
 shortened search = back_to search.shorter search
 
--- the line beside one of so many, in a direction, if there is one
+-- where a search goes on from that stands at a line: at the line before it, if there is one; or behind it, where the newest line has none
+-- behind it and nothing is found
 abbrev pub next_start : SearchDirection → ℕ → ℕ → Option ℕ
 next_start Reverse count index = if nat_lt 0 index then Some (index - 1) else None
 next_start Forward count index = if nat_lt index count then Some (index + 1) else None

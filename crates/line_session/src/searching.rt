@@ -452,7 +452,8 @@ fn failed(term: String, before: &Sought) -> Sought
     }
 }
 
-// Returns the index of the line beside one of so many, in a direction, if there is one.
+// Returns where a search goes on from that stands at one of so many lines: at the line before it, if there is one; or behind it, where
+// nothing is found once it is past the newest line.
 fn next_start(direction: SearchDirection, count: usize, index: usize) -> Option<usize>
     ensures { result ≡ next_start direction count index }
 {
