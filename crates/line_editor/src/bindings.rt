@@ -1,12 +1,14 @@
 //! The map of a program's bindings.
-ghost use Rattle.std.specs.Prelude.{◌≡◌, [], IfOk, OnErr, OnOk, Option, Some, option_map};
+ghost use Rattle.std.specs.Prelude.{◌≡◌, [], IfOk, OnErr, OnOk, Option, Some, map, option_map};
 ghost use Rattle.line_config.specs.Error.{MemoryOnly};
 ghost use Rattle.line_editor.specs.Binding.{Rebinds, begins, bound_of, handled, handler_of, leads_on, node_count};
+ghost use Rattle.line_editor.specs.BoundCommands.{AreBound, bound_value};
 ghost use Rattle.line_editor.specs.Event.{chord_of, keys};
 ghost use Rattle.line_editor.specs.Keymap.{key_handler};
 
 use crate::binding::{ConditionalEventHandler, Event, EventHandler};
 use line_config::Result;
+use line_keys::cmd::Cmd;
 use line_keys::keys::KeyEvent;
 use std::alloc::Global;
 use tree::KeyTree;
@@ -37,6 +39,25 @@ impl Bindings {
             mouse: None,
             sequences: KeyTree::new(alloc),
         }
+    }
+
+    /// Returns a map of commands: each event is bound to its command. Of several commands for one event the last one counts.
+    ///
+    /// # Errors
+    /// That memory ran out.
+    pub fn of_commands(alloc: Global, commands: &[(Event, Cmd)]) -> Result<Bindings>
+        ensures bound { IfOk result (λ bindings. AreBound (map bound_value commands.now)
+            (bound_of ⟦<dyn ConditionalEventHandler as ConditionalEventHandler>⟧ bindings)) }
+        ensures memory { MemoryOnly result }
+    {
+        let mut bindings = Bindings::new(alloc);
+        for bound in commands {
+            let (event, command) = bound;
+            let event = event.clone(alloc)?;
+            let command = command.clone(alloc)?;
+            bindings.insert(event, EventHandler::from(command))?;
+        }
+        Ok(bindings)
     }
 
     /// Binds an event to a handler. Returns the handler that it was bound to before, if it was.
