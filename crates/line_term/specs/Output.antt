@@ -62,6 +62,15 @@ module _ {X : Type 0} (e : screens.Ghosts X) (o : outputs.Ghosts X) where
     pub written : o.written new ≡ o.written old
     pub synchronized : o.synchronized new ≡ o.synchronized old
 
+  -- what is shown stays, and so do how it is measured, what was counted, and whether full redraws are to be shown all at once
+  pub record StaysShown (old new : X) : Type 0 where
+    pub surface : e.surface new ≡ e.surface old
+    pub screen : e.screen new ≡ e.screen old
+    pub beside : e.beside new ≡ e.beside old
+    pub redraws : e.redraws new ≡ e.redraws old
+    pub failures : e.failures new ≡ e.failures old
+    pub synchronized : o.synchronized new ≡ o.synchronized old
+
 -- bytes are written to an output and flushed, or a beginning of them before it fails; a failure is counted, and is the only error
 pub record Sends {O : Type 0} (w : writers.Ghosts O) (result : Result (Unit {0}) ReadlineError) (old new : O) (count more : ℕ) (bytes : List ℕ) : Type 0 where
   pub written : OnOk result (Appends (w.contents old) (w.contents new) bytes)

@@ -11,7 +11,7 @@ ghost use Rattle.line_screen.specs.Measure.{measured};
 ghost use Rattle.line_screen.specs.Surroundings.{blank_screen};
 ghost use Rattle.line_term.specs.Drawn.{cleaned};
 ghost use Rattle.line_term.specs.Escape.{bell, clear_all, clear_from, clear_row, hold, move_bytes, next_line, paste_marked, paste_typed, release};
-ghost use Rattle.line_term.specs.Output.{Resizes, Sends, Writes, WritesAside, WritesPart, WritesSome, holds_back};
+ghost use Rattle.line_term.specs.Output.{Resizes, Sends, StaysShown, Writes, WritesAside, WritesPart, WritesSome, holds_back};
 ghost use Rattle.line_term.specs.Painted.{AppendsSome, Draws, Redraws, asked, wrap};
 
 use crate::drawn::push_cleaned;
@@ -30,6 +30,7 @@ use line_screen::Plain;
 use line_state::{Renderer, ScreenState};
 use std::alloc::Global;
 use std::io::Write;
+use std::mem;
 
 const ORIGIN: Position = Position { row: 0, col: 0 };
 
@@ -111,6 +112,15 @@ impl<O: Write + Drop, R: RawReader> Ansi<O, R> {
         ensures { O.contents result.now ≡ ⟦<Self as Output>⟧.written self.now }
     {
         &self.out
+    }
+
+    /// Writes to `out` from now on. Returns what was written to before.
+    pub fn replace_out(&mut self, out: O) -> O
+        ensures before { O.contents result ≡ ⟦<Self as Output>⟧.written self.old }
+        ensures written { ⟦<Self as Output>⟧.written self.new ≡ O.contents out }
+        ensures stays { StaysShown ⟦<Self as ScreenState>⟧ ⟦<Self as Output>⟧ self.old self.new }
+    {
+        mem::replace(&mut self.out, out)
     }
 
     /// Returns what is written to, and forgets what is shown.
