@@ -1,4 +1,3 @@
-pub mod Dim
 pub mod Expression
 pub mod Grammar
 pub mod Here

@@ -1,5 +1,7 @@
 pub mod Arguments
 pub mod Completing
+pub mod Dim
+pub mod Filed
 pub mod Kept
 pub mod OneChange
 pub mod OneSearch

@@ -21,7 +21,6 @@ use std::alloc::Global;
 use std::io::Write;
 
 /// Candidates that are gone through.
-#[derive(Drop)]
 pub struct Completing {
     /// Where the completed part of the line begins: a byte offset.
     pub start: usize,
@@ -31,6 +30,17 @@ pub struct Completing {
     pub shown: usize,
     /// Whether the changes have grown by the shown one.
     pub grown: bool,
+}
+
+impl Drop for Completing {
+    fn drop(self) {
+        let Completing {
+            start: _,
+            candidates: _,
+            shown: _,
+            grown: _,
+        } = self;
+    }
 }
 
 /// Asks the helper for candidates; where it has none, it beeps. By the settings it shows the first one, to go through them; or

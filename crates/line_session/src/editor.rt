@@ -23,6 +23,8 @@ use std::alloc::Global;
 use std::io::{self, Read, Write};
 use std::marker::Model;
 
+mod ready;
+
 /// The slots of the kill ring.
 const KILL_RING_SIZE: usize = 60;
 
@@ -255,6 +257,13 @@ impl<O: Write + Drop, H: Helper + Drop, S: History + Drop> Editor<O, H, S> {
     /// Returns what is written to.
     pub fn out(&self) -> &O {
         self.screen.out()
+    }
+
+    /// Writes to `out` from now on. Returns what was written to before.
+    pub fn replace_out(&mut self, out: O) -> O
+        ensures { self.new ≡ self.old }
+    {
+        self.screen.replace_out(out)
     }
 
     /// Returns whether bytes have begun something that `flush` would settle: a program then waits for more only a moment.

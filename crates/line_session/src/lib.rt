@@ -4,6 +4,7 @@
 pub mod arguments;
 mod begun;
 pub mod completing;
+pub mod dim_hints;
 pub mod editor;
 pub mod iter;
 pub mod laws;

@@ -21,7 +21,6 @@ use std::alloc::Global;
 use std::io::Write;
 
 /// Candidates that are listed row by row: down the first column, then down the next.
-#[derive(Drop)]
 pub struct Listing {
     /// The candidates, in the helper's order.
     pub candidates: Vec<Pair>,
@@ -33,6 +32,18 @@ pub struct Listing {
     pub rows: usize,
     /// The row that is listed next; None where it was asked whether to list at all.
     pub next: Option<usize>,
+}
+
+impl Drop for Listing {
+    fn drop(self) {
+        let Listing {
+            candidates: _,
+            width: _,
+            columns: _,
+            rows: _,
+            next: _,
+        } = self;
+    }
 }
 
 /// What a key says to a list.

@@ -37,7 +37,6 @@ pub struct Sought {
 }
 
 /// A search that is under way.
-#[derive(Drop)]
 pub struct Searching {
     /// Where it stands.
     pub now: Sought,
@@ -51,6 +50,19 @@ pub struct Searching {
     pub index: usize,
     /// Whether the changes have grown by the line that is shown.
     pub grown: bool,
+}
+
+impl Drop for Searching {
+    fn drop(self) {
+        let Searching {
+            now: _,
+            shorter: _,
+            direction: _,
+            pos: _,
+            index: _,
+            grown: _,
+        } = self;
+    }
 }
 
 /// What a command says to a search.
