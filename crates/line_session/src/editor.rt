@@ -386,6 +386,22 @@ impl<O: Write + Drop, H: Helper + Drop, S: History + Drop> Editor<O, H, S> {
         self.take_turns(bindings)
     }
 
+    /// Drops the line that goes on, if one does, and asks the terminal to mark pasted texts no more, where the settings say so. Keys
+    /// that were typed ahead are kept.
+    ///
+    /// # Errors
+    /// `Io`, where the output fails, and `Memory`. The line goes on then.
+    pub fn abandon(&mut self) -> Result<()>
+        ensures gone { OnOk result (self.new ≡ record self.old { line = None }) }
+        ensures kept { OnErr result (self.new ≡ self.old) }
+        ensures faults { FaultsOnly result }
+    {
+        if self.line.is_none() {
+            return Ok(());
+        }
+        self.leave(Fed::Ended).and(Ok(()))
+    }
+
     /// Gives the terminal another number of columns and of rows, and draws the line that has begun, if one has.
     ///
     /// # Errors
