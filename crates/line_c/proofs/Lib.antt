@@ -1,0 +1,4 @@
+pub mod Holding
+pub mod Pair
+pub mod Rows
+pub mod Steps

@@ -1,0 +1,83 @@
+-- Facts on what comes of a session's line.
+use Rattle.std.proofs.Common.{◌≡◌, ℕ, Bool, true, false, if◌then◌else◌, List, Option, Some, None, is_some, option_map, Result, Ok, Err, IfOk, OnErr, ap, refl, string_bytes, subst, sym}
+use Rattle.std.proofs.lemmas.Result.{IfOk-weaker}
+use Rattle.line_config.specs.declared.error.ReadlineError.{ReadlineError}
+use Rattle.line_parts.specs.Environment.{Environment}
+use Rattle.line_editor.specs.Binding.{Bound}
+use Rattle.line_session.specs.Sitting.{BegunLine, Sitting, suspends}
+use Rattle.line_session.specs.declared.editor.Fed.{Fed}
+use Rattle.line_session.specs.declared.editor.Fed.TheVariants as feds
+use Rattle.line_editor.specs.BoundCommands.{AreBound, BoundCommands}
+use Rattle.line_host.specs.Heard.{Hears, HearsBy, IsOfTerminal, turn_of}
+use Rattle.line_host.specs.Hosted.{Begins, CameTo, Hosted, Tells, Turns, with_editor}
+use Rattle.line_host.specs.Status.{IsFault}
+use Rattle.line_host.specs.declared.status.Status.{Status}
+use Rattle.line_host.specs.declared.status.Status.TheVariants as status
+use Rattle.line_host.specs.declared.session.Heard.{Heard}
+use Rattle.line_host.specs.declared.session.Heard.TheVariants as heards
+
+-- where one of two that agree is there, so is the other
+pub not_none : {A B C : Type 0} (f : A → C) (g : B → C) (one : Option A) (other : Option B) → option_map f one ≡ option_map g other → is_some one ≡ true → other ≡ None → ⊥
+not_none f g None other same is none = cc
+not_none f g (Some x) None same is none = cc
+not_none f g (Some x) (Some y) same is none = cc
+
+module _ {H : Type 0} (answers : H → List (List ℕ) → Environment) where
+  -- what came by bindings that are those of the commands
+  pub hears_under : (commands : BoundCommands) (bound : Bound) (heard : Heard) (old new : Sitting H) (told : Result Fed ReadlineError) → AreBound commands bound
+      → HearsBy answers bound heard old new told → Hears answers commands heard old new told
+  hears_under commands bound (heards.Line line) old new told are came = IfOk-weaker told _ _ (λ fed begins. (bound, are, begins)) came
+  hears_under commands bound (heards.Bytes bytes) old new told are came = λ begun line. IfOk-weaker told _ _ (λ fed turns. (bound, are, turns)) (came begun line)
+  hears_under commands bound heards.Pause old new told are came = λ begun line. IfOk-weaker told _ _ (λ fed turns. (bound, are, turns)) (came begun line)
+  hears_under commands bound heards.End old new told are came = λ begun line. IfOk-weaker told _ _ (λ fed turns. (bound, are, turns)) (came begun line)
+
+  -- the same of what is equal to it
+  pub hears_alike : (bound : Bound) (heard heard' : Heard) (old old' new : Sitting H) (told : Result Fed ReadlineError) → heard' ≡ heard → old ≡ old'
+      → HearsBy answers bound heard old new told → HearsBy answers bound heard' old' new told
+  hears_alike bound heard heard' old old' new told same_heard same came =
+      subst (λ h. HearsBy answers bound h old' new told) (sym same_heard) (subst (λ o. HearsBy answers bound heard o new told) same came)
+
+  -- of the terminal turns are taken
+  pub hears_turns : (commands : BoundCommands) (heard : Heard) (old new : Sitting H) (told : Result Fed ReadlineError) → IsOfTerminal heard
+      → Hears answers commands heard old new told → (begun : BegunLine) → old.line ≡ Some begun
+      → IfOk told (Turns answers commands (turn_of heard old.decoder) old begun new)
+  hears_turns commands (heards.Line line) old new told is hears = absurd is
+  hears_turns commands (heards.Bytes bytes) old new told is hears = hears
+  hears_turns commands heards.Pause old new told is hears = hears
+  hears_turns commands heards.End old new told is hears = hears
+
+  -- what came of a line that began is that of texts that are equal
+  pub begins_alike : (commands : BoundCommands) (prompt prompt' left left' right right' : List ℕ) (old new : Sitting H) (told : Result Fed ReadlineError)
+      → prompt ≡ prompt' → left ≡ left' → right ≡ right' → IfOk told (Begins answers commands prompt left right old new)
+      → IfOk told (Begins answers commands prompt' left' right' old new)
+  begins_alike commands prompt prompt' left left' right right' old new told same_prompt same_left same_right begins =
+      subst (λ p. IfOk told (Begins answers commands p left' right' old new)) same_prompt
+      (subst (λ l. IfOk told (Begins answers commands prompt l right' old new)) same_left
+      (subst (λ r. IfOk told (Begins answers commands prompt left r old new)) same_right begins))
+
+  -- what a status tells of a line is what came of it
+  pub tells_came : (Comes : Sitting H → Fed → Type 0) (old mid new : Hosted H) (fed : Result Fed ReadlineError) (came : Status)
+      → IfOk fed (Comes mid.editor) → mid ≡ with_editor mid.editor old → OnErr fed (mid.editor.lines ≡ old.editor.lines) → Tells fed mid new came
+      → CameTo (Comes new.editor) old new came
+  tells_came Comes old mid new (Ok feds.More) came comes stays lines told =
+      subst (λ n. CameTo (Comes n.editor) old n came) (sym told.1)
+      (subst (λ s. CameTo (Comes mid.editor) old mid s) (sym told.0) (by_suspended (suspends mid.editor) refl))
+    where
+      by_suspended : (b : Bool) → suspends mid.editor ≡ b → CameTo (Comes mid.editor) old mid (if b then status.Suspended else status.Done)
+      by_suspended true is = (comes, is, stays)
+      by_suspended false is = (comes, is, stays)
+  tells_came Comes old mid new (Ok (feds.Submitted text)) came comes stays lines told =
+      subst (λ n. CameTo (Comes n.editor) old n came) (sym told.1)
+      (subst (λ s. CameTo (Comes mid.editor) old (record mid { submitted = Some (string_bytes text) }) s) (sym told.0)
+      (text, comes, ap (λ (m : Hosted H). record m { submitted = Some (string_bytes text) }) stays))
+  tells_came Comes old mid new (Ok feds.Ended) came comes stays lines told =
+      subst (λ n. CameTo (Comes n.editor) old n came) (sym told.1) (subst (λ s. CameTo (Comes mid.editor) old mid s) (sym told.0) (comes, stays))
+  tells_came Comes old mid new (Ok feds.Interrupted) came comes stays lines told =
+      subst (λ n. CameTo (Comes n.editor) old n came) (sym told.1) (subst (λ s. CameTo (Comes mid.editor) old mid s) (sym told.0) (comes, stays))
+  tells_came Comes old mid new (Err error) came comes stays lines told =
+      subst (λ n. CameTo (Comes n.editor) old n came) (sym told.1) (by_fault came told.0)
+    where
+      by_fault : (came : Status) → IsFault came → CameTo (Comes mid.editor) old mid came
+      by_fault status.NoMemory fault = (tt, lines, stays)
+      by_fault status.Failed fault = (tt, lines, stays)
+      by_fault _ fault = absurd fault

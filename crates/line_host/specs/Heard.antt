@@ -1,0 +1,39 @@
+-- What is heard, and what comes of it.
+use Rattle.std.specs.Prelude.{◌≡◌, ℕ, List, [], Some, Result, IfOk}
+use Rattle.line_config.specs.declared.error.ReadlineError.{ReadlineError}
+use Rattle.line_parts.specs.Environment.{Environment}
+use Rattle.line_editor.specs.Binding.{Bound}
+use Rattle.line_term.specs.Decoder.{Standing, Turn, finished, flushed, read}
+use Rattle.line_session.specs.Sitting.{BegunLine, Came, CameBegun, Sitting, with_turn}
+use Rattle.line_session.specs.declared.editor.Fed.{Fed}
+use Rattle.line_editor.specs.BoundCommands.{BoundCommands}
+use Rattle.line_host.specs.Hosted.{Begins, Turns}
+use Rattle.line_host.specs.declared.session.Heard.{Heard}
+use Rattle.line_host.specs.declared.session.Heard.TheVariants as heard
+
+-- it is heard of the terminal, of a line that goes on
+abbrev pub IsOfTerminal : Heard → Type 0
+IsOfTerminal (heard.Line line) = ⊥
+IsOfTerminal other = Unit {0}
+
+-- what comes of bytes, of a pause, and of the end of all bytes; nothing comes of a line that begins
+abbrev pub turn_of : Heard → Standing → Turn
+turn_of (heard.Line line) standing = record { after = standing; items = [] }
+turn_of (heard.Bytes bytes) standing = read standing bytes.now
+turn_of heard.Pause standing = flushed standing
+turn_of heard.End standing = finished standing
+
+module _ {H : Type 0} (answers : H → List (List ℕ) → Environment) where
+  -- what came of it, by bindings
+  abbrev pub HearsBy : Bound → Heard → Sitting H → Sitting H → Result Fed ReadlineError → Type 0
+  HearsBy bound (heard.Line line) old new told =
+      IfOk told (CameBegun answers bound line.prompt.0.now line.initial.0.now line.initial.1.now old new)
+  HearsBy bound other old new told = (begun : BegunLine) → old.line ≡ Some begun
+      → IfOk told (Came answers bound (with_turn (turn_of other old.decoder) old) begun new)
+
+  -- the same, under bindings of the commands
+  abbrev pub Hears : BoundCommands → Heard → Sitting H → Sitting H → Result Fed ReadlineError → Type 0
+  Hears commands (heard.Line line) old new told =
+      IfOk told (Begins answers commands line.prompt.0.now line.initial.0.now line.initial.1.now old new)
+  Hears commands other old new told = (begun : BegunLine) → old.line ≡ Some begun
+      → IfOk told (Turns answers commands (turn_of other old.decoder) old begun new)

@@ -1,0 +1,53 @@
+-- What helps a session, and what answers for its lines.
+use Rattle.std.specs.Prelude.{◌≡◌, ◌≢◌, ◌&&◌, ℕ, nat_lt, if◌then◌else◌, List, Some, None, filter, is_some, length, map, option_map, String, string_bytes}
+use Rattle.std.specs.declared.alloc.Global.{Global}
+use Rattle.std.specs.Str.{IsUtf8}
+use Rattle.std.specs.Str.Lines.{lines}
+use Rattle.line_parts.specs.BracketMatch.{remembered}
+use Rattle.line_parts.specs.BracketVerdict.{bracket_verdict}
+use Rattle.line_parts.specs.Environment.{Environment}
+use Rattle.line_parts.specs.Hint.{suggested}
+use Rattle.line_parts.specs.HistoryHint.{history_hint}
+use Rattle.line_parts.specs.Verdict.{valid}
+use Rattle.line_host.specs.Hosted.{Hosted, with_editor}
+use Rattle.line_host.specs.Status.{IsDoneOrFault}
+use Rattle.line_host.specs.declared.status.Status.{Status}
+use Rattle.line_host.specs.declared.status.Status.TheVariants as status
+use Rattle.line_script.specs.declared.helper.ScriptHelper.{ScriptHelper}
+use Rattle.line_session.specs.Words.{completed_among}
+use Rattle.line_session.specs.declared.dim_hints.DimHints.{DimHints}
+use Rattle.line_session.specs.declared.parts.Parts.{Parts}
+use Rattle.line_session.specs.declared.words.Words.{Words}
+
+-- a completer of words; and switches for hints, for colors and for verdicts
+abbrev pub Helped : Type 0
+Helped = Parts Words ScriptHelper DimHints ScriptHelper (String Global) (String Global)
+
+-- the lines of a text that are not empty
+abbrev pub words_in : List ℕ → List (List ℕ)
+words_in text = filter (λ word. nat_lt 0 (length word)) (lines text)
+
+-- words are completed by those of a text from now on, and all else stays
+pub record CompletesWords (text : List ℕ) (old new : Hosted Helped) : Type 0 where
+  pub words : map string_bytes new.editor.helper.completer.words.items ≡ words_in text
+  pub others : new.editor.helper ≡ record old.editor.helper { completer = new.editor.helper.completer }
+  pub left : new ≡ with_editor (record old.editor { helper = new.editor.helper }) old
+
+-- the same, unless it is no text or there is a fault
+pub record SetsWords (text : List ℕ) (old new : Hosted Helped) (came : Status) : Type 0 where
+  pub completes : came ≡ status.Done → CompletesWords text old new
+  pub kept : came ≢ status.Done → new ≡ old
+  pub answers : IsUtf8 text → IsDoneOrFault came
+  pub no_text : ¬ (IsUtf8 text) → came ≡ status.NotText
+
+-- what answers for a line of a session: hints come from the history, a line is judged by its brackets and their matches are lit, each where it is
+-- switched on; and words complete
+abbrev pub answers : Helped → List (List ℕ) → Environment
+answers helper newest = record {
+  hint_at = λ shown. if helper.hinter.hints then option_map suggested (history_hint shown) else None;
+  verdict_at = Some (λ text. if helper.validator.brackets then bracket_verdict text else valid None);
+  lights = λ text cursor kind. helper.highlighter.lights_brackets && is_some (remembered text cursor kind);
+  own_completion = λ shown. Some (completed_among (map string_bytes helper.completer.words.items) shown.text shown.cursor);
+  own_update = λ written start elected. None;
+  lines = newest;
+}

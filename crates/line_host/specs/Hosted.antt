@@ -1,0 +1,153 @@
+-- What a host's session holds, and what comes of its calls.
+use Rattle.std.specs.Prelude.{◌≡◌, ◌≢◌, ◌<◌, ◌⊎◌, ◌++◌, ◌∷◌, [], ℕ, Bool, MatchOption, OnErr, OnOk, is_some, true, false, if◌then◌else◌, List, Option, Some, None, Result, Ok, Err, String, string_bytes}
+use Rattle.std.specs.Option.{option_or}
+use Rattle.std.specs.declared.alloc.Global.{Global}
+use Rattle.line_config.specs.declared.error.ReadlineError.{ReadlineError}
+use Rattle.std.specs.Str.{IsUtf8}
+use Rattle.line_parts.specs.Environment.{Environment}
+use Rattle.line_editor.specs.Binding.{Bound}
+use Rattle.line_term.specs.Decoder.{Turn}
+use Rattle.line_keys.specs.Command.{Command}
+use Rattle.line_parts.specs.History.{added, settled}
+use Rattle.line_parts.specs.HistoryText.{to_save}
+use Rattle.line_parts.specs.declared.escaped_line.Escapes.TheVariants.{V3}
+use Rattle.line_editor.specs.Event.{Chord}
+use Rattle.line_session.specs.Filed.{Files, LoadsText}
+use Rattle.line_session.specs.Sitting.{BegunLine, Came, CameBegun, Sitting, suspends, text_of, with_turn, written_so_far}
+use Rattle.line_session.specs.declared.editor.Fed.{Fed}
+use Rattle.line_session.specs.declared.editor.Fed.TheVariants as fed
+use Rattle.line_editor.specs.BoundCommands.{AreBound, BoundCommands}
+use Rattle.line_host.specs.Status.{IsDoneOrFault, IsFault}
+use Rattle.line_host.specs.declared.status.Status.{Status}
+use Rattle.line_host.specs.declared.status.Status.TheVariants as status
+
+-- a session: its editor; the commands that are bound to keys; the line that was submitted last, if one was; the bytes that are to be written to
+-- the terminal, of those that are taken at the moment; and those of a saved history
+pub record Hosted (H : Type 0) : Type 0 where
+  pub editor : Sitting H
+  pub commands : BoundCommands
+  pub submitted : Option (List ℕ)
+  pub output : List ℕ
+  pub saved : List ℕ
+
+-- these are texts: a prompt without styles and with them, and what stands before and behind the cursor
+abbrev pub AreTexts : List ℕ → List ℕ → List ℕ → List ℕ → Type 0
+AreTexts prompt styled left right = IsUtf8 prompt × IsUtf8 styled × IsUtf8 left × IsUtf8 right
+
+module _ {H : Type 0} where
+  -- the same session with another editor
+  abbrev pub with_editor : Sitting H → Hosted H → Hosted H
+  with_editor editor old = record old { editor = editor }
+
+  -- what came of a line, by its status: it goes on, or the program is suspended; it was submitted with its text; it ended or was interrupted; or
+  -- there was a fault, and nothing is lost
+  abbrev pub CameTo : (Fed → Type 0) → Hosted H → Hosted H → Status → Type 0
+  CameTo Comes old new status.Done = Comes fed.More × (suspends new.editor ≡ false) × (new ≡ with_editor new.editor old)
+  CameTo Comes old new status.Suspended = Comes fed.More × (suspends new.editor ≡ true) × (new ≡ with_editor new.editor old)
+  CameTo Comes old new status.Submitted =
+      (text : String Global) × Comes (fed.Submitted text) × (new ≡ record (with_editor new.editor old) { submitted = Some (string_bytes text) })
+  CameTo Comes old new status.Ended = Comes fed.Ended × (new ≡ with_editor new.editor old)
+  CameTo Comes old new status.Interrupted = Comes fed.Interrupted × (new ≡ with_editor new.editor old)
+  CameTo Comes old new other = IsFault other × (new.editor.lines ≡ old.editor.lines) × (new ≡ with_editor new.editor old)
+
+  -- the text of the line that goes on, or else of the one that was submitted last, if one was
+  abbrev pub line_of : Hosted H → Option (List ℕ)
+  line_of session = option_or (text_of session.editor) session.submitted
+
+  -- the line is dropped, which is told by this status; or there was a fault, and nothing changes
+  abbrev pub Drops : Status → Hosted H → Hosted H → Status → Type 0
+  Drops told old new came = ((came ≡ told) × (new ≡ with_editor (record old.editor { line = None }) old)) ⊎ (IsFault came × (new ≡ old))
+
+  -- the line that goes on is dropped, if one does
+  pub record Abandons (old new : Hosted H) (came : Status) : Type 0 where
+    pub no_line : old.editor.line ≡ None → (came ≡ status.NoLine) × (new ≡ old)
+    pub drops : is_some old.editor.line ≡ true → Drops status.Done old new came
+
+  -- columns and rows are the new ones, unless there are no columns; the line that goes on, if one does, stays
+  pub record ResizesTo (columns rows : ℕ) (old new : Hosted H) (came : Status) : Type 0 where
+    pub none : columns ≡ 0 → (came ≡ status.BadSetting) × (new ≡ old)
+    pub answers : 0 < columns → IsDoneOrFault came
+    pub stays : new ≡ with_editor new.editor old
+    pub columns_are : 0 < columns → new.editor.columns ≡ columns
+    pub rows_are : 0 < columns → new.editor.rows ≡ rows
+    pub line : written_so_far new.editor ≡ written_so_far old.editor
+    pub lines : new.editor.lines ≡ old.editor.lines
+    pub kills : new.editor.kills ≡ old.editor.kills
+    pub items : new.editor.items ≡ old.editor.items
+
+  -- a line was added to the history, by its rules; not while a line goes on, nor where it is no text or there was a fault
+  pub record AddsLine (line : List ℕ) (old new : Hosted H) (came : Status) : Type 0 where
+    pub adds : came ≡ status.Done → new ≡ with_editor (record old.editor { lines = added old.editor.takes old.editor.lines line }) old
+    pub kept : came ≢ status.Done → new ≡ old
+    pub has_line : is_some old.editor.line ≡ true → came ≡ status.HasLine
+    pub answers : old.editor.line ≡ None → IsUtf8 line → IsDoneOrFault came
+    pub no_text : old.editor.line ≡ None → ¬ (IsUtf8 line) → came ≡ status.NotText
+
+  -- a text was loaded into the history, or the first of its lines before there was a fault, or one that says no text
+  pub record LoadsBy (text : List ℕ) (old new : Hosted H) (came : Status) : Type 0 where
+    pub loaded : Result (Option Bool) ReadlineError
+    pub loads : Files (LoadsText loaded (Some text)) old.editor new.editor
+    pub done : OnOk loaded (came ≡ status.Done)
+    pub failed : OnErr loaded (IsFault came ⊎ (came ≡ status.NotText))
+
+  -- the same, unless a line goes on
+  pub record LoadsHistory (text : List ℕ) (old new : Hosted H) (came : Status) : Type 0 where
+    pub has_line : is_some old.editor.line ≡ true → (came ≡ status.HasLine) × (new ≡ old)
+    pub stays : new ≡ with_editor new.editor old
+    pub loads : old.editor.line ≡ None → LoadsBy text old new came
+
+  -- the text of the history was made, of all lines or of the new ones; not while a line goes on, and where there was a fault the text from before is
+  -- there
+  pub record SavesHistory (append : Bool) (old new : Hosted H) (came : Status) : Type 0 where
+    pub has_line : is_some old.editor.line ≡ true → (came ≡ status.HasLine) × (new ≡ old)
+    pub answers : old.editor.line ≡ None → IsDoneOrFault came
+    pub stays : new ≡ record (with_editor new.editor old) { saved = new.saved }
+    pub saves : came ≡ status.Done → Files (λ had has. (new.saved ≡ to_save V3 append had) × (has ≡ settled had)) old.editor new.editor
+    pub kept : came ≢ status.Done → (new.saved ≡ old.saved) × (new.editor.lines ≡ old.editor.lines)
+
+  -- the cursor of the line that goes on was told, if one does
+  abbrev pub TellsCursor : Hosted H → ℕ → ℕ → Status → Type 0
+  TellsCursor session before told came = MatchOption session.editor.line ((came ≡ status.NoLine) × (told ≡ before))
+      (λ begun. (came ≡ status.Done) × (told ≡ begun.kept.draft.line.cursor))
+
+  -- keys were bound to a command, or nothing was
+  pub record BindsKeys (old new : Hosted H) (came : Status) : Type 0 where
+    pub stays : new ≡ record old { commands = new.commands }
+    pub binds : came ≡ status.Done → (pair : Chord × Command) × (new.commands ≡ old.commands ++ pair ∷ [])
+    pub kept : came ≢ status.Done → new ≡ old
+
+  -- what a line comes to is told by a status, and the text of one that was submitted is kept
+  abbrev pub Tells : Result Fed ReadlineError → Hosted H → Hosted H → Status → Type 0
+  Tells (Ok fed.More) old new came = (came ≡ (if suspends old.editor then status.Suspended else status.Done)) × (new ≡ old)
+  Tells (Ok (fed.Submitted text)) old new came = (came ≡ status.Submitted) × (new ≡ record old { submitted = Some (string_bytes text) })
+  Tells (Ok fed.Ended) old new came = (came ≡ status.Ended) × (new ≡ old)
+  Tells (Ok fed.Interrupted) old new came = (came ≡ status.Interrupted) × (new ≡ old)
+  Tells (Err error) old new came = IsFault came × (new ≡ old)
+
+  module _ (answers : H → List (List ℕ) → Environment) where
+    -- what came of a line that had begun, under bindings of the commands
+    abbrev pub Turns : BoundCommands → Turn → Sitting H → BegunLine → Sitting H → Fed → Type 0
+    Turns commands turn old begun new fed = (bound : Bound) × AreBound commands bound × Came answers bound (with_turn turn old) begun new fed
+
+    -- what came of a line that began behind a prompt, with these texts before and behind the cursor
+    abbrev pub Begins : BoundCommands → List ℕ → List ℕ → List ℕ → Sitting H → Sitting H → Fed → Type 0
+    Begins commands prompt left right old new fed = (bound : Bound) × AreBound commands bound × CameBegun answers bound prompt left right old new fed
+
+    -- a line began behind a prompt, unless a text is none
+    pub record BeginsLine (prompt styled left right : List ℕ) (old new : Hosted H) (came : Status) : Type 0 where
+      pub begins : AreTexts prompt styled left right → CameTo (Begins old.commands prompt left right old.editor new.editor) old new came
+      pub no_text : ¬ (AreTexts prompt styled left right) → (came ≡ status.NotText) × (new ≡ old)
+
+    -- items were read, and their turns taken. Where no line had begun nothing changes
+    pub record TakesTurns (turn : Turn) (old new : Hosted H) (came : Status) : Type 0 where
+      pub no_line : old.editor.line ≡ None → (came ≡ status.NoLine) × (new ≡ old)
+      pub comes : (begun : BegunLine) → old.editor.line ≡ Some begun
+          → CameTo (Turns old.commands turn old.editor begun new.editor) old new came
+
+    -- the end of all bytes was read, and turns taken; a line that would go on ends
+    pub record Finishes (turn : Turn) (old new : Hosted H) (came : Status) : Type 0 where
+      pub left : Hosted H
+      pub told : Status
+      pub takes : TakesTurns turn old left told
+      pub ends : told ≡ status.Done → Drops status.Ended left new came
+      pub stands : told ≢ status.Done → (came ≡ told) × (new ≡ left)

@@ -1,0 +1,7 @@
+pub mod Copied
+pub mod Heard
+pub mod Helped
+pub mod Hosted
+pub mod New
+pub mod Settings
+pub mod Status

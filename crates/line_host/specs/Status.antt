@@ -1,0 +1,34 @@
+-- What a call of a session came to.
+use Rattle.std.specs.Prelude.{ℕ}
+use Rattle.line_host.specs.declared.status.Status.{Status}
+use Rattle.line_host.specs.declared.status.Status.TheVariants as status
+
+-- the number by which a host is told of a status
+abbrev pub code_of : Status → ℕ
+code_of status.Done = 0
+code_of status.Submitted = 1
+code_of status.Ended = 2
+code_of status.Interrupted = 3
+code_of status.Suspended = 4
+code_of status.NoMemory = 16
+code_of status.Failed = 17
+code_of status.NotText = 18
+code_of status.NoLine = 19
+code_of status.HasLine = 20
+code_of status.TooSmall = 21
+code_of status.NoKey = 22
+code_of status.NoCommand = 23
+code_of status.Empty = 24
+code_of status.InUse = 25
+code_of status.BadSetting = 27
+
+-- memory ran out, or input or output failed
+abbrev pub IsFault : Status → Type 0
+IsFault status.NoMemory = Unit {0}
+IsFault status.Failed = Unit {0}
+IsFault _ = ⊥
+
+-- it is done, or there was a fault
+abbrev pub IsDoneOrFault : Status → Type 0
+IsDoneOrFault status.Done = Unit {0}
+IsDoneOrFault other = IsFault other
