@@ -1,7 +1,7 @@
 //! The line editor for C: each function takes the handle of a session. The header of `hosts/c` says what it does.
 #![tactic(auto)]
 
-ghost use Rattle.std.specs.Prelude.{◌≡◌, [], None, Some, MatchOption, if◌then◌else◌};
+ghost use Rattle.std.specs.Prelude.{◌≡◌, [], None, Some, IfNone, MatchOption, if◌then◌else◌};
 ghost use Rattle.line_host.specs.Copied.{CopiesIfAny, Takes, TakesOutput};
 ghost use Rattle.line_host.specs.Helped.{answers, SetsWords};
 ghost use Rattle.line_host.specs.Hosted.{Abandons, AddsLine, BeginsLine, BindsKeys, Finishes, LoadsHistory, ResizesTo, SavesHistory, TakesTurns, TellsCursor, line_of};
@@ -149,9 +149,10 @@ pub extern "C" fn line_c_resize(handle: &mut Handle, alloc: Global, columns: u16
 /// Tells whether bytes have begun something that `line_c_flush` would settle: 1 where they have, and else 0.
 #[unsafe(no_mangle)]
 pub extern "C" fn line_c_is_waiting(handle: &mut Handle, alloc: Global, waiting: &mut u8) -> u32
-    ensures { OnSession handle.old handle.new result (λ old new came.
+    ensures session { OnSession handle.old handle.new result (λ old new came.
         (came ≡ Status.Done) × (new ≡ old)
         × (waiting.new ≡ (if is_waiting old.editor.decoder then 1 else 0))) }
+    ensures none { IfNone handle.old.session (waiting.new ≡ waiting.old) }
 {
     on_session!(handle, alloc, |session| {
         *waiting = u8::from(session.is_waiting());
@@ -167,9 +168,11 @@ pub extern "C" fn line_c_output(
     buffer: &mut [u8],
     taken: &mut usize,
 ) -> u32
-    ensures { OnSession handle.old handle.new result (λ old new came.
+    ensures session { OnSession handle.old handle.new result (λ old new came.
         (came ≡ Status.Done) × (new ≡ record old { output = new.output })
         × TakesOutput old.output new.output buffer.old buffer.new taken.new) }
+    ensures none { IfNone handle.old.session
+        ((buffer.new ≡ buffer.old) × (taken.new ≡ taken.old)) }
 {
     on_session!(handle, alloc, |session| {
         *taken = session.take_output(buffer);
@@ -185,8 +188,10 @@ pub extern "C" fn line_c_line(
     buffer: &mut [u8],
     length: &mut usize,
 ) -> u32
-    ensures { OnSession handle.old handle.new result (λ old new came.
+    ensures session { OnSession handle.old handle.new result (λ old new came.
         (new ≡ old) × CopiesIfAny (line_of old) buffer.old buffer.new length.new came) }
+    ensures none { IfNone handle.old.session
+        ((buffer.new ≡ buffer.old) × (length.new ≡ length.old)) }
 {
     on_session!(handle, alloc, |session| session.copy_line(buffer, length))
 }
@@ -194,8 +199,9 @@ pub extern "C" fn line_c_line(
 /// Tells the cursor of the line that goes on: a byte offset.
 #[unsafe(no_mangle)]
 pub extern "C" fn line_c_cursor(handle: &mut Handle, alloc: Global, cursor: &mut usize) -> u32
-    ensures { OnSession handle.old handle.new result (λ old new came.
+    ensures session { OnSession handle.old handle.new result (λ old new came.
         (new ≡ old) × TellsCursor old cursor.old cursor.new came) }
+    ensures none { IfNone handle.old.session (cursor.new ≡ cursor.old) }
 {
     on_session!(handle, alloc, |session| session.tell_cursor(cursor))
 }
@@ -237,9 +243,11 @@ pub extern "C" fn line_c_saved(
     buffer: &mut [u8],
     taken: &mut usize,
 ) -> u32
-    ensures { OnSession handle.old handle.new result (λ old new came.
+    ensures session { OnSession handle.old handle.new result (λ old new came.
         (came ≡ Status.Done) × (new ≡ record old { saved = new.saved })
         × Takes old.saved new.saved buffer.old buffer.new taken.new) }
+    ensures none { IfNone handle.old.session
+        ((buffer.new ≡ buffer.old) × (taken.new ≡ taken.old)) }
 {
     on_session!(handle, alloc, |session| {
         *taken = session.take_saved(buffer);

@@ -1,14 +1,14 @@
 -- Facts on what comes of a session's line.
-use Rattle.std.proofs.Common.{◌≡◌, ℕ, Bool, true, false, if◌then◌else◌, List, Option, Some, None, is_some, option_map, Result, Ok, Err, IfOk, OnErr, ap, refl, string_bytes, subst, sym}
+use Rattle.std.proofs.Common.{◌≡◌, ℕ, Bool, true, false, if◌then◌else◌, List, Option, Some, None, is_some, option_map, Result, Ok, Err, IfOk, OnErr, OnOk, ap, refl, string_bytes, subst, sym}
 use Rattle.std.proofs.lemmas.Result.{IfOk-weaker}
 use Rattle.line_config.specs.declared.error.ReadlineError.{ReadlineError}
 use Rattle.line_parts.specs.Environment.{Environment}
 use Rattle.line_editor.specs.Binding.{Bound}
-use Rattle.line_session.specs.Sitting.{BegunLine, Sitting, suspends}
+use Rattle.line_session.specs.Sitting.{BegunLine, LosesNothing, Sitting, suspends}
 use Rattle.line_session.specs.declared.editor.Fed.{Fed}
 use Rattle.line_session.specs.declared.editor.Fed.TheVariants as feds
 use Rattle.line_editor.specs.BoundCommands.{AreBound, BoundCommands}
-use Rattle.line_host.specs.Heard.{Hears, HearsBy, IsOfTerminal, turn_of}
+use Rattle.line_host.specs.Heard.{Hears, HearsBy, IsOfTerminal, Leaves, turn_of}
 use Rattle.line_host.specs.Hosted.{Begins, CameTo, Hosted, Tells, Turns, with_editor}
 use Rattle.line_host.specs.Status.{IsFault}
 use Rattle.line_host.specs.declared.status.Status.{Status}
@@ -26,10 +26,10 @@ module _ {H : Type 0} (answers : H → List (List ℕ) → Environment) where
   -- what came by bindings that are those of the commands
   pub hears_under : (commands : BoundCommands) (bound : Bound) (heard : Heard) (old new : Sitting H) (told : Result Fed ReadlineError) → AreBound commands bound
       → HearsBy answers bound heard old new told → Hears answers commands heard old new told
-  hears_under commands bound (heards.Line line) old new told are came = IfOk-weaker told _ _ (λ fed begins. (bound, are, begins)) came
-  hears_under commands bound (heards.Bytes bytes) old new told are came = λ begun line. IfOk-weaker told _ _ (λ fed turns. (bound, are, turns)) (came begun line)
-  hears_under commands bound heards.Pause old new told are came = λ begun line. IfOk-weaker told _ _ (λ fed turns. (bound, are, turns)) (came begun line)
-  hears_under commands bound heards.End old new told are came = λ begun line. IfOk-weaker told _ _ (λ fed turns. (bound, are, turns)) (came begun line)
+  hears_under commands bound (heards.Line line) old new told are came = IfOk-weaker told _ _ (λ fed begins. (bound, are, begins.0, begins.1)) came
+  hears_under commands bound (heards.Bytes bytes) old new told are came = λ begun line. IfOk-weaker told _ _ (λ fed turns. (bound, are, turns.0, turns.1)) (came begun line)
+  hears_under commands bound heards.Pause old new told are came = λ begun line. IfOk-weaker told _ _ (λ fed turns. (bound, are, turns.0, turns.1)) (came begun line)
+  hears_under commands bound heards.End old new told are came = λ begun line. IfOk-weaker told _ _ (λ fed turns. (bound, are, turns.0, turns.1)) (came begun line)
 
   -- the same of what is equal to it
   pub hears_alike : (bound : Bound) (heard heard' : Heard) (old old' new : Sitting H) (told : Result Fed ReadlineError) → heard' ≡ heard → old ≡ old'
@@ -56,28 +56,47 @@ module _ {H : Type 0} (answers : H → List (List ℕ) → Environment) where
       (subst (λ r. IfOk told (Begins answers commands prompt left r old new)) same_right begins))
 
   -- what a status tells of a line is what came of it
-  pub tells_came : (Comes : Sitting H → Fed → Type 0) (old mid new : Hosted H) (fed : Result Fed ReadlineError) (came : Status)
-      → IfOk fed (Comes mid.editor) → mid ≡ with_editor mid.editor old → OnErr fed (mid.editor.lines ≡ old.editor.lines) → Tells fed mid new came
-      → CameTo (Comes new.editor) old new came
-  tells_came Comes old mid new (Ok feds.More) came comes stays lines told =
-      subst (λ n. CameTo (Comes n.editor) old n came) (sym told.1)
-      (subst (λ s. CameTo (Comes mid.editor) old mid s) (sym told.0) (by_suspended (suspends mid.editor) refl))
+  pub tells_came : (Comes : Sitting H → Fed → Type 0) (Left : Sitting H → Type 0) (old mid new : Hosted H) (fed : Result Fed ReadlineError) (came : Status)
+      → IfOk fed (Comes mid.editor) → mid ≡ with_editor mid.editor old → OnErr fed (Left mid.editor) → Tells fed mid new came
+      → CameTo (Comes new.editor) (Left new.editor) old new came
+  tells_came Comes Left old mid new (Ok feds.More) came comes stays left told =
+      subst (λ n. CameTo (Comes n.editor) (Left n.editor) old n came) (sym told.1)
+      (subst (λ s. CameTo (Comes mid.editor) (Left mid.editor) old mid s) (sym told.0) (by_suspended (suspends mid.editor) refl))
     where
-      by_suspended : (b : Bool) → suspends mid.editor ≡ b → CameTo (Comes mid.editor) old mid (if b then status.Suspended else status.Done)
+      by_suspended : (b : Bool) → suspends mid.editor ≡ b → CameTo (Comes mid.editor) (Left mid.editor) old mid (if b then status.Suspended else status.Done)
       by_suspended true is = (comes, is, stays)
       by_suspended false is = (comes, is, stays)
-  tells_came Comes old mid new (Ok (feds.Submitted text)) came comes stays lines told =
-      subst (λ n. CameTo (Comes n.editor) old n came) (sym told.1)
-      (subst (λ s. CameTo (Comes mid.editor) old (record mid { submitted = Some (string_bytes text) }) s) (sym told.0)
+  tells_came Comes Left old mid new (Ok (feds.Submitted text)) came comes stays left told =
+      subst (λ n. CameTo (Comes n.editor) (Left n.editor) old n came) (sym told.1)
+      (subst (λ s. CameTo (Comes mid.editor) (Left mid.editor) old (record mid { submitted = Some (string_bytes text) }) s) (sym told.0)
       (text, comes, ap (λ (m : Hosted H). record m { submitted = Some (string_bytes text) }) stays))
-  tells_came Comes old mid new (Ok feds.Ended) came comes stays lines told =
-      subst (λ n. CameTo (Comes n.editor) old n came) (sym told.1) (subst (λ s. CameTo (Comes mid.editor) old mid s) (sym told.0) (comes, stays))
-  tells_came Comes old mid new (Ok feds.Interrupted) came comes stays lines told =
-      subst (λ n. CameTo (Comes n.editor) old n came) (sym told.1) (subst (λ s. CameTo (Comes mid.editor) old mid s) (sym told.0) (comes, stays))
-  tells_came Comes old mid new (Err error) came comes stays lines told =
-      subst (λ n. CameTo (Comes n.editor) old n came) (sym told.1) (by_fault came told.0)
+  tells_came Comes Left old mid new (Ok feds.Ended) came comes stays left told =
+      subst (λ n. CameTo (Comes n.editor) (Left n.editor) old n came) (sym told.1) (subst (λ s. CameTo (Comes mid.editor) (Left mid.editor) old mid s) (sym told.0) (comes, stays))
+  tells_came Comes Left old mid new (Ok feds.Interrupted) came comes stays left told =
+      subst (λ n. CameTo (Comes n.editor) (Left n.editor) old n came) (sym told.1) (subst (λ s. CameTo (Comes mid.editor) (Left mid.editor) old mid s) (sym told.0) (comes, stays))
+  tells_came Comes Left old mid new (Err error) came comes stays left told =
+      subst (λ n. CameTo (Comes n.editor) (Left n.editor) old n came) (sym told.1) (by_fault came told.0)
     where
-      by_fault : (came : Status) → IsFault came → CameTo (Comes mid.editor) old mid came
-      by_fault status.NoMemory fault = (tt, lines, stays)
-      by_fault status.Failed fault = (tt, lines, stays)
+      by_fault : (came : Status) → IsFault came → CameTo (Comes mid.editor) (Left mid.editor) old mid came
+      by_fault status.NoMemory fault = (tt, left, stays)
+      by_fault status.Failed fault = (tt, left, stays)
       by_fault _ fault = absurd fault
+
+  -- of the terminal nothing is lost where it failed
+  pub loses_nothing : (heard : Heard) (old new : Sitting H) (told : Result Fed ReadlineError) → IsOfTerminal heard → OnErr told (Leaves heard old new)
+      → OnErr told (LosesNothing old new)
+  loses_nothing (heards.Line line) old new told is left = absurd is
+  loses_nothing (heards.Bytes bytes) old new told is left = left
+  loses_nothing heards.Pause old new told is left = left
+  loses_nothing heards.End old new told is left = left
+
+  -- what is left of an equal one that failed is left of the other
+  pub leaves_alike : (heard heard' : Heard) (old old' new : Sitting H) (told : Result Fed ReadlineError) → heard' ≡ heard → old ≡ old'
+      → OnErr told (Leaves heard old new) → OnErr told (Leaves heard' old' new)
+  leaves_alike heard heard' old old' new told same_heard same left =
+      subst (λ h. OnErr told (Leaves h old' new)) (sym same_heard) (subst (λ o. OnErr told (Leaves heard o new)) same left)
+
+-- what holds of an answer, and what holds where there is one
+pub both : {T E : Type 0} (P : T → Type 0) (Q : Type 0) (told : Result T E) → IfOk told P → OnOk told Q → IfOk told (λ t. P t × Q)
+both P Q (Ok t) one other = (one, other)
+both P Q (Err e) one other = tt

@@ -10,7 +10,7 @@ pub record Takes (had has buffer filled : List ℕ) (count : ℕ) : Type 0 where
   pub left : has ≡ drop count had
   pub rest : drop count filled ≡ drop count buffer
 
--- the same of bytes that are to be written: where all that are kept were taken, those that were written since are taken
+-- the same of bytes that are to be written, or, where all of these were taken, of others
 pub record TakesOutput (had has buffer filled : List ℕ) (count : ℕ) : Type 0 where
   pub bytes : List ℕ
   pub kept : had ≢ [] → bytes ≡ had

@@ -10,7 +10,7 @@ use Rattle.line_parts.specs.Hint.{suggested}
 use Rattle.line_parts.specs.HistoryHint.{history_hint}
 use Rattle.line_parts.specs.Verdict.{valid}
 use Rattle.line_host.specs.Hosted.{Hosted, with_editor}
-use Rattle.line_host.specs.Status.{IsDoneOrFault}
+use Rattle.line_host.specs.Status.{IsDoneOrMemory}
 use Rattle.line_host.specs.declared.status.Status.{Status}
 use Rattle.line_host.specs.declared.status.Status.TheVariants as status
 use Rattle.line_script.specs.declared.helper.ScriptHelper.{ScriptHelper}
@@ -33,11 +33,11 @@ pub record CompletesWords (text : List ℕ) (old new : Hosted Helped) : Type 0 w
   pub others : new.editor.helper ≡ record old.editor.helper { completer = new.editor.helper.completer }
   pub left : new ≡ with_editor (record old.editor { helper = new.editor.helper }) old
 
--- the same, unless it is no text or there is a fault
+-- the same, unless it is no text or memory runs out
 pub record SetsWords (text : List ℕ) (old new : Hosted Helped) (came : Status) : Type 0 where
   pub completes : came ≡ status.Done → CompletesWords text old new
   pub kept : came ≢ status.Done → new ≡ old
-  pub answers : IsUtf8 text → IsDoneOrFault came
+  pub answers : IsUtf8 text → IsDoneOrMemory came
   pub no_text : ¬ (IsUtf8 text) → came ≡ status.NotText
 
 -- what answers for a line of a session: hints come from the history, a line is judged by its brackets and their matches are lit, each where it is

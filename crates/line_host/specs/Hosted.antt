@@ -13,11 +13,11 @@ use Rattle.line_parts.specs.HistoryText.{to_save}
 use Rattle.line_parts.specs.declared.escaped_line.Escapes.TheVariants.{V3}
 use Rattle.line_editor.specs.Event.{Chord}
 use Rattle.line_session.specs.Filed.{Files, LoadsText}
-use Rattle.line_session.specs.Sitting.{BegunLine, Came, CameBegun, Sitting, suspends, text_of, with_turn, written_so_far}
+use Rattle.line_session.specs.Sitting.{BegunLine, Came, CameBegun, Keeps, LosesNothing, Sitting, suspends, text_of, with_turn, written_so_far}
 use Rattle.line_session.specs.declared.editor.Fed.{Fed}
 use Rattle.line_session.specs.declared.editor.Fed.TheVariants as fed
 use Rattle.line_editor.specs.BoundCommands.{AreBound, BoundCommands}
-use Rattle.line_host.specs.Status.{IsDoneOrFault, IsFault}
+use Rattle.line_host.specs.Status.{IsDoneOrFault, IsFault, MayBind}
 use Rattle.line_host.specs.declared.status.Status.{Status}
 use Rattle.line_host.specs.declared.status.Status.TheVariants as status
 
@@ -40,15 +40,15 @@ module _ {H : Type 0} where
   with_editor editor old = record old { editor = editor }
 
   -- what came of a line, by its status: it goes on, or the program is suspended; it was submitted with its text; it ended or was interrupted; or
-  -- there was a fault, and nothing is lost
-  abbrev pub CameTo : (Fed → Type 0) → Hosted H → Hosted H → Status → Type 0
-  CameTo Comes old new status.Done = Comes fed.More × (suspends new.editor ≡ false) × (new ≡ with_editor new.editor old)
-  CameTo Comes old new status.Suspended = Comes fed.More × (suspends new.editor ≡ true) × (new ≡ with_editor new.editor old)
-  CameTo Comes old new status.Submitted =
+  -- there was a fault, and something is left
+  abbrev pub CameTo : (Fed → Type 0) → Type 0 → Hosted H → Hosted H → Status → Type 0
+  CameTo Comes Left old new status.Done = Comes fed.More × (suspends new.editor ≡ false) × (new ≡ with_editor new.editor old)
+  CameTo Comes Left old new status.Suspended = Comes fed.More × (suspends new.editor ≡ true) × (new ≡ with_editor new.editor old)
+  CameTo Comes Left old new status.Submitted =
       (text : String Global) × Comes (fed.Submitted text) × (new ≡ record (with_editor new.editor old) { submitted = Some (string_bytes text) })
-  CameTo Comes old new status.Ended = Comes fed.Ended × (new ≡ with_editor new.editor old)
-  CameTo Comes old new status.Interrupted = Comes fed.Interrupted × (new ≡ with_editor new.editor old)
-  CameTo Comes old new other = IsFault other × (new.editor.lines ≡ old.editor.lines) × (new ≡ with_editor new.editor old)
+  CameTo Comes Left old new status.Ended = Comes fed.Ended × (new ≡ with_editor new.editor old)
+  CameTo Comes Left old new status.Interrupted = Comes fed.Interrupted × (new ≡ with_editor new.editor old)
+  CameTo Comes Left old new other = IsFault other × Left × (new ≡ with_editor new.editor old)
 
   -- the text of the line that goes on, or else of the one that was submitted last, if one was
   abbrev pub line_of : Hosted H → Option (List ℕ)
@@ -62,18 +62,6 @@ module _ {H : Type 0} where
   pub record Abandons (old new : Hosted H) (came : Status) : Type 0 where
     pub no_line : old.editor.line ≡ None → (came ≡ status.NoLine) × (new ≡ old)
     pub drops : is_some old.editor.line ≡ true → Drops status.Done old new came
-
-  -- columns and rows are the new ones, unless there are no columns; the line that goes on, if one does, stays
-  pub record ResizesTo (columns rows : ℕ) (old new : Hosted H) (came : Status) : Type 0 where
-    pub none : columns ≡ 0 → (came ≡ status.BadSetting) × (new ≡ old)
-    pub answers : 0 < columns → IsDoneOrFault came
-    pub stays : new ≡ with_editor new.editor old
-    pub columns_are : 0 < columns → new.editor.columns ≡ columns
-    pub rows_are : 0 < columns → new.editor.rows ≡ rows
-    pub line : written_so_far new.editor ≡ written_so_far old.editor
-    pub lines : new.editor.lines ≡ old.editor.lines
-    pub kills : new.editor.kills ≡ old.editor.kills
-    pub items : new.editor.items ≡ old.editor.items
 
   -- a line was added to the history, by its rules; not while a line goes on, nor where it is no text or there was a fault
   pub record AddsLine (line : List ℕ) (old new : Hosted H) (came : Status) : Type 0 where
@@ -96,23 +84,25 @@ module _ {H : Type 0} where
     pub stays : new ≡ with_editor new.editor old
     pub loads : old.editor.line ≡ None → LoadsBy text old new came
 
-  -- the text of the history was made, of all lines or of the new ones; not while a line goes on, and where there was a fault the text from before is
-  -- there
+  -- the text of the history was made, of all lines or of the last so many that are new; not while a line goes on, and where there was a fault
+  -- nothing changed
   pub record SavesHistory (append : Bool) (old new : Hosted H) (came : Status) : Type 0 where
     pub has_line : is_some old.editor.line ≡ true → (came ≡ status.HasLine) × (new ≡ old)
     pub answers : old.editor.line ≡ None → IsDoneOrFault came
     pub stays : new ≡ record (with_editor new.editor old) { saved = new.saved }
     pub saves : came ≡ status.Done → Files (λ had has. (new.saved ≡ to_save V3 append had) × (has ≡ settled had)) old.editor new.editor
-    pub kept : came ≢ status.Done → (new.saved ≡ old.saved) × (new.editor.lines ≡ old.editor.lines)
+    pub kept : came ≢ status.Done → new ≡ old
 
   -- the cursor of the line that goes on was told, if one does
   abbrev pub TellsCursor : Hosted H → ℕ → ℕ → Status → Type 0
   TellsCursor session before told came = MatchOption session.editor.line ((came ≡ status.NoLine) × (told ≡ before))
       (λ begun. (came ≡ status.Done) × (told ≡ begun.kept.draft.line.cursor))
 
-  -- keys were bound to a command, or nothing was
-  pub record BindsKeys (old new : Hosted H) (came : Status) : Type 0 where
+  -- keys were bound to a command, by texts that are names; or nothing was
+  pub record BindsKeys (keys command : List ℕ) (old new : Hosted H) (came : Status) : Type 0 where
     pub stays : new ≡ record old { commands = new.commands }
+    pub no_text : ¬ (IsUtf8 keys × IsUtf8 command) → came ≡ status.NotText
+    pub answers : IsUtf8 keys → IsUtf8 command → MayBind came
     pub binds : came ≡ status.Done → (pair : Chord × Command) × (new.commands ≡ old.commands ++ pair ∷ [])
     pub kept : came ≢ status.Done → new ≡ old
 
@@ -127,22 +117,25 @@ module _ {H : Type 0} where
   module _ (answers : H → List (List ℕ) → Environment) where
     -- what came of a line that had begun, under bindings of the commands
     abbrev pub Turns : BoundCommands → Turn → Sitting H → BegunLine → Sitting H → Fed → Type 0
-    Turns commands turn old begun new fed = (bound : Bound) × AreBound commands bound × Came answers bound (with_turn turn old) begun new fed
+    Turns commands turn old begun new fed = (bound : Bound) × AreBound commands bound
+        × Came answers bound (with_turn turn old) begun new fed × Keeps answers (with_turn turn old) new
 
     -- what came of a line that began behind a prompt, with these texts before and behind the cursor
     abbrev pub Begins : BoundCommands → List ℕ → List ℕ → List ℕ → Sitting H → Sitting H → Fed → Type 0
-    Begins commands prompt left right old new fed = (bound : Bound) × AreBound commands bound × CameBegun answers bound prompt left right old new fed
+    Begins commands prompt left right old new fed = (bound : Bound) × AreBound commands bound
+        × CameBegun answers bound prompt left right old new fed × Keeps answers old new
 
-    -- a line began behind a prompt, unless a text is none
+    -- a line began behind a prompt, unless a text is none. After a fault the lines of the history are there
     pub record BeginsLine (prompt styled left right : List ℕ) (old new : Hosted H) (came : Status) : Type 0 where
-      pub begins : AreTexts prompt styled left right → CameTo (Begins old.commands prompt left right old.editor new.editor) old new came
+      pub begins : AreTexts prompt styled left right → CameTo (Begins old.commands prompt left right old.editor new.editor)
+          (new.editor.lines ≡ old.editor.lines) old new came
       pub no_text : ¬ (AreTexts prompt styled left right) → (came ≡ status.NotText) × (new ≡ old)
 
-    -- items were read, and their turns taken. Where no line had begun nothing changes
+    -- items were read, and their turns taken. Where no line had begun nothing changes. After a fault nothing is lost
     pub record TakesTurns (turn : Turn) (old new : Hosted H) (came : Status) : Type 0 where
       pub no_line : old.editor.line ≡ None → (came ≡ status.NoLine) × (new ≡ old)
       pub comes : (begun : BegunLine) → old.editor.line ≡ Some begun
-          → CameTo (Turns old.commands turn old.editor begun new.editor) old new came
+          → CameTo (Turns old.commands turn old.editor begun new.editor) (LosesNothing old.editor new.editor) old new came
 
     -- the end of all bytes was read, and turns taken; a line that would go on ends
     pub record Finishes (turn : Turn) (old new : Hosted H) (came : Status) : Type 0 where
@@ -151,3 +144,14 @@ module _ {H : Type 0} where
       pub takes : TakesTurns turn old left told
       pub ends : told ≡ status.Done → Drops status.Ended left new came
       pub stands : told ≢ status.Done → (came ≡ told) × (new ≡ left)
+
+    -- columns and rows are the new ones, unless there are no columns; the line that goes on, if one does, stays, and so does all else
+    pub record ResizesTo (columns rows : ℕ) (old new : Hosted H) (came : Status) : Type 0 where
+      pub none : columns ≡ 0 → (came ≡ status.BadSetting) × (new ≡ old)
+      pub answered : 0 < columns → IsDoneOrFault came
+      pub stays : new ≡ with_editor new.editor old
+      pub line : written_so_far new.editor ≡ written_so_far old.editor
+      pub lines : new.editor.lines ≡ old.editor.lines
+      pub kills : new.editor.kills ≡ old.editor.kills
+      pub items : new.editor.items ≡ old.editor.items
+      pub keeps : 0 < columns → Keeps answers (record old.editor { columns = columns; rows = rows }) new.editor

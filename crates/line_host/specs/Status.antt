@@ -32,3 +32,15 @@ IsFault _ = ⊥
 abbrev pub IsDoneOrFault : Status → Type 0
 IsDoneOrFault status.Done = Unit {0}
 IsDoneOrFault other = IsFault other
+
+-- it is done, or memory ran out
+abbrev pub IsDoneOrMemory : Status → Type 0
+IsDoneOrMemory status.Done = Unit {0}
+IsDoneOrMemory status.NoMemory = Unit {0}
+IsDoneOrMemory _ = ⊥
+
+-- keys were bound, or a name names no key or no command, or memory ran out
+abbrev pub MayBind : Status → Type 0
+MayBind status.NoKey = Unit {0}
+MayBind status.NoCommand = Unit {0}
+MayBind other = IsDoneOrMemory other

@@ -38,7 +38,7 @@ impl Pieces {
 
     /// Returns whether all bytes were taken.
     pub fn is_empty(&self) -> bool
-        ensures { result ≡ true → self.now ≡ [] }
+        ensures { result ≡ true ↔ self.now ≡ [] }
     {
         self.taken == self.bytes.len()
     }

@@ -4,7 +4,7 @@ ghost use Rattle.line_config.specs.Error.{FaultsOnly, MemoryOnly};
 ghost use Rattle.line_host.specs.Copied.{CopiesIfAny, Takes, TakesOutput};
 ghost use Rattle.line_host.specs.Helped.{SetsWords, answers, words_in};
 ghost use Rattle.line_host.specs.Hosted.{Abandons, AddsLine, BeginsLine, Drops, Finishes, BindsKeys, LoadsHistory, ResizesTo, SavesHistory, TakesTurns, Tells, TellsCursor, line_of, with_editor};
-ghost use Rattle.line_host.specs.Heard.{Hears, HearsBy, IsOfTerminal, turn_of};
+ghost use Rattle.line_host.specs.Heard.{Hears, HearsBy, IsOfTerminal, Leaves, turn_of};
 ghost use Rattle.line_host.specs.New.{IsNew, Refuses};
 ghost use Rattle.line_editor.specs.Binding.{bound_of};
 ghost use Rattle.line_term.specs.Decoder.{finished, flushed, is_waiting, read};
@@ -219,7 +219,7 @@ impl Session {
         ensures hears { Hears answers self.old.commands heard.entry self.old.editor
             self.new.editor result }
         ensures stays { self.new ≡ with_editor self.new.editor self.old }
-        ensures lines { OnErr result (self.new.editor.lines ≡ self.old.editor.lines) }
+        ensures left { OnErr result (Leaves heard.entry self.old.editor self.new.editor) }
         ensures faults { FaultsOnly result }
     {
         let bindings = Bindings::of_commands(self.alloc, self.commands.as_slice())?;
@@ -232,7 +232,7 @@ impl Session {
             HearsBy answers (bound_of g bindings.now) heard.entry self.old.editor
             self.new.editor result }
         ensures stays { self.new ≡ with_editor self.new.editor self.old }
-        ensures lines { OnErr result (self.new.editor.lines ≡ self.old.editor.lines) }
+        ensures left { OnErr result (Leaves heard.entry self.old.editor self.new.editor) }
         ensures faults { FaultsOnly result }
     {
         match heard {
@@ -266,7 +266,7 @@ impl Session {
     /// Returns `Done`; `BadSetting`, where there are no columns, and nothing changes; or `NoMemory` or `Failed`: columns and rows are the
     /// new ones then, and the line is drawn at the next call.
     pub fn resize(&mut self, columns: Unit, rows: Unit) -> Status
-        ensures { ResizesTo columns rows self.old self.new result }
+        ensures { ResizesTo answers columns rows self.old self.new result }
     {
         if columns == 0 {
             return Status::BadSetting;
@@ -417,7 +417,7 @@ impl Session {
     /// Returns `Done`; `NoKey`, where a key is not called so; `NoCommand`, where no command is; `NotText`, where a name is not UTF-8; or
     /// `NoMemory`. Nothing was bound then.
     pub fn bind(&mut self, keys: &[u8], command: &[u8]) -> Status
-        ensures { BindsKeys self.old self.new result }
+        ensures { BindsKeys keys.now command.now self.old self.new result }
     {
         let (Ok(keys), Ok(command)) = (str::from_utf8(keys), str::from_utf8(command)) else {
             return Status::NotText;

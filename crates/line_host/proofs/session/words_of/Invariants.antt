@@ -1,4 +1,4 @@
-use Rattle.std.proofs.Common.{◌≡◌, ◌<◌, filter, length, map, nat_lt, string_bytes}
+use Rattle.std.proofs.Common.{◌≡◌, filter, length, map, nat_lt, string_bytes}
 use Rattle.line_host.proofs.session.words_of.Given as goal
 
 abbrev pub invariant-loop-word : goal.invariant-loop-word

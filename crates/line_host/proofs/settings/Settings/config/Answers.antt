@@ -1,4 +1,4 @@
-use Rattle.std.proofs.Common.{refl, ap, sym, ◌∙◌}
+use Rattle.std.proofs.Common.{refl}
 use Rattle.line_host.proofs.settings.Settings.config.Goals as goal
 
 pub returns-clause-config : goal.returns-clause-config

@@ -1,0 +1,20 @@
+use Rattle.std.proofs.Common.{ap, refl, subst, ◌∙◌, sym}
+use Rattle.line_host.specs.Helped.{Helped, answers}
+use Rattle.line_session.specs.Sitting.{Keeps, Sitting, written_so_far}
+use Rattle.line_host.proofs.session.Session.resize.Goals as goal
+
+pub returns : goal.returns
+returns c =
+    let same = ap (λ s. s.editor) c.self.view_is in
+    record {
+      none = λ zero. absurd (c.if-columns-eq0.false zero);
+      answered = λ positive. search;
+      stays = search;
+      line = c.resize-drawn.ensures.written ∙ ap written_so_far same;
+      lines = c.resize-drawn.ensures.lines ∙ ap (λ s. s.lines) same;
+      kills = c.resize-drawn.ensures.kills ∙ ap (λ s. s.kills) same;
+      items = c.resize-drawn.ensures.items ∙ ap (λ s. s.items) same;
+      keeps = λ positive.
+          subst (λ (s : Sitting Helped). Keeps answers (record s { columns = c.args.columns; rows = c.args.rows }) c.resize-drawn.new.self) same
+          c.resize-drawn.ensures.keeps;
+    }
