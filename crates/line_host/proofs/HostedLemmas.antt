@@ -1,5 +1,5 @@
 -- Facts on what comes of a session's line.
-use Rattle.std.proofs.Common.{◌≡◌, ℕ, Bool, true, false, if◌then◌else◌, List, Option, Some, None, is_some, option_map, Result, Ok, Err, IfOk, OnErr, OnOk, ap, refl, string_bytes, subst, sym}
+use Rattle.std.proofs.Common.{◌≡◌, ℕ, Bool, true, false, if◌then◌else◌, List, Option, Some, None, is_some, option_map, Result, Ok, Err, IfOk, MatchResult, is_ok, OnErr, OnOk, ap, refl, string_bytes, subst, sym}
 use Rattle.std.proofs.lemmas.Result.{IfOk-weaker}
 use Rattle.line_config.specs.declared.error.ReadlineError.{ReadlineError}
 use Rattle.line_parts.specs.Environment.{Environment}
@@ -10,7 +10,7 @@ use Rattle.line_session.specs.declared.editor.Fed.TheVariants as feds
 use Rattle.line_editor.specs.BoundCommands.{AreBound, BoundCommands}
 use Rattle.line_host.specs.Heard.{Hears, HearsBy, IsOfTerminal, Leaves, turn_of}
 use Rattle.line_host.specs.Hosted.{Begins, CameTo, Hosted, Tells, Turns, with_editor}
-use Rattle.line_host.specs.Status.{IsFault}
+use Rattle.line_host.specs.Status.{IsDoneOrFault, IsFault}
 use Rattle.line_host.specs.declared.status.Status.{Status}
 use Rattle.line_host.specs.declared.status.Status.TheVariants as status
 use Rattle.line_host.specs.declared.session.Heard.{Heard}
@@ -21,6 +21,17 @@ pub not_none : {A B C : Type 0} (f : A → C) (g : B → C) (one : Option A) (ot
 not_none f g None other same is none = cc
 not_none f g (Some x) None same is none = cc
 not_none f g (Some x) (Some y) same is none = cc
+
+-- what holds of an answer holds of it where its error was mapped
+pub mapped_ok : {T E : Type 0} (D : Type 0) (P : T → Type 0) (R : E → Type 0) (told : Result T E) (t : T)
+    → MatchResult told (λ x. ◌≡◌ {A = Result T D} (Ok t) (Ok x)) R → is_ok {T = T} {E = D} (Ok t) ≡ is_ok told → IfOk told P → P t
+mapped_ok D P R (Ok x) t same alike holds = subst (λ r. IfOk r P) (sym same) holds
+mapped_ok D P R (Err e) t same alike holds = cc
+
+-- an option that is mapped to none is none
+pub none_mapped : {A C : Type 0} (f : A → C) (one : Option A) → option_map f one ≡ None → one ≡ None
+none_mapped f None none = refl
+none_mapped f (Some x) none = cc
 
 module _ {H : Type 0} (answers : H → List (List ℕ) → Environment) where
   -- what came by bindings that are those of the commands
@@ -100,3 +111,10 @@ module _ {H : Type 0} (answers : H → List (List ℕ) → Environment) where
 pub both : {T E : Type 0} (P : T → Type 0) (Q : Type 0) (told : Result T E) → IfOk told P → OnOk told Q → IfOk told (λ t. P t × Q)
 both P Q (Ok t) one other = (one, other)
 both P Q (Err e) one other = tt
+
+-- a status that tells whether it was done
+pub done_or_fault : {T E : Type 0} (done : Result T E) (came : Status) → OnOk done (came ≡ status.Done) → OnErr done (IsFault came) → IsDoneOrFault came
+done_or_fault (Ok t) came is fault = subst IsDoneOrFault (sym is) tt
+done_or_fault (Err e) status.NoMemory is fault = tt
+done_or_fault (Err e) status.Failed is fault = tt
+done_or_fault (Err e) _ is fault = absurd fault

@@ -1,5 +1,5 @@
 //! Bytes that are taken in pieces.
-ghost use Rattle.std.specs.Prelude.{◌≡◌, ◌≤◌, List, ℕ, [], true, drop, length, min, take};
+ghost use Rattle.std.specs.Prelude.{◌≡◌, ◌↔◌, ◌≤◌, List, ℕ, [], true, drop, length, min, take};
 ghost use Rattle.line_host.specs.Copied.{Copies, Takes};
 
 use crate::status::Status;
