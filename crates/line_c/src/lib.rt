@@ -141,7 +141,8 @@ pub extern "C" fn line_c_abandon(handle: &mut Handle, alloc: Global) -> u32
 /// Gives the terminal another number of columns and of rows.
 #[unsafe(no_mangle)]
 pub extern "C" fn line_c_resize(handle: &mut Handle, alloc: Global, columns: u16, rows: u16) -> u32
-    ensures { OnSession handle.old handle.new result (ResizesTo columns rows) }
+    ensures { OnSession handle.old handle.new result
+        (ResizesTo answers columns rows) }
 {
     on_session!(handle, alloc, |session| session.resize(columns, rows))
 }
@@ -271,7 +272,8 @@ pub extern "C" fn line_c_bind(
     keys: &[u8],
     command: &[u8],
 ) -> u32
-    ensures { OnSession handle.old handle.new result BindsKeys }
+    ensures { OnSession handle.old handle.new result
+        (BindsKeys keys.now command.now) }
 {
     on_session!(handle, alloc, |session| session.bind(keys, command))
 }
