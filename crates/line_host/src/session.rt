@@ -131,8 +131,8 @@ impl Session {
     /// reads the keys that were typed ahead. A line that goes on is dropped.
     ///
     /// Returns `Done`, where the line goes on; `Suspended`; `Submitted`; `Ended`; `Interrupted`; or a fault, `NoMemory` or `Failed`:
-    /// where the line has begun then it goes on at the next call, and where not, the one before it. Returns `NotText`, where one of
-    /// these texts is not UTF-8, and nothing changes then.
+    /// where the line has begun then it goes on at the next call, and where not, the one before it, or none. Returns `NotText`, where
+    /// one of these texts is not UTF-8, and nothing changes then.
     pub fn begin(&mut self, prompt: &[u8], styled: &[u8], left: &[u8], right: &[u8]) -> Status
         ensures { BeginsLine answers prompt.now styled.now left.now right.now self.old self.new
             result }
@@ -297,7 +297,8 @@ impl Session {
 
     /// Copies the text of the line that goes on, or else of the one that was submitted last, into `buffer`. Tells its length, in bytes.
     ///
-    /// Returns `Done`; `TooSmall`, where the buffer has no room for all of it; or `NoLine`, where there was no line. Nothing is copied then.
+    /// Returns `Done`; `TooSmall`, where the buffer has no room for all of it; or `NoLine`, where no line goes on and none was
+    /// submitted. Nothing is copied then.
     pub fn copy_line(&self, buffer: &mut [u8], told: &mut usize) -> Status
         ensures { CopiesIfAny (line_of self.now) buffer.old buffer.new told.new result }
     {
