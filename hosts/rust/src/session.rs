@@ -1,0 +1,198 @@
+//! A line, from its prompt to its end.
+
+use std::io::{self, BufRead, Write};
+
+use crate::error::{ReadlineError, Result};
+use crate::handle::{Handle, Progress};
+use crate::terminal::{self, Terminal, Wake};
+
+/// How many bytes are read at once.
+const PIECE: usize = 4096;
+
+/// The key at which words are completed.
+const TAB: u8 = b'\t';
+
+/// Gives the words that may complete a line, which it is handed with the cursor's place in bytes.
+pub(crate) type Completer = Box<dyn FnMut(&str, usize) -> Vec<String>>;
+
+/// What a line begins with.
+pub(crate) struct Start<'a> {
+    /// The prompt without escape sequences.
+    pub(crate) prompt: &'a str,
+    /// The prompt as it is shown.
+    pub(crate) styled: &'a str,
+    /// The texts before and behind the cursor.
+    pub(crate) initial: (&'a str, &'a str),
+}
+
+/// What a line is read with.
+pub(crate) struct Session<'a> {
+    /// The editor.
+    pub(crate) handle: &'a mut Handle,
+    /// Bytes that were read and not yet handed over.
+    pub(crate) typed: &'a mut Vec<u8>,
+    /// Who is asked for words.
+    pub(crate) completer: Option<&'a mut Completer>,
+    /// How many milliseconds the byte behind an Esc is waited for; `None` stands for without end.
+    pub(crate) timeout: Option<u16>,
+    /// The terminal.
+    pub(crate) terminal: Terminal,
+}
+
+impl Session<'_> {
+    /// Reads a line. Where that fails, the line is dropped: what was drawn of it stays, and what
+    /// comes next stands below.
+    pub(crate) fn read(&mut self, start: &Start<'_>) -> Result<String> {
+        let answer = self.read_to_end(start);
+        // The error that came first is the one that is told.
+        if matches!(answer, Err(ReadlineError::Io(_)))
+            && !matches!(self.handle.drop_line(), Ok(false))
+        {
+            self.terminal.break_off();
+        }
+        answer
+    }
+
+    /// Reads a line to its end.
+    fn read_to_end(&mut self, start: &Start<'_>) -> Result<String> {
+        let (columns, rows) = terminal::size_or_usual();
+        self.handle.resize(columns, rows)?;
+        let mut progress = self.handle.begin(start.prompt, start.styled, start.initial);
+        loop {
+            self.show()?;
+            progress = match progress? {
+                Progress::Reading if self.typed.is_empty() => self.await_more(),
+                Progress::Reading => self.feed_typed(),
+                Progress::Suspended => {
+                    self.terminal.suspend()?;
+                    self.draw_anew()
+                }
+                Progress::Submitted => return self.handle.line(),
+                Progress::Ended => return Err(ReadlineError::Eof),
+                Progress::Interrupted => return Err(ReadlineError::Interrupted),
+            };
+        }
+    }
+
+    /// Writes what was drawn.
+    fn show(&mut self) -> Result<()> {
+        let drawn = self.handle.take_output()?;
+        Ok(terminal::write_all(&drawn)?)
+    }
+
+    /// Draws the line anew, for the size that the terminal has now.
+    fn draw_anew(&mut self) -> Result<Progress> {
+        let (columns, rows) = terminal::size_or_usual();
+        self.handle.resize(columns, rows)?;
+        self.handle.feed(&[])
+    }
+
+    /// Waits for what comes next.
+    fn await_more(&mut self) -> Result<Progress> {
+        let limit = if self.handle.is_waiting()? {
+            self.timeout
+        } else {
+            None
+        };
+        match self.terminal.wait(limit)? {
+            Wake::Input => self.take_input(),
+            Wake::Pause => self.handle.flush(),
+            Wake::Signal => {
+                self.terminal.take_again()?;
+                self.draw_anew()
+            }
+        }
+    }
+
+    /// Reads what was typed, or finds that nothing will come any more.
+    fn take_input(&mut self) -> Result<Progress> {
+        let mut buffer = [0; PIECE];
+        match self.terminal.read(&mut buffer)? {
+            Some(0) => self.handle.finish(),
+            Some(read) => {
+                self.typed
+                    .extend_from_slice(buffer.get(..read).unwrap_or_default());
+                self.feed_typed()
+            }
+            None => Ok(Progress::Reading),
+        }
+    }
+
+    /// Hands what was typed over. Where there is a completer, what stands before a Tab goes first,
+    /// so that the completer sees the line as it is at the Tab.
+    fn feed_typed(&mut self) -> Result<Progress> {
+        let Some(completer) = &mut self.completer else {
+            return self.handle.feed(&std::mem::take(self.typed));
+        };
+        if self.typed.first() == Some(&TAB) {
+            let cursor = self.handle.cursor()?.unwrap_or(0);
+            let words = completer(&self.handle.line()?, cursor);
+            self.handle.set_words(&one_a_line(&words))?;
+        }
+        let piece: Vec<u8> = self.typed.drain(..piece_len(self.typed)).collect();
+        self.handle.feed(&piece)
+    }
+}
+
+/// Returns how many bytes are handed over at once: a Tab that stands first, and what follows it up
+/// to the next one.
+fn piece_len(typed: &[u8]) -> usize {
+    let next_tab = typed.iter().skip(1).position(|byte| *byte == TAB);
+    next_tab.map_or(typed.len(), |place| place + 1)
+}
+
+/// Returns words as the library takes them. Those that are empty or have a line break are left out.
+fn one_a_line(words: &[String]) -> String {
+    words
+        .iter()
+        .filter(|word| !word.is_empty() && !word.contains(['\n', '\r']))
+        .map(|word| format!("{word}\n"))
+        .collect()
+}
+
+/// Reads a line of standard input as it is: it is no terminal, or one that cannot move its cursor.
+/// A prompt is shown at a terminal alone.
+pub(crate) fn read_plain(prompt: Option<&str>) -> Result<String> {
+    terminal::write_all(prompt.unwrap_or_default().as_bytes())?;
+    let mut line = Vec::new();
+    if io::stdin().lock().read_until(b'\n', &mut line)? == 0 {
+        return Err(ReadlineError::Eof);
+    }
+    if line.ends_with(b"\n") {
+        line.pop();
+        if line.ends_with(b"\r") {
+            line.pop();
+        }
+    }
+    String::from_utf8(line)
+        .map_err(|error| io::Error::new(io::ErrorKind::InvalidData, error).into())
+}
+
+/// Clears the screen, behind what the program wrote.
+pub(crate) fn clear_screen() -> io::Result<()> {
+    let mut output = io::stdout().lock();
+    output.write_all(b"\x1b[H\x1b[2J")?;
+    output.flush()
+}
+
+#[cfg(test)]
+mod tests {
+    use super::*;
+
+    #[test]
+    fn a_piece_ends_before_a_tab() {
+        assert_eq!(piece_len(b""), 0);
+        assert_eq!(piece_len(b"ab"), 2);
+        assert_eq!(piece_len(b"ab\tc"), 2);
+        assert_eq!(piece_len(b"\tc\td"), 2);
+        assert_eq!(piece_len(b"\t\t"), 1);
+        assert_eq!(piece_len(b"\tcd"), 3);
+    }
+
+    #[test]
+    fn words_stand_one_a_line() {
+        let words = ["let", "", "two\nlines", "é"].map(String::from);
+        assert_eq!(one_a_line(&words), "let\né\n");
+        assert_eq!(one_a_line(&[]), "");
+    }
+}
