@@ -44,6 +44,14 @@ static void take_all(void)
     while (length);
 }
 
+/* Whether what is to be written, in one piece, holds a text. */
+static int shows(const char *text)
+{
+    HOLDS(comvizga_output(&editor, buffer, sizeof buffer - 1, &length) == COMVIZGA_OK && length < sizeof buffer - 1);
+    buffer[length] = 0;
+    return strstr((const char *)buffer, text) != NULL;
+}
+
 static void check_null(void)
 {
     comvizga_settings settings = comvizga_defaults();
@@ -133,8 +141,9 @@ static void check_more_lines(void)
     /* What was typed behind Enter is read now */
     HOLDS(comvizga_begin(&editor, "", 0) == COMVIZGA_OK && line() == COMVIZGA_OK && is("next"));
     HOLDS(comvizga_cursor(&editor, &length) == COMVIZGA_OK && length == 0);
-    HOLDS(comvizga_begin_with(&editor, "> ", 2, "\x1b[1m> \x1b[m", 9, "ab", 2, "cd", 2) == COMVIZGA_OK
-          && type("-") == COMVIZGA_OK);
+    take_all();
+    HOLDS(comvizga_begin_with(&editor, "> ", 2, "\x1b[1m> \x1b[m", 9, "ab", 2, "cd", 2) == COMVIZGA_OK);
+    HOLDS(shows("\x1b[1m> \x1b[m") && type("-") == COMVIZGA_OK && shows("ab-cd"));
     HOLDS(line() == COMVIZGA_OK && is("ab-cd") && type("\x03") == COMVIZGA_INTERRUPTED && line() == COMVIZGA_OK
           && is("\xc3\xa9x"));
     HOLDS(comvizga_begin(&editor, NULL, 0) == COMVIZGA_OK && type("\x04") == COMVIZGA_ENDED);
