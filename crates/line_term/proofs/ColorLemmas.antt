@@ -1,24 +1,23 @@
--- A text with colors that is read by a terminal: its color sequences leave the cursor where it stands.
-use Rattle.std.proofs.Common.{◌≡◌, ◌<◌, ◌≤◌, ℕ, zero, suc, ◌+◌, ◌-◌, ◌*◌, ◌==◌, Bool, true, false, cond, nat_lt, List, [], ◌∷◌, ◌++◌, drop, chars, encode_utf8, refl, sym, ap, ap₂, ◌∙◌, arith}
+-- A text with colors that a terminal reads: color sequences part no clusters, and change nothing that is shown.
+use Rattle.std.proofs.Common.{◌≡◌, ◌<◌, ◌≤◌, ℕ, zero, suc, ◌+◌, ◌-◌, ◌*◌, ◌==◌, ◌||◌, ◌&&◌, not, Bool, true, false, cond, nat_lt, List, [], ◌∷◌, ◌++◌, drop, refl, subst, sym, ap, ap₂, ◌∙◌, arith}
+use Rattle.std.specs.Prelude.{encode_utf8_all}
 use Rattle.std.specs.Int.{is_in_range}
-use Rattle.std.specs.List.{fold, list_all}
+use Rattle.std.specs.List.{list_all}
+use Rattle.std.specs.Str.{all_scalars}
+use Rattle.std.specs.Char.{encode_utf8}
 use Rattle.std.proofs.lemmas.Bool.{and_parts}
 use Rattle.std.proofs.lemmas.Bool.Decides.{nat_tests}
-use Rattle.std.proofs.lemmas.List.Sums.{fold-append}
-use Rattle.std.proofs.lemmas.Str.{chars-IsAscii, encode_ascii}
-use Rattle.line_buffer.proofs.PlainClusterLemmas.{IsAscii-plain}
-use Rattle.line_buffer.specs.Printable.{is_plain}
-use Rattle.line_buffer.specs.declared.layout.Position.{Position}
-use Rattle.line_screen.specs.Measure.{measured}
-use Rattle.line_screen.specs.MeasureLaws.{after_char}
-use Rattle.line_term.specs.Drawn.{behind_parameters, color_length, colored, colored_from, drawn_char, is_parameter, passing_behind, uncolored, uncolored_from}
-use Rattle.line_term.specs.Painted.{wrap}
-use Rattle.line_term.specs.Terminal.{Reading, Terminal, ended, escape, plain, put, sent, sequence, standing}
-use Rattle.line_term.proofs.TextLemmas.{after-within, at_place, bytes-arrive, char-next, earlier, fold-last, waiting}
+use Rattle.std.proofs.lemmas.List.Folds.{list_all-append}
+use Rattle.std.proofs.lemmas.Str.{encode_ascii}
+use Rattle.line_term.specs.Drawn.{begins_below, behind_parameters, shift_in, color_length, colored_from, drawn, drawn_char, is_control, is_parameter, passing_behind, uncolored_from, visible}
+use Rattle.line_term.specs.Page.{Page, below, put_down}
+use Rattle.line_term.specs.Terminal.{Reading, Terminal, ended, escape, plain, put, seen, sent, sequence, showing}
+use Rattle.line_term.proofs.GoesLemmas.{coming, no_control, put_all}
+use Rattle.line_term.proofs.WentLemmas.{Went, went-char, went-control, went-end, went-newline, went-return}
 
--- the cursor anywhere, with something read so far
-abbrev pub at_cursor : ℕ → ℕ → Bool → Reading → Terminal
-at_cursor row col waits reading = record { row = row; col = col; waits = waits; reading = reading }
+-- a page and what came last, with something read so far
+abbrev at_text : Page → List ℕ → Reading → Terminal
+at_text page text reading = record { page = page; text = text; reading = reading }
 
 -- where parameters end, they end behind the place
 pub behind-after : (place : ℕ) (cs : List ℕ) → 0 < behind_parameters place cs → place + 1 ≤ behind_parameters place cs
@@ -32,27 +31,27 @@ behind-after place (c ∷ cs) some = by_tests (λ more. behind-after (place + 1)
     by_tests rest false false some = absurd (omega arith)
 
 -- a parameter, or what parts two, is read
-pub parameter-read : (columns row col k c : ℕ) (waits : Bool) → is_parameter c ≡ true
-    → (m : ℕ) × (put columns (at_cursor row col waits (sequence k)) c ≡ at_cursor row col waits (sequence m))
+pub parameter-read : (columns k c : ℕ) (page : Page) (text : List ℕ) → is_parameter c ≡ true
+    → (m : ℕ) × (put columns (at_text page text (sequence k)) c ≡ at_text page text (sequence m))
 unfolding put
-parameter-read columns row col k c waits is = by_test (is_in_range 48 57 c)
+parameter-read columns k c page text is = by_test (is_in_range 48 57 c)
   where
     t : Terminal
-    t = at_cursor row col waits (sequence k)
+    t = at_text page text (sequence k)
 
-    no_end : is_in_range 64 126 c ≡ false
-    no_end = grind (arith, nat_tests)
+    no_end : ((c == 109) ≡ false) × (is_in_range 64 126 c ≡ false)
+    no_end = (grind (arith, nat_tests), grind (arith, nat_tests))
 
-    by_test : (d : Bool) → (m : ℕ) × (cond d (at_cursor row col waits (sequence (k * 10 + (c - 48))))
-        (cond (is_in_range 64 126 c) (ended columns t k c) (at_cursor row col waits (sequence 0))) ≡ at_cursor row col waits (sequence m))
+    by_test : (d : Bool) → (m : ℕ) × (cond d (at_text page text (sequence (k * 10 + (c - 48))))
+        (cond (c == 109) (at_text page text plain) (cond (is_in_range 64 126 c) (showing (ended columns (seen columns t) k c)) (at_text page text (sequence 0)))) ≡ at_text page text (sequence m))
     by_test true = (k * 10 + (c - 48), refl)
-    by_test false = (0, ap (λ b. cond b (ended columns t k c) (at_cursor row col waits (sequence 0))) no_end)
+    by_test false = (0, ap₂ (λ a b. cond a (at_text page text plain) (cond b (showing (ended columns (seen columns t) k c)) (at_text page text (sequence 0)))) no_end.0 no_end.1)
 
 -- an `m` ends a sequence
-pub end-read : (columns row col k c : ℕ) (waits : Bool) → c ≡ 109
-    → put columns (at_cursor row col waits (sequence k)) c ≡ at_cursor row col waits plain
+pub end-read : (columns k c : ℕ) (page : Page) (text : List ℕ) → c ≡ 109
+    → put columns (at_text page text (sequence k)) c ≡ at_text page text plain
 unfolding put
-end-read columns row col k c waits is = ap (put columns (at_cursor row col waits (sequence k))) is
+end-read columns k c page text is = ap (put columns (at_text page text (sequence k))) is
 
 -- characters that pass are read one by one
 passing-sent : (columns n c : ℕ) (t : Terminal) (cs : List ℕ) → c < 128
@@ -60,30 +59,30 @@ passing-sent : (columns n c : ℕ) (t : Terminal) (cs : List ℕ) → c < 128
 passing-sent columns n c t cs below = ap (λ b. sent columns t (b ++ colored_from n cs)) (encode_ascii c below)
 
 -- the rest of a color sequence is read
-rest-read : (columns row col : ℕ) (waits : Bool) (k place n : ℕ) (cs : List ℕ) → behind_parameters place cs ≡ place + suc n
-    → sent columns (at_cursor row col waits (sequence k)) (colored_from (suc n) cs)
-    ≡ sent columns (at_cursor row col waits plain) (colored_from 0 (drop (suc n) cs))
-rest-read columns row col waits k place n [] ends = absurd (omega arith)
-rest-read columns row col waits k place n (c ∷ cs) ends =
-    by_tests (λ m i more. rest-read columns row col waits m (place + 1) i cs more) (c == 109) (is_parameter c) refl refl ends
+rest-read : (columns k place n : ℕ) (page : Page) (text : List ℕ) (cs : List ℕ) → behind_parameters place cs ≡ place + suc n
+    → sent columns (at_text page text (sequence k)) (colored_from (suc n) cs)
+    ≡ sent columns (at_text page text plain) (colored_from 0 (drop (suc n) cs))
+rest-read columns k place n page text [] ends = absurd (omega arith)
+rest-read columns k place n page text (c ∷ cs) ends =
+    by_tests (λ m i more. rest-read columns m (place + 1) i page text cs more) (c == 109) (is_parameter c) refl refl ends
   where
     Rest : Type 0
     Rest = (m i : ℕ) → behind_parameters (place + 1) cs ≡ place + 1 + suc i
-        → sent columns (at_cursor row col waits (sequence m)) (colored_from (suc i) cs)
-        ≡ sent columns (at_cursor row col waits plain) (colored_from 0 (drop (suc i) cs))
+        → sent columns (at_text page text (sequence m)) (colored_from (suc i) cs)
+        ≡ sent columns (at_text page text plain) (colored_from 0 (drop (suc i) cs))
 
     t : Terminal
-    t = at_cursor row col waits (sequence k)
+    t = at_text page text (sequence k)
 
     by_tests : Rest → (m q : Bool) → (c == 109) ≡ m → is_parameter c ≡ q
         → cond m (place + 1) (cond q (behind_parameters (place + 1) cs) 0) ≡ place + suc n
-        → sent columns t (colored_from (suc n) (c ∷ cs)) ≡ sent columns (at_cursor row col waits plain) (colored_from 0 (drop (suc n) (c ∷ cs)))
+        → sent columns t (colored_from (suc n) (c ∷ cs)) ≡ sent columns (at_text page text plain) (colored_from 0 (drop (suc n) (c ∷ cs)))
     by_tests rest true q is _ ends =
         let m : c ≡ 109 = grind (arith, nat_tests) in
         let last : n ≡ 0 = omega arith in
         passing-sent columns n c t cs (omega arith)
-        ∙ ap₂ (λ s i. sent columns s (colored_from i cs)) (end-read columns row col k c waits m) last
-        ∙ ap (λ i. sent columns (at_cursor row col waits plain) (colored_from 0 (drop i cs))) (sym last)
+        ∙ ap₂ (λ s i. sent columns s (colored_from i cs)) (end-read columns k c page text m) last
+        ∙ ap (λ i. sent columns (at_text page text plain) (colored_from 0 (drop i cs))) (sym last)
     by_tests rest false false _ _ ends = absurd (omega arith)
     by_tests rest false true _ is ends = further rest n ends
       where
@@ -91,42 +90,42 @@ rest-read columns row col waits k place n (c ∷ cs) ends =
         below = grind (arith, nat_tests)
 
         further : Rest → (i : ℕ) → behind_parameters (place + 1) cs ≡ place + suc i
-            → sent columns t (colored_from (suc i) (c ∷ cs)) ≡ sent columns (at_cursor row col waits plain) (colored_from 0 (drop i cs))
+            → sent columns t (colored_from (suc i) (c ∷ cs)) ≡ sent columns (at_text page text plain) (colored_from 0 (drop i cs))
         further rest zero ends = absurd (omega (arith, behind-after (place + 1) cs))
         further rest (suc i) ends =
-            let next = parameter-read columns row col k c waits is in
+            let next = parameter-read columns k c page text is in
             let more : behind_parameters (place + 1) cs ≡ place + 1 + suc i = omega arith in
             passing-sent columns (suc i) c t cs below
             ∙ ap (λ s. sent columns s (colored_from (suc i) cs)) next.1
             ∙ rest next.0 i more
 
 -- a color sequence is read
-color-read : (columns row col : ℕ) (waits : Bool) (c n : ℕ) (cs : List ℕ) → passing_behind c cs ≡ suc n
-    → sent columns (at_cursor row col waits plain) (encode_utf8 c ++ colored_from (suc n) cs)
-    ≡ sent columns (at_cursor row col waits plain) (colored_from 0 (drop (suc n) cs))
+color-read : (columns c n : ℕ) (page : Page) (text : List ℕ) (cs : List ℕ) → passing_behind c cs ≡ suc n
+    → sent columns (at_text page text plain) (encode_utf8 c ++ colored_from (suc n) cs)
+    ≡ sent columns (at_text page text plain) (colored_from 0 (drop (suc n) cs))
 unfolding put
-color-read columns row col waits c n cs passes = by_escape (c == 27) refl passes
+color-read columns c n page text cs passes = by_escape (c == 27) refl passes
   where
     t : Terminal
-    t = at_cursor row col waits plain
+    t = at_text page text plain
 
     by_bracket : (d : ℕ) (ds : List ℕ) (b : Bool) → (d == 91) ≡ b → cond b (behind_parameters 1 ds) 0 ≡ suc n
-        → sent columns (at_cursor row col waits escape) (colored_from (suc n) (d ∷ ds)) ≡ sent columns t (colored_from 0 (drop n ds))
+        → sent columns (at_text page text escape) (colored_from (suc n) (d ∷ ds)) ≡ sent columns t (colored_from 0 (drop n ds))
     by_bracket d ds false is passes = absurd (omega arith)
     by_bracket d ds true is passes = by_count n passes
       where
         by_count : (i : ℕ) → behind_parameters 1 ds ≡ suc i
-            → sent columns (at_cursor row col waits escape) (colored_from (suc i) (d ∷ ds)) ≡ sent columns t (colored_from 0 (drop i ds))
+            → sent columns (at_text page text escape) (colored_from (suc i) (d ∷ ds)) ≡ sent columns t (colored_from 0 (drop i ds))
         by_count zero passes = absurd (omega (arith, behind-after 1 ds))
         by_count (suc i) passes =
             let bracket : d ≡ 91 = grind (arith, nat_tests) in
             let ends : behind_parameters 1 ds ≡ 1 + suc i = omega arith in
-            passing-sent columns (suc i) d (at_cursor row col waits escape) ds (omega arith)
-            ∙ ap (λ x. sent columns (put columns (at_cursor row col waits escape) x) (colored_from (suc i) ds)) bracket
-            ∙ rest-read columns row col waits 0 1 i ds ends
+            passing-sent columns (suc i) d (at_text page text escape) ds (omega arith)
+            ∙ ap (λ x. sent columns (put columns (at_text page text escape) x) (colored_from (suc i) ds)) bracket
+            ∙ rest-read columns 0 1 i page text ds ends
 
     by_list : (ds : List ℕ) → color_length ds ≡ suc n
-        → sent columns (at_cursor row col waits escape) (colored_from (suc n) ds) ≡ sent columns t (colored_from 0 (drop (suc n) ds))
+        → sent columns (at_text page text escape) (colored_from (suc n) ds) ≡ sent columns t (colored_from 0 (drop (suc n) ds))
     by_list [] passes = absurd (omega arith)
     by_list (d ∷ ds) passes = by_bracket d ds (d == 91) refl passes
 
@@ -139,96 +138,113 @@ color-read columns row col waits c n cs passes = by_escape (c == 27) refl passes
         ∙ ap (λ x. sent columns (put columns t x) (colored_from (suc n) cs)) esc
         ∙ by_list cs passes
 
-color-at : (columns base : ℕ) (p : Position) (full : Bool) (c n : ℕ) (cs : List ℕ) → passing_behind c cs ≡ suc n
-    → sent columns (cond full (waiting columns base p.row) (standing base p)) (encode_utf8 c ++ colored_from (suc n) cs)
-    ≡ sent columns (cond full (waiting columns base p.row) (standing base p)) (colored_from 0 (drop (suc n) cs))
-color-at columns base p true c n cs passes = color-read columns (base + p.row) (columns - 1) true c n cs passes
-color-at columns base p false c n cs passes = color-read columns (base + p.row) p.col false c n cs passes
-
 -- what passes is no part of the text
 pub uncolored-passed : (n : ℕ) (cs : List ℕ) → uncolored_from n cs ≡ uncolored_from 0 (drop n cs)
 uncolored-passed zero cs = refl
 uncolored-passed (suc n) [] = refl
 uncolored-passed (suc n) (c ∷ cs) = uncolored-passed n cs
 
-pub positive : (n : ℕ) → nat_lt 0 (suc n) ≡ true
+positive : (n : ℕ) → nat_lt 0 (suc n) ≡ true
 positive n = grind (arith, nat_tests)
 
--- a text with colors takes the cursor where its characters without the color sequences take the measure's place
-pub colored-goes : (columns base n : ℕ) (p : Position) (cs text : List ℕ) → uncolored_from 0 (drop n cs) ≡ text
-    → list_all is_plain text ≡ true → 0 < columns → p.col ≤ columns → (fold (after_char columns) p text).row < 65535
-    → sent columns (at_place columns base p) (colored_from 0 (drop n cs)) ≡ at_place columns base (fold (after_char columns) p text)
-colored-goes columns base zero p [] text is all some within below = ap (λ s. at_place columns base (fold (after_char columns) p s)) is
-colored-goes columns base (suc n) p [] text is all some within below = ap (λ s. at_place columns base (fold (after_char columns) p s)) is
-colored-goes columns base (suc n) p (c ∷ cs) text is all some within below = colored-goes columns base n p cs text is all some within below
-colored-goes columns base zero p (c ∷ cs) text is all some within below =
-    by_count (λ n q rest same plain_rest col row. colored-goes columns base n q cs rest same plain_rest some col row) (passing_behind c cs) refl
-  where
-    t : Terminal
-    t = at_place columns base p
+-- no control characters before, and one more that is none
+none-more : (p : ℕ → Bool) (rs : List ℕ) (c : ℕ) → list_all p rs ≡ true → p c ≡ true → list_all p (rs ++ c ∷ []) ≡ true
+none-more p rs c all one = list_all-append p rs (c ∷ []) ∙ ap₂ (λ a b. a && (b && true)) all one
 
-    Rest : Type 0
-    Rest = (n : ℕ) (q : Position) (rest : List ℕ) → uncolored_from 0 (drop n cs) ≡ rest → list_all is_plain rest ≡ true → q.col ≤ columns
-        → (fold (after_char columns) q rest).row < 65535
-        → sent columns (at_place columns base q) (colored_from 0 (drop n cs)) ≡ at_place columns base (fold (after_char columns) q rest)
+scalars-more : (rs : List ℕ) (c : ℕ) → all_scalars rs ≡ true → all_scalars (c ∷ []) ≡ true → all_scalars (rs ++ c ∷ []) ≡ true
+scalars-more [] c all one = one
+scalars-more (r ∷ rs) c all one =
+    let both = and_parts _ _ all in
+    ap₂ (λ a b. a && b) both.0 (scalars-more rs c both.1 one)
 
-    split : (count : ℕ) → passing_behind c cs ≡ count
-        → colored_from 0 (c ∷ cs) ≡ cond (nat_lt 0 count) (encode_utf8 c) (drawn_char c cs) ++ colored_from count cs
-    split count passes = ap (λ i. cond (nat_lt 0 i) (encode_utf8 c) (drawn_char c cs) ++ colored_from i cs) passes
+first-scalar : (c : ℕ) (cs : List ℕ) → all_scalars (c ∷ cs) ≡ true → all_scalars (c ∷ []) ≡ true
+first-scalar c cs all = ap (λ b. b && true) (and_parts _ _ all).0
 
-    left : (count : ℕ) → passing_behind c cs ≡ count
-        → cond (nat_lt 0 count) (uncolored_from count cs) (c ∷ uncolored_from count cs) ≡ text
-    left count passes = sym (ap (λ i. cond (nat_lt 0 i) (uncolored_from i cs) (c ∷ uncolored_from i cs)) passes) ∙ is
+later-scalars : (c : ℕ) (cs : List ℕ) → all_scalars (c ∷ cs) ≡ true → all_scalars cs ≡ true
+later-scalars c cs all = (and_parts _ _ all).1
 
-    by_count : Rest → (count : ℕ) → passing_behind c cs ≡ count
-        → sent columns t (colored_from 0 (c ∷ cs)) ≡ at_place columns base (fold (after_char columns) p text)
-    by_count goes zero passes =
-        let rest = uncolored_from 0 cs in
-        let whole = left 0 passes in
-        let parts = and_parts (is_plain c) (list_all is_plain rest) (ap (list_all is_plain) whole ∙ all) in
-        let next = after_char columns p c in
-        let ends : (fold (after_char columns) next rest).row < 65535 = omega (arith, below, ap (λ s. (fold (after_char columns) p s).row) whole) in
-        let row : next.row < 65535 = earlier next.row (fold (after_char columns) next rest).row (fold-last columns next rest parts.1) ends in
-        ap (sent columns t) (split 0 passes)
-        ∙ fold-append (put columns) t (drawn_char c cs) (colored_from 0 cs)
-        ∙ ap (λ s. sent columns s (colored_from 0 cs)) (char-next columns base c p cs parts.0 some within row)
-        ∙ goes 0 next rest refl parts.1 (after-within columns c p parts.0 within) ends
-        ∙ ap (λ s. at_place columns base (fold (after_char columns) p s)) whole
-    by_count goes (suc n) passes =
-        let gone = uncolored_from (suc n) cs in
-        ap (sent columns t) (split (suc n) passes ∙ ap (λ b. cond b (encode_utf8 c) (drawn_char c cs) ++ colored_from (suc n) cs) (positive n))
-        ∙ color-at columns base p (p.col == columns) c n cs passes
-        ∙ goes (suc n) p text
-        (sym (uncolored-passed (suc n) cs) ∙ sym (ap (λ b. cond b gone (c ∷ gone)) (positive n)) ∙ left (suc n) passes) all within below
+-- a character passes, if it is no control character
+or-control : (a b : Bool) → (a || b) ≡ true → a ≡ false → b ≡ true
+or-control true b h e = cc
+or-control false b h e = h
 
--- no color is left on
-pub off-sent : (columns base : ℕ) (p : Position) (full : Bool) → sent columns (cond full (waiting columns base p.row) (standing base p)) (27 ∷ 91 ∷ 48 ∷ 109 ∷ [])
-    ≡ cond full (waiting columns base p.row) (standing base p)
-unfolding put
-off-sent columns base p true = refl
-off-sent columns base p false = refl
+-- a character as it is drawn before others
+module _ (columns : ℕ) (ok : ℕ → Bool) where
+  -- a way to go on behind it: from any page and characters that came last
+  abbrev Goes : List ℕ → List ℕ → Type 0
+  Goes cs bytes = (page : Page) (rs : List ℕ) → all_scalars rs ≡ true → no_control rs ≡ true → list_all ok rs ≡ true
+      → Went columns ok page (rs ++ cs) (sent columns (coming page rs) bytes)
 
--- a text with colors takes the cursor where the measure says of its characters without the color sequences
-pub colored-arrives : (columns base : ℕ) (origin : Position) (text shown : List ℕ) → uncolored shown ≡ text → list_all is_plain text ≡ true
-    → origin.col < columns → (measured columns text origin).row < 65535
-    → sent columns (standing base origin) (colored shown ++ wrap (measured columns) text origin) ≡ standing base (measured columns text origin)
-colored-arrives columns base origin text shown is all within below =
-    let t = at_place columns base origin in
-    let q = fold (after_char columns) origin text in
-    let off : List ℕ = 27 ∷ 91 ∷ 48 ∷ 109 ∷ [] in
-    bytes-arrive columns base origin text (colored shown) all within below
-    (λ some col row. fold-append (put columns) t (colored_from 0 (chars shown)) off
-    ∙ ap (λ s. sent columns s off) (colored-goes columns base 0 origin (chars shown) text is all some col row)
-    ∙ off-sent columns base q (q.col == columns))
+  goes-char : (c : ℕ) (cs bytes : List ℕ) → all_scalars (c ∷ cs) ≡ true → (is_control c || ok c) ≡ true → Goes cs bytes → Goes (c ∷ cs) (drawn_char c (begins_below cs) ++ bytes)
+  goes-char c cs bytes scalars passes goes page rs before none fine = by_control (is_control c) (c == 10) ((c == 13) && begins_below cs) refl refl refl
+    where
+      text : all_scalars cs ≡ true
+      text = later-scalars c cs scalars
 
--- a plain text has no color sequences
-uncolored-each : (text : List ℕ) → list_all is_plain text ≡ true → uncolored_from 0 text ≡ text
-uncolored-each [] all = refl
-uncolored-each (c ∷ cs) all =
-    let parts = and_parts (is_plain c) (list_all is_plain cs) all in
-    let no_escape : (c == 27) ≡ false = grind (arith, nat_tests, parts.0) in
-    let none : passing_behind c cs ≡ 0 = ap (λ b. cond b (color_length cs) 0) no_escape in
-    ap (λ i. cond (nat_lt 0 i) (uncolored_from i cs) (c ∷ uncolored_from i cs)) none ∙ ap (λ s. c ∷ s) (uncolored-each cs parts.1)
+      as_drawn : Bool → Bool → Bool → List ℕ
+      as_drawn k n r = cond n (13 ∷ 10 ∷ []) (cond r [] (cond k (shift_in ++ encode_utf8 (visible c) ++ shift_in) (encode_utf8 c)))
 
-pub uncolored-plain : (text : List ℕ) → list_all is_plain text ≡ true → uncolored text ≡ text
-uncolored-plain text all = ap (uncolored_from 0) (chars-IsAscii text (IsAscii-plain text all)) ∙ uncolored-each text all
+      by_control : (k n r : Bool) → is_control c ≡ k → (c == 10) ≡ n → ((c == 13) && begins_below cs) ≡ r
+          → Went columns ok page (rs ++ c ∷ cs) (sent columns (coming page rs) (as_drawn k n r ++ bytes))
+      by_control k true r ek en er =
+          let ten : c ≡ 10 = grind (arith, nat_tests) in
+          subst (λ x. Went columns ok page (rs ++ x ∷ cs) (sent columns (coming page rs) (13 ∷ 10 ∷ bytes))) (sym ten)
+          (went-newline columns ok page rs before none fine cs bytes text (goes (below (put_all columns page rs)) [] refl refl refl))
+      by_control k false true ek en er =
+          let both = and_parts _ _ er in
+          let thirteen : c ≡ 13 = grind (arith, nat_tests) in
+          subst (λ x. Went columns ok page (rs ++ x ∷ cs) (sent columns (coming page rs) bytes)) (sym thirteen)
+          (went-return columns ok page rs before none fine cs (sent columns (coming page rs) bytes) text both.1 (goes page rs before none fine))
+      by_control true false false ek en er =
+          went-control columns ok page rs before none fine c cs bytes ek en er text
+          (goes (put_down columns (put_all columns page rs) (encode_utf8_all (c ∷ []))) [] refl refl refl)
+      by_control false false false ek en er =
+          went-char columns ok page rs before none fine c cs bytes ek
+          (goes page (rs ++ c ∷ []) (scalars-more rs c before (first-scalar c cs scalars)) (none-more (λ x. not (is_control x)) rs c none (ap not ek)) (none-more ok rs c fine (or-control (is_control c) (ok c) passes ek)))
+
+  -- a text
+  pub goes-drawn : (cs : List ℕ) → all_scalars cs ≡ true → list_all (λ c. is_control c || ok c) cs ≡ true → Goes cs (drawn cs)
+  goes-drawn [] scalars passes page rs before none fine = went-end columns ok page rs before none fine
+  goes-drawn (c ∷ cs) scalars passes page rs before none fine =
+      let both = and_parts _ _ passes in
+      goes-char c cs (drawn cs) scalars both.0 (goes-drawn cs (and_parts _ _ scalars).1 both.1) page rs before none fine
+
+  -- a text with colors
+  pub goes-colored : (n : ℕ) (cs text : List ℕ) → uncolored_from 0 (drop n cs) ≡ text → all_scalars text ≡ true → list_all (λ c. is_control c || ok c) text ≡ true
+      → Goes text (colored_from 0 (drop n cs))
+  goes-colored zero [] text is scalars passes page rs before none fine =
+      subst (λ x. Went columns ok page (rs ++ x) (coming page rs)) is (went-end columns ok page rs before none fine)
+  goes-colored (suc n) [] text is scalars passes page rs before none fine =
+      subst (λ x. Went columns ok page (rs ++ x) (coming page rs)) is (went-end columns ok page rs before none fine)
+  goes-colored (suc n) (c ∷ cs) text is scalars passes page rs before none fine = goes-colored n cs text is scalars passes page rs before none fine
+  goes-colored zero (c ∷ cs) text is scalars passes page rs before none fine =
+      by_count (λ n rest. goes-colored n cs rest) (passing_behind c cs) refl
+    where
+      Rest : Type 0
+      Rest = (n : ℕ) (rest : List ℕ) → uncolored_from 0 (drop n cs) ≡ rest → all_scalars rest ≡ true → list_all (λ c. is_control c || ok c) rest ≡ true
+          → Goes rest (colored_from 0 (drop n cs))
+
+      first_bytes : ℕ → List ℕ
+      first_bytes count = cond (nat_lt 0 count) (encode_utf8 c) (drawn_char c (begins_below (uncolored_from 0 cs))) ++ colored_from count cs
+
+      first_text : ℕ → List ℕ
+      first_text count = cond (nat_lt 0 count) (uncolored_from count cs) (c ∷ uncolored_from count cs)
+
+      by_count : Rest → (count : ℕ) → passing_behind c cs ≡ count
+          → Went columns ok page (rs ++ text) (sent columns (coming page rs) (colored_from 0 (c ∷ cs)))
+      by_count goes zero passing =
+          let rest = uncolored_from 0 cs in
+          let whole : c ∷ rest ≡ text = sym (ap first_text passing) ∙ is in
+          let all = ap all_scalars whole ∙ scalars in
+          let both = and_parts _ _ (ap (list_all (λ c. is_control c || ok c)) whole ∙ passes) in
+          subst (λ b. Went columns ok page (rs ++ text) (sent columns (coming page rs) b)) (sym (ap first_bytes passing))
+          (subst (λ t. Went columns ok page (rs ++ t) (sent columns (coming page rs) (drawn_char c (begins_below rest) ++ colored_from 0 cs))) whole
+          (goes-char c rest (colored_from 0 cs) all both.0 (goes 0 rest refl (and_parts _ _ all).1 both.1) page rs before none fine))
+      by_count goes (suc n) passing =
+          let bytes : colored_from 0 (c ∷ cs) ≡ encode_utf8 c ++ colored_from (suc n) cs =
+          ap first_bytes passing ∙ ap (λ b. cond b (encode_utf8 c) (drawn_char c (begins_below (uncolored_from 0 cs))) ++ colored_from (suc n) cs) (positive n) in
+          let whole : uncolored_from 0 (drop (suc n) cs) ≡ text =
+          sym (uncolored-passed (suc n) cs) ∙ sym (ap (λ b. cond b (uncolored_from (suc n) cs) (c ∷ uncolored_from (suc n) cs)) (positive n))
+          ∙ sym (ap first_text passing) ∙ is in
+          subst (λ t. Went columns ok page (rs ++ text) t) (sym (ap (sent columns (coming page rs)) bytes ∙ color-read columns c n page (encode_utf8_all rs) cs passing))
+          (goes (suc n) text whole scalars passes page rs before none fine)

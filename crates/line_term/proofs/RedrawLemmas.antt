@@ -1,54 +1,105 @@
 -- A full redraw that is read by a terminal.
-use Rattle.std.proofs.Common.{◌≡◌, subst, ◌<◌, ◌^◌, ℕ, ◌+◌, ◌-◌, Bool, true, false, List, [], ◌++◌, Option, Some, None, refl, sym, ap, ap₂, ◌∙◌, append_assoc, arith, ⊎_elim, option_map}
+use Rattle.std.proofs.Common.{◌≡◌, subst, ◌<◌, ◌≤◌, ℕ, ◌+◌, ◌==◌, ◌||◌, ◌&&◌, nat_le, nat_lt, Bool, true, false, cond, List, [], ◌++◌, Option, Some, None, refl, sym, ap, ap₂, ◌∙◌, arith, ⊎_elim, option_map}
 use Rattle.std.specs.Option.{IfSome}
-use Rattle.std.specs.List.{list_all}
+use Rattle.std.specs.Prelude.{IsUtf8, chars}
+use Rattle.std.specs.List.{fold}
+use Rattle.std.specs.Str.{bytes_eq}
+use Rattle.std.proofs.lemmas.Bool.Decides.{nat_tests}
 use Rattle.std.proofs.lemmas.List.{append-nil}
 use Rattle.std.proofs.lemmas.List.Sums.{fold-append}
-use Rattle.line_buffer.specs.Printable.{is_plain}
+use Rattle.std.proofs.lemmas.Slice.Eq.{bytes_eq-Decides}
+use Rattle.unicode_segmentation.specs.Grapheme.{graphemes}
 use Rattle.line_buffer.specs.declared.layout.Layout.{Layout}
 use Rattle.line_buffer.specs.declared.layout.Position.{Position}
+use Rattle.line_config.specs.Usual.{IsUsualOrOwn}
 use Rattle.line_config.specs.declared.prompt.Prompt as prompts
 use Rattle.line_keys.specs.Display.{Measure, corner, shown_end}
 use Rattle.line_parts.specs.declared.highlight.Highlighter as highlighters
-use Rattle.line_screen.specs.Measure.{measured}
+use Rattle.line_screen.specs.Measure.{after_cluster, measured}
 use Rattle.line_screen.specs.MeasureLaws.{measured-below}
-use Rattle.line_term.specs.Drawn.{colored, uncolored}
-use Rattle.line_term.specs.Escape.{clear_below, clear_from, hold, move_bytes, release, return, steps}
-use Rattle.line_term.specs.Laws.{IsColoring, IsPlainDrawing, OnlyColors, RedrawsArrive, before_redraw}
-use Rattle.line_term.specs.Painted.{Draws, Handed, Paints, PaintsBehind, PaintsPrompt, at_once, clear_drawn, drawing, wrap, wrap_ending, Painted}
-use Rattle.line_term.specs.Terminal.{Terminal, put, sent, standing}
-use Rattle.line_term.proofs.TerminalLemmas.{move-arrives, others-stay, stands, up-sent}
-use Rattle.line_term.proofs.TextLemmas.{measured-row, text-arrives}
-use Rattle.line_term.proofs.ColorLemmas.{colored-arrives, uncolored-plain}
-use Rattle.line_config.specs.Usual.{IsUsualOrOwn}
+use Rattle.line_term.specs.Drawn.{cleaned, colored, uncolored}
+use Rattle.line_term.specs.Escape.{hold, move_bytes, release}
+use Rattle.line_term.specs.Laws.{IsColoring, OnlyColors, RedrawsShow, TextsArrive}
+use Rattle.line_term.specs.Page.{IsAt, Page, at, blank, blank_page, picture, put_behind, put_text}
+use Rattle.line_term.specs.Painted.{Draws, Handed, Painted, Paints, PaintsBehind, PaintsPrompt, at_once, clear_drawn, drawing, shown_as, wrap, wrap_ending}
+use Rattle.line_term.specs.Shown.{Begins, IsMeasured, IsShown}
+use Rattle.line_term.specs.Terminal.{IsReady, Shows, Terminal, put, seen, sent, without_rest}
+use Rattle.line_term.proofs.AlikeLemmas.{Alike, alike-picture}
+use Rattle.line_term.proofs.MoveLemmas.{clear-turns, hold-turns, move-turns, release-turns}
+use Rattle.line_term.proofs.PrintLemmas.{Prints, clusters-last, earlier, prints-cleaned, prints-colored, text-at, text-down, wrapped-row}
 
--- the rows of a drawing are cleared from the first one
-clear-sent : (columns base : ℕ) (cursor : Position) → cursor.row < 2 ^ 64 → sent columns (standing base cursor) (clear_from cursor) ≡ standing base corner
-unfolding put
-clear-sent columns base cursor fits =
-    let first : base + cursor.row - cursor.row ≡ base + 0 = omega arith in
-    fold-append (put columns) (standing base cursor) (steps cursor.row 65 ++ return) clear_below
-    ∙ ap (λ t. sent columns t clear_below)
-    (fold-append (put columns) (standing base cursor) (steps cursor.row 65) return
-    ∙ ap (λ t. sent columns t return) (up-sent columns (base + cursor.row) cursor.col cursor.row fits))
-    ∙ ap (λ r. sent columns (stands r 0) clear_below) first
-    ∙ others-stay.below columns base corner
+-- ---- a text, plain or as a highlighter shows it
 
-pub drawn-sent : (columns base : ℕ) (old : Option Layout) → IfSome old (λ l. l.cursor.row < 2 ^ 16)
-    → sent columns (standing base (before_redraw old)) (clear_drawn old) ≡ standing base corner
-drawn-sent columns base None fits = refl
-drawn-sent columns base (Some old) fits = clear-sent columns base old.cursor (omega (arith, fits))
+-- what is shown for a text is that text, or it is one with colors
+shown-prints : (columns : ℕ) (t : Terminal) (text shown bytes : List ℕ) → IsReady t → IsUtf8 text → bytes ≡ shown_as text shown
+    → ((shown ≡ text → ⊥) → uncolored shown ≡ chars text) → Prints columns t text (sent columns t bytes)
+shown-prints columns t text shown bytes ready utf8 is colors =
+    subst (λ b. Prints columns t text (sent columns t b)) (sym is) (by_test (bytes_eq shown text) refl)
+  where
+    by_test : (b : Bool) → bytes_eq shown text ≡ b → Prints columns t text (sent columns t (cond b (cleaned text) (colored shown)))
+    by_test true e = prints-cleaned columns t text ready utf8
+    by_test false e = prints-colored columns t text shown ready utf8 (colors (λ same. absurd (differs (sym e ∙ (bytes_eq-Decides shown text).1 same)))) where
+      differs : false ≡ true → ⊥
+      differs d = cc
 
--- the parts one after another
-parts-sent : (columns : ℕ) (t : Terminal) (a b c d e f m : List ℕ)
-    → sent columns t (a ++ b ++ c ++ d ++ e ++ f ++ m) ≡ sent columns (sent columns (sent columns (sent columns t (a ++ b)) (c ++ d)) (e ++ f)) m
-parts-sent columns t a b c d e f m =
-    let grouped : a ++ b ++ c ++ d ++ e ++ f ≡ (a ++ b ++ (c ++ d)) ++ (e ++ f) = simp append_assoc in
-    fold-append (put columns) t (a ++ b ++ c ++ d ++ e ++ f) m
-    ∙ ap (λ s. sent columns s m)
-    (ap (sent columns t) grouped
-    ∙ fold-append (put columns) t (a ++ b ++ (c ++ d)) (e ++ f)
-    ∙ ap (λ s. sent columns s (e ++ f)) (fold-append (put columns) t (a ++ b) (c ++ d)))
+-- what a value is known to be
+of-some : (own : Option (List ℕ)) (shown text : List ℕ) → own ≡ Some shown → IsColoring own text → uncolored shown ≡ chars text
+of-some own shown text is coloring = subst (λ o. IsColoring o text) is coloring
+
+text-prints : {H : Type 0} (columns : ℕ) (t : Terminal) (text bytes : List ℕ) (highlighter : Option H) (own : H → Option (List ℕ)) → IsReady t → IsUtf8 text
+    → Paints (option_map own highlighter) text bytes → IfSome highlighter (λ o. IsColoring (own o) text) → Prints columns t text (sent columns t bytes)
+text-prints columns t text bytes None own ready utf8 painted coloring =
+    subst (λ b. Prints columns t text (sent columns t b)) (sym painted) (prints-cleaned columns t text ready utf8)
+text-prints columns t text bytes (Some o) own ready utf8 painted coloring =
+    shown-prints columns t text painted.0 bytes ready utf8 painted.1.1
+    (λ other. ⊎_elim (λ same. absurd (other same)) (λ is. of-some (own o) painted.0 text is coloring) painted.1.0)
+
+prompt-prints : {H : Type 0} (columns : ℕ) (t : Terminal) (raw bytes : List ℕ) (style : Option (List ℕ)) (highlighter : Option H) (own : H → List ℕ → Option (List ℕ))
+    → IsReady t → IsUtf8 raw → PaintsPrompt (option_map own highlighter) raw style bytes → IsColoring style raw
+    → ((styled : List ℕ) → IsUsualOrOwn raw style styled → IfSome highlighter (λ o. IsColoring (own o styled) raw)) → Prints columns t raw (sent columns t bytes)
+prompt-prints columns t raw bytes style None own ready utf8 painted styles colorings =
+    subst (λ b. Prints columns t raw (sent columns t b)) (sym painted) (prints-cleaned columns t raw ready utf8)
+prompt-prints columns t raw bytes style (Some o) own ready utf8 painted styles colorings =
+    let styled = painted.0 in
+    let shown = painted.1 in
+    let form = painted.2.0 in
+    shown-prints columns t raw shown bytes ready utf8 painted.2.1.1
+    (λ other. ⊎_elim
+    (λ same. ⊎_elim (λ plain. absurd (other (same ∙ plain))) (λ is. ap uncolored same ∙ of-some style styled raw is styles) form)
+    (λ is. of-some (own o styled) shown raw is (colorings styled form)) painted.2.1.0)
+
+behind-prints : {H : Type 0} (columns : ℕ) (t : Terminal) (text bytes : List ℕ) (highlighter : Option H) (own : H → List ℕ → Option (List ℕ)) → IsReady t → IsUtf8 text
+    → PaintsBehind (option_map own highlighter) (Some text) bytes → IfSome highlighter (λ o. IsColoring (own o text) text) → Prints columns t text (sent columns t bytes)
+behind-prints columns t text bytes None own ready utf8 painted coloring =
+    text-prints columns t text bytes None (λ o. own o text) ready utf8 painted coloring
+behind-prints columns t text bytes (Some o) own ready utf8 painted coloring =
+    text-prints columns t text bytes (Some o) (λ o. own o text) ready utf8 painted coloring
+
+-- ---- the parts one after another
+
+-- a text and the new row behind it, from a place of a page that is shown
+pub record ArrivesAt (columns base : ℕ) (place : Position) (page : Page) (t : Terminal) : Type 0 where
+  pub shows : Shows columns t page
+  pub at : IsAt base place page
+
+text-arrives : (columns base : ℕ) (origin : Position) (page : Page) (t t' : Terminal) (text : List ℕ) → IsUtf8 text → origin.col < columns
+    → (measured columns text origin).row < 65535 → ArrivesAt columns base origin page t → Prints columns t text t'
+    → ArrivesAt columns base (measured columns text origin) (put_text columns page text) (sent columns t' (wrap (measured columns) text origin))
+text-arrives columns base origin page t t' text utf8 room last from prints =
+    let there : IsAt base origin (seen columns t) = subst (IsAt base origin) (sym from.shows.shown) from.at in
+    let down = text-down columns base origin t t' text utf8 (omega (arith, room)) there last prints in
+    record {
+      shows = record { shown = down.shown ∙ ap (λ p. put_text columns p text) from.shows.shown; ready = down.ready };
+      at = text-at columns base origin page text from.at last;
+    }
+
+pub texts-arrive : TextsArrive
+texts-arrive columns base origin text t page utf8 room last there shows =
+    let done = text-arrives columns base origin page t (sent columns t (cleaned text)) text utf8 room last (record { shows = shows; at = there })
+    (prints-cleaned columns t text shows.ready utf8) in (
+      subst (λ s. Shows columns s (put_text columns page text)) (sym (fold-append (put columns) t (cleaned text) (wrap (measured columns) text origin))) done.shows,
+      done.at,
+    )
 
 -- where what is shown ends, from where the line does
 abbrev pub behind_end : ℕ → Position → Option (List ℕ) → Position
@@ -56,77 +107,41 @@ behind_end columns place None = place
 behind_end columns place (Some text) = measured columns text place
 
 -- the new row behind what is measured behind the line
-abbrev pub wrap_more : Measure → Option (List ℕ) → Position → List ℕ
+abbrev wrap_more : Measure → Option (List ℕ) → Position → List ℕ
 wrap_more measure None place = []
 wrap_more measure (Some text) place = wrap measure text place
 
--- a text as a highlighter shows it
-shown-sent : (columns base : ℕ) (origin : Position) (text shown bytes : List ℕ) → uncolored shown ≡ text → bytes ≡ colored shown
-    → list_all is_plain text ≡ true → origin.col < columns → (measured columns text origin).row < 65535
-    → sent columns (standing base origin) (bytes ++ wrap (measured columns) text origin) ≡ standing base (measured columns text origin)
-shown-sent columns base origin text shown bytes is painted all within last =
-    ap (λ b. sent columns (standing base origin) (b ++ wrap (measured columns) text origin)) painted
-    ∙ colored-arrives columns base origin text shown is all within last
+behind-arrives : {H : Type 0} (columns base : ℕ) (place : Position) (page : Page) (t : Terminal) (behind : Option (List ℕ)) (bytes : List ℕ) (highlighter : Option H)
+    (own : H → List ℕ → Option (List ℕ)) → IfSome behind IsUtf8 → place.col < columns → (behind_end columns place behind).row < 65535
+    → PaintsBehind (option_map own highlighter) behind bytes → IfSome behind (λ text. IfSome highlighter (λ o. IsColoring (own o text) text))
+    → ArrivesAt columns base place page t
+    → ArrivesAt columns base (behind_end columns place behind) (put_behind columns page behind) (sent columns (sent columns t bytes) (wrap_more (measured columns) behind place))
+behind-arrives columns base place page t None bytes highlighter own utf8 room last painted coloring from =
+    subst (λ b. ArrivesAt columns base place page (sent columns t b)) (sym painted) from
+behind-arrives columns base place page t (Some text) bytes highlighter own utf8 room last painted coloring from =
+    text-arrives columns base place page t (sent columns t bytes) text utf8 room last from
+    (behind-prints columns t text bytes highlighter own from.shows.ready utf8 painted coloring)
 
--- what a value is known to be
-of-some : (own : Option (List ℕ)) (shown text : List ℕ) → own ≡ Some shown → IsColoring own text → uncolored shown ≡ text
-of-some own shown text is coloring = subst (λ o. IsColoring o text) is coloring
-
--- what is shown for a text is it but for color sequences
-pub usual-or-own : (text source shown : List ℕ) (own : Option (List ℕ)) → IsUsualOrOwn source own shown → uncolored source ≡ text → IsColoring own text
-    → uncolored shown ≡ text
-usual-or-own text source shown own which usual coloring =
-    ⊎_elim (λ same. ap uncolored same ∙ usual) (λ is. of-some own shown text is coloring) which
-
--- a text, plain or as a highlighter shows it
-pub text-sent : {H : Type 0} (columns base : ℕ) (origin : Position) (text bytes : List ℕ) (highlighter : Option H) (own : H → Option (List ℕ))
-    → Paints (option_map own highlighter) text bytes → IfSome highlighter (λ o. IsColoring (own o) text)
-    → list_all is_plain text ≡ true → origin.col < columns → (measured columns text origin).row < 65535
-    → sent columns (standing base origin) (bytes ++ wrap (measured columns) text origin) ≡ standing base (measured columns text origin)
-text-sent columns base origin text bytes None own painted coloring all within last =
-    ap (λ b. sent columns (standing base origin) (b ++ wrap (measured columns) text origin)) painted ∙ text-arrives columns base origin text all within last
-text-sent columns base origin text bytes (Some o) own painted coloring all within last =
-    shown-sent columns base origin text painted.0 bytes (usual-or-own text text painted.0 (own o) painted.1.0 (uncolored-plain text all) coloring)
-    painted.1.1 all within last
-
--- the prompt
-pub prompt-sent : {H : Type 0} (columns base : ℕ) (raw bytes : List ℕ) (style : Option (List ℕ)) (highlighter : Option H) (own : H → List ℕ → Option (List ℕ))
-    → PaintsPrompt (option_map own highlighter) raw style bytes → IsColoring style raw
-    → ((styled : List ℕ) → uncolored styled ≡ raw → IfSome highlighter (λ o. IsColoring (own o styled) raw))
-    → list_all is_plain raw ≡ true → 0 < columns → (measured columns raw corner).row < 65535
-    → sent columns (standing base corner) (bytes ++ wrap (measured columns) raw corner) ≡ standing base (measured columns raw corner)
-prompt-sent columns base raw bytes style None own painted styles colorings all some last =
-    ap (λ b. sent columns (standing base corner) (b ++ wrap (measured columns) raw corner)) painted ∙ text-arrives columns base corner raw all some last
-prompt-sent columns base raw bytes style (Some o) own painted styles colorings all some last =
-    let styled = painted.0 in
-    let shown = painted.1.1.0 in
-    let plain_style = usual-or-own raw raw styled style painted.1.0 (uncolored-plain raw all) styles in
-    shown-sent columns base corner raw shown bytes
-    (usual-or-own raw styled shown (own o styled) painted.1.1.1.0 plain_style (colorings styled plain_style)) painted.1.1.1.1 all some last
-
--- the text behind the line
-pub behind-sent : {H : Type 0} (columns base : ℕ) (place : Position) (behind : Option (List ℕ)) (bytes : List ℕ) (highlighter : Option H) (own : H → List ℕ → Option (List ℕ))
-    → PaintsBehind (option_map own highlighter) behind bytes
-    → IfSome behind (λ text. IfSome highlighter (λ o. IsColoring (own o text) text))
-    → IfSome behind (λ s. list_all is_plain s ≡ true) → place.col < columns → (behind_end columns place behind).row < 65535
-    → sent columns (standing base place) (bytes ++ wrap_more (measured columns) behind place) ≡ standing base (behind_end columns place behind)
-behind-sent columns base place None bytes highlighter own painted coloring all within last = ap (λ b. sent columns (standing base place) (b ++ [])) painted
-behind-sent columns base place (Some text) bytes None own painted coloring all within last =
-    text-sent columns base place text bytes None (λ o. own o text) painted coloring all within last
-behind-sent columns base place (Some text) bytes (Some o) own painted coloring all within last =
-    text-sent columns base place text bytes (Some o) (λ o. own o text) painted coloring all within last
+behind-below : (columns : ℕ) (place : Position) (behind : Option (List ℕ)) → place.col < columns → (behind_end columns place behind).col < columns
+behind-below columns place None room = room
+behind-below columns place (Some text) room = measured-below columns text place room
 
 -- where all that is shown ends
-pub shown-end : (columns : ℕ) (place : Position) (text : List ℕ) (behind : Option (List ℕ))
+shown-end : (columns : ℕ) (place : Position) (text : List ℕ) (behind : Option (List ℕ))
     → shown_end (measured columns) place text behind ≡ behind_end columns (measured columns text place) behind
 shown-end columns place text None = refl
 shown-end columns place text (Some more) = refl
 
--- it ends below the last row only where the line does
-pub line-row : (columns : ℕ) (place : Position) (behind : Option (List ℕ)) → IfSome behind (λ s. list_all is_plain s ≡ true)
-    → (behind_end columns place behind).row < 65535 → place.row < 65535
-line-row columns place None all last = last
-line-row columns place (Some text) all last = measured-row columns place text all last
+-- a text ends above the last row only where it begins there
+pub measured-row : (columns : ℕ) (place : Position) (text : List ℕ) → (measured columns text place).row < 65535 → place.row < 65535
+unfolding measured
+measured-row columns place text last =
+    let q = fold (after_cluster columns) place (graphemes true text) in
+    earlier place.row q.row (clusters-last columns place (graphemes true text)) (wrapped-row columns q last)
+
+line-row : (columns : ℕ) (place : Position) (behind : Option (List ℕ)) → (behind_end columns place behind).row < 65535 → place.row < 65535
+line-row columns place None last = last
+line-row columns place (Some text) last = measured-row columns place text last
 
 -- by a layout whose places are as they are measured, the new rows of a drawing are those behind the measured texts
 drawing-of : (columns : ℕ) (raw text : List ℕ) (behind : Option (List ℕ)) (layout : Layout) (painted : Painted)
@@ -144,75 +159,128 @@ drawing-of columns raw text (Some more) layout painted first ends =
     ap₂ (λ (e₁ e₂ : Position). painted.prompt ++ wrap_ending measure raw corner e₁ ++ painted.line ++ wrap measure text layout.prompt_size
     ++ painted.behind ++ wrap_ending measure more place e₂ ++ move_bytes layout.end layout.cursor) first ends
 
-module _ {P H : Type 0} (p : prompts.Ghosts P) (h : highlighters.Ghosts H) where
-  -- so it is of a drawing of printable ASCII and newlines
-  pub drawing-measured : (columns : ℕ) (handed : Handed P H) (bytes : List ℕ) → (draws : Draws p h (measured columns) handed bytes)
-      → IsPlainDrawing columns (p.raw_text handed.prompt) handed.line.text handed.behind handed.layout
-      → (let layout = handed.layout in let painted = draws.painted in
-      bytes ≡ painted.prompt ++ wrap (measured columns) (p.raw_text handed.prompt) corner ++ painted.line ++ wrap (measured columns) handed.line.text layout.prompt_size
-      ++ painted.behind ++ wrap_more (measured columns) handed.behind (measured columns handed.line.text layout.prompt_size) ++ move_bytes layout.end layout.cursor)
-  drawing-measured columns handed bytes draws is =
-      draws.whole ∙ drawing-of columns (p.raw_text handed.prompt) handed.line.text handed.behind handed.layout draws.painted is.prompt_end is.ends
+-- the parts are read one after another
+parts-sent : (columns : ℕ) (t : Terminal) (a b c d e f m : List ℕ)
+    → sent columns t (a ++ b ++ c ++ d ++ e ++ f ++ m)
+    ≡ sent columns (sent columns (sent columns (sent columns (sent columns (sent columns (sent columns t a) b) c) d) e) f) m
+parts-sent columns t a b c d e f m =
+    fold-append (put columns) t (a ++ b ++ c ++ d ++ e ++ f) m ∙ ap (λ s. sent columns s m)
+    (fold-append (put columns) t (a ++ b ++ c ++ d ++ e) f ∙ ap (λ s. sent columns s f)
+    (fold-append (put columns) t (a ++ b ++ c ++ d) e ∙ ap (λ s. sent columns s e)
+    (fold-append (put columns) t (a ++ b ++ c) d ∙ ap (λ s. sent columns s d)
+    (fold-append (put columns) t (a ++ b) c ∙ ap (λ s. sent columns s c) (fold-append (put columns) t a b)))))
 
-  -- a drawing takes the cursor from the prompt's first place to the layout's
-  pub drawing-sent : (columns base : ℕ) (handed : Handed P H) (bytes : List ℕ) → Draws p h (measured columns) handed bytes → OnlyColors p h handed
-      → IsPlainDrawing columns (p.raw_text handed.prompt) handed.line.text handed.behind handed.layout
-      → sent columns (standing base corner) bytes ≡ standing base handed.layout.cursor
-  drawing-sent columns base handed bytes draws colors is =
+-- what is read between being held back and shown, where that is wanted
+once-shows : (columns : ℕ) (t : Terminal) (page : Page) (wanted : Bool) (bytes : List ℕ) (P : Terminal → Type 0) → Shows columns t page
+    → ((u : Terminal) → Shows columns u page → (end : Page) × Shows columns (sent columns u bytes) end × ((v : Terminal) → Shows columns v end → P v))
+    → P (sent columns t (at_once wanted bytes))
+once-shows columns t page true bytes P shows goes =
+    let u = sent columns t hold in
+    let ends = goes u (hold-turns columns t page shows) in
+    subst P (sym (fold-append (put columns) t (hold ++ bytes) release ∙ ap (λ s. sent columns s release) (fold-append (put columns) t hold bytes)))
+    (ends.2 (sent columns (sent columns u bytes) release) (release-turns columns (sent columns u bytes) ends.0 ends.1))
+once-shows columns t page false bytes P shows goes =
+    let ends = goes t shows in
+    subst P (sym (ap (sent columns t) (append-nil bytes))) (ends.2 (sent columns t bytes) ends.1)
+
+-- where a full redraw begins, nothing is shown from its first row on
+cleared-alike : (base : ℕ) (page : Page) → Alike base (without_rest (at base 0 page)) (blank_page base)
+cleared-alike base page = record { row = refl; col = refl; cells = λ r k from. ap (λ b. cond b blank (page.cells r k)) (behind r k from) } where
+  behind : (r k : ℕ) → base ≤ r → (nat_lt base r || ((r == base) && nat_le 0 k)) ≡ true
+  behind r k from = grind (arith, nat_tests)
+
+blank-alike : (base : ℕ) (page : Page) → Begins base None page → Alike base page (blank_page base)
+blank-alike base page begins = record { row = begins.0.row ∙ omega arith; col = begins.0.col; cells = begins.1 }
+
+begin-at : (base : ℕ) (page : Page) → Alike base page (blank_page base) → IsAt base corner page
+begin-at base page alike = record { row = alike.row ∙ omega arith; col = alike.col }
+
+module _ {P H : Type 0} (p : prompts.Ghosts P) (h : highlighters.Ghosts H) where
+  -- a drawing, from the start of a row
+  drawing-arrives : (columns base : ℕ) (handed : Handed P H) (bytes : List ℕ) (t : Terminal) (page : Page) → Draws p h (measured columns) handed bytes → OnlyColors p h handed
+      → IsMeasured columns (p.raw_text handed.prompt) handed.line.text handed.behind handed.layout
+      → ArrivesAt columns base corner page t
+      → (let end = picture columns page (p.raw_text handed.prompt) handed.line.text handed.behind in
+      Shows columns (sent columns t bytes) (at (base + handed.layout.cursor.row) handed.layout.cursor.col end))
+  drawing-arrives columns base handed bytes t page draws colors is from =
       let layout = handed.layout in
       let behind = handed.behind in
       let highlighter = handed.highlighter in
       let raw = p.raw_text handed.prompt in
       let text = handed.line.text in
       let measure = measured columns in
+      let painted = draws.painted in
       let p₁ = layout.prompt_size in
       let p₂ = measure text p₁ in
       let p₃ = behind_end columns p₂ behind in
       let some : 0 < columns = omega (arith, is.cursor.2) in
       let ends : layout.end ≡ p₃ = is.ends ∙ shown-end columns p₁ text behind in
       let last : p₃.row < 65535 = omega (arith, is.last_row, ap (λ (q : Position). q.row) ends) in
-      let second : p₂.row < 65535 = line-row columns p₂ behind is.behind_plain last in
-      let first : p₁.row < 65535 = measured-row columns p₁ text is.text_plain second in
+      let second : p₂.row < 65535 = line-row columns p₂ behind last in
+      let first : p₁.row < 65535 = measured-row columns p₁ text second in
       let first_at : (measure raw corner).row < 65535 = omega (arith, first, ap (λ (q : Position). q.row) is.prompt_end) in
-      let col₁ : p₁.col < columns =
-      omega (arith, measured-below columns raw corner some, ap (λ (q : Position). q.col) is.prompt_end) in
+      let col₁ : p₁.col < columns = omega (arith, measured-below columns raw corner some, ap (λ (q : Position). q.col) is.prompt_end) in
       let col₂ = measured-below columns text p₁ col₁ in
-      let start = standing base corner in
-      let front : sent columns start (draws.painted.prompt ++ wrap measure raw corner) ≡ standing base p₁ =
-      prompt-sent columns base raw draws.painted.prompt (p.own_style handed.prompt) highlighter
-      (λ o s. h.own_prompt o s layout.default_prompt) draws.prompt colors.style colors.prompt is.prompt_plain some first_at
-      ∙ ap (standing base) (sym is.prompt_end) in
-      let middle : sent columns (standing base p₁) (draws.painted.line ++ wrap measure text p₁) ≡ standing base p₂ =
-      text-sent columns base p₁ text draws.painted.line highlighter (λ o. h.own_line o text handed.line.cursor) draws.line colors.line
-      is.text_plain col₁ second in
-      let back = behind-sent columns base p₂ behind draws.painted.behind highlighter h.own_hint draws.behind colors.behind is.behind_plain
-      col₂ last in
-      ap (sent columns start) (drawing-measured columns handed bytes draws is)
-      ∙ parts-sent columns start draws.painted.prompt (wrap measure raw corner) draws.painted.line (wrap measure text p₁) draws.painted.behind
-      (wrap_more measure behind p₂) (move_bytes layout.end layout.cursor)
-      ∙ ap (λ t. sent columns (sent columns (sent columns t (draws.painted.line ++ wrap measure text p₁)) (draws.painted.behind ++ wrap_more measure behind p₂)) (move_bytes layout.end layout.cursor)) front
-      ∙ ap (λ t. sent columns (sent columns t (draws.painted.behind ++ wrap_more measure behind p₂)) (move_bytes layout.end layout.cursor)) middle
-      ∙ ap (λ t. sent columns t (move_bytes layout.end layout.cursor)) (back ∙ ap (standing base) (sym ends))
-      ∙ move-arrives columns base layout.end layout.cursor (omega (arith, is.last_row)) (omega (arith, is.cursor.0)) (omega (arith, is.cursor.1)) is.cursor.2
+      let col₃ : layout.end.col < columns = omega (arith, behind-below columns p₂ behind col₂, ap (λ (q : Position). q.col) ends) in
+      let front = subst (λ q. ArrivesAt columns base q (put_text columns page raw) (sent columns (sent columns t painted.prompt) (wrap measure raw corner))) (sym is.prompt_end)
+      (text-arrives columns base corner page t (sent columns t painted.prompt) raw is.prompt_text some first_at from
+      (prompt-prints columns t raw painted.prompt (p.own_style handed.prompt) highlighter (λ o s. h.own_prompt o s layout.default_prompt) from.shows.ready
+      is.prompt_text draws.prompt colors.style colors.prompt)) in
+      let t₁ = sent columns (sent columns t painted.prompt) (wrap measure raw corner) in
+      let middle = text-arrives columns base p₁ (put_text columns page raw) t₁ (sent columns t₁ painted.line) text is.line_text col₁ second front
+      (text-prints columns t₁ text painted.line highlighter (λ o. h.own_line o text handed.line.cursor) front.shows.ready is.line_text draws.line colors.line) in
+      let t₂ = sent columns (sent columns t₁ painted.line) (wrap measure text p₁) in
+      let back = behind-arrives columns base p₂ (put_text columns (put_text columns page raw) text) t₂ behind painted.behind highlighter h.own_hint is.behind_text col₂ last
+      draws.behind colors.behind middle in
+      let t₃ = sent columns (sent columns t₂ painted.behind) (wrap_more measure behind p₂) in
+      let end = picture columns page raw text behind in
+      subst (λ s. Shows columns s (at (base + layout.cursor.row) layout.cursor.col end))
+      (sym (ap (sent columns t) (draws.whole ∙ drawing-of columns raw text behind layout painted is.prompt_end is.ends)
+      ∙ parts-sent columns t painted.prompt (wrap measure raw corner) painted.line (wrap measure text p₁) painted.behind (wrap_more measure behind p₂)
+      (move_bytes layout.end layout.cursor)))
+      (move-turns columns base layout.end layout.cursor t₃ end (subst (λ q. IsAt base q end) (sym ends) back.at) (omega (arith, is.last_row)) col₃
+      (omega (arith, is.cursor.0)) (omega (arith, is.cursor.1)) is.cursor.2 back.shows)
 
-  -- a full redraw takes it there from where it stood
-  pub redraw-arrives : RedrawsArrive p h
-  redraw-arrives columns base wanted old handed bytes redraws colors is fits =
-      let start = standing base (before_redraw old) in
-      let clear = clear_drawn old in
-      let drawn = redraws.drawn in
-      let all : sent columns start (clear ++ drawn) ≡ standing base handed.layout.cursor =
-      fold-append (put columns) start clear drawn
-      ∙ ap (λ t. sent columns t drawn) (drawn-sent columns base old fits)
-      ∙ drawing-sent columns base handed drawn redraws.draws colors is in
-      ap (sent columns start) redraws.whole ∙ marked columns base (before_redraw old) handed.layout.cursor wanted (clear ++ drawn) all
-    where
-      marked : (columns base : ℕ) (from to : Position) (wanted : Bool) (bytes : List ℕ) → sent columns (standing base from) bytes ≡ standing base to
-          → sent columns (standing base from) (at_once wanted bytes) ≡ standing base to
-      marked columns base from to false bytes goes = ap (sent columns (standing base from)) (append-nil bytes) ∙ goes
-      marked columns base from to true bytes goes =
-          fold-append (put columns) (standing base from) (hold ++ bytes) release
-          ∙ ap (λ t. sent columns t release)
-          (fold-append (put columns) (standing base from) hold bytes
-          ∙ ap (λ t. sent columns t bytes) (others-stay.hold columns base from) ∙ goes)
-          ∙ others-stay.release columns base to
+  -- from where it begins, on a page that is like a blank one
+  drawing-shows : (columns base : ℕ) (handed : Handed P H) (bytes : List ℕ) (t : Terminal) (page : Page) → Draws p h (measured columns) handed bytes → OnlyColors p h handed
+      → IsMeasured columns (p.raw_text handed.prompt) handed.line.text handed.behind handed.layout → Alike base page (blank_page base) → Shows columns t page
+      → (let end = picture columns page (p.raw_text handed.prompt) handed.line.text handed.behind in
+      Shows columns (sent columns t bytes) (at (base + handed.layout.cursor.row) handed.layout.cursor.col end))
+  drawing-shows columns base handed bytes t page draws colors is alike shows =
+      drawing-arrives columns base handed bytes t page draws colors is (record { shows = shows; at = begin-at base page alike })
+
+  -- what is shown then
+  shown-then : (columns base : ℕ) (handed : Handed P H) (page : Page) (t : Terminal) → Alike base page (blank_page base)
+      → (let end = picture columns page (p.raw_text handed.prompt) handed.line.text handed.behind in
+      Shows columns t (at (base + handed.layout.cursor.row) handed.layout.cursor.col end))
+      → IsShown columns base (p.raw_text handed.prompt) handed.line.text handed.behind handed.layout.cursor t
+  shown-then columns base handed page t alike shows =
+      let raw = p.raw_text handed.prompt in
+      let end = picture columns page raw handed.line.text handed.behind in
+      record {
+        page = at (base + handed.layout.cursor.row) handed.layout.cursor.col end;
+        shows = shows;
+        at = record { row = refl; col = refl };
+        cells = (alike-picture columns base page (blank_page base) raw handed.line.text handed.behind alike).cells;
+      }
+
+  -- the rows that were drawn before are cleared, if there are any
+  begun-from : (columns base : ℕ) (old : Option Layout) (t : Terminal) (page : Page) → Begins base old page → Shows columns t page
+      → (begun_page : Page) × Shows columns (sent columns t (clear_drawn old)) begun_page × Alike base begun_page (blank_page base)
+  begun-from columns base None t page begins shows = (page, shows, blank-alike base page begins)
+  begun-from columns base (Some old) t page begins shows =
+      (without_rest (at base 0 page), clear-turns columns base old.cursor t page begins.0 (omega (arith, begins.1)) shows, cleared-alike base page)
+
+  pub redraws-show : RedrawsShow p h
+  redraws-show columns base wanted old handed bytes t page redraws colors is begins shows =
+      subst (λ b. IsShown columns base (p.raw_text handed.prompt) handed.line.text handed.behind handed.layout.cursor (sent columns t b)) (sym redraws.whole)
+      (once-shows columns t page wanted (clear_drawn old ++ redraws.drawn)
+      (IsShown columns base (p.raw_text handed.prompt) handed.line.text handed.behind handed.layout.cursor) shows
+      (λ u held.
+      let from = begun-from columns base old u page begins held in
+      let end = at (base + handed.layout.cursor.row) handed.layout.cursor.col (picture columns from.0 (p.raw_text handed.prompt) handed.line.text handed.behind) in (
+        end,
+        subst (λ s. Shows columns s end) (sym (fold-append (put columns) u (clear_drawn old) redraws.drawn))
+            (drawing-shows columns base handed redraws.drawn (sent columns u (clear_drawn old)) from.0 redraws.draws colors is from.2 from.1),
+        λ v shown. shown-then columns base handed from.0 v from.2 shown,
+      )))

@@ -1,274 +1,407 @@
--- The cells that a full redraw is drawn into.
-use Rattle.std.proofs.Common.{◌≡◌, ◌<◌, ◌≤◌, ◌^◌, ℕ, zero, suc, ◌+◌, ◌-◌, ◌/◌, ◌%◌, ◌==◌, Bool, true, false, cond, if◌then◌else◌, nat_lt, List, [], ◌∷◌, ◌++◌, drop, encode_utf8, refl, sym, ap, ap₂, ◌∙◌, arith, ⊎_elim}
-use Rattle.std.specs.Fmt.{decimal}
+-- Which cells a text changes that is put down, and what a terminal shows after a part was drawn.
+use Rattle.std.proofs.Common.{◌≡◌, ◌<◌, ◌≤◌, ℕ, ◌+◌, min, ◌==◌, ◌||◌, ◌&&◌, nat_le, nat_lt, Bool, true, false, cond, List, [], ◌∷◌, ◌++◌, map, Option, None, refl, subst, sym, ap, ap₂, ◌∙◌, arith}
+use Rattle.std.specs.Prelude.{IsUtf8, chars, encode_utf8_all}
 use Rattle.std.specs.List.{fold, list_all}
-use Rattle.std.proofs.lemmas.Fmt.{decimal_by_steps, decimal_digit, decimal_step}
-use Rattle.std.proofs.lemmas.List.{append-nil, append_assoc}
-use Rattle.std.proofs.lemmas.List.Sums.{fold-append}
-use Rattle.std.proofs.lemmas.Bool.{and_parts, or_cases}
+use Rattle.std.proofs.lemmas.Bool.{and_parts}
 use Rattle.std.proofs.lemmas.Bool.Decides.{nat_tests}
-use Rattle.std.proofs.lemmas.Str.{encode_ascii}
-use Rattle.line_buffer.specs.Printable.{is_plain, is_printable}
+use Rattle.std.proofs.lemmas.List.Sums.{fold-append}
+use Rattle.std.proofs.lemmas.Str.{IsUtf8-from_ascii, chars-IsAscii}
+use Rattle.std.proofs.lemmas.Str.Ascii.{IsAscii-cons, IsAscii-nil}
+use Rattle.unicode_segmentation.specs.Grapheme.{graphemes}
+use Rattle.unicode_width.specs.Width.{str_width}
+use Rattle.unicode_width.proofs.Rules.{str_width-printable}
+use Rattle.line_buffer.specs.Printable.{is_printable}
 use Rattle.line_buffer.specs.declared.layout.Position.{Position}
-use Rattle.line_screen.specs.MeasureLaws.{after_char}
-use Rattle.line_term.specs.Cells.{Cells, cells_after, put_cells}
-use Rattle.line_term.specs.Drawn.{behind_parameters, color_length, colored_from, drawn, drawn_char, is_parameter, passing_behind, uncolored_from}
-use Rattle.line_term.specs.Escape.{move_bytes, return, rows_bytes, steps}
-use Rattle.line_term.specs.Terminal.{Terminal, escape, plain, put, sent, sequence, standing}
-use Rattle.line_term.proofs.CellLemmas.{cells-append}
-use Rattle.line_term.proofs.ColorLemmas.{at_cursor, behind-after, end-read, parameter-read, positive, uncolored-passed}
-use Rattle.line_term.proofs.TerminalLemmas.{digits-read, down-sent, reading, stands, steps-some, up-sent, whole_move}
-use Rattle.line_term.proofs.TextLemmas.{after-within, at_place, char-next, drawn-newline, drawn-printable, earlier, fold-last, waiting}
+use Rattle.line_buffer.proofs.PlainClusterLemmas.{clusters-plain}
+use Rattle.line_keys.specs.Display.{corner}
+use Rattle.line_screen.specs.Measure.{advanced, after_cluster, columns_of, ends_row, measured, start_below}
+use Rattle.line_state.proofs.PlainTextLemmas.{plain_text}
+use Rattle.line_term.specs.Drawn.{cleaned, visible}
+use Rattle.line_term.specs.Escape.{clear_row, move_bytes}
+use Rattle.line_term.specs.Laws.{PartsShow, ShowsCluster, TextsAreShown}
+use Rattle.line_term.specs.Page.{IsAt, Page, at, begun, below, blank, blank_page, continued, picture, put_cluster, put_down, put_text, unwaiting, with_shown}
+use Rattle.line_term.specs.Painted.{wrap}
+use Rattle.line_term.specs.Shown.{IsPlace, IsShown, first_cell, is_before}
+use Rattle.line_term.specs.Terminal.{Terminal, sent, without_row}
+use Rattle.line_term.proofs.AlikeLemmas.{Alike, alike-text}
+use Rattle.line_term.proofs.MoveLemmas.{move-turns, row-turns}
+use Rattle.line_term.proofs.PrintLemmas.{cluster-last, clusters-at, clusters-last, earlier, text-at, wrapped-row}
+use Rattle.line_term.proofs.RedrawLemmas.{measured-row, texts-arrive}
 
--- ---- cursor moves show nothing
+-- a cell stands before the cursor of a page
+abbrev before : Page → ℕ → ℕ → Bool
+before page r k = nat_lt r page.row || ((r == page.row) && nat_lt k page.col)
 
--- a byte that ends no clearing
-quiet : (row col k byte : ℕ) (waits : Bool) (cells : Cells) → (byte == 74) ≡ false → (byte == 75) ≡ false
-    → put_cells (at_cursor row col waits (sequence k)) cells byte ≡ cells
-unfolding put_cells
-quiet row col k byte waits cells no_rest no_row = two (byte == 74) (byte == 75) _ _ cells no_rest no_row
+-- ---- what is put down changes the cells from the old cursor to the new one
+
+abbrev covers : Page → ℕ → ℕ → ℕ → Bool
+covers page width r k = (r == page.row) && (nat_le page.col k && nat_lt k (page.col + width))
+
+shown-cell : (width : ℕ) (shown : List ℕ) (page : Page) (r k : ℕ) → covers page width r k ≡ false → (with_shown width shown page).cells r k ≡ page.cells r k
+shown-cell width shown page r k no_cover = ap (λ b. cond b (cond (k == page.col) (begun shown) continued) (page.cells r k)) no_cover
+
+-- a cell before the cursor stays, and stands before it
+record Stays (page next : Page) (r k : ℕ) : Type 0 where
+  same : next.cells r k ≡ page.cells r k
+  before : before next r k ≡ true
+
+stays-below : (page : Page) (r k : ℕ) → before page r k ≡ true → Stays page (below page) r k
+stays-below page r k is = record { same = refl; before = grind (arith, nat_tests) }
+
+stays-shown : (width : ℕ) (shown : List ℕ) (page : Page) (r k : ℕ) → before page r k ≡ true → Stays page (with_shown width shown page) r k
+stays-shown width shown page r k is =
+    let no_cover : covers page width r k ≡ false = grind (arith, nat_tests) in
+    record { same = shown-cell width shown page r k no_cover; before = grind (arith, nat_tests) }
+
+stays-down : (columns : ℕ) (page : Page) (piece : List ℕ) (r k : ℕ) → before page r k ≡ true → Stays page (put_down columns page piece) r k
+stays-down columns page piece r k is = by_cases (ends_row piece) (nat_le (page.col + columns_of columns piece) columns) where
+  width : ℕ
+  width = columns_of columns piece
+
+  shown : List ℕ
+  shown = encode_utf8_all (map visible (chars piece))
+
+  by_cases : (e b : Bool) → Stays page (cond e (below page) (with_shown width shown (cond b page (below page)))) r k
+  by_cases true b = stays-below page r k is
+  by_cases false true = stays-shown width shown page r k is
+  by_cases false false =
+      let first = stays-below page r k is in
+      let then = stays-shown width shown (below page) r k first.before in
+      record { same = then.same ∙ first.same; before = then.before }
+
+stays-pieces : (columns : ℕ) (page : Page) (pieces : List (List ℕ)) (r k : ℕ) → before page r k ≡ true → Stays page (fold (put_down columns) page pieces) r k
+stays-pieces columns page [] r k is = record { same = refl; before = is }
+stays-pieces columns page (piece ∷ pieces) r k is =
+    let first = stays-down columns page piece r k is in
+    let then = stays-pieces columns (put_down columns page piece) pieces r k first.before in
+    record { same = then.same ∙ first.same; before = then.before }
+
+-- so does one that is not before the new cursor, and it was not before the old one
+record Untouched (page next : Page) (r k : ℕ) : Type 0 where
+  same : next.cells r k ≡ page.cells r k
+  behind : before page r k ≡ false
+
+untouched-below : (page : Page) (r k : ℕ) → before (below page) r k ≡ false → Untouched page (below page) r k
+untouched-below page r k is = record { same = refl; behind = grind (arith, nat_tests) }
+
+untouched-shown : (width : ℕ) (shown : List ℕ) (page : Page) (r k : ℕ) → before (with_shown width shown page) r k ≡ false → Untouched page (with_shown width shown page) r k
+untouched-shown width shown page r k is =
+    let no_cover : covers page width r k ≡ false = grind (arith, nat_tests) in
+    record { same = shown-cell width shown page r k no_cover; behind = grind (arith, nat_tests) }
+
+untouched-down : (columns : ℕ) (page : Page) (piece : List ℕ) (r k : ℕ) → before (put_down columns page piece) r k ≡ false → Untouched page (put_down columns page piece) r k
+untouched-down columns page piece r k is = by_cases (ends_row piece) (nat_le (page.col + columns_of columns piece) columns) is where
+  width : ℕ
+  width = columns_of columns piece
+
+  shown : List ℕ
+  shown = encode_utf8_all (map visible (chars piece))
+
+  by_cases : (e b : Bool) → before (cond e (below page) (with_shown width shown (cond b page (below page)))) r k ≡ false
+      → Untouched page (cond e (below page) (with_shown width shown (cond b page (below page)))) r k
+  by_cases true b is = untouched-below page r k is
+  by_cases false true is = untouched-shown width shown page r k is
+  by_cases false false is =
+      let last = untouched-shown width shown (below page) r k is in
+      let first = untouched-below page r k last.behind in
+      record { same = last.same ∙ first.same; behind = first.behind }
+
+untouched-pieces : (columns : ℕ) (page : Page) (pieces : List (List ℕ)) (r k : ℕ) → before (fold (put_down columns) page pieces) r k ≡ false
+    → Untouched page (fold (put_down columns) page pieces) r k
+untouched-pieces columns page [] r k is = record { same = refl; behind = is }
+untouched-pieces columns page (piece ∷ pieces) r k is =
+    let last = untouched-pieces columns (put_down columns page piece) pieces r k is in
+    let first = untouched-down columns page piece r k last.behind in
+    record { same = last.same ∙ first.same; behind = first.behind }
+
+untouched-unwaiting : (columns : ℕ) (page : Page) (r k : ℕ) → before (unwaiting columns page) r k ≡ false → Untouched page (unwaiting columns page) r k
+untouched-unwaiting columns page r k is = by_full (page.col == columns) is where
+  by_full : (full : Bool) → before (cond full (below page) page) r k ≡ false → Untouched page (cond full (below page) page) r k
+  by_full true is = untouched-below page r k is
+  by_full false is = record { same = refl; behind = is }
+
+untouched-text : (columns : ℕ) (page : Page) (text : List ℕ) (r k : ℕ) → before (put_text columns page text) r k ≡ false → Untouched page (put_text columns page text) r k
+unfolding put_text
+untouched-text columns page text r k is =
+    let last = untouched-unwaiting columns (fold (put_down columns) page (graphemes true text)) r k is in
+    let first = untouched-pieces columns page (graphemes true text) r k last.behind in
+    record { same = last.same ∙ first.same; behind = first.behind }
+
+-- a cell before the place at which the cursor is
+before-at : (base : ℕ) (place : Position) (page : Page) (r k : ℕ) → IsAt base place page → before page r k ≡ is_before base place r k
+before-at base place page r k there = ap₂ (λ row col. nat_lt r row || ((r == row) && nat_lt k col)) there.row there.col
+
+-- the rest of what is shown stays
+text-rest : (columns base : ℕ) (origin : Position) (page : Page) (text : List ℕ) (row col : ℕ) → (measured columns text origin).row < 65535
+    → IsAt base origin page → is_before base (measured columns text origin) row col ≡ false → (put_text columns page text).cells row col ≡ page.cells row col
+text-rest columns base origin page text row col last there behind =
+    (untouched-text columns page text row col (before-at base (measured columns text origin) (put_text columns page text) row col (text-at columns base origin page text there last) ∙ behind)).same
+
+-- ---- a cluster is shown in its cells
+
+-- the cells of waiting pages
+unwaiting-cells : (columns : ℕ) (page : Page) (r k : ℕ) → (unwaiting columns page).cells r k ≡ page.cells r k
+unwaiting-cells columns page r k = by_full (page.col == columns) where
+  by_full : (full : Bool) → (cond full (below page) page).cells r k ≡ page.cells r k
+  by_full true = refl
+  by_full false = refl
+
+-- where it is put down
+abbrev from_page : ℕ → Page → ℕ → Page
+from_page columns page width = cond (nat_le (page.col + width) columns) page (below page)
+
+from-at : (columns base width : ℕ) (p : Position) (page : Page) → IsAt base p page → (first_cell columns width p).row < 65535
+    → IsAt base (first_cell columns width p) (from_page columns page width)
+from-at columns base width p page there last = by_room (nat_le (page.col + width) columns) (nat_le (p.col + width) columns) (ap (λ (c : ℕ). nat_le (c + width) columns) there.col) last where
+  by_room : (x y : Bool) → x ≡ y → (cond y p (start_below p)).row < 65535 → IsAt base (cond y p (start_below p)) (cond x page (below page))
+  by_room true true same last = there
+  by_room false false same last = record { row = omega (arith, last, there.row); col = refl }
+  by_room true false same last = absurd (cc)
+  by_room false true same last = absurd (cc)
+
+shown-begun : (width : ℕ) (shown : List ℕ) (page : Page) → 0 < width → (with_shown width shown page).cells page.row page.col ≡ begun shown
+shown-begun width shown page some =
+    let cover : covers page width page.row page.col ≡ true = grind (arith, nat_tests) in
+    let first : (page.col == page.col) ≡ true = grind (arith, nat_tests) in
+    ap (λ b. cond b (cond (page.col == page.col) (begun shown) continued) (page.cells page.row page.col)) cover ∙ ap (λ b. cond b (begun shown) continued) first
+
+shown-continued : (width k : ℕ) (shown : List ℕ) (page : Page) → page.col < k → k < page.col + width → (with_shown width shown page).cells page.row k ≡ continued
+shown-continued width k shown page from to =
+    let cover : covers page width page.row k ≡ true = grind (arith, nat_tests) in
+    let other : (k == page.col) ≡ false = grind (arith, nat_tests) in
+    ap (λ b. cond b (cond (k == page.col) (begun shown) continued) (page.cells page.row k)) cover ∙ ap (λ b. cond b (begun shown) continued) other
+
+shown-before : (width k : ℕ) (shown : List ℕ) (page : Page) → k < page.col + width → before (with_shown width shown page) page.row k ≡ true
+shown-before width k shown page to = grind (arith, nat_tests)
+
+-- a cluster begins above the last row where it ends there
+first-row : (columns width : ℕ) (p : Position) (piece : List ℕ) → ends_row piece ≡ false → (cond (ends_row piece) (start_below p) (advanced columns width p)).row < 65535
+    → (first_cell columns width p).row < 65535
+first-row columns width p piece in_row last =
+    by_room (nat_le (p.col + width) columns) (subst (λ b. (cond b (start_below p) (advanced columns width p)).row < 65535) in_row last)
   where
-    two : (a b : Bool) (x y z : Cells) → a ≡ false → b ≡ false → cond a x (cond b y z) ≡ z
-    two a b x y z ea eb = rw (ea, eb) refl
+    by_room : (b : Bool) → (cond b (record p { col = p.col + width }) (record (start_below p) { col = width })).row < 65535 → (cond b p (start_below p)).row < 65535
+    by_room true last = last
+    by_room false last = last
 
-digits-cells : (columns row col n : ℕ) (cells : Cells) → n < 2 ^ 64 → cells_after columns (reading row col 0) cells (decimal n) ≡ cells
-digits-cells columns row col n cells small =
-    let P : ℕ → List ℕ → Type 0 = λ m ds. m < 2 ^ 64 → (cells_after columns (reading row col 0) cells ds ≡ cells) × (ds ≡ decimal m) in
-    (decimal_by_steps P (λ m h _. (digit 0 m h, sym (decimal_digit m h))) (λ m ds h read fits. more m ds h fits read) n small small).0
+-- a cluster that is put down is shown
+cluster-shown : (columns base : ℕ) (p : Position) (page : Page) (piece : List ℕ) → ends_row piece ≡ false → 0 < columns_of columns piece
+    → (after_cluster columns p piece).row < 65535 → IsAt base p page → ShowsCluster columns base p piece (put_down columns page piece)
+cluster-shown columns base p page piece in_row some last there =
+    let width = columns_of columns piece in
+    let shown = encode_utf8_all (map visible (chars piece)) in
+    let from = from_page columns page width in
+    let done : put_down columns page piece ≡ with_shown width shown from = ap (λ b. cond b (below page) (put_cluster columns page width shown)) in_row in
+    let at_first = from-at columns base width p page there (first-row columns width p piece in_row last) in
+    subst (ShowsCluster columns base p piece) (sym done) (
+      ap₂ (λ r k. (with_shown width shown from).cells r k) (sym at_first.row) (sym at_first.col) ∙ shown-begun width shown from some,
+      λ k after within. ap (λ r. (with_shown width shown from).cells r k) (sym at_first.row)
+          ∙ shown-continued width k shown from (omega (arith, at_first.col, after)) (omega (arith, at_first.col, within)),
+    )
+
+-- and stays so, whatever comes behind it
+cluster-kept : (columns base : ℕ) (p : Position) (page next : Page) (piece : List ℕ) → ends_row piece ≡ false → (after_cluster columns p piece).row < 65535
+    → IsAt base p page → ((r k : ℕ) → before (put_down columns page piece) r k ≡ true → next.cells r k ≡ (put_down columns page piece).cells r k)
+    → 0 < columns_of columns piece → ShowsCluster columns base p piece (put_down columns page piece) → ShowsCluster columns base p piece next
+cluster-kept columns base p page next piece in_row last there keeps some shows =
+    let width = columns_of columns piece in
+    let shown = encode_utf8_all (map visible (chars piece)) in
+    let from = from_page columns page width in
+    let place = first_cell columns width p in
+    let done : put_down columns page piece ≡ with_shown width shown from = ap (λ b. cond b (below page) (put_cluster columns page width shown)) in_row in
+    let at_first = from-at columns base width p page there (first-row columns width p piece in_row last) in
+    let is_kept : (k : ℕ) → k < place.col + width → before (put_down columns page piece) (base + place.row) k ≡ true =
+    λ k within. ap₂ (λ q r. before q r k) done (sym at_first.row) ∙ shown-before width k shown from (omega (arith, at_first.col, within)) in (
+      keeps (base + place.row) place.col (is_kept place.col (omega (arith, some))) ∙ shows.0,
+      λ k after within. keeps (base + place.row) k (is_kept k within) ∙ shows.1 k after within,
+    )
+
+text-cluster : (columns base : ℕ) (origin : Position) (page : Page) (text : List ℕ) (front : List (List ℕ)) (piece : List ℕ) (back : List (List ℕ))
+    → graphemes true text ≡ front ++ piece ∷ back → ends_row piece ≡ false → 0 < columns_of columns piece
+    → (measured columns text origin).row < 65535 → IsAt base origin page
+    → ShowsCluster columns base (fold (after_cluster columns) origin front) piece (put_text columns page text)
+unfolding measured put_text
+text-cluster columns base origin page text front piece back parts in_row some last there =
+    let p = fold (after_cluster columns) origin front in
+    let q = after_cluster columns p piece in
+    let first = fold (put_down columns) page front in
+    let whole = wrapped-row columns (fold (after_cluster columns) origin (graphemes true text)) last in
+    let split : fold (after_cluster columns) origin (graphemes true text) ≡ fold (after_cluster columns) q back =
+    ap (fold (after_cluster columns) origin) parts ∙ fold-append (after_cluster columns) origin front (piece ∷ back) in
+    let ends : (fold (after_cluster columns) q back).row < 65535 = omega (arith, whole, ap (λ (r : Position). r.row) split) in
+    let last_q : q.row < 65535 = earlier q.row (fold (after_cluster columns) q back).row (clusters-last columns q back) ends in
+    let last_p : p.row < 65535 = earlier p.row q.row (cluster-last columns p piece) last_q in
+    let at_p = clusters-at columns base origin page front there last_p in
+    let put : fold (put_down columns) page (graphemes true text) ≡ fold (put_down columns) (put_down columns first piece) back =
+    ap (fold (put_down columns) page) parts ∙ fold-append (put_down columns) page front (piece ∷ back) in
+    cluster-kept columns base p first (put_text columns page text) piece in_row last_q at_p
+    (λ r k is. unwaiting-cells columns (fold (put_down columns) page (graphemes true text)) r k ∙ ap (λ (s : Page). s.cells r k) put
+    ∙ (stays-pieces columns (put_down columns first piece) back r k is).same)
+    some (cluster-shown columns base p first piece in_row some last_q at_p)
+
+pub texts-are-shown : TextsAreShown
+texts-are-shown = record { clusters = text-cluster; rest = text-rest }
+
+-- ---- after a part was drawn
+
+moves : (columns base : ℕ) (prompt text : List ℕ) (behind : Option (List ℕ)) (old new : Position) (t : Terminal)
+    → IsPlace columns old → IsPlace columns new → IsShown columns base prompt text behind old t
+    → IsShown columns base prompt text behind new (sent columns t (move_bytes old new))
+moves columns base prompt text behind old new t from to shown = record {
+  page = at (base + new.row) new.col shown.page;
+  shows = move-turns columns base old new t shown.page shown.at (omega (arith, from.0)) from.2 (omega (arith, to.0)) (omega (arith, to.1)) to.2 shown.shows;
+  at = record { row = refl; col = refl };
+  cells = shown.cells;
+}
+
+-- a printable character is a cluster of one column
+one-cluster : (c : ℕ) → is_printable c ≡ true → graphemes true (c ∷ []) ≡ (c ∷ []) ∷ []
+one-cluster c print = clusters-plain (c ∷ []) (plain_text (c ∷ []) (ap (λ b. b && true) print))
+
+one-column : (columns c : ℕ) → is_printable c ≡ true → columns_of columns (c ∷ []) ≡ min 1 columns
+one-column columns c print =
+    let low : c < 128 = grind (arith, nat_tests) in
+    ap (λ n. min n columns) (ap (str_width false) (chars-IsAscii (c ∷ []) (IsAscii-cons c [] low IsAscii-nil)) ∙ str_width-printable false (c ∷ []) (ap (λ b. b && true) print))
+
+one-in-row : (c : ℕ) → is_printable c ≡ true → ends_row (c ∷ []) ≡ false
+one-in-row c print = grind (arith, nat_tests)
+
+-- it comes to the same cell, whether the cursor waits or has gone to the next row
+unwaiting-put : (columns c : ℕ) (page : Page) → is_printable c ≡ true → 0 < columns
+    → put_down columns (unwaiting columns page) (c ∷ []) ≡ put_down columns page (c ∷ [])
+unwaiting-put columns c page print some = by_full (page.col == columns) refl where
+  shown : List ℕ
+  shown = encode_utf8_all (map visible (chars (c ∷ [])))
+
+  down : (p : Page) → put_down columns p (c ∷ []) ≡ with_shown (min 1 columns) shown (cond (nat_le (p.col + min 1 columns) columns) p (below p))
+  down p = ap (λ b. cond b (below p) (put_cluster columns p (columns_of columns (c ∷ [])) shown)) (one-in-row c print) ∙ ap (λ n. put_cluster columns p n shown) (one-column columns c print)
+
+  by_full : (full : Bool) → (page.col == columns) ≡ full → put_down columns (cond full (below page) page) (c ∷ []) ≡ put_down columns page (c ∷ [])
+  by_full false is = refl
+  by_full true is =
+      let fits : nat_le (0 + min 1 columns) columns ≡ true = grind (arith, nat_tests) in
+      let full : nat_le (page.col + min 1 columns) columns ≡ false = grind (arith, nat_tests) in
+      down (below page) ∙ ap (λ b. with_shown (min 1 columns) shown (cond b (below page) (below (below page)))) fits
+      ∙ sym (down page ∙ ap (λ b. with_shown (min 1 columns) shown (cond b page (below page))) full)
+
+-- a text with one more such cluster at its end
+put-more : (columns c : ℕ) (page : Page) (text : List ℕ) → is_printable c ≡ true → 0 < columns → graphemes true (text ++ c ∷ []) ≡ graphemes true text ++ (c ∷ []) ∷ []
+    → put_text columns (put_text columns page text) (c ∷ []) ≡ put_text columns page (text ++ c ∷ [])
+unfolding put_text
+put-more columns c page text print some parts =
+    ap (λ ps. unwaiting columns (fold (put_down columns) (unwaiting columns (fold (put_down columns) page (graphemes true text))) ps)) (one-cluster c print)
+    ∙ ap (unwaiting columns) (unwaiting-put columns c (fold (put_down columns) page (graphemes true text)) print some)
+    ∙ sym (ap (λ ps. unwaiting columns (fold (put_down columns) page ps)) parts
+    ∙ ap (unwaiting columns) (fold-append (put_down columns) page (graphemes true text) ((c ∷ []) ∷ [])))
+
+-- where prompt and line are measured to end, their picture has its cursor
+prompt-at : (columns base : ℕ) (prompt : List ℕ) → (measured columns prompt corner).row < 65535
+    → IsAt base (measured columns prompt corner) (put_text columns (blank_page base) prompt)
+prompt-at columns base prompt last = text-at columns base corner (blank_page base) prompt (record { row = omega arith; col = refl }) last
+
+line-at : (columns base : ℕ) (prompt text : List ℕ) → (measured columns text (measured columns prompt corner)).row < 65535
+    → IsAt base (measured columns text (measured columns prompt corner)) (picture columns (blank_page base) prompt text None)
+line-at columns base prompt text last =
+    text-at columns base (measured columns prompt corner) (put_text columns (blank_page base) prompt) text
+    (prompt-at columns base prompt (measured-row columns (measured columns prompt corner) text last)) last
+
+writes : (columns base c : ℕ) (prompt text : List ℕ) (end : Position) (t : Terminal) → IsUtf8 text → is_printable c ≡ true
+    → graphemes true (text ++ c ∷ []) ≡ graphemes true text ++ (c ∷ []) ∷ []
+    → end ≡ measured columns text (measured columns prompt corner) → end.col < columns → (measured columns (c ∷ []) end).row < 65535
+    → IsShown columns base prompt text None end t
+    → IsShown columns base prompt (text ++ c ∷ []) None (measured columns (c ∷ []) end) (sent columns t (cleaned (c ∷ []) ++ wrap (measured columns) (c ∷ []) end))
+writes columns base c prompt text end t utf8 print parts is room last shown =
+    let last_end = measured-row columns end (c ∷ []) last in
+    let drawn = picture columns (blank_page base) prompt text None in
+    let there : IsAt base end drawn = subst (λ q. IsAt base q drawn) (sym is) (line-at columns base prompt text (omega (arith, last_end, ap (λ (q : Position). q.row) is))) in
+    let alike : Alike base shown.page drawn = record { row = shown.at.row ∙ sym there.row; col = shown.at.col ∙ sym there.col; cells = shown.cells } in
+    let done = texts-arrive columns base end (c ∷ []) t shown.page (one-utf8 c print) room last shown.at shown.shows in
+    record {
+      page = put_text columns shown.page (c ∷ []);
+      shows = done.0;
+      at = done.1;
+      cells = λ row col from. (alike-text columns base shown.page drawn (c ∷ []) alike).cells row col from
+          ∙ ap (λ (p : Page). p.cells row col) (put-more columns c (put_text columns (blank_page base) prompt) text print (omega (arith, room)) parts);
+    }
   where
-    digit : (k d : ℕ) → d < 10 → put_cells (reading row col k) cells (48 + d) ≡ cells
-    digit k d h =
-        let no_rest : (48 + d == 74) ≡ false = grind (arith, nat_tests) in
-        let no_row : (48 + d == 75) ≡ false = grind (arith, nat_tests) in
-        quiet row col k (48 + d) false cells no_rest no_row
+    one-utf8 : (c : ℕ) → is_printable c ≡ true → IsUtf8 (c ∷ [])
+    one-utf8 c print = let low : c < 128 = grind (arith, nat_tests) in IsUtf8-from_ascii (c ∷ []) (IsAscii-cons c [] low IsAscii-nil)
 
-    more : (m : ℕ) (ds : List ℕ) → 10 ≤ m → m < 2 ^ 64
-        → (m / 10 < 2 ^ 64 → (cells_after columns (reading row col 0) cells ds ≡ cells) × (ds ≡ decimal (m / 10)))
-        → (cells_after columns (reading row col 0) cells (ds ++ (48 + m % 10) ∷ []) ≡ cells) × (ds ++ (48 + m % 10) ∷ [] ≡ decimal m)
-    more m ds h fits read =
-        let less : m / 10 < 2 ^ 64 = omega arith in
-        let last : m % 10 < 10 = omega arith in
-        let before = read less in
-        let state : sent columns (reading row col 0) ds ≡ reading row col (m / 10) =
-        ap (sent columns (reading row col 0)) before.1 ∙ digits-read columns row col (m / 10) less in (
-          cells-append columns (reading row col 0) cells ds ((48 + m % 10) ∷ [])
-              ∙ ap₂ (λ t (f : Cells). put_cells t f (48 + m % 10)) state before.0 ∙ digit (m / 10) (m % 10) last,
-          ap (λ b. b ++ (48 + m % 10) ∷ []) before.1 ∙ sym (decimal_step m h fits),
-        )
+-- nothing is shown behind a picture
+blank-behind : (columns base : ℕ) (prompt text : List ℕ) (r k : ℕ) → before (picture columns (blank_page base) prompt text None) r k ≡ false
+    → (picture columns (blank_page base) prompt text None).cells r k ≡ blank
+blank-behind columns base prompt text r k is =
+    let line = untouched-text columns (put_text columns (blank_page base) prompt) text r k is in
+    line.same ∙ (untouched-text columns (blank_page base) prompt r k line.behind).same
 
--- steps show nothing
-pub steps-cells : (columns row col n letter : ℕ) (cells : Cells) → n < 2 ^ 64 → letter < 128 → (letter == 74) ≡ false → (letter == 75) ≡ false
-    → cells_after columns (stands row col) cells (steps n letter) ≡ cells
-unfolding put put_cells
-steps-cells columns row col zero letter cells small ascii no_rest no_row = refl
-steps-cells columns row col (suc n) letter cells small ascii no_rest no_row =
-    let ds = decimal (suc n) in
-    ap (cells_after columns (stands row col) cells) (steps-some n letter ∙ ap (λ b. 27 ∷ 91 ∷ ds ++ b) (encode_ascii letter ascii))
-    ∙ cells-append columns (reading row col 0) cells ds (letter ∷ [])
-    ∙ ap₂ (λ t (f : Cells). put_cells t f letter) (digits-read columns row col (suc n) small) (digits-cells columns row col (suc n) cells small)
-    ∙ quiet row col (suc n) letter false cells no_rest no_row
-
-rows-cells : (columns base : ℕ) (old new : Position) (cells : Cells) → old.row < 2 ^ 64 → new.row < 2 ^ 64
-    → cells_after columns (standing base old) cells (rows_bytes old.row new.row) ≡ cells
-unfolding put put_cells
-rows-cells columns base old new cells fits_old fits_new =
-    let up = steps (old.row - new.row) 65 in
-    let down = steps (new.row - old.row) 66 in
-    let row₁ = base + old.row - (old.row - new.row) in
-    let at₁ = up-sent columns (base + old.row) old.col (old.row - new.row) (omega arith) in
-    let same₁ : cells_after columns (standing base old) cells up ≡ cells = steps-cells columns (base + old.row) old.col (old.row - new.row) 65 cells (omega arith) (omega arith) refl refl in
-    cells-append columns (standing base old) cells up down ∙ ap₂ (λ t (f : Cells). cells_after columns t f down) at₁ same₁
-    ∙ steps-cells columns row₁ old.col (new.row - old.row) 66 cells (omega arith) (omega arith) refl refl
-
-whole-move-cells : (columns base : ℕ) (old new : Position) (cells : Cells) → old.row < 2 ^ 64 → new.row < 2 ^ 64 → new.col < 2 ^ 64
-    → cells_after columns (standing base old) cells (whole_move old new) ≡ cells
-unfolding put put_cells
-whole-move-cells columns base old new cells fits_old fits_new fits_col =
-    let up = steps (old.row - new.row) 65 in
-    let down = steps (new.row - old.row) 66 in
-    let right = steps new.col 67 in
-    let row₁ = base + old.row - (old.row - new.row) in
-    let row₂ = row₁ + (new.row - old.row) in
-    let start = standing base old in
-    let at₁ = up-sent columns (base + old.row) old.col (old.row - new.row) (omega arith) in
-    let at₂ : sent columns start (up ++ down) ≡ stands row₂ old.col =
-    fold-append (put columns) start up down ∙ ap (λ t. sent columns t down) at₁ ∙ down-sent columns row₁ old.col (new.row - old.row) (omega arith) in
-    let at₃ : sent columns start (up ++ down ++ return) ≡ stands row₂ 0 =
-    fold-append (put columns) start (up ++ down) return ∙ ap (λ t. sent columns t return) at₂ in
-    let same₁ : cells_after columns start cells up ≡ cells = steps-cells columns (base + old.row) old.col (old.row - new.row) 65 cells (omega arith) (omega arith) refl refl in
-    let same₂ : cells_after columns start cells (up ++ down) ≡ cells =
-    cells-append columns start cells up down ∙ ap₂ (λ t (f : Cells). cells_after columns t f down) at₁ same₁
-    ∙ steps-cells columns row₁ old.col (new.row - old.row) 66 cells (omega arith) (omega arith) refl refl in
-    let same₃ : cells_after columns start cells (up ++ down ++ return) ≡ cells =
-    cells-append columns start cells (up ++ down) return ∙ ap₂ (λ t (f : Cells). cells_after columns t f return) at₂ same₂ in
-    cells-append columns start cells (up ++ down ++ return) right
-    ∙ ap₂ (λ t (f : Cells). cells_after columns t f right) at₃ same₃
-    ∙ steps-cells columns row₂ 0 new.col 67 cells fits_col (omega arith) refl refl
-
--- a cursor move shows nothing
-pub move-cells : (columns base : ℕ) (old new : Position) (cells : Cells) → old.row < 2 ^ 64 → new.row < 2 ^ 64 → new.col < 2 ^ 64
-    → cells_after columns (standing base old) cells (move_bytes old new) ≡ cells
-move-cells columns base old new cells fits_old fits_new fits_col = by_column (old.col == new.col) refl where
-  by_column : (b : Bool) → (old.col == new.col) ≡ b
-      → cells_after columns (standing base old) cells (rows_bytes old.row new.row ++ (if b then [] else return ++ steps new.col 67)) ≡ cells
-  by_column true e =
-      ap (cells_after columns (standing base old) cells) (append-nil (rows_bytes old.row new.row)) ∙ rows-cells columns base old new cells fits_old fits_new
-  by_column false e =
-      ap (cells_after columns (standing base old) cells) (sym (append_assoc (rows_bytes old.row new.row) return (steps new.col 67)))
-      ∙ whole-move-cells columns base old new cells fits_old fits_new fits_col
-
--- ---- color sequences show nothing
-
-passing-cells : (columns n c : ℕ) (t : Terminal) (cells : Cells) (cs : List ℕ) → c < 128
-    → cells_after columns t cells (colored_from (suc n) (c ∷ cs)) ≡ cells_after columns (put columns t c) (put_cells t cells c) (colored_from n cs)
-passing-cells columns n c t cells cs below = ap (λ b. cells_after columns t cells (b ++ colored_from n cs)) (encode_ascii c below)
-
-rest-cells : (columns row col : ℕ) (waits : Bool) (k place n : ℕ) (cs : List ℕ) (cells : Cells) → behind_parameters place cs ≡ place + suc n
-    → cells_after columns (at_cursor row col waits (sequence k)) cells (colored_from (suc n) cs)
-    ≡ cells_after columns (at_cursor row col waits plain) cells (colored_from 0 (drop (suc n) cs))
-rest-cells columns row col waits k place n [] cells ends = absurd (omega arith)
-rest-cells columns row col waits k place n (c ∷ cs) cells ends =
-    by_tests (λ m i more. rest-cells columns row col waits m (place + 1) i cs cells more) (c == 109) (is_parameter c) refl refl ends
+-- printable characters are put down in the same cells, whether the cursor waits or has gone to the next row
+waiting-cells : (columns : ℕ) (page : Page) (gone : List ℕ) (r k : ℕ) → list_all is_printable gone ≡ true → 0 < columns
+    → (fold (put_down columns) (unwaiting columns page) (graphemes true gone)).cells r k ≡ (fold (put_down columns) page (graphemes true gone)).cells r k
+waiting-cells columns page gone r k print some =
+    let singles = clusters-plain gone (plain_text gone print) in
+    ap (λ ps. (fold (put_down columns) (unwaiting columns page) ps).cells r k) singles ∙ each gone print
+    ∙ sym (ap (λ ps. (fold (put_down columns) page ps).cells r k) singles)
   where
-    t : Terminal
-    t = at_cursor row col waits (sequence k)
+    each : (gone : List ℕ) → list_all is_printable gone ≡ true
+        → (fold (put_down columns) (unwaiting columns page) (map (λ c. c ∷ []) gone)).cells r k ≡ (fold (put_down columns) page (map (λ c. c ∷ []) gone)).cells r k
+    each [] print = unwaiting-cells columns page r k
+    each (c ∷ cs) print = ap (λ p. (fold (put_down columns) p (map (λ c. c ∷ []) cs)).cells r k) (unwaiting-put columns c page (and_parts _ _ print).0 some)
 
-    Rest : Type 0
-    Rest = (m i : ℕ) → behind_parameters (place + 1) cs ≡ place + 1 + suc i
-        → cells_after columns (at_cursor row col waits (sequence m)) cells (colored_from (suc i) cs)
-        ≡ cells_after columns (at_cursor row col waits plain) cells (colored_from 0 (drop (suc i) cs))
+-- a text before another one is shown as it is without that
+front-cells : (columns : ℕ) (page : Page) (kept gone : List ℕ) (r k : ℕ) → list_all is_printable gone ≡ true → 0 < columns
+    → graphemes true (kept ++ gone) ≡ graphemes true kept ++ graphemes true gone → before (put_text columns page kept) r k ≡ true
+    → (put_text columns page (kept ++ gone)).cells r k ≡ (put_text columns page kept).cells r k
+unfolding put_text
+front-cells columns page kept gone r k print some parts is =
+    let first = fold (put_down columns) page (graphemes true kept) in
+    unwaiting-cells columns (fold (put_down columns) page (graphemes true (kept ++ gone))) r k
+    ∙ ap (λ (p : Page). p.cells r k) (ap (fold (put_down columns) page) parts ∙ fold-append (put_down columns) page (graphemes true kept) (graphemes true gone))
+    ∙ sym (waiting-cells columns first gone r k print some)
+    ∙ (stays-pieces columns (unwaiting columns first) (graphemes true gone) r k is).same
 
-    by_tests : Rest → (m q : Bool) → (c == 109) ≡ m → is_parameter c ≡ q
-        → cond m (place + 1) (cond q (behind_parameters (place + 1) cs) 0) ≡ place + suc n
-        → cells_after columns t cells (colored_from (suc n) (c ∷ cs))
-        ≡ cells_after columns (at_cursor row col waits plain) cells (colored_from 0 (drop (suc n) (c ∷ cs)))
-    by_tests rest true q is _ ends =
-        let m : c ≡ 109 = grind (arith, nat_tests) in
-        let last : n ≡ 0 = omega arith in
-        let no_rest : (c == 74) ≡ false = grind (arith, nat_tests) in
-        let no_row : (c == 75) ≡ false = grind (arith, nat_tests) in
-        passing-cells columns n c t cells cs (omega arith)
-        ∙ ap₂ (λ s (f : Cells). cells_after columns s f (colored_from n cs)) (end-read columns row col k c waits m) (quiet row col k c waits cells no_rest no_row)
-        ∙ ap (λ i. cells_after columns (at_cursor row col waits plain) cells (colored_from i cs)) last
-        ∙ ap (λ i. cells_after columns (at_cursor row col waits plain) cells (colored_from 0 (drop i cs))) (sym last)
-    by_tests rest false false _ _ ends = absurd (omega arith)
-    by_tests rest false true _ is ends = further rest n ends
-      where
-        below : c < 128
-        below = grind (arith, nat_tests)
-
-        no_rest : (c == 74) ≡ false
-        no_rest = grind (arith, nat_tests)
-
-        no_row : (c == 75) ≡ false
-        no_row = grind (arith, nat_tests)
-
-        further : Rest → (i : ℕ) → behind_parameters (place + 1) cs ≡ place + suc i
-            → cells_after columns t cells (colored_from (suc i) (c ∷ cs)) ≡ cells_after columns (at_cursor row col waits plain) cells (colored_from 0 (drop i cs))
-        further rest zero ends = absurd (omega (arith, behind-after (place + 1) cs))
-        further rest (suc i) ends =
-            let next = parameter-read columns row col k c waits is in
-            let more : behind_parameters (place + 1) cs ≡ place + 1 + suc i = omega arith in
-            passing-cells columns (suc i) c t cells cs below
-            ∙ ap₂ (λ s (f : Cells). cells_after columns s f (colored_from (suc i) cs)) next.1 (quiet row col k c waits cells no_rest no_row)
-            ∙ rest next.0 i more
-
-color-cells : (columns row col : ℕ) (waits : Bool) (c n : ℕ) (cs : List ℕ) (cells : Cells) → passing_behind c cs ≡ suc n
-    → cells_after columns (at_cursor row col waits plain) cells (encode_utf8 c ++ colored_from (suc n) cs)
-    ≡ cells_after columns (at_cursor row col waits plain) cells (colored_from 0 (drop (suc n) cs))
-unfolding put put_cells
-color-cells columns row col waits c n cs cells passes = by_escape (c == 27) refl passes
+clears : (columns base : ℕ) (prompt kept gone : List ℕ) (cursor : Position) (t : Terminal) → list_all is_printable gone ≡ true
+    → graphemes true (kept ++ gone) ≡ graphemes true kept ++ graphemes true gone
+    → cursor ≡ measured columns kept (measured columns prompt corner)
+    → (measured columns (kept ++ gone) (measured columns prompt corner)).row ≡ cursor.row → cursor.row < 65535 → 0 < columns
+    → IsShown columns base prompt (kept ++ gone) None cursor t → IsShown columns base prompt kept None cursor (sent columns t clear_row)
+clears columns base prompt kept gone cursor t print parts is same_row last some shown =
+    record {
+      page = without_row shown.page;
+      shows = row-turns columns t shown.page shown.shows;
+      at = record { row = shown.at.row; col = shown.at.col };
+      cells = λ r k from. by_cases r k from (before left r k) ((r == shown.page.row) && nat_le shown.page.col k) refl refl;
+    }
   where
-    t : Terminal
-    t = at_cursor row col waits plain
+    whole : Page
+    whole = picture columns (blank_page base) prompt (kept ++ gone) None
 
-    by_bracket : (d : ℕ) (ds : List ℕ) (b : Bool) → (d == 91) ≡ b → cond b (behind_parameters 1 ds) 0 ≡ suc n
-        → cells_after columns (at_cursor row col waits escape) cells (colored_from (suc n) (d ∷ ds)) ≡ cells_after columns t cells (colored_from 0 (drop n ds))
-    by_bracket d ds false is passes = absurd (omega arith)
-    by_bracket d ds true is passes = by_count n passes
-      where
-        by_count : (i : ℕ) → behind_parameters 1 ds ≡ suc i
-            → cells_after columns (at_cursor row col waits escape) cells (colored_from (suc i) (d ∷ ds)) ≡ cells_after columns t cells (colored_from 0 (drop i ds))
-        by_count zero passes = absurd (omega (arith, behind-after 1 ds))
-        by_count (suc i) passes =
-            let bracket : d ≡ 91 = grind (arith, nat_tests) in
-            let ends : behind_parameters 1 ds ≡ 1 + suc i = omega arith in
-            passing-cells columns (suc i) d (at_cursor row col waits escape) cells ds (omega arith)
-            ∙ ap (λ x. cells_after columns (put columns (at_cursor row col waits escape) x) cells (colored_from (suc i) ds)) bracket
-            ∙ rest-cells columns row col waits 0 1 i ds cells ends
+    left : Page
+    left = picture columns (blank_page base) prompt kept None
 
-    by_list : (ds : List ℕ) → color_length ds ≡ suc n
-        → cells_after columns (at_cursor row col waits escape) cells (colored_from (suc n) ds) ≡ cells_after columns t cells (colored_from 0 (drop (suc n) ds))
-    by_list [] passes = absurd (omega arith)
-    by_list (d ∷ ds) passes = by_bracket d ds (d == 91) refl passes
+    left-at : IsAt base cursor left
+    left-at = subst (λ q. IsAt base q left) (sym is) (line-at columns base prompt kept (omega (arith, last, ap (λ (q : Position). q.row) is)))
 
-    by_escape : (b : Bool) → (c == 27) ≡ b → cond b (color_length cs) 0 ≡ suc n
-        → cells_after columns t cells (encode_utf8 c ++ colored_from (suc n) cs) ≡ cells_after columns t cells (colored_from 0 (drop (suc n) cs))
-    by_escape false is passes = absurd (omega arith)
-    by_escape true is passes =
-        let esc : c ≡ 27 = grind (arith, nat_tests) in
-        ap (λ b. cells_after columns t cells (b ++ colored_from (suc n) cs)) (encode_ascii c (omega arith))
-        ∙ ap (λ x. cells_after columns (put columns t x) (put_cells t cells x) (colored_from (suc n) cs)) esc
-        ∙ by_list cs passes
+    whole-at : IsAt base (measured columns (kept ++ gone) (measured columns prompt corner)) whole
+    whole-at = line-at columns base prompt (kept ++ gone) (omega (arith, last, same_row))
 
-color-cells-at : (columns base : ℕ) (p : Position) (full : Bool) (c n : ℕ) (cs : List ℕ) (cells : Cells) → passing_behind c cs ≡ suc n
-    → cells_after columns (cond full (waiting columns base p.row) (standing base p)) cells (encode_utf8 c ++ colored_from (suc n) cs)
-    ≡ cells_after columns (cond full (waiting columns base p.row) (standing base p)) cells (colored_from 0 (drop (suc n) cs))
-color-cells-at columns base p true c n cs cells passes = color-cells columns (base + p.row) (columns - 1) true c n cs cells passes
-color-cells-at columns base p false c n cs cells passes = color-cells columns (base + p.row) p.col false c n cs cells passes
+    not-before : (r k : ℕ) → before left r k ≡ true → ((r == shown.page.row) && nat_le shown.page.col k) ≡ false
+    not-before r k is = let row = shown.at.row ∙ sym left-at.row in let col = shown.at.col ∙ sym left-at.col in grind (arith, nat_tests)
 
--- a plain character is drawn the same before any others
-same-drawn : (c : ℕ) (a b : List ℕ) → is_plain c ≡ true → drawn_char c a ≡ drawn_char c b
-same-drawn c a b is = ⊎_elim (λ feed. drawn-newline c a feed ∙ sym (drawn-newline c b feed)) (λ print. drawn-printable c a print ∙ sym (drawn-printable c b print)) (or_cases (c == 10) (is_printable c) is)
+    far-behind : (r k : ℕ) → before left r k ≡ false → ((r == shown.page.row) && nat_le shown.page.col k) ≡ false → before whole r k ≡ false
+    far-behind r k is not_here =
+        let row = shown.at.row ∙ sym left-at.row in let col = shown.at.col ∙ sym left-at.col in
+        let end : whole.row ≡ left.row = whole-at.row ∙ ap (λ n. base + n) same_row ∙ sym left-at.row in
+        grind (arith, nat_tests)
 
--- a text with colors is drawn into the cells that it is drawn into without them
-pub colored-cells : (columns base n : ℕ) (p : Position) (cs text : List ℕ) (cells : Cells) → uncolored_from 0 (drop n cs) ≡ text
-    → list_all is_plain text ≡ true → 0 < columns → p.col ≤ columns → (fold (after_char columns) p text).row < 65535
-    → cells_after columns (at_place columns base p) cells (colored_from 0 (drop n cs)) ≡ cells_after columns (at_place columns base p) cells (drawn text)
-colored-cells columns base zero p [] text cells is all some within below = ap (λ s. cells_after columns (at_place columns base p) cells (drawn s)) is
-colored-cells columns base (suc n) p [] text cells is all some within below = ap (λ s. cells_after columns (at_place columns base p) cells (drawn s)) is
-colored-cells columns base (suc n) p (c ∷ cs) text cells is all some within below = colored-cells columns base n p cs text cells is all some within below
-colored-cells columns base zero p (c ∷ cs) text cells is all some within below =
-    by_count (λ n q rest into same plain_rest col row. colored-cells columns base n q cs rest into same plain_rest some col row) (passing_behind c cs) refl
-  where
-    t : Terminal
-    t = at_place columns base p
+    by_cases : (r k : ℕ) → base ≤ r → (b c : Bool) → before left r k ≡ b → ((r == shown.page.row) && nat_le shown.page.col k) ≡ c
+        → (without_row shown.page).cells r k ≡ left.cells r k
+    by_cases r k from true c eb ec =
+        ap (λ x. cond x blank (shown.page.cells r k)) (not-before r k eb) ∙ shown.cells r k from
+        ∙ front-cells columns (put_text columns (blank_page base) prompt) kept gone r k print some parts eb
+    by_cases r k from false true eb ec = ap (λ x. cond x blank (shown.page.cells r k)) ec ∙ sym (blank-behind columns base prompt kept r k eb)
+    by_cases r k from false false eb ec =
+        ap (λ x. cond x blank (shown.page.cells r k)) ec ∙ shown.cells r k from
+        ∙ blank-behind columns base prompt (kept ++ gone) r k (far-behind r k eb ec) ∙ sym (blank-behind columns base prompt kept r k eb)
 
-    Rest : Type 0
-    Rest = (n : ℕ) (q : Position) (rest : List ℕ) (into : Cells) → uncolored_from 0 (drop n cs) ≡ rest → list_all is_plain rest ≡ true → q.col ≤ columns
-        → (fold (after_char columns) q rest).row < 65535
-        → cells_after columns (at_place columns base q) into (colored_from 0 (drop n cs)) ≡ cells_after columns (at_place columns base q) into (drawn rest)
-
-    split : (count : ℕ) → passing_behind c cs ≡ count
-        → colored_from 0 (c ∷ cs) ≡ cond (nat_lt 0 count) (encode_utf8 c) (drawn_char c cs) ++ colored_from count cs
-    split count passes = ap (λ i. cond (nat_lt 0 i) (encode_utf8 c) (drawn_char c cs) ++ colored_from i cs) passes
-
-    left : (count : ℕ) → passing_behind c cs ≡ count
-        → cond (nat_lt 0 count) (uncolored_from count cs) (c ∷ uncolored_from count cs) ≡ text
-    left count passes = sym (ap (λ i. cond (nat_lt 0 i) (uncolored_from i cs) (c ∷ uncolored_from i cs)) passes) ∙ is
-
-    by_count : Rest → (count : ℕ) → passing_behind c cs ≡ count
-        → cells_after columns t cells (colored_from 0 (c ∷ cs)) ≡ cells_after columns t cells (drawn text)
-    by_count goes zero passes =
-        let rest = uncolored_from 0 cs in
-        let whole = left 0 passes in
-        let parts = and_parts (is_plain c) (list_all is_plain rest) (ap (list_all is_plain) whole ∙ all) in
-        let next = after_char columns p c in
-        let cells₁ = cells_after columns t cells (drawn_char c cs) in
-        let ends : (fold (after_char columns) next rest).row < 65535 = omega (arith, below, ap (λ s. (fold (after_char columns) p s).row) whole) in
-        let row : next.row < 65535 = earlier next.row (fold (after_char columns) next rest).row (fold-last columns next rest parts.1) ends in
-        let to_next = char-next columns base c p cs parts.0 some within row in
-        ap (cells_after columns t cells) (split 0 passes)
-        ∙ cells-append columns t cells (drawn_char c cs) (colored_from 0 cs)
-        ∙ ap (λ s. cells_after columns s cells₁ (colored_from 0 cs)) to_next
-        ∙ goes 0 next rest cells₁ refl parts.1 (after-within columns c p parts.0 within) ends
-        ∙ ap (λ s. cells_after columns s cells₁ (drawn rest)) (sym to_next)
-        ∙ sym (cells-append columns t cells (drawn_char c cs) (drawn rest))
-        ∙ ap (λ b. cells_after columns t cells (b ++ drawn rest)) (same-drawn c cs rest parts.0)
-        ∙ ap (λ s. cells_after columns t cells (drawn s)) whole
-    by_count goes (suc n) passes =
-        let gone = uncolored_from (suc n) cs in
-        ap (cells_after columns t cells) (split (suc n) passes ∙ ap (λ b. cond b (encode_utf8 c) (drawn_char c cs) ++ colored_from (suc n) cs) (positive n))
-        ∙ color-cells-at columns base p (p.col == columns) c n cs cells passes
-        ∙ goes (suc n) p text cells
-        (sym (uncolored-passed (suc n) cs) ∙ sym (ap (λ b. cond b gone (c ∷ gone)) (positive n)) ∙ left (suc n) passes) all within below
+pub parts-show : PartsShow
+parts-show = record { moves = moves; writes = writes; clears = clears }

@@ -1,102 +1,103 @@
--- What a terminal shows of what is written.
-use Rattle.std.specs.Prelude.{◌≡◌, ◌<◌, ◌≤◌, false, ◌^◌, ℕ, ◌++◌, Bool, true, List, Option, Some, None, IfSome, ◌+◌, ◌∷◌}
-use Rattle.std.specs.List.{list_all}
-use Rattle.line_buffer.specs.Printable.{is_plain, is_printable}
+-- Laws of what a terminal shows of what is written.
+use Rattle.std.specs.Prelude.{◌≡◌, false, true, ◌<◌, ℕ, ◌+◌, ◌++◌, Bool, List, [], ◌∷◌, Option, None, IfSome, IsUtf8, chars, encode_utf8_all, map}
+use Rattle.std.specs.List.{fold, list_all}
+use Rattle.unicode_segmentation.specs.Grapheme.{graphemes}
+use Rattle.line_buffer.specs.Printable.{is_printable}
 use Rattle.line_buffer.specs.declared.layout.Layout.{Layout}
 use Rattle.line_buffer.specs.declared.layout.Position.{Position}
+use Rattle.line_config.specs.Usual.{IsUsualOrOwn}
 use Rattle.line_config.specs.declared.prompt.Prompt as prompts
-use Rattle.line_keys.specs.Display.{corner, shown_end}
+use Rattle.line_keys.specs.Display.{corner}
 use Rattle.line_parts.specs.declared.highlight.Highlighter as highlighters
-use Rattle.line_screen.specs.Measure.{measured}
-use Rattle.line_term.specs.Cells.{Cells, cells_after, is_before}
-use Rattle.line_term.specs.Drawn.{cleaned, uncolored}
+use Rattle.line_screen.specs.Measure.{after_cluster, columns_of, ends_row, measured}
+use Rattle.line_term.specs.Drawn.{cleaned, uncolored, visible}
 use Rattle.line_term.specs.Escape as bytes
-use Rattle.line_term.specs.Escape.{move_bytes}
+use Rattle.line_term.specs.Escape.{clear_row, move_bytes}
+use Rattle.line_term.specs.Page.{IsAt, Page, at, begun, continued, put_text}
 use Rattle.line_term.specs.Painted.{Handed, Redraws, wrap}
-use Rattle.line_term.specs.Terminal.{sent, standing}
+use Rattle.line_term.specs.Shown.{Begins, IsMeasured, IsPlace, IsShown, first_cell, is_before}
+use Rattle.line_term.specs.Terminal.{Shows, Terminal, Turns, sent, without_rest, without_row}
 
--- a place on a screen of so many columns
-abbrev pub IsPlace : ℕ → Position → Type 0
-IsPlace columns place = (place.row < 2 ^ 16) × (place.col < 2 ^ 16) × (place.col < columns)
-
--- the bytes of a move take the cursor from the one place to the other, wherever the rows begin
+-- the bytes of a move take the cursor from the one place to the other, wherever the rows begin, and change no cell
 abbrev pub MovesArrive : Type 0
-MovesArrive = (columns base : ℕ) (old new : Position) → IsPlace columns old → IsPlace columns new
-    → sent columns (standing base old) (move_bytes old new) ≡ standing base new
+MovesArrive = (columns base : ℕ) (old new : Position) (t : Terminal) (page : Page) → IsPlace columns old → IsPlace columns new → IsAt base old page
+    → Shows columns t page → Shows columns (sent columns t (move_bytes old new)) (at (base + new.row) new.col page)
 
--- what is written for a text of printable ASCII and newlines takes the cursor where the text is measured to end, and out of the wait
--- at a row's end; below the last row that a measure knows
+-- what is written for a text puts its clusters down, and takes the cursor where the text is measured to end and out of the wait at a
+-- row's end; above the last row that a measure knows
 abbrev pub TextsArrive : Type 0
-TextsArrive = (columns base : ℕ) (origin : Position) (text : List ℕ) → list_all is_plain text ≡ true → origin.col < columns
-    → (measured columns text origin).row < 65535
-    → sent columns (standing base origin) (cleaned text ++ wrap (measured columns) text origin)
-    ≡ standing base (measured columns text origin)
+TextsArrive = (columns base : ℕ) (origin : Position) (text : List ℕ) (t : Terminal) (page : Page) → IsUtf8 text → origin.col < columns
+    → (measured columns text origin).row < 65535 → IsAt base origin page → Shows columns t page
+    → Shows columns (sent columns t (cleaned text ++ wrap (measured columns) text origin)) (put_text columns page text)
+    × IsAt base (measured columns text origin) (put_text columns page text)
 
--- these bytes leave the cursor where it stands, and text is read behind them
-abbrev pub Stays : List ℕ → Type 0
-Stays sequence = (columns base : ℕ) (place : Position) → sent columns (standing base place) sequence ≡ standing base place
-
--- so do a bell, what clears a row's rest or all below, and what is asked of a terminal
+-- a bell and what is asked of a terminal change nothing that is shown; what clears a row's rest, or all below, leaves the cursor where it is
 pub record OthersStay : Type 0 where
-  pub bell : Stays bytes.bell
-  pub row : Stays bytes.clear_row
-  pub below : Stays bytes.clear_below
-  pub hold : Stays bytes.hold
-  pub release : Stays bytes.release
-  pub marked : Stays bytes.paste_marked
-  pub typed : Stays bytes.paste_typed
+  pub bell : Turns (λ page. page) bytes.bell
+  pub row : Turns without_row bytes.clear_row
+  pub below : Turns without_rest bytes.clear_below
+  pub hold : Turns (λ page. page) bytes.hold
+  pub release : Turns (λ page. page) bytes.release
+  pub marked : Turns (λ page. page) bytes.paste_marked
+  pub typed : Turns (λ page. page) bytes.paste_typed
 
--- what is handed over for a drawing is printable ASCII and newlines, and its layout has each place as it is measured, above the last
--- row that a measure knows
-pub record IsPlainDrawing (columns : ℕ) (prompt text : List ℕ) (behind : Option (List ℕ)) (layout : Layout) : Type 0 where
-  pub prompt_plain : list_all is_plain prompt ≡ true
-  pub text_plain : list_all is_plain text ≡ true
-  pub behind_plain : IfSome behind (λ s. list_all is_plain s ≡ true)
-  pub prompt_end : layout.prompt_size ≡ measured columns prompt corner
-  pub ends : layout.end ≡ shown_end (measured columns) layout.prompt_size text behind
-  pub last_row : layout.end.row < 65535
-  pub cursor : IsPlace columns layout.cursor
+-- where a cluster of a text that is put down begins, and how it is shown
+abbrev pub ShowsCluster : ℕ → ℕ → Position → List ℕ → Page → Type 0
+ShowsCluster columns base before cluster page =
+    let width = columns_of columns cluster in
+    let place = first_cell columns width before in
+    (page.cells (base + place.row) place.col ≡ begun (encode_utf8_all (map visible (chars cluster))))
+    × ((k : ℕ) → place.col < k → k < place.col + width → page.cells (base + place.row) k ≡ continued)
 
--- where the cursor stands before a full redraw: at the cursor of what was drawn before, or where the prompt is to begin
-abbrev pub before_redraw : Option Layout → Position
-before_redraw None = corner
-before_redraw (Some old) = old.cursor
+-- a text that is put down shows each cluster that has columns where the clusters before it are measured to end, and what does not stand
+-- before its own end is shown as before
+pub record TextsAreShown : Type 0 where
+  pub clusters : (columns base : ℕ) (origin : Position) (page : Page) (text : List ℕ) (front : List (List ℕ)) (cluster : List ℕ) (back : List (List ℕ))
+      → graphemes true text ≡ front ++ cluster ∷ back → ends_row cluster ≡ false → 0 < columns_of columns cluster
+      → (measured columns text origin).row < 65535 → IsAt base origin page
+      → ShowsCluster columns base (fold (after_cluster columns) origin front) cluster (put_text columns page text)
+  pub rest : (columns base : ℕ) (origin : Position) (page : Page) (text : List ℕ) (row col : ℕ) → (measured columns text origin).row < 65535
+      → IsAt base origin page → is_before base (measured columns text origin) row col ≡ false
+      → (put_text columns page text).cells row col ≡ page.cells row col
 
 -- a text that is shown for another, if there is one, is that text but for color sequences
 abbrev pub IsColoring : Option (List ℕ) → List ℕ → Type 0
-IsColoring own text = IfSome own (λ shown. uncolored shown ≡ text)
+IsColoring own text = IfSome own (λ shown. uncolored shown ≡ chars text)
 
 module _ {P H : Type 0} (p : prompts.Ghosts P) (h : highlighters.Ghosts H) where
-  -- what a highlighter and a prompt with styles show of what is handed over differs from it in color sequences alone
+  -- what a highlighter and a prompt with styles show of what is handed over, differs from it in color sequences alone
   pub record OnlyColors (handed : Handed P H) : Type 0 where
     pub style : IsColoring (p.own_style handed.prompt) (p.raw_text handed.prompt)
-    pub prompt : (styled : List ℕ) → uncolored styled ≡ p.raw_text handed.prompt
+    pub prompt : (styled : List ℕ) → IsUsualOrOwn (p.raw_text handed.prompt) (p.own_style handed.prompt) styled
         → IfSome handed.highlighter (λ o. IsColoring (h.own_prompt o styled handed.layout.default_prompt) (p.raw_text handed.prompt))
     pub line : IfSome handed.highlighter (λ o. IsColoring (h.own_line o handed.line.text handed.line.cursor) handed.line.text)
     pub behind : IfSome handed.behind (λ text. IfSome handed.highlighter (λ o. IsColoring (h.own_hint o text) text))
 
-  -- a full redraw takes the cursor to its place in the layout, on rows that begin where those of the drawing before did
-  abbrev pub RedrawsArrive : Type 0
-  RedrawsArrive = (columns base : ℕ) (wanted : Bool) (old : Option Layout) (handed : Handed P H) (bytes : List ℕ)
-      → Redraws p h (measured columns) wanted old handed bytes → OnlyColors handed
-      → IsPlainDrawing columns (p.raw_text handed.prompt) handed.line.text handed.behind handed.layout
-      → IfSome old (λ l. l.cursor.row < 2 ^ 16)
-      → sent columns (standing base (before_redraw old)) bytes ≡ standing base handed.layout.cursor
-
-  -- so it shows each printable character of the line in the cell where the text before it is measured to end
+  -- after a full redraw the prompt, the line and what stands behind it are shown, on rows that begin where those of the drawing before did
   abbrev pub RedrawsShow : Type 0
-  RedrawsShow = (columns base : ℕ) (wanted : Bool) (old : Option Layout) (handed : Handed P H) (bytes : List ℕ) (cells : Cells)
-      (front : List ℕ) (c : ℕ) (back : List ℕ)
+  RedrawsShow = (columns base : ℕ) (wanted : Bool) (old : Option Layout) (handed : Handed P H) (bytes : List ℕ) (t : Terminal) (page : Page)
       → Redraws p h (measured columns) wanted old handed bytes → OnlyColors handed
-      → IsPlainDrawing columns (p.raw_text handed.prompt) handed.line.text handed.behind handed.layout
-      → IfSome old (λ l. l.cursor.row < 2 ^ 16) → handed.line.text ≡ front ++ c ∷ back → is_printable c ≡ true
-      → (let place = measured columns front handed.layout.prompt_size in
-      cells_after columns (standing base (before_redraw old)) cells bytes (base + place.row) place.col ≡ c)
+      → IsMeasured columns (p.raw_text handed.prompt) handed.line.text handed.behind handed.layout
+      → Begins base old page → Shows columns t page
+      → IsShown columns base (p.raw_text handed.prompt) handed.line.text handed.behind handed.layout.cursor (sent columns t bytes)
 
-  -- and behind the end of what is shown it leaves all cells clear, where it clears the rows of a drawing before
-  abbrev pub RedrawsClear : Type 0
-  RedrawsClear = (columns base : ℕ) (wanted : Bool) (old : Layout) (handed : Handed P H) (bytes : List ℕ) (cells : Cells) (row col : ℕ)
-      → Redraws p h (measured columns) wanted (Some old) handed bytes → OnlyColors handed
-      → IsPlainDrawing columns (p.raw_text handed.prompt) handed.line.text handed.behind handed.layout
-      → old.cursor.row < 2 ^ 16 → base ≤ row → is_before base handed.layout.end row col ≡ false
-      → cells_after columns (standing base old.cursor) cells bytes row col ≡ 32
+-- so they are after each call that draws a part
+pub record PartsShow : Type 0 where
+  -- a move of the cursor
+  pub moves : (columns base : ℕ) (prompt text : List ℕ) (behind : Option (List ℕ)) (old new : Position) (t : Terminal)
+      → IsPlace columns old → IsPlace columns new → IsShown columns base prompt text behind old t
+      → IsShown columns base prompt text behind new (sent columns t (move_bytes old new))
+  -- a printable character that is written at the line's end, and is a cluster of its own there
+  pub writes : (columns base c : ℕ) (prompt text : List ℕ) (end : Position) (t : Terminal) → IsUtf8 text → is_printable c ≡ true
+      → graphemes true (text ++ c ∷ []) ≡ graphemes true text ++ (c ∷ []) ∷ []
+      → end ≡ measured columns text (measured columns prompt corner) → end.col < columns → (measured columns (c ∷ []) end).row < 65535
+      → IsShown columns base prompt text None end t
+      → IsShown columns base prompt (text ++ c ∷ []) None (measured columns (c ∷ []) end)
+      (sent columns t (cleaned (c ∷ []) ++ wrap (measured columns) (c ∷ []) end))
+  -- a clearing of the rest of the row, where the printable text behind the cursor ends there
+  pub clears : (columns base : ℕ) (prompt kept gone : List ℕ) (cursor : Position) (t : Terminal)
+      → list_all is_printable gone ≡ true → graphemes true (kept ++ gone) ≡ graphemes true kept ++ graphemes true gone
+      → cursor ≡ measured columns kept (measured columns prompt corner)
+      → (measured columns (kept ++ gone) (measured columns prompt corner)).row ≡ cursor.row → cursor.row < 65535 → 0 < columns
+      → IsShown columns base prompt (kept ++ gone) None cursor t
+      → IsShown columns base prompt kept None cursor (sent columns t clear_row)

@@ -1,14 +1,15 @@
 pub mod Begun
-pub mod Cells
 pub mod Decoder
 pub mod DecoderLaws
 pub mod Drawn
 pub mod Escape
 pub mod Laws
 pub mod Output
+pub mod Page
 pub mod Painted
 pub mod Paste
 pub mod Sequence
+pub mod Shown
 pub mod Terminal
 pub mod Utf8
 pub mod Written

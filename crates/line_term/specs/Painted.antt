@@ -1,5 +1,5 @@
 -- What is written for the parts of a drawing.
-use Rattle.std.specs.Prelude.{◌≡◌, ℕ, ◌==◌, ◌&&◌, Bool, true, false, List, [], ◌∷◌, ◌++◌, Option, Some, None, option_map, if◌then◌else◌}
+use Rattle.std.specs.Prelude.{◌≡◌, ℕ, ◌==◌, ◌&&◌, Bool, true, false, bytes_eq, List, [], ◌∷◌, ◌++◌, Option, Some, None, option_map, if◌then◌else◌}
 use Rattle.line_buffer.specs.Line.{Line}
 use Rattle.line_buffer.specs.declared.layout.Layout.{Layout}
 use Rattle.line_buffer.specs.declared.layout.Position.{Position}
@@ -16,9 +16,9 @@ pub record AppendsSome (old new : List ℕ) (P : List ℕ → Type 0) : Type 0 w
   pub appended : new ≡ old ++ bytes
   pub holds : P bytes
 
--- a text that ends at a place fills its last row exactly: with a newline behind it, it ends at the same place
+-- a text that ends at a place fills its last row exactly: with a carriage return and a newline behind it, it ends at the same place
 abbrev pub fills_row : Measure → List ℕ → Position → Position → Bool
-fills_row measure text origin end = (end.col == 0) && ((measure (text ++ 10 ∷ []) origin).row == end.row)
+fills_row measure text origin end = (end.col == 0) && ((measure (text ++ 13 ∷ 10 ∷ []) origin).row == end.row)
 
 -- behind a text that fills its last row exactly, the cursor waits at that row's end: it goes on to the next row
 abbrev pub wrap_ending : Measure → List ℕ → Position → Position → List ℕ
@@ -28,10 +28,14 @@ wrap_ending measure text origin end = if fills_row measure text origin end then 
 abbrev pub wrap : Measure → List ℕ → Position → List ℕ
 wrap measure text origin = wrap_ending measure text origin (measure text origin)
 
+-- what is written for a text that is shown as another: where the two are the same, it has no colors
+abbrev pub shown_as : List ℕ → List ℕ → List ℕ
+shown_as text shown = if bytes_eq shown text then cleaned text else colored shown
+
 -- what is written for a text: without a highlighter the text, and else how that shows it
 abbrev pub Paints : Option (Option (List ℕ)) → List ℕ → List ℕ → Type 0
 Paints None text bytes = bytes ≡ cleaned text
-Paints (Some own) text bytes = (shown : List ℕ) × (IsUsualOrOwn text own shown × (bytes ≡ colored shown))
+Paints (Some own) text bytes = (shown : List ℕ) × (IsUsualOrOwn text own shown × (bytes ≡ shown_as text shown))
 
 -- a highlighter is asked where colors are shown
 abbrev pub asked : {H : Type 0} → Bool → Option H → Option H
@@ -42,7 +46,7 @@ asked false _ = None
 abbrev pub PaintsPrompt : Option (List ℕ → Option (List ℕ)) → List ℕ → Option (List ℕ) → List ℕ → Type 0
 PaintsPrompt None raw style bytes = bytes ≡ cleaned raw
 PaintsPrompt (Some own) raw style bytes =
-    (styled : List ℕ) × (IsUsualOrOwn raw style styled × Paints (Some (own styled)) styled bytes)
+    (styled shown : List ℕ) × (IsUsualOrOwn raw style styled × (IsUsualOrOwn styled (own styled) shown × (bytes ≡ shown_as raw shown)))
 
 -- what is written for a text behind the line, if there is one
 abbrev pub PaintsBehind : Option (List ℕ → Option (List ℕ)) → Option (List ℕ) → List ℕ → Type 0

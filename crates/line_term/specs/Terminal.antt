@@ -1,9 +1,12 @@
--- A terminal that reads bytes: its cursor, on rows without an end. It knows ASCII and the control sequences that are written here.
-use Rattle.std.specs.Prelude.{ℕ, ◌+◌, ◌-◌, ◌*◌, ◌==◌, max, min, Bool, true, false, nat_le, List, if◌then◌else◌}
-use Rattle.std.specs.List.{fold}
-use Rattle.std.specs.Int.{is_in_range}
-use Rattle.line_buffer.specs.declared.layout.Position.{Position}
+-- A terminal that reads bytes: what it shows, on rows without an end. It knows texts and the control sequences that are written here;
+-- colors are left out.
+use Rattle.std.specs.Prelude.{◌≡◌, ℕ, ◌+◌, ◌-◌, ◌*◌, ◌==◌, ◌&&◌, ◌||◌, max, min, true, nat_le, nat_lt, List, [], ◌∷◌, ◌++◌, if◌then◌else◌}
+use Rattle.std.specs.List.{fold, list_all}
 use Rattle.line_buffer.specs.Printable.{is_printable}
+use Rattle.std.specs.Int.{is_in_range}
+use Rattle.unicode_segmentation.specs.Grapheme.{graphemes}
+use Rattle.line_screen.specs.Measure.{columns_of}
+use Rattle.line_term.specs.Page.{Page, at, blank, put_cluster}
 
 -- what is being read: text, what follows an ESC, or a control sequence with the number that stands last in it
 pub data Reading : Type 0 where
@@ -11,52 +14,66 @@ pub data Reading : Type 0 where
   escape : Reading
   sequence : ℕ → Reading
 
--- where the cursor is, whether it waits behind the last column for the next character, and what is being read
+-- what was shown before the text that came last, this text, of which more may come, and what is being read
 pub record Terminal : Type 0 where
-  pub row : ℕ
-  pub col : ℕ
-  pub waits : Bool
+  pub page : Page
+  pub text : List ℕ
   pub reading : Reading
 
--- the cursor goes to a place of the rows
-abbrev pub gone : Terminal → ℕ → ℕ → Terminal
-gone t row col = record { row = row; col = col; waits = false; reading = plain }
+-- what is shown: the clusters of the text that came last are put down one after another
+unfoldable pub seen : ℕ → Terminal → Page
+seen columns t = fold (λ page cluster. put_cluster columns page (columns_of columns cluster) cluster) t.page (graphemes true t.text)
 
--- a printable character: the cursor goes one column on, first to the next row where it waited, and waits where no column is left
-abbrev pub shown : ℕ → Terminal → Terminal
-shown columns t =
-    let row = if t.waits then t.row + 1 else t.row in
-    let col = if t.waits then 0 else t.col in
-    if nat_le columns (col + 1) then record { row = row; col = col; waits = true; reading = plain }
-    else gone t row (col + 1)
+-- a page is shown, and text is read
+abbrev pub showing : Page → Terminal
+showing page = record { page = page; text = []; reading = plain }
 
--- the end of a control sequence with a number, for which none or 0 stands for 1
-abbrev pub ended : ℕ → Terminal → ℕ → ℕ → Terminal
-ended columns t number letter =
+-- all cells from the cursor on are cleared
+abbrev pub without_rest : Page → Page
+without_rest page = record page {
+  cells = λ r k. if nat_lt page.row r || ((r == page.row) && nat_le page.col k) then blank else page.cells r k;
+}
+
+-- the cells of the cursor's row from it on are cleared
+abbrev pub without_row : Page → Page
+without_row page = record page { cells = λ r k. if (r == page.row) && nat_le page.col k then blank else page.cells r k }
+
+-- the end of a control sequence with a number, for which none or 0 stands for 1; the cursor does not wait behind a move
+abbrev pub ended : ℕ → Page → ℕ → ℕ → Page
+ended columns page number letter =
     let count = max 1 number in
-    if letter == 65 then gone t (t.row - count) t.col
-    else if letter == 66 then gone t (t.row + count) t.col
-    else if letter == 67 then gone t t.row (min (t.col + count) (columns - 1))
-    else if letter == 72 then gone t 0 0
-    else record t { reading = plain }
+    let col = min page.col (columns - 1) in
+    if letter == 65 then at (page.row - count) col page
+    else if letter == 66 then at (page.row + count) col page
+    else if letter == 67 then at page.row (min (page.col + count) (columns - 1)) page
+    else if letter == 72 then at 0 0 page
+    else if letter == 74 then without_rest page
+    else if letter == 75 then without_row page
+    else page
 
--- a byte of a text
+-- a control character
+abbrev pub controlled : Page → ℕ → Page
+controlled page byte =
+    if byte == 13 then at page.row 0 page
+    else if byte == 10 then at (page.row + 1) page.col page
+    else page
+
+-- a byte of a text; at a control character its clusters part
 abbrev pub put_plain : ℕ → Terminal → ℕ → Terminal
 put_plain columns t byte =
     if byte == 27 then record t { reading = escape }
-    else if byte == 13 then gone t t.row 0
-    else if byte == 10 then gone t (t.row + 1) t.col
-    else if is_printable byte then shown columns t
-    else t
+    else if nat_lt byte 32 || (byte == 127) then showing (controlled (seen columns t) byte)
+    else record t { text = t.text ++ byte ∷ [] }
 
--- a byte
+-- a byte; a color, whose sequence ends in `m`, parts no clusters
 unfoldable pub put : ℕ → Terminal → ℕ → Terminal
 put columns t byte = elim t.reading [
   | plain ↦ put_plain columns t byte
   | escape ↦ if byte == 91 then record t { reading = sequence 0 } else record t { reading = plain }
   | sequence number ↦
       if is_in_range 48 57 byte then record t { reading = sequence (number * 10 + (byte - 48)) }
-      else if is_in_range 64 126 byte then ended columns t number byte
+      else if byte == 109 then record t { reading = plain }
+      else if is_in_range 64 126 byte then showing (ended columns (seen columns t) number byte)
       else record t { reading = sequence 0 }
 ]
 
@@ -64,6 +81,16 @@ put columns t byte = elim t.reading [
 abbrev pub sent : ℕ → Terminal → List ℕ → Terminal
 sent columns t bytes = fold (put columns) t bytes
 
--- the cursor stands at a place, on rows that begin at a base, and text is read
-abbrev pub standing : ℕ → Position → Terminal
-standing base place = record { row = base + place.row; col = place.col; waits = false; reading = plain }
+-- text is read, and what came last is printable ASCII, whose clusters part from all that comes
+pub record IsReady (t : Terminal) : Type 0 where
+  pub reading : t.reading ≡ plain
+  pub printable : list_all is_printable t.text ≡ true
+
+-- a terminal shows a page, and a text may come
+pub record Shows (columns : ℕ) (t : Terminal) (page : Page) : Type 0 where
+  pub shown : seen columns t ≡ page
+  pub ready : IsReady t
+
+-- bytes take a terminal from each page that it shows to another
+abbrev pub Turns : (Page → Page) → List ℕ → Type 0
+Turns f bytes = (columns : ℕ) (t : Terminal) (page : Page) → Shows columns t page → Shows columns (sent columns t bytes) (f page)

@@ -15,11 +15,9 @@ ghost use Rattle.line_term.specs.Output.{Resizes, Sends, StaysShown, Writes, Wri
 ghost use Rattle.line_term.specs.Painted.{AppendsSome, Draws, Redraws, asked, wrap};
 
 use crate::drawn::push_cleaned;
-use crate::escape::push_move;
+use crate::escape::{push_if, push_move};
 use crate::output::Output;
-use crate::painted::{
-    asked, push_behind, push_clear, push_clear_from, push_if, push_line, push_prompt,
-};
+use crate::painted::{asked, push_behind, push_clear, push_clear_from, push_line, push_prompt};
 use crate::send::{counted, send};
 use crate::wrap::{line_end, push_wrap, push_wrap_behind};
 use line_buffer::{GraphemeClusterMode, Layout, LineBuffer, Position, Unit};

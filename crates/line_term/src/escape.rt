@@ -1,5 +1,5 @@
 //! The bytes that move a terminal's cursor.
-ghost use Rattle.std.specs.Prelude.{◌≡◌, ◌++◌, OnOk, string_bytes};
+ghost use Rattle.std.specs.Prelude.{◌≡◌, ◌++◌, [], OnOk, string_bytes, if◌then◌else◌};
 ghost use Rattle.line_config.specs.Error.{MemoryOnly};
 ghost use Rattle.line_term.specs.Escape.{move_bytes, steps};
 
@@ -29,6 +29,18 @@ pub(crate) fn push_steps(bytes: &mut String, count: Unit, letter: char) -> Resul
 {
     if count > 0 {
         write!(bytes, "\x1b[{count}{letter}")?;
+    }
+    Ok(())
+}
+
+/// Appends a text where this is wanted.
+pub(crate) fn push_if(bytes: &mut String, wanted: bool, text: &str) -> Result<()>
+    ensures appends { OnOk result (string_bytes bytes.new
+        ≡ string_bytes bytes.old ++ (if wanted then text.now else [])) }
+    ensures memory { MemoryOnly result }
+{
+    if wanted {
+        bytes.push_str(text)?;
     }
     Ok(())
 }

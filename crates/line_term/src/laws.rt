@@ -1,7 +1,7 @@
 //! Laws of the bytes that come from a terminal, and of those that are written to it. Each function's contract is a law, and its body
 //! does nothing.
 ghost use Rattle.line_term.specs.DecoderLaws.{ComesBack, ComesInPieces, EscapesAreKept, FlushSettles, PasteComesWhole, PastesGiveNoKey, RowsAreKeys, SequencesNeverType, TextIsTyped, TextsAreSilent};
-ghost use Rattle.line_term.specs.Laws.{MovesArrive, OthersStay, RedrawsArrive, RedrawsClear, RedrawsShow, TextsArrive};
+ghost use Rattle.line_term.specs.Laws.{MovesArrive, OthersStay, PartsShow, RedrawsShow, TextsAreShown, TextsArrive};
 
 use line_config::Prompt;
 use line_parts::Highlighter;
@@ -56,34 +56,34 @@ pub fn flush_settles()
     ensures { FlushSettles }
 {}
 
-/// The bytes of a cursor move take a terminal's cursor from the one place to the other.
+/// The bytes of a cursor move take a terminal's cursor from the one place to the other, and change no cell.
 pub fn moves_arrive()
     ensures { MovesArrive }
 {}
 
-/// What is written for a text of printable ASCII and newlines takes a terminal's cursor where the text is measured to end. It
-/// does not wait there at a row's end.
+/// What is written for a text puts its clusters down, and takes a terminal's cursor where the text is measured to end. It does not
+/// wait there at a row's end.
 pub fn texts_arrive()
     ensures { TextsArrive }
 {}
 
-/// A bell, what clears a part of the screen, and what is asked of a terminal leave its cursor where it stands.
+/// A bell and what is asked of a terminal change nothing that it shows, and what clears a part of it leaves its cursor.
 pub fn others_stay()
     ensures { OthersStay }
 {}
 
-/// A full redraw of printable ASCII and newlines, of which a highlighter changes colors alone, takes a terminal's cursor from
-/// where it stood in the drawing before to its place in the new layout, on the same rows.
-pub fn redraws_arrive<P: Prompt, H: Highlighter>()
-    ensures { RedrawsArrive P.Prompt H.Highlighter }
-{}
-
-/// Such a redraw shows each printable character of the line in the cell where the text before it is measured to end.
+/// After a full redraw, of which a highlighter changes colors alone, a terminal shows prompt, line and the text behind it, nothing
+/// else from the prompt's row on, and its cursor is in its place. The rows begin where those of the drawing before did.
 pub fn redraws_show<P: Prompt, H: Highlighter>()
     ensures { RedrawsShow P.Prompt H.Highlighter }
 {}
 
-/// Such a redraw, where it clears the rows of a drawing before, leaves all cells clear behind the end of what it shows.
-pub fn redraws_clear<P: Prompt, H: Highlighter>()
-    ensures { RedrawsClear P.Prompt H.Highlighter }
+/// A text that is put down shows each cluster where the clusters before it are measured to end, and nothing behind its own end.
+pub fn texts_are_shown()
+    ensures { TextsAreShown }
+{}
+
+/// So it is after a move of the cursor, a character that is written at the line's end, and a clearing of the rest of its row.
+pub fn parts_show()
+    ensures { PartsShow }
 {}

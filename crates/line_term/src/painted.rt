@@ -2,7 +2,7 @@
 ghost use Rattle.std.specs.Prelude.{◌≡◌, ◌++◌, [], OnOk, option_map, string_bytes, if◌then◌else◌};
 ghost use Rattle.line_config.specs.Error.{FaultsOnly, MemoryOnly};
 ghost use Rattle.line_term.specs.Escape.{clear_from};
-ghost use Rattle.line_term.specs.Painted.{AppendsSome, Paints, PaintsBehind, PaintsPrompt, asked, clear_drawn};
+ghost use Rattle.line_term.specs.Painted.{AppendsSome, Paints, PaintsBehind, PaintsPrompt, asked, clear_drawn, shown_as};
 
 use crate::drawn::{push_cleaned, push_colored};
 use crate::escape::push_steps;
@@ -28,7 +28,7 @@ pub(crate) fn push_prompt<P: Prompt, H: Highlighter>(
     match highlighter {
         Some(highlighter) => {
             let shown = highlighter.highlight_prompt(alloc, prompt.styled(), default)?;
-            push_colored(bytes, shown.as_str())
+            push_shown(bytes, prompt.raw(), shown.as_str())
         }
         None => push_cleaned(bytes, prompt.raw()),
     }
@@ -49,7 +49,7 @@ pub(crate) fn push_line<H: Highlighter>(
     match highlighter {
         Some(highlighter) => {
             let shown = highlighter.highlight(alloc, line.as_str(), line.pos())?;
-            push_colored(bytes, shown.as_str())
+            push_shown(bytes, line.as_str(), shown.as_str())
         }
         None => push_cleaned(bytes, line.as_str()),
     }
@@ -88,10 +88,22 @@ fn push_text<H: Highlighter>(
     match highlighter {
         Some(highlighter) => {
             let shown = highlighter.highlight_hint(alloc, text)?;
-            push_colored(bytes, shown.as_str())
+            push_shown(bytes, text, shown.as_str())
         }
         None => push_cleaned(bytes, text),
     }
+}
+
+/// Appends a text that is shown as another. Where the two are the same, it has no colors.
+fn push_shown(bytes: &mut String, text: &str, shown: &str) -> Result<()>
+    ensures appends { OnOk result
+        (string_bytes bytes.new ≡ string_bytes bytes.old ++ shown_as text.now shown.now) }
+    ensures memory { MemoryOnly result }
+{
+    if shown == text {
+        return push_cleaned(bytes, text);
+    }
+    push_colored(bytes, shown)
 }
 
 /// Returns the highlighter that is asked: none where no colors are shown.
@@ -100,18 +112,6 @@ pub(crate) fn asked<'h, H: Highlighter>(colors: bool, highlighter: Option<&'h H>
         ≡ asked colors (option_map (λ h. h.now) highlighter.entry) }
 {
     if colors { highlighter } else { None }
-}
-
-/// Appends a text where this is wanted.
-pub(crate) fn push_if(bytes: &mut String, wanted: bool, text: &str) -> Result<()>
-    ensures appends { OnOk result (string_bytes bytes.new
-        ≡ string_bytes bytes.old ++ (if wanted then text.now else [])) }
-    ensures memory { MemoryOnly result }
-{
-    if wanted {
-        bytes.push_str(text)?;
-    }
-    Ok(())
 }
 
 /// Appends what clears the rows of a layout that was drawn, if there is one.

@@ -3,7 +3,7 @@ ghost use Rattle.std.specs.Prelude.{◌≡◌, ◌++◌, IfOk, OnOk, option_map,
 ghost use Rattle.line_config.specs.Error.{MemoryOnly};
 ghost use Rattle.line_term.specs.Painted.{fills_row, line_end, wrap_behind, wrap_ending};
 
-use crate::painted::push_if;
+use crate::escape::push_if;
 use line_buffer::{Layout, Position};
 use line_config::Result;
 use line_keys::raw_reader::RawReader;
@@ -65,7 +65,8 @@ pub(crate) fn line_end<R: RawReader>(
     }
 }
 
-/// Returns whether a text that ends at `end` fills its last row exactly: with a newline behind it, it ends at the same place.
+/// Returns whether a text that ends at `end` fills its last row exactly: with a carriage return and a newline behind it, it
+/// ends at the same place.
 fn fills_row<R: RawReader>(
     alloc: Global,
     screen: &Plain<R>,
@@ -80,7 +81,7 @@ fn fills_row<R: RawReader>(
     if end.col != 0 {
         return Ok(false);
     }
-    let longer = format!(in alloc; "{text}\n")?;
+    let longer = format!(in alloc; "{text}\r\n")?;
     let below = screen.calculate_position(longer.as_str(), origin);
     Ok(below.row == end.row)
 }

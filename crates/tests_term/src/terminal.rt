@@ -117,9 +117,10 @@ const CALLS: &[(&str, &str)] = &[
     ("disable_bracketed_paste", "\x1b[?2004l"),
     ("begin_synchronized_update", "\x1b[?2026h"),
     ("end_synchronized_update", "\x1b[?2026l"),
+    ("refresh_line", "\x1b[?2026h> abc\r\x1b[4C\x1b[?2026l"),
     (
-        "refresh_line",
-        "\x1b[?2026h> \x1b[0mab\x1b[0mc\x1b[0m\r\x1b[4C\x1b[?2026l",
+        "a text of more than ASCII",
+        "\x0fe\u{301}日\x0f \x0f\x0f\u{fffd}\x0f\r\n\x0f",
     ),
 ];
 
@@ -131,6 +132,7 @@ fn call(alloc: Global, terminal: &mut Terminal, name: &str) -> Result<()> {
             terminal.move_cursor(Position { row: 0, col: 0 }, Position { row: 1, col: 2 })
         }
         "write_and_flush" => terminal.write_and_flush("xyz"),
+        "a text of more than ASCII" => terminal.write_and_flush("e\u{301}日\t\u{85}\r\n"),
         "clear_to_eol" => terminal.clear_to_eol(),
         "clear_screen" => terminal.clear_screen(),
         "clear_rows" => {
