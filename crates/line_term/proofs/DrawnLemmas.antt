@@ -1,9 +1,11 @@
 -- A text that is drawn character by character.
-use Rattle.std.proofs.Common.{◌≡◌, ◌<◌, ◌≤◌, ℕ, zero, suc, ◌+◌, ◌-◌, ◌==◌, false, true, cond, nat_lt, List, [], ◌∷◌, ◌++◌, length, chars, encode_utf8, refl, sym, ap, ◌∙◌, arith, append_assoc, length-append}
-use Rattle.std.specs.Str.{IsUtf8}
+use Rattle.std.proofs.Common.{◌≡◌, ◌<◌, ◌≤◌, ℕ, zero, suc, ◌+◌, ◌-◌, ◌==◌, ◌&&◌, Bool, false, true, cond, get_or, not, nat_eq, is_some, unwrap_or, Option, Some, None, nat_lt, List, [], ◌∷◌, ◌++◌, length, chars, encode_utf8, refl, sym, ap, ◌∙◌, arith, append_assoc, length-append}
+use Rattle.std.specs.Str.{IsUtf8, bytes_eq}
+use Rattle.std.specs.Option.{MatchOption, option_eq}
+use Rattle.std.proofs.lemmas.Slice.Eq.{bytes_eq-Decides}
 use Rattle.std.proofs.lemmas.List.{append-nil}
 use Rattle.std.proofs.lemmas.Bool.Decides.{nat_tests}
-use Rattle.std.proofs.lemmas.Str.{chars-nil, chars_past_char, len_utf8_bounds, length-encode}
+use Rattle.std.proofs.lemmas.Str.{IsUtf8-past_char, chars-nil, chars_past_char, len_utf8_bounds, length-encode}
 use Rattle.line_term.specs.Drawn.{begins_below, behind_parameters, color_length, colored_from, drawn, drawn_char, is_parameter, passing_behind, uncolored_from}
 
 -- one piece more is appended, and the rest is what is left behind it
@@ -103,3 +105,61 @@ below-none passing count text rest c utf8 is none same zero_count =
 pub uncolored-nil : (passing : ℕ) → uncolored_from passing [] ≡ []
 uncolored-nil zero = refl
 uncolored-nil (suc n) = refl
+
+differs : {P : Type 0} (b : Bool) → (b ≡ true → P) → (P → ⊥) → b ≡ false
+differs true is not_so = absurd (not_so (is refl))
+differs false is not_so = refl
+
+nat_eq-same : (c : ℕ) → (c == c) ≡ true
+nat_eq-same c = grind (arith, nat_tests)
+
+-- a list that begins otherwise, or with nothing, is another one
+pub other-first : (c d : ℕ) (cs ds : List ℕ) → (c ≡ d → ⊥) → bytes_eq (c ∷ cs) (d ∷ ds) ≡ false
+other-first c d cs ds other = differs (bytes_eq (c ∷ cs) (d ∷ ds)) (bytes_eq-Decides (c ∷ cs) (d ∷ ds)).0 (λ same. other (ap (λ (xs : List ℕ). get_or xs 0 0) same))
+
+pub other-none : (c : ℕ) (cs : List ℕ) → bytes_eq (c ∷ cs) [] ≡ false
+other-none c cs = refl
+
+pub same-first : (c : ℕ) (cs ds : List ℕ) → bytes_eq (c ∷ cs) (c ∷ ds) ≡ bytes_eq cs ds
+same-first c cs ds = ap (λ b. b && bytes_eq cs ds) (nat_eq-same c)
+
+-- ---- what is compared character by character
+
+-- the next character of a text, if there is one, and what is left behind it
+pub record Next (found : Option ℕ) (text rest : List ℕ) : Type 0 where
+  pub none : found ≡ None → chars text ≡ []
+  pub some : (d : ℕ) → found ≡ Some d → (chars text ≡ d ∷ chars rest) × IsUtf8 rest
+
+pub next-of : {P : Type 0} {Q : ℕ → Type 0} (found : Option ℕ) (text rest : List ℕ) → IsUtf8 text → MatchOption found P Q → (P → length text ≡ 0)
+    → ((d : ℕ) → Q d → text ≡ encode_utf8 d ++ rest) → Next found text rest
+next-of None text rest utf8 steps empty first = record { none = λ _. chars-empty text (empty steps); some = λ d is. absurd (cc) }
+next-of (Some c) text rest utf8 steps empty first =
+    let is = first c steps in
+    record { none = λ e. absurd (cc); some = λ d e. (chars_past_char text rest c utf8 is ∙ ap (λ x. x ∷ chars rest) (same-some c d e), IsUtf8-past_char text rest c utf8 is) }
+  where
+    same-some : (c d : ℕ) → Some c ≡ Some d → c ≡ d
+    same-some c d e = ap (λ (o : Option ℕ). unwrap_or o 0) e
+
+-- where it is another one, the texts differ
+pub next-other : (found : Option ℕ) (text rest : List ℕ) (c : ℕ) (cs : List ℕ) → Next found text rest → option_eq nat_eq found (Some c) ≡ false
+    → bytes_eq (c ∷ cs) (chars text) ≡ false
+next-other None text rest c cs next other = ap (bytes_eq (c ∷ cs)) (next.none refl)
+next-other (Some d) text rest c cs next other = ap (bytes_eq (c ∷ cs)) (next.some d refl).0 ∙ other-first c d cs (chars rest) (λ same. absurd (apart same)) where
+  apart : c ≡ d → ⊥
+  apart same = let is : (d == c) ≡ true = grind (arith, nat_tests) in cc (is, other)
+
+-- where it is the same, what is left is compared
+pub next-same : (found : Option ℕ) (text rest : List ℕ) (c : ℕ) (cs : List ℕ) → Next found text rest → option_eq nat_eq found (Some c) ≡ true
+    → (bytes_eq (c ∷ cs) (chars text) ≡ bytes_eq cs (chars rest)) × IsUtf8 rest
+next-same None text rest c cs next is = absurd (cc)
+next-same (Some d) text rest c cs next is =
+    let same : d ≡ c = grind (arith, nat_tests) in
+    let left = next.some d refl in
+    (ap (bytes_eq (c ∷ cs)) (left.0 ∙ ap (λ x. x ∷ chars rest) same) ∙ same-first c cs (chars rest), left.1)
+
+-- nothing is left of the one: nothing is to be left of the other
+pub next-none : (found : Option ℕ) (text rest : List ℕ) (none : Bool) → Next found text rest → is_some found ≡ not none → none ≡ bytes_eq [] (chars text)
+next-none None text rest true next is = sym (ap (bytes_eq []) (next.none refl))
+next-none None text rest false next is = absurd (cc)
+next-none (Some d) text rest false next is = sym (ap (bytes_eq []) (next.some d refl).0)
+next-none (Some d) text rest true next is = absurd (cc)

@@ -35,6 +35,10 @@ pub not-true : (b : Bool) → not b ≡ true → b ≡ false
 not-true true h = sym h
 not-true false h = refl
 
+pub not-false : (b : Bool) → not b ≡ false → b ≡ true
+not-false true h = refl
+not-false false h = sym h
+
 -- ---- bytes of a text
 
 abbrev pub is_text_byte : ℕ → Bool

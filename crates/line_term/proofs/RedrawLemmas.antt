@@ -1,5 +1,5 @@
 -- A full redraw that is read by a terminal.
-use Rattle.std.proofs.Common.{◌≡◌, subst, ◌<◌, ◌≤◌, ℕ, ◌+◌, ◌==◌, ◌||◌, ◌&&◌, nat_le, nat_lt, Bool, true, false, cond, List, [], ◌++◌, Option, Some, None, refl, sym, ap, ap₂, ◌∙◌, arith, ⊎_elim, option_map}
+use Rattle.std.proofs.Common.{◌≡◌, subst, ◌<◌, ◌≤◌, ℕ, ◌+◌, ◌==◌, ◌||◌, ◌&&◌, nat_le, nat_lt, Bool, true, false, cond, not, List, [], ◌++◌, Option, Some, None, refl, sym, ap, ap₂, ◌∙◌, arith, ⊎_elim, option_map}
 use Rattle.std.specs.Option.{IfSome}
 use Rattle.std.specs.Prelude.{IsUtf8, chars}
 use Rattle.std.specs.List.{fold}
@@ -19,9 +19,9 @@ use Rattle.line_screen.specs.Measure.{after_cluster, measured}
 use Rattle.line_screen.specs.MeasureLaws.{measured-below}
 use Rattle.line_term.specs.Drawn.{cleaned, colored, uncolored}
 use Rattle.line_term.specs.Escape.{hold, move_bytes, release}
-use Rattle.line_term.specs.Laws.{IsColoring, OnlyColors, RedrawsShow, TextsArrive}
+use Rattle.line_term.specs.Laws.{RedrawsShow, TextsArrive}
 use Rattle.line_term.specs.Page.{IsAt, Page, at, blank, blank_page, picture, put_behind, put_text}
-use Rattle.line_term.specs.Painted.{Draws, Handed, Painted, Paints, PaintsBehind, PaintsPrompt, at_once, clear_drawn, drawing, shown_as, wrap, wrap_ending}
+use Rattle.line_term.specs.Painted.{Draws, Handed, Painted, Paints, PaintsBehind, PaintsPrompt, at_once, clear_drawn, drawing, is_coloring, shown_as, wrap, wrap_ending}
 use Rattle.line_term.specs.Shown.{Begins, IsMeasured, IsShown}
 use Rattle.line_term.specs.Terminal.{IsReady, Shows, Terminal, put, seen, sent, without_rest}
 use Rattle.line_term.proofs.AlikeLemmas.{Alike, alike-picture}
@@ -32,48 +32,26 @@ use Rattle.line_term.proofs.PrintLemmas.{Prints, clusters-last, earlier, prints-
 
 -- what is shown for a text is that text, or it is one with colors
 shown-prints : (columns : ℕ) (t : Terminal) (text shown bytes : List ℕ) → IsReady t → IsUtf8 text → bytes ≡ shown_as text shown
-    → ((shown ≡ text → ⊥) → uncolored shown ≡ chars text) → Prints columns t text (sent columns t bytes)
-shown-prints columns t text shown bytes ready utf8 is colors =
-    subst (λ b. Prints columns t text (sent columns t b)) (sym is) (by_test (bytes_eq shown text) refl)
+    → Prints columns t text (sent columns t bytes)
+shown-prints columns t text shown bytes ready utf8 is =
+    subst (λ b. Prints columns t text (sent columns t b)) (sym is) (by_test (not (bytes_eq shown text)) (is_coloring shown text) refl)
   where
-    by_test : (b : Bool) → bytes_eq shown text ≡ b → Prints columns t text (sent columns t (cond b (cleaned text) (colored shown)))
-    by_test true e = prints-cleaned columns t text ready utf8
-    by_test false e = prints-colored columns t text shown ready utf8 (colors (λ same. absurd (differs (sym e ∙ (bytes_eq-Decides shown text).1 same)))) where
-      differs : false ≡ true → ⊥
-      differs d = cc
+    by_test : (b c : Bool) → is_coloring shown text ≡ c → Prints columns t text (sent columns t (cond (b && c) (colored shown) (cleaned text)))
+    by_test false c e = prints-cleaned columns t text ready utf8
+    by_test true false e = prints-cleaned columns t text ready utf8
+    by_test true true e = prints-colored columns t text shown ready utf8 ((bytes_eq-Decides (uncolored shown) (chars text)).0 e)
 
--- what a value is known to be
-of-some : (own : Option (List ℕ)) (shown text : List ℕ) → own ≡ Some shown → IsColoring own text → uncolored shown ≡ chars text
-of-some own shown text is coloring = subst (λ o. IsColoring o text) is coloring
-
-text-prints : {H : Type 0} (columns : ℕ) (t : Terminal) (text bytes : List ℕ) (highlighter : Option H) (own : H → Option (List ℕ)) → IsReady t → IsUtf8 text
-    → Paints (option_map own highlighter) text bytes → IfSome highlighter (λ o. IsColoring (own o) text) → Prints columns t text (sent columns t bytes)
-text-prints columns t text bytes None own ready utf8 painted coloring =
+text-prints : (columns : ℕ) (t : Terminal) (text bytes : List ℕ) (own : Option (Option (List ℕ))) → IsReady t → IsUtf8 text
+    → Paints own text bytes → Prints columns t text (sent columns t bytes)
+text-prints columns t text bytes None ready utf8 painted =
     subst (λ b. Prints columns t text (sent columns t b)) (sym painted) (prints-cleaned columns t text ready utf8)
-text-prints columns t text bytes (Some o) own ready utf8 painted coloring =
-    shown-prints columns t text painted.0 bytes ready utf8 painted.1.1
-    (λ other. ⊎_elim (λ same. absurd (other same)) (λ is. of-some (own o) painted.0 text is coloring) painted.1.0)
+text-prints columns t text bytes (Some own) ready utf8 painted = shown-prints columns t text painted.0 bytes ready utf8 painted.1.1
 
-prompt-prints : {H : Type 0} (columns : ℕ) (t : Terminal) (raw bytes : List ℕ) (style : Option (List ℕ)) (highlighter : Option H) (own : H → List ℕ → Option (List ℕ))
-    → IsReady t → IsUtf8 raw → PaintsPrompt (option_map own highlighter) raw style bytes → IsColoring style raw
-    → ((styled : List ℕ) → IsUsualOrOwn raw style styled → IfSome highlighter (λ o. IsColoring (own o styled) raw)) → Prints columns t raw (sent columns t bytes)
-prompt-prints columns t raw bytes style None own ready utf8 painted styles colorings =
+prompt-prints : (columns : ℕ) (t : Terminal) (raw bytes : List ℕ) (style : Option (List ℕ)) (own : Option (List ℕ → Option (List ℕ)))
+    → IsReady t → IsUtf8 raw → PaintsPrompt own raw style bytes → Prints columns t raw (sent columns t bytes)
+prompt-prints columns t raw bytes style None ready utf8 painted =
     subst (λ b. Prints columns t raw (sent columns t b)) (sym painted) (prints-cleaned columns t raw ready utf8)
-prompt-prints columns t raw bytes style (Some o) own ready utf8 painted styles colorings =
-    let styled = painted.0 in
-    let shown = painted.1 in
-    let form = painted.2.0 in
-    shown-prints columns t raw shown bytes ready utf8 painted.2.1.1
-    (λ other. ⊎_elim
-    (λ same. ⊎_elim (λ plain. absurd (other (same ∙ plain))) (λ is. ap uncolored same ∙ of-some style styled raw is styles) form)
-    (λ is. of-some (own o styled) shown raw is (colorings styled form)) painted.2.1.0)
-
-behind-prints : {H : Type 0} (columns : ℕ) (t : Terminal) (text bytes : List ℕ) (highlighter : Option H) (own : H → List ℕ → Option (List ℕ)) → IsReady t → IsUtf8 text
-    → PaintsBehind (option_map own highlighter) (Some text) bytes → IfSome highlighter (λ o. IsColoring (own o text) text) → Prints columns t text (sent columns t bytes)
-behind-prints columns t text bytes None own ready utf8 painted coloring =
-    text-prints columns t text bytes None (λ o. own o text) ready utf8 painted coloring
-behind-prints columns t text bytes (Some o) own ready utf8 painted coloring =
-    text-prints columns t text bytes (Some o) (λ o. own o text) ready utf8 painted coloring
+prompt-prints columns t raw bytes style (Some own) ready utf8 painted = shown-prints columns t raw painted.1 bytes ready utf8 painted.2.1.1
 
 -- ---- the parts one after another
 
@@ -111,16 +89,15 @@ abbrev wrap_more : Measure → Option (List ℕ) → Position → List ℕ
 wrap_more measure None place = []
 wrap_more measure (Some text) place = wrap measure text place
 
-behind-arrives : {H : Type 0} (columns base : ℕ) (place : Position) (page : Page) (t : Terminal) (behind : Option (List ℕ)) (bytes : List ℕ) (highlighter : Option H)
-    (own : H → List ℕ → Option (List ℕ)) → IfSome behind IsUtf8 → place.col < columns → (behind_end columns place behind).row < 65535
-    → PaintsBehind (option_map own highlighter) behind bytes → IfSome behind (λ text. IfSome highlighter (λ o. IsColoring (own o text) text))
+behind-arrives : (columns base : ℕ) (place : Position) (page : Page) (t : Terminal) (behind : Option (List ℕ)) (bytes : List ℕ) (own : Option (List ℕ → Option (List ℕ)))
+    → IfSome behind IsUtf8 → place.col < columns → (behind_end columns place behind).row < 65535 → PaintsBehind own behind bytes
     → ArrivesAt columns base place page t
     → ArrivesAt columns base (behind_end columns place behind) (put_behind columns page behind) (sent columns (sent columns t bytes) (wrap_more (measured columns) behind place))
-behind-arrives columns base place page t None bytes highlighter own utf8 room last painted coloring from =
+behind-arrives columns base place page t None bytes own utf8 room last painted from =
     subst (λ b. ArrivesAt columns base place page (sent columns t b)) (sym painted) from
-behind-arrives columns base place page t (Some text) bytes highlighter own utf8 room last painted coloring from =
+behind-arrives columns base place page t (Some text) bytes own utf8 room last painted from =
     text-arrives columns base place page t (sent columns t bytes) text utf8 room last from
-    (behind-prints columns t text bytes highlighter own from.shows.ready utf8 painted coloring)
+    (text-prints columns t text bytes (option_map (λ o. o text) own) from.shows.ready utf8 painted)
 
 behind-below : (columns : ℕ) (place : Position) (behind : Option (List ℕ)) → place.col < columns → (behind_end columns place behind).col < columns
 behind-below columns place None room = room
@@ -197,12 +174,12 @@ begin-at base page alike = record { row = alike.row ∙ omega arith; col = alike
 
 module _ {P H : Type 0} (p : prompts.Ghosts P) (h : highlighters.Ghosts H) where
   -- a drawing, from the start of a row
-  drawing-arrives : (columns base : ℕ) (handed : Handed P H) (bytes : List ℕ) (t : Terminal) (page : Page) → Draws p h (measured columns) handed bytes → OnlyColors p h handed
+  drawing-arrives : (columns base : ℕ) (handed : Handed P H) (bytes : List ℕ) (t : Terminal) (page : Page) → Draws p h (measured columns) handed bytes
       → IsMeasured columns (p.raw_text handed.prompt) handed.line.text handed.behind handed.layout
       → ArrivesAt columns base corner page t
       → (let end = picture columns page (p.raw_text handed.prompt) handed.line.text handed.behind in
       Shows columns (sent columns t bytes) (at (base + handed.layout.cursor.row) handed.layout.cursor.col end))
-  drawing-arrives columns base handed bytes t page draws colors is from =
+  drawing-arrives columns base handed bytes t page draws is from =
       let layout = handed.layout in
       let behind = handed.behind in
       let highlighter = handed.highlighter in
@@ -224,14 +201,14 @@ module _ {P H : Type 0} (p : prompts.Ghosts P) (h : highlighters.Ghosts H) where
       let col₃ : layout.end.col < columns = omega (arith, behind-below columns p₂ behind col₂, ap (λ (q : Position). q.col) ends) in
       let front = subst (λ q. ArrivesAt columns base q (put_text columns page raw) (sent columns (sent columns t painted.prompt) (wrap measure raw corner))) (sym is.prompt_end)
       (text-arrives columns base corner page t (sent columns t painted.prompt) raw is.prompt_text some first_at from
-      (prompt-prints columns t raw painted.prompt (p.own_style handed.prompt) highlighter (λ o s. h.own_prompt o s layout.default_prompt) from.shows.ready
-      is.prompt_text draws.prompt colors.style colors.prompt)) in
+      (prompt-prints columns t raw painted.prompt (p.own_style handed.prompt) (option_map (λ o s. h.own_prompt o s layout.default_prompt) highlighter)
+      from.shows.ready is.prompt_text draws.prompt)) in
       let t₁ = sent columns (sent columns t painted.prompt) (wrap measure raw corner) in
       let middle = text-arrives columns base p₁ (put_text columns page raw) t₁ (sent columns t₁ painted.line) text is.line_text col₁ second front
-      (text-prints columns t₁ text painted.line highlighter (λ o. h.own_line o text handed.line.cursor) front.shows.ready is.line_text draws.line colors.line) in
+      (text-prints columns t₁ text painted.line (option_map (λ o. h.own_line o text handed.line.cursor) highlighter) front.shows.ready is.line_text draws.line) in
       let t₂ = sent columns (sent columns t₁ painted.line) (wrap measure text p₁) in
-      let back = behind-arrives columns base p₂ (put_text columns (put_text columns page raw) text) t₂ behind painted.behind highlighter h.own_hint is.behind_text col₂ last
-      draws.behind colors.behind middle in
+      let back = behind-arrives columns base p₂ (put_text columns (put_text columns page raw) text) t₂ behind painted.behind (option_map h.own_hint highlighter) is.behind_text col₂ last
+      draws.behind middle in
       let t₃ = sent columns (sent columns t₂ painted.behind) (wrap_more measure behind p₂) in
       let end = picture columns page raw text behind in
       subst (λ s. Shows columns s (at (base + layout.cursor.row) layout.cursor.col end))
@@ -242,12 +219,12 @@ module _ {P H : Type 0} (p : prompts.Ghosts P) (h : highlighters.Ghosts H) where
       (omega (arith, is.cursor.0)) (omega (arith, is.cursor.1)) is.cursor.2 back.shows)
 
   -- from where it begins, on a page that is like a blank one
-  drawing-shows : (columns base : ℕ) (handed : Handed P H) (bytes : List ℕ) (t : Terminal) (page : Page) → Draws p h (measured columns) handed bytes → OnlyColors p h handed
+  drawing-shows : (columns base : ℕ) (handed : Handed P H) (bytes : List ℕ) (t : Terminal) (page : Page) → Draws p h (measured columns) handed bytes
       → IsMeasured columns (p.raw_text handed.prompt) handed.line.text handed.behind handed.layout → Alike base page (blank_page base) → Shows columns t page
       → (let end = picture columns page (p.raw_text handed.prompt) handed.line.text handed.behind in
       Shows columns (sent columns t bytes) (at (base + handed.layout.cursor.row) handed.layout.cursor.col end))
-  drawing-shows columns base handed bytes t page draws colors is alike shows =
-      drawing-arrives columns base handed bytes t page draws colors is (record { shows = shows; at = begin-at base page alike })
+  drawing-shows columns base handed bytes t page draws is alike shows =
+      drawing-arrives columns base handed bytes t page draws is (record { shows = shows; at = begin-at base page alike })
 
   -- what is shown then
   shown-then : (columns base : ℕ) (handed : Handed P H) (page : Page) (t : Terminal) → Alike base page (blank_page base)
@@ -272,7 +249,7 @@ module _ {P H : Type 0} (p : prompts.Ghosts P) (h : highlighters.Ghosts H) where
       (without_rest (at base 0 page), clear-turns columns base old.cursor t page begins.0 (omega (arith, begins.1)) shows, cleared-alike base page)
 
   pub redraws-show : RedrawsShow p h
-  redraws-show columns base wanted old handed bytes t page redraws colors is begins shows =
+  redraws-show columns base wanted old handed bytes t page redraws is begins shows =
       subst (λ b. IsShown columns base (p.raw_text handed.prompt) handed.line.text handed.behind handed.layout.cursor (sent columns t b)) (sym redraws.whole)
       (once-shows columns t page wanted (clear_drawn old ++ redraws.drawn)
       (IsShown columns base (p.raw_text handed.prompt) handed.line.text handed.behind handed.layout.cursor) shows
@@ -281,6 +258,6 @@ module _ {P H : Type 0} (p : prompts.Ghosts P) (h : highlighters.Ghosts H) where
       let end = at (base + handed.layout.cursor.row) handed.layout.cursor.col (picture columns from.0 (p.raw_text handed.prompt) handed.line.text handed.behind) in (
         end,
         subst (λ s. Shows columns s end) (sym (fold-append (put columns) u (clear_drawn old) redraws.drawn))
-            (drawing-shows columns base handed redraws.drawn (sent columns u (clear_drawn old)) from.0 redraws.draws colors is from.2 from.1),
+            (drawing-shows columns base handed redraws.drawn (sent columns u (clear_drawn old)) from.0 redraws.draws is from.2 from.1),
         λ v shown. shown-then columns base handed from.0 v from.2 shown,
       )))

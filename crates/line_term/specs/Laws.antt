@@ -60,23 +60,11 @@ pub record TextsAreShown : Type 0 where
       → IsAt base origin page → is_before base (measured columns text origin) row col ≡ false
       → (put_text columns page text).cells row col ≡ page.cells row col
 
--- a text that is shown for another, if there is one, is that text but for color sequences
-abbrev pub IsColoring : Option (List ℕ) → List ℕ → Type 0
-IsColoring own text = IfSome own (λ shown. uncolored shown ≡ chars text)
-
 module _ {P H : Type 0} (p : prompts.Ghosts P) (h : highlighters.Ghosts H) where
-  -- what a highlighter and a prompt with styles show of what is handed over, differs from it in color sequences alone
-  pub record OnlyColors (handed : Handed P H) : Type 0 where
-    pub style : IsColoring (p.own_style handed.prompt) (p.raw_text handed.prompt)
-    pub prompt : (styled : List ℕ) → IsUsualOrOwn (p.raw_text handed.prompt) (p.own_style handed.prompt) styled
-        → IfSome handed.highlighter (λ o. IsColoring (h.own_prompt o styled handed.layout.default_prompt) (p.raw_text handed.prompt))
-    pub line : IfSome handed.highlighter (λ o. IsColoring (h.own_line o handed.line.text handed.line.cursor) handed.line.text)
-    pub behind : IfSome handed.behind (λ text. IfSome handed.highlighter (λ o. IsColoring (h.own_hint o text) text))
-
   -- after a full redraw the prompt, the line and what stands behind it are shown, on rows that begin where those of the drawing before did
   abbrev pub RedrawsShow : Type 0
   RedrawsShow = (columns base : ℕ) (wanted : Bool) (old : Option Layout) (handed : Handed P H) (bytes : List ℕ) (t : Terminal) (page : Page)
-      → Redraws p h (measured columns) wanted old handed bytes → OnlyColors handed
+      → Redraws p h (measured columns) wanted old handed bytes
       → IsMeasured columns (p.raw_text handed.prompt) handed.line.text handed.behind handed.layout
       → Begins base old page → Shows columns t page
       → IsShown columns base (p.raw_text handed.prompt) handed.line.text handed.behind handed.layout.cursor (sent columns t bytes)

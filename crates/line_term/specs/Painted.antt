@@ -1,5 +1,5 @@
 -- What is written for the parts of a drawing.
-use Rattle.std.specs.Prelude.{◌≡◌, ℕ, ◌==◌, ◌&&◌, Bool, true, false, bytes_eq, List, [], ◌∷◌, ◌++◌, Option, Some, None, option_map, if◌then◌else◌}
+use Rattle.std.specs.Prelude.{◌≡◌, ℕ, ◌==◌, ◌&&◌, Bool, true, false, not, bytes_eq, chars, List, [], ◌∷◌, ◌++◌, Option, Some, None, option_map, if◌then◌else◌}
 use Rattle.line_buffer.specs.Line.{Line}
 use Rattle.line_buffer.specs.declared.layout.Layout.{Layout}
 use Rattle.line_buffer.specs.declared.layout.Position.{Position}
@@ -7,7 +7,7 @@ use Rattle.line_config.specs.Usual.{IsUsualOrOwn}
 use Rattle.line_config.specs.declared.prompt.Prompt as prompts
 use Rattle.line_keys.specs.Display.{Measure, corner}
 use Rattle.line_parts.specs.declared.highlight.Highlighter as highlighters
-use Rattle.line_term.specs.Drawn.{cleaned, colored}
+use Rattle.line_term.specs.Drawn.{cleaned, colored, uncolored}
 use Rattle.line_term.specs.Escape.{clear_from, hold, move_bytes, next_line, release}
 
 -- bytes were appended for which this holds
@@ -28,9 +28,13 @@ wrap_ending measure text origin end = if fills_row measure text origin end then 
 abbrev pub wrap : Measure → List ℕ → Position → List ℕ
 wrap measure text origin = wrap_ending measure text origin (measure text origin)
 
--- what is written for a text that is shown as another: where the two are the same, it has no colors
+-- a text is another one but for color sequences
+abbrev pub is_coloring : List ℕ → List ℕ → Bool
+is_coloring shown text = bytes_eq (uncolored shown) (chars text)
+
+-- what is written for a text that is shown as another: where that does more than color it, or nothing, the text without colors
 abbrev pub shown_as : List ℕ → List ℕ → List ℕ
-shown_as text shown = if bytes_eq shown text then cleaned text else colored shown
+shown_as text shown = if not (bytes_eq shown text) && is_coloring shown text then colored shown else cleaned text
 
 -- what is written for a text: without a highlighter the text, and else how that shows it
 abbrev pub Paints : Option (Option (List ℕ)) → List ℕ → List ℕ → Type 0

@@ -1,6 +1,7 @@
 //! How texts are drawn, so that no control character in them acts on a terminal, and their clusters are those that they are measured by.
 ghost use Rattle.std.specs.Prelude.{◌≡◌, ◌++◌, nat_lt, IfOk, OnOk, chars, encode_utf8, string_bytes, if◌then◌else◌};
 ghost use Rattle.line_config.specs.Error.{MemoryOnly};
+ghost use Rattle.line_term.specs.Painted.{is_coloring};
 ghost use Rattle.line_term.specs.Drawn.{begins_below, cleaned, color_length, colored, colored_from, drawn, drawn_char, is_control, is_parameter, passing_behind, shift_in, uncolored_from, visible};
 
 use crate::escape::push_if;
@@ -167,6 +168,26 @@ fn begins_below_colors(text: &str) -> bool
         }
     }
     false
+}
+
+/// Returns whether a text is another one but for color sequences.
+pub(crate) fn is_coloring(shown: &str, text: &str) -> bool
+    ensures { result ≡ is_coloring shown.now text.now }
+{
+    let mut left = text.chars();
+    let mut chars = shown.chars();
+    let mut passing = 0;
+    while let Some(c) = chars.next() {
+        if passing > 0 {
+            passing -= 1;
+            continue;
+        }
+        passing = passing_behind(c, chars.as_str());
+        if passing == 0 && left.next() != Some(c) {
+            return false;
+        }
+    }
+    left.next().is_none()
 }
 
 /// Returns how many characters make a color sequence with an ESC before them: `[`, parameters and `m`. 0 where none do.

@@ -4,7 +4,7 @@ ghost use Rattle.line_config.specs.Error.{FaultsOnly, MemoryOnly};
 ghost use Rattle.line_term.specs.Escape.{clear_from};
 ghost use Rattle.line_term.specs.Painted.{AppendsSome, Paints, PaintsBehind, PaintsPrompt, asked, clear_drawn, shown_as};
 
-use crate::drawn::{push_cleaned, push_colored};
+use crate::drawn::{is_coloring, push_cleaned, push_colored};
 use crate::escape::push_steps;
 use line_buffer::{Layout, LineBuffer, Position};
 use line_config::{Prompt, Result};
@@ -94,16 +94,16 @@ fn push_text<H: Highlighter>(
     }
 }
 
-/// Appends a text that is shown as another. Where the two are the same, it has no colors.
+/// Appends a text that is shown as another. Where that does more than color it, or nothing, the text is drawn without colors.
 fn push_shown(bytes: &mut String, text: &str, shown: &str) -> Result<()>
     ensures appends { OnOk result
         (string_bytes bytes.new ≡ string_bytes bytes.old ++ shown_as text.now shown.now) }
     ensures memory { MemoryOnly result }
 {
-    if shown == text {
-        return push_cleaned(bytes, text);
+    if shown != text && is_coloring(shown, text) {
+        return push_colored(bytes, shown);
     }
-    push_colored(bytes, shown)
+    push_cleaned(bytes, text)
 }
 
 /// Returns the highlighter that is asked: none where no colors are shown.
