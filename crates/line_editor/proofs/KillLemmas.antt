@@ -72,8 +72,8 @@ change_kept e old mid new most undrew same (drawn_in_full shows redraws) =
     drawn_in_full
     (record {
       in_full =
-          subst (λ (d : Draft). ShowsInFull (e.display new) (e.display new).prompt_end d.line (hint_shown d)) (sym same)
-          (subst (λ (d : Display). ShowsInFull d d.prompt_end (e.draft mid).line (hint_shown (e.draft mid))) (sym undrew.display) shows.in_full);
+          subst (λ (d : Draft). ShowsInFull (e.display new) (e.display new).prompt (e.display new).prompt_end d.line (hint_shown d)) (sym same)
+          (subst (λ (d : Display). ShowsInFull d d.prompt d.prompt_end (e.draft mid).line (hint_shown (e.draft mid))) (sym undrew.display) shows.in_full);
       own_prompt = ap (λ (d : Display). d.layout.default_prompt) undrew.display ∙ shows.own_prompt;
     })
     (rises_stays 1 most (e.redraws old) (e.redraws mid) (e.redraws new) redraws undrew.redraws)

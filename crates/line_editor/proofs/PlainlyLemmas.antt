@@ -181,8 +181,8 @@ module _ {X T : Type 0} (e : Ghosts X) (r : Result T ReadlineError) (old mid new
   -- a character that the line takes plainly
   pub typed_done : ((n == 1) && takes_char (e.display old) (e.draft old) c) ≡ true
       → ShowsEnd e r mid new (columns_on 1 (e.display mid).layout.cursor)
-      → ((line : Line) → is_at_end line ≡ true → list_all is_plain line.text ≡ true → IsRight (e.display mid) line → (e.draft mid).line ≡ inserted_at_cursor line (c ∷ [])
-      → OnOk r (HasRightLayout e new))
+      → ((line : Line) → is_at_end line ≡ true → list_all is_plain line.text ≡ true → (e.display mid).layout.has_info ≡ false → IsRight (e.display mid) line
+      → (e.draft mid).line ≡ inserted_at_cursor line (c ∷ []) → OnOk r (HasRightLayout e new))
       → Does e r old new (typed_in (e.environment old) n c (e.draft old)) (typing_drawn (e.display old) (e.environment old) (e.draft old) n c) 1
   typed_done plainly shows right =
       let parts = and_parts (n == 1) (takes_char (e.display old) (e.draft old) c) plainly in
@@ -194,7 +194,7 @@ module _ {X T : Type 0} (e : Ghosts X) (r : Result T ReadlineError) (old mid new
       (end_done e old mid new undrawn typed made refl begins (columns_on 1 (e.display old).layout.cursor) t.info
       (λ bare. inl (record { char = c; plain = ap₂ ◌&&◌ parts.1 bare; line = there }))
       r (subst (λ (p : Position). ShowsEnd e r mid new p) place shows)
-      (λ was. right (e.draft old).line t.at_end t.plain (subst (λ (d : Display). IsRight d (e.draft old).line) (sym undrawn.drew.display) was) (ap (λ (d : Draft). d.line) made ∙ there)))
+      (λ was. right (e.draft old).line t.at_end t.plain (ap (λ (d : Display). d.layout.has_info) undrawn.drew.display ∙ t.info) (subst (λ (d : Display). IsRight d (e.draft old).line) (sym undrawn.drew.display) was) (ap (λ (d : Draft). d.line) made ∙ there)))
 
   -- one that it does not
   pub typed_full : ((n == 1) && takes_char (e.display old) (e.draft old) c) ≡ false → Redrawn e r mid new

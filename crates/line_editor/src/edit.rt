@@ -353,7 +353,8 @@ impl<'out, 'prompt, W: Renderer, H: Helper, P: Prompt, S: History> State<
         ensures shows { let e = ⟦<Self as EditorState>⟧ in ShowsEnd e result self.old self.new
             (columns_on 1 (e.display self.old).layout.cursor) }
         ensures right { let e = ⟦<Self as EditorState>⟧ in (line : Line) → is_at_end line ≡ true
-            → list_all is_plain line.text ≡ true → IsRight (e.display self.old) line
+            → list_all is_plain line.text ≡ true → (e.display self.old).layout.has_info ≡ false
+            → IsRight (e.display self.old) line
             → (e.draft self.old).line ≡ inserted_at_cursor line (c ∷ [])
             → OnOk result (HasRightLayout e self.new) }
     {

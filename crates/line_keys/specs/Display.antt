@@ -1,5 +1,5 @@
 -- What is drawn of a line, and what a full redraw of it would give.
-use Rattle.std.specs.Prelude.{◌≡◌, ◌⊎◌, ℕ, ◌+◌, ◌-◌, Bool, false, if◌then◌else◌, nat_lt, min, List, take, Option, Some, None, is_some, OnOk, OnErr, Result}
+use Rattle.std.specs.Prelude.{◌≡◌, ◌⊎◌, ℕ, ◌+◌, ◌-◌, Bool, true, false, if◌then◌else◌, nat_lt, min, List, take, Option, Some, None, is_some, OnOk, OnErr, Result}
 use Rattle.line_buffer.specs.Line.{Line}
 use Rattle.line_buffer.specs.declared.layout.Position.{Position}
 use Rattle.line_buffer.specs.declared.layout.Layout.{Layout}
@@ -21,11 +21,22 @@ pub record Surface : Type 0 where
   pub colors : Bool
   pub mode : GraphemeClusterMode
 
--- what a screen shows: the position of the drawn cursor, and the text, which begins at the origin
+-- what a screen shows: the position of the drawn cursor, the prompt, the text, which begins at the origin, and what stands behind it, if
+-- anything does; and whether this is known to be what it shows
 pub record Screen : Type 0 where
   pub position : Position
+  pub prompt : List ℕ
   pub text : List ℕ
   pub origin : Position
+  pub behind : Option (List ℕ)
+  pub known : Bool
+
+-- what a screen shows stays, but for the position of its cursor and for what is known
+pub record KeepsShown (old new : Screen) : Type 0 where
+  pub prompt : new.prompt ≡ old.prompt
+  pub text : new.text ≡ old.text
+  pub origin : new.origin ≡ old.origin
+  pub behind : new.behind ≡ old.behind
 
 -- what a screen was asked to do beside drawing the line: whether it holds back what is drawn, how many texts it wrote that are not the
 -- line, and how many beeps it gave
@@ -105,36 +116,43 @@ pub record IsFullRedraw (surface : Surface) (prompt_end : Position) (line : Line
   pub has_info : layout.has_info ≡ is_some trailing
   pub mode : layout.grapheme_cluster_mode ≡ surface.mode
 
--- a full redraw was made: the kept layout is its layout, and the screen shows the line from the prompt's end, with its cursor at the
--- kept one
-pub record ShowsInFull (display : Display) (prompt_end : Position) (line : Line) (trailing : Option (List ℕ)) : Type 0 where
+-- a full redraw was made behind this prompt, which ends there: the kept layout is its layout, and the screen is known to show the prompt,
+-- the line from the prompt's end, with its cursor at the kept one, and the trailing text behind it
+pub record ShowsInFull (display : Display) (prompt : List ℕ) (prompt_end : Position) (line : Line) (trailing : Option (List ℕ)) : Type 0 where
   pub layout : IsFullRedraw display.surface prompt_end line trailing display.layout
   pub position : display.screen.position ≡ display.layout.cursor
+  pub prompt_text : display.screen.prompt ≡ prompt
   pub shows : display.screen.text ≡ line.text
   pub origin : display.screen.origin ≡ prompt_end
+  pub behind : display.screen.behind ≡ trailing
+  pub known : display.screen.known ≡ true
 
--- the text is drawn: the screen shows it from the prompt's end, its cursor stands at the kept one, and without a trailing text the
--- kept end is a full redraw's
+-- the text is drawn: the screen is known to show it behind the own prompt, its cursor stands at the kept one, the layout has an info
+-- where something stands behind the text, and else the kept end is a full redraw's
 pub record ShowsText (display : Display) (text : List ℕ) : Type 0 where
   pub prompt : display.layout.prompt_size ≡ display.prompt_end
   pub ends : display.layout.has_info ≡ false → display.layout.end ≡ end_position display.surface.measure display.prompt_end text
   pub mode : display.layout.grapheme_cluster_mode ≡ display.surface.mode
   pub position : display.screen.position ≡ display.layout.cursor
+  pub prompt_text : display.screen.prompt ≡ display.prompt
   pub shows : display.screen.text ≡ text
   pub origin : display.screen.origin ≡ display.prompt_end
+  pub behind : display.layout.has_info ≡ is_some display.screen.behind
+  pub known : display.screen.known ≡ true
 
 -- the kept layout is right: the text is drawn, and the kept cursor is a full redraw's
 pub record IsRight (display : Display) (line : Line) : Type 0 where
   pub drawn : ShowsText display line.text
   pub cursor : HasCursorAt display line
 
--- the cursor goes to a position: the kept one does, and the drawn one with it, and all else stays; after an error the kept one too
+-- the cursor goes to a position: the kept one does, and the drawn one with it where it stood there, and all else stays; after an error the
+-- kept one too
 pub record GoesToPosition {T : Type 0} (result : Result T ReadlineError) (old new : Display) (place : Position) : Type 0 where
   pub layout : OnOk result (new.layout ≡ record old.layout { cursor = place })
   pub kept : OnErr result (new.layout ≡ old.layout)
   pub position : old.screen.position ≡ old.layout.cursor → OnOk result (new.screen.position ≡ new.layout.cursor)
-  pub shows : new.screen.text ≡ old.screen.text
-  pub origin : new.screen.origin ≡ old.screen.origin
+  pub known : old.screen.position ≡ old.layout.cursor → OnOk result (new.screen.known ≡ old.screen.known)
+  pub shows : KeepsShown old.screen new.screen
   pub lit : new.lit ≡ old.lit
 
 -- the cursor goes to the end of what is shown

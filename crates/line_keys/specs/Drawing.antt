@@ -3,12 +3,12 @@ use Rattle.std.specs.Prelude.{◌≡◌, ◌⊎◌, ℕ, Bool, true, false, if�
 use Rattle.line_buffer.specs.Line.{Line}
 use Rattle.line_config.specs.declared.error.ReadlineError.{ReadlineError}
 use Rattle.line_buffer.specs.declared.layout.Position.{Position}
-use Rattle.line_keys.specs.Display.{HasCursorAt, IsRight, KeepsPrompt, SamePrompt, ShowsInFull, ShowsText, corner, cursor_position, ending_at, lit_after}
+use Rattle.line_keys.specs.Display.{HasCursorAt, IsRight, KeepsPrompt, KeepsShown, SamePrompt, ShowsInFull, ShowsText, corner, cursor_position, ending_at, lit_after}
 use Rattle.line_keys.specs.Draft.{Draft, KeepsText, hint_shown, hinted, start_text}
 use Rattle.line_keys.specs.Fault.{FaultLeaves}
 use Rattle.line_keys.specs.Frame.{FailsByParty, FailsByRenderer, Frame}
 use Rattle.line_keys.specs.Plainly.{KilledPlainly, TypedPlainly, has_highlighting, leaves_bare}
-use Rattle.line_keys.specs.ShownLine.{HasCursorDrawn, HasRightLayout, IsInPlace, KeepsDrawn, Redraws, Shows}
+use Rattle.line_keys.specs.ShownLine.{HasCursorDrawn, HasRightLayout, IsInPlace, KeepsDrawn, Redraws, Shows, StaysKnown}
 use Rattle.line_keys.specs.declared.editor_state.EditorState.{Ghosts}
 use Rattle.line_parts.specs.Asks.{Asks, for_hint, nobody}
 use Rattle.line_parts.specs.declared.highlight.CmdKind.{CmdKind}
@@ -48,7 +48,7 @@ pub record DrewLine {X : Type 0} (e : Ghosts X) (times : ℕ) (trailing : Option
 
 -- the line was drawn in full with its hint behind another prompt, so often, and at last `highlight_char` was asked
 pub record DrewBehind {X : Type 0} (e : Ghosts X) (times : ℕ) (prompt : List ℕ) (old new : X) : Type 0 where
-  pub shows : ShowsInFull (e.display new) ((e.display new).surface.measure prompt corner) (e.draft new).line (hint_shown (e.draft new))
+  pub shows : ShowsInFull (e.display new) prompt ((e.display new).surface.measure prompt corner) (e.draft new).line (hint_shown (e.draft new))
   pub other : (e.display new).layout.default_prompt ≡ false
   pub lit : (e.display new).lit ≡ lit_after (e.environment old) (e.display old) (e.draft new).line Other
   pub redraws : Redraws e times times old new
@@ -63,8 +63,8 @@ pub record DrewPart {X : Type 0} (e : Ghosts X) (position : Position) (old new :
 pub record DrewCursorAlone {X : Type 0} (e : Ghosts X) (kind : CmdKind) (old new : X) : Type 0 where
   pub layout : (e.display new).layout ≡ record (e.display old).layout { cursor = (e.display new).layout.cursor }
   pub position : IsInPlace e old → IsInPlace e new
-  pub text : (e.display new).screen.text ≡ (e.display old).screen.text
-  pub origin : (e.display new).screen.origin ≡ (e.display old).screen.origin
+  pub known : IsInPlace e old → StaysKnown e old new
+  pub shows : KeepsShown (e.display old).screen (e.display new).screen
   pub lit : (e.display new).lit ≡ lit_after (e.environment old) (e.display old) (e.draft new).line kind
   pub redraws : e.redraws new ≡ e.redraws old
 
@@ -88,10 +88,12 @@ pub record DrewCursorOver {X : Type 0} (e : Ghosts X) (line : Line) (old new : X
   pub first : DrewCursor e MoveCursor old way
   pub second : DrewCursor e MoveCursor way new
 
--- the kept cursor went to the kept end; all else that is kept stays, and so does what is shown
+-- the kept cursor went to the kept end; all else that is kept stays, and so does what is shown, and what is known where the renderer stood
+-- at the kept cursor
 pub record DrewCursorAtEnd {X : Type 0} (e : Ghosts X) (old new : X) : Type 0 where
   pub layout : (e.display new).layout ≡ record (e.display old).layout { cursor = (e.display old).layout.end }
-  pub text : (e.display new).screen.text ≡ (e.display old).screen.text
+  pub known : IsInPlace e old → StaysKnown e old new
+  pub shows : KeepsShown (e.display old).screen (e.display new).screen
   pub lit : (e.display new).lit ≡ (e.display old).lit
   pub redraws : e.redraws new ≡ e.redraws old
 

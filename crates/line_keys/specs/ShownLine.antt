@@ -28,9 +28,13 @@ IsAtEnd e editor = (e.display editor).layout.cursor ≡ (e.display editor).layou
 abbrev pub IsInPlace : {X : Type 0} → Ghosts X → X → Type 0
 IsInPlace e editor = (e.display editor).screen.position ≡ (e.display editor).layout.cursor
 
+-- whether what is shown is known stays
+abbrev pub StaysKnown : {X : Type 0} → Ghosts X → X → X → Type 0
+StaysKnown e old new = (e.display new).screen.known ≡ (e.display old).screen.known
+
 -- the line was drawn in full behind the editor's own prompt, with a trailing text if there is one
 pub record Shows {X : Type 0} (e : Ghosts X) (editor : X) (trailing : Option (List ℕ)) : Type 0 where
-  pub in_full : ShowsInFull (e.display editor) (e.display editor).prompt_end (e.draft editor).line trailing
+  pub in_full : ShowsInFull (e.display editor) (e.display editor).prompt (e.display editor).prompt_end (e.draft editor).line trailing
   pub own_prompt : (e.display editor).layout.default_prompt ≡ true
 
 -- what stands behind a line that is drawn by a kept layout: the hint where the layout has an info, and else nothing
@@ -67,12 +71,15 @@ pub record ShowsNoHint {X : Type 0} (e : Ghosts X) (editor : X) : Type 0 where
   pub shows : Shows e editor trailing
   pub trails : (trailing ≡ message_of (verdict_on (e.environment editor) (e.draft editor).line.text)) ⊎ (trailing ≡ None)
 
--- what is shown ends with the line and a text behind it that may trail it
+-- what is shown is known, the line behind the own prompt and a text behind it that may trail it, and ends with them
 pub record HasShownEnd {X : Type 0} (e : Ghosts X) (editor : X) : Type 0 where
   pub trailing : Option (List ℕ)
   pub ends : (e.display editor).layout.end ≡ shown_end (e.display editor).surface.measure (e.display editor).prompt_end (e.draft editor).line.text trailing
+  pub prompt_text : (e.display editor).screen.prompt ≡ (e.display editor).prompt
   pub text : (e.display editor).screen.text ≡ (e.draft editor).line.text
   pub origin : (e.display editor).screen.origin ≡ (e.display editor).prompt_end
+  pub behind : (e.display editor).screen.behind ≡ trailing
+  pub known : (e.display editor).screen.known ≡ true
   pub trails : MayTrail (e.environment editor) (e.draft editor) trailing
 
 -- what is drawn stays good: a right layout, and a line with what may trail it

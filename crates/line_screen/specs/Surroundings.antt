@@ -1,12 +1,19 @@
 -- What stays of a screen in memory, and what is cleared.
-use Rattle.std.specs.Prelude.{◌≡◌, [], None}
+use Rattle.std.specs.Prelude.{◌≡◌, true, [], None}
 use Rattle.line_keys.specs.Display.{Screen, corner}
 use Rattle.line_state.specs.declared.screen_state.ScreenState as screens
 use Rattle.line_screen.specs.declared.surroundings.Surroundings as surroundings
 
--- a screen that shows nothing, with the cursor at the first place
+-- a screen that is known to show nothing, with the cursor at the first place
 abbrev pub blank_screen : Screen
-blank_screen = record { position = corner; text = []; origin = corner }
+blank_screen = record {
+  position = corner;
+  prompt = [];
+  text = [];
+  origin = corner;
+  behind = None;
+  known = true;
+}
 
 module _ {X : Type 0} (e : screens.Ghosts X) (s : surroundings.Ghosts X) where
   -- the measure stays, and no full redraw and no failure is counted

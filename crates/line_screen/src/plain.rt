@@ -95,7 +95,7 @@ impl<R: RawReader> Plain<R> {
 
     /// Returns the prompt of the last full redraw, without styles. After the screen was cleared it is empty.
     pub fn prompt(&self) -> &str
-        ensures { result.now ≡ ⟦<Self as Surroundings>⟧.prompt self.now }
+        ensures { result.now ≡ (⟦<Self as ScreenState>⟧.screen self.now).prompt }
     {
         self.prompt.as_str()
     }
@@ -103,7 +103,8 @@ impl<R: RawReader> Plain<R> {
     /// Returns the text behind the line of the last full redraw, if there was one: a hint, or a verdict's message. After
     /// the screen was cleared there is none.
     pub fn hint(&self) -> Option<&str>
-        ensures { option_map (λ s. s.now) result ≡ ⟦<Self as Surroundings>⟧.hint self.now }
+        ensures { option_map (λ s. s.now) result
+            ≡ (⟦<Self as ScreenState>⟧.screen self.now).behind }
     {
         match &self.hint {
             Some(hint) => Some(hint.as_str()),
@@ -230,7 +231,7 @@ fn owned(alloc: Global, hint: Option<&str>) -> Result<Option<String>>
 }
 
 impl<R: RawReader> ScreenState for Plain<R> {
-    ghost use Rattle.std.specs.Prelude.{false};
+    ghost use Rattle.std.specs.Prelude.{false, true, option_map, string_bytes};
     ghost use Rattle.line_buffer.specs.declared.layout.GraphemeClusterMode.TheVariants.{Unicode};
     ghost use Rattle.line_keys.specs.Display.{uncounted};
     ghost use Rattle.line_screen.specs.Measure.{measured};
@@ -243,8 +244,14 @@ impl<R: RawReader> ScreenState for Plain<R> {
       mode = Unicode;
     } };
 
-    ghost screen = { λ p.
-        record { position = p.place; text = string_bytes p.text; origin = p.origin } };
+    ghost screen = { λ p. record {
+      position = p.place;
+      prompt = string_bytes p.prompt;
+      text = string_bytes p.text;
+      origin = p.origin;
+      behind = option_map string_bytes p.hint;
+      known = true;
+    } };
 
     ghost beside = { λ _. uncounted };
 
@@ -291,7 +298,8 @@ impl<R: RawReader> Renderer for Plain<R> {
             (P.raw_text prompt.now) line.now (option_map (λ s. s.now) hint.entry)
             (option_map (λ l. l.now) old_layout.entry) new_layout.now (is_some highlighter.entry)
             → OnOk result (⟦<Self as ScreenState>⟧.screen self.new
-            ≡ shown_by new_layout.now line.now) }
+            ≡ shown_by new_layout.now (P.raw_text prompt.now) line.now
+            (option_map (λ s. s.now) hint.entry)) }
         ensures redraws { OnOk result (⟦<Self as ScreenState>⟧.redraws self.new
             ≡ min max_count (⟦<Self as ScreenState>⟧.redraws self.old + 1)) }
         ensures tries { Tries ⟦<Self as ScreenState>⟧ result self.old self.new }

@@ -32,7 +32,7 @@ answers_of hint_at verdict_at lights completer helper lines = record {
 pub record IsShownBy (environment : Environment) (display : Display) (draft : Draft) : Type 0 where
   pub right : IsRight display draft.line
   pub trailing : Option (List ℕ)
-  pub in_full : ShowsInFull display display.prompt_end draft.line trailing
+  pub in_full : ShowsInFull display display.prompt display.prompt_end draft.line trailing
   pub own_prompt : display.layout.default_prompt ≡ true
   pub trails : MayTrail environment draft trailing
 

@@ -168,4 +168,4 @@ search_prompt aim = prompt_front aim.failed ++ aim.term ++ codes "': "
 
 -- the line is shown in full with its hint behind another prompt, with the cursor where the line's is
 abbrev pub IsShownBehind : List ℕ → Display → Draft → Type 0
-IsShownBehind prompt display draft = ShowsInFull display (display.surface.measure prompt corner) draft.line (hint_shown draft)
+IsShownBehind prompt display draft = ShowsInFull display prompt (display.surface.measure prompt corner) draft.line (hint_shown draft)

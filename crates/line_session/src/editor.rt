@@ -79,7 +79,7 @@ impl<O: Write + Drop, H: Helper + Drop, S: History + Drop> Drop for Editor<O, H,
 }
 
 impl<O: Write + Drop, H: Helper + Drop, S: History + Drop> Model for Editor<O, H, S> {
-    ghost use Rattle.std.specs.Prelude.{option_map, IfSome, string_bytes};
+    ghost use Rattle.std.specs.Prelude.{true, option_map, IfSome, string_bytes};
     ghost use Rattle.line_buffer.specs.declared.layout.GraphemeClusterMode.TheVariants.{Unicode};
     ghost use Rattle.line_screen.specs.Measure.{measured};
     ghost use Rattle.line_session.specs.Kept.{Fits, answers_of};
@@ -117,8 +117,11 @@ impl<O: Write + Drop, H: Helper + Drop, S: History + Drop> Model for Editor<O, H
         })
         (record {
           position = e.screen.shown.place;
+          prompt = string_bytes e.screen.shown.prompt;
           text = string_bytes e.screen.shown.text;
           origin = e.screen.shown.origin;
+          behind = option_map string_bytes e.screen.shown.hint;
+          known = true;
         })
         (string_bytes e.prompt.0)
         (answers_of H.hint_at H.verdict_at H.lights H.Completer e.helper (S.lines e.history))) };

@@ -1,5 +1,5 @@
 -- Facts on a character that is written at the end of what is shown, and on characters that are cleared there.
-use Rattle.std.proofs.Common.{◌≡◌, ℕ, ◌+◌, ◌-◌, ◌<◌, ◌≤◌, Bool, true, false, List, [], ◌∷◌, ◌++◌, length, take, drop, refl, sym, ap, ap₂, ◌∙◌, subst, arith}
+use Rattle.std.proofs.Common.{◌≡◌, ℕ, ◌+◌, ◌-◌, ◌<◌, ◌≤◌, Bool, true, false, List, [], ◌∷◌, ◌++◌, length, take, drop, Option, Some, None, is_some, refl, sym, ap, ap₂, ◌∙◌, subst, arith}
 use Rattle.std.specs.List.{list_all, slice_range}
 use Rattle.std.proofs.lemmas.Bool.Decides.{nat_tests}
 use Rattle.std.proofs.lemmas.List.{append-nil, drop-append-le, drop_all, length-append, length-drop, length-take-le, take-append-drop}
@@ -11,12 +11,17 @@ use Rattle.line_buffer.specs.declared.layout.Position.{Position}
 use Rattle.line_keys.specs.Display.{Display, IsRight, Measure, Screen, ShowsText, Surface, columns_back, columns_on, ending_at, next_column}
 use Rattle.line_state.specs.ScreenState.{EndsBehind, HasRoom, with_shown}
 use Rattle.line_state.specs.Shown.{IsShownPlain, KnowsEnd, StandsAtEnd}
-use Rattle.line_state.proofs.PlainTextLemmas.{all_before, all_both, all_one, all_parts, fewer_at_end, measured_back, measured_on, one_on, plain_char, taken_between}
+use Rattle.line_state.proofs.PlainTextLemmas.{all_before, all_both, all_one, all_parts, fewer_at_end, measured_back, measured_on, one_on, plain_char, plain_text, taken_between}
 
 -- behind printable ASCII and newlines, a printable character takes one column
 abbrev pub TakesOneColumn : Surface → Type 0
 TakesOneColumn surface = (s : List ℕ) (c : ℕ) (o : Position) → o.col < surface.columns → list_all is_plain s ≡ true → is_printable c ≡ true
     → surface.measure (s ++ c ∷ []) o ≡ next_column surface.columns (surface.measure s o)
+
+-- what is none is nothing
+nothing_behind : (behind : Option (List ℕ)) → is_some behind ≡ false → behind ≡ None
+nothing_behind None none = refl
+nothing_behind (Some text) none = absurd (cc)
 
 -- a display with these parts
 abbrev display_of : Surface → List ℕ → Position → Layout → Screen → Bool → Display
@@ -43,7 +48,12 @@ module _ (surface : Surface) (screen screen' : Screen) (layout : Layout) (printa
   place = stands.knows.placed ∙ ends ∙ ap (surface.measure screen.text) (sym shown.1)
 
   is_written : screen' ≡ with_shown screen c
-  is_written = written (place, omega (arith, ap (λ (p : Position). p.col) stands.knows.placed, free))
+  is_written = written (record {
+    plain = shown.0;
+    bare = nothing_behind screen.behind (sym shown.6 ∙ stands.knows.bare);
+    at_end = place;
+    free = omega (arith, ap (λ (p : Position). p.col) stands.knows.placed, free);
+  })
 
   pub written_place : screen'.position ≡ columns_on 1 layout.cursor
   written_place = ap (λ (s : Screen). s.position) is_written ∙ ap (columns_on 1) stands.knows.placed
@@ -68,6 +78,7 @@ module _ (surface : Surface) (screen screen' : Screen) (layout : Layout) (printa
     (λ bare. next),
     omega (arith, more, longer, shown.4),
     fewer_at_end is_printable printable' (printable + 1) (screen.text ++ c ∷ []) more (omega (arith, longer, shown.4)) at_end,
+    shown.6,
   )
 
 abbrev line_of : List ℕ → ℕ → Line
@@ -85,11 +96,11 @@ inserted_at_end line t end =
 
 -- a character written at the end of a plain line for which the layout is right leaves it right
 pub written_right : (line : Line) (display display' : Display) (c : ℕ) → TakesOneColumn display.surface → is_at_end line ≡ true → list_all is_plain line.text ≡ true
-    → is_printable c ≡ true → display.layout.cursor.col + 1 < display.surface.columns → display.prompt_end.col < display.surface.columns
+    → is_printable c ≡ true → display.layout.cursor.col + 1 < display.surface.columns → display.prompt_end.col < display.surface.columns → display.layout.has_info ≡ false
     → (HasRoom display.surface display.screen → display'.screen ≡ with_shown display.screen c)
-    → display'.layout ≡ ending_at (columns_on 1 display.layout.cursor) display.layout → display'.surface ≡ display.surface → display'.prompt_end ≡ display.prompt_end
+    → display'.layout ≡ ending_at (columns_on 1 display.layout.cursor) display.layout → display'.surface ≡ display.surface → display'.prompt ≡ display.prompt → display'.prompt_end ≡ display.prompt_end
     → IsRight display line → IsRight display' (inserted_at_cursor line (c ∷ []))
-written_right line display display' c one end plain print free below written layout surface prompt_end right =
+written_right line display display' c one end plain print free below bare written layout surface prompt prompt_end right =
     subst (λ (l : Line). IsRight display' l) (sym (inserted_at_end line (c ∷ []) end))
     (subst (λ (d : Display). IsRight d left) (sym display_is) (record {
       drawn = record {
@@ -97,8 +108,11 @@ written_right line display display' c one end plain print free below written lay
         ends = λ bare. next;
         mode = right.drawn.mode;
         position = ap (columns_on 1) right.drawn.position;
+        prompt_text = right.drawn.prompt_text ∙ sym prompt;
         shows = ap (λ (s : List ℕ). s ++ c ∷ []) right.drawn.shows;
         origin = right.drawn.origin;
+        behind = right.drawn.behind;
+        known = right.drawn.known;
       };
       cursor = next ∙ ap (λ (s : List ℕ). measure s display.prompt_end) (sym (take-length (line.text ++ c ∷ [])));
     }))
@@ -119,7 +133,12 @@ written_right line display display' c one end plain print free below written lay
     place = right.drawn.position ∙ ends ∙ ap₂ measure (sym right.drawn.shows) (sym right.drawn.origin)
 
     is_written : display'.screen ≡ with_shown display.screen c
-    is_written = written (place, omega (arith, ap (λ (p : Position). p.col) right.drawn.position, free))
+    is_written = written (record {
+      plain = ap (list_all is_plain) right.drawn.shows ∙ plain;
+      bare = nothing_behind display.screen.behind (sym right.drawn.behind ∙ bare);
+      at_end = place;
+      free = omega (arith, ap (λ (p : Position). p.col) right.drawn.position, free);
+    })
 
     next : columns_on 1 display.layout.cursor ≡ measure (line.text ++ c ∷ []) display.prompt_end
     next = sym (one line.text c display.prompt_end below plain print ∙ ap (next_column display.surface.columns) (sym ends) ∙ one_on display.surface.columns display.layout.cursor free)
@@ -168,10 +187,12 @@ module _ (surface : Surface) (screen screen' : Screen) (layout : Layout) (printa
   there = ap₂ surface.measure (sym both) known.1 ∙ sym end_is
 
   behind : EndsBehind surface screen (length gone)
-  behind = (
-    ap (λ (p : Position). p.row) there ∙ ap (λ (p : Position). p.row) (sym placed) ∙ ap (λ (p : Position). p.row) (sym knows.placed),
-    omega (arith, gone_length, fits, ap (λ (p : Position). p.col) there, ap (λ (p : Position). p.col) placed, ap (λ (p : Position). p.col) knows.placed),
-  )
+  behind = record {
+    plain = known.0;
+    bare = nothing_behind screen.behind (sym known.6 ∙ knows.bare);
+    row = ap (λ (p : Position). p.row) there ∙ ap (λ (p : Position). p.row) (sym placed) ∙ ap (λ (p : Position). p.row) (sym knows.placed);
+    column = omega (arith, gone_length, fits, ap (λ (p : Position). p.col) there, ap (λ (p : Position). p.col) placed, ap (λ (p : Position). p.col) knows.placed);
+  }
 
   is_cleared : screen' ≡ record screen { text = kept }
   is_cleared = cleared kept gone (sym both) gone_printable behind
@@ -190,6 +211,7 @@ module _ (surface : Surface) (screen screen' : Screen) (layout : Layout) (printa
     (λ bare. sym back),
     omega (arith, kept_length, known.4, knows.enough),
     left_printable,
+    known.6,
   )
 
 -- printable characters that are cleared at the end of a text that is shown leave the layout right for what is left of it
@@ -197,18 +219,21 @@ pub cleared_right : (display display' : Display) (front behind : List ℕ) (coun
     → count ≤ display.layout.end.col → display.layout.cursor ≡ columns_back count display.layout.end
     → ((front behind : List ℕ) → display.screen.text ≡ front ++ behind → list_all is_printable behind ≡ true → EndsBehind display.surface display.screen (length behind)
     → display'.screen ≡ record display.screen { text = front })
-    → display'.layout ≡ record display.layout { end = display.layout.cursor } → display'.surface ≡ display.surface → display'.prompt_end ≡ display.prompt_end
+    → display'.layout ≡ record display.layout { end = display.layout.cursor } → display'.surface ≡ display.surface → display'.prompt ≡ display.prompt → display'.prompt_end ≡ display.prompt_end
     → list_all is_plain front ≡ true → list_all is_printable behind ≡ true → length behind ≡ count → display.layout.has_info ≡ false
     → ShowsText display (front ++ behind) → IsRight display' (record { text = front; cursor = length front })
-cleared_right display display' front behind count one below fits placed cleared layout surface prompt_end plain print is bare shows =
+cleared_right display display' front behind count one below fits placed cleared layout surface prompt prompt_end plain print is bare shows =
     subst (λ (d : Display). IsRight d (record { text = front; cursor = length front })) (sym display_is) (record {
       drawn = record {
         prompt = shows.prompt;
         ends = λ none. sym back;
         mode = shows.mode;
         position = shows.position;
+        prompt_text = shows.prompt_text ∙ sym prompt;
         shows = refl;
         origin = shows.origin;
+        behind = shows.behind;
+        known = shows.known;
       };
       cursor = sym back ∙ ap (λ (s : List ℕ). display.surface.measure s display.prompt_end) (sym (take-length front));
     })
@@ -226,10 +251,12 @@ cleared_right display display' front behind count one below fits placed cleared 
     there = ap₂ display.surface.measure shows.shows shows.origin ∙ sym ends
 
     ends_behind : EndsBehind display.surface display.screen (length behind)
-    ends_behind = (
-      ap (λ (p : Position). p.row) there ∙ ap (λ (p : Position). p.row) (sym placed) ∙ ap (λ (p : Position). p.row) (sym shows.position),
-      omega (arith, is, fits, ap (λ (p : Position). p.col) there, ap (λ (p : Position). p.col) placed, ap (λ (p : Position). p.col) shows.position),
-    )
+    ends_behind = record {
+      plain = ap (list_all is_plain) shows.shows ∙ all_both is_plain front behind plain (plain_text behind print);
+      bare = nothing_behind display.screen.behind (sym shows.behind ∙ bare);
+      row = ap (λ (p : Position). p.row) there ∙ ap (λ (p : Position). p.row) (sym placed) ∙ ap (λ (p : Position). p.row) (sym shows.position);
+      column = omega (arith, is, fits, ap (λ (p : Position). p.col) there, ap (λ (p : Position). p.col) placed, ap (λ (p : Position). p.col) shows.position);
+    }
 
     is_cleared : display'.screen ≡ record display.screen { text = front }
     is_cleared = cleared front behind shows.shows print ends_behind

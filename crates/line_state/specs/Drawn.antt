@@ -30,8 +30,8 @@ FailsBySurface d result old new = FailsOnlyIf result (Rose (d.failures old) (d.f
 
 -- a full redraw of a line, behind a prompt that ends there and is the own one or another, with a trailing text or none; after an error
 -- the kept layout stays
-pub record DrawsInFull {X T : Type 0} (d : Ghosts X) (result : Result T ReadlineError) (old new : X) (prompt_end : Position) (own : Bool) (line : Line) (trailing : Option (List ℕ)) : Type 0 where
-  pub shown : OnOk result (ShowsInFull (d.display new) prompt_end line trailing)
+pub record DrawsInFull {X T : Type 0} (d : Ghosts X) (result : Result T ReadlineError) (old new : X) (text : List ℕ) (prompt_end : Position) (own : Bool) (line : Line) (trailing : Option (List ℕ)) : Type 0 where
+  pub shown : OnOk result (ShowsInFull (d.display new) text prompt_end line trailing)
   pub prompt : OnOk result ((d.display new).layout.default_prompt ≡ own)
   pub lit : (d.display new).lit ≡ (d.display old).lit
   pub kept : OnErr result ((d.display new).layout ≡ (d.display old).layout)
@@ -46,7 +46,7 @@ pub record DrawsResized {X T : Type 0} (d : Ghosts X) (result : Result T Readlin
   pub surface : ResizesTo columns rows (d.display old).surface (d.display new).surface
   pub prompt : (d.display new).prompt ≡ (d.display old).prompt
   pub prompt_end : (d.display new).prompt_end ≡ (d.display new).surface.measure (d.display new).prompt corner
-  pub shown : OnOk result (ShowsInFull (d.display new) (d.display new).prompt_end line trailing)
+  pub shown : OnOk result (ShowsInFull (d.display new) (d.display new).prompt (d.display new).prompt_end line trailing)
   pub own_prompt : OnOk result ((d.display new).layout.default_prompt ≡ true)
   pub lit : (d.display new).lit ≡ (d.display old).lit
   pub kept : OnErr result ((d.display new).layout ≡ (d.display old).layout)
@@ -61,7 +61,7 @@ pub record RedrawsKept {X T : Type 0} (d : Ghosts X) (result : Result T Readline
   pub layout : (d.display new).layout ≡ (d.display old).layout
   pub lit : (d.display new).lit ≡ (d.display old).lit
   pub shown : IsFullRedraw (d.display old).surface (d.display old).prompt_end line trailing (d.display old).layout
-      → OnOk result (ShowsInFull (d.display new) (d.display old).prompt_end line trailing)
+      → OnOk result (ShowsInFull (d.display new) (d.display old).prompt (d.display old).prompt_end line trailing)
   pub redraws : OnOk result (IsOneMore (d.redraws old) (d.redraws new))
   pub beside : d.beside new ≡ d.beside old
   pub keeps : KeepsSurface d old new
@@ -86,8 +86,8 @@ KeepsEnd d result old new = OnErr result ((d.display new).layout ≡ record (d.d
 -- an error the kept layout stays
 pub record Writes {X T : Type 0} (d : Ghosts X) (result : Result T ReadlineError) (old new : X) (c : ℕ) : Type 0 where
   pub layout : OnOk result ((d.display new).layout ≡ ending_at (columns_on 1 (d.display old).layout.cursor) (d.display old).layout)
-  pub right : (line : Line) → is_at_end line ≡ true → list_all is_plain line.text ≡ true → IsRight (d.display old) line
-      → OnOk result (IsRight (d.display new) (inserted_at_cursor line (c ∷ [])))
+  pub right : (line : Line) → is_at_end line ≡ true → list_all is_plain line.text ≡ true
+      → (d.display old).layout.has_info ≡ false → IsRight (d.display old) line → OnOk result (IsRight (d.display new) (inserted_at_cursor line (c ∷ [])))
   pub kept : OnErr result ((d.display new).layout ≡ (d.display old).layout)
   pub beside : WritesAtMost (d.beside old) (d.beside new)
   pub part : DrawsNoneInFull d result old new

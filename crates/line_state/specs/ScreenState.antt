@@ -1,6 +1,8 @@
 -- What contracts see of a screen, and when it shows what it is handed.
-use Rattle.std.specs.Prelude.{◌≡◌, ℕ, ◌+◌, ◌++◌, ◌∷◌, ◌<◌, [], Bool, true, List, Option, IfSome, Result}
+use Rattle.std.specs.Prelude.{◌≡◌, ℕ, ◌+◌, ◌++◌, ◌∷◌, ◌<◌, [], Bool, true, List, Option, None, IfSome, Result}
+use Rattle.std.specs.List.{list_all}
 use Rattle.line_buffer.specs.Line.{Line}
+use Rattle.line_buffer.specs.Printable.{is_plain}
 use Rattle.line_buffer.specs.declared.layout.Layout.{Layout}
 use Rattle.line_config.specs.Error.{FaultsOnly}
 use Rattle.line_config.specs.Failures.{CountsFailures}
@@ -20,28 +22,37 @@ pub record Agrees (surface : Surface) (screen : Screen) (prompt : List ℕ) (lin
 abbrev pub ResizesTo : ℕ → ℕ → Surface → Surface → Type 0
 ResizesTo columns rows old new = new ≡ record old { measure = new.measure; columns = columns; rows = rows }
 
--- the line is shown by its layout
-abbrev pub shown_by : Layout → Line → Screen
-shown_by layout line = record { position = layout.cursor; text = line.text; origin = layout.prompt_size }
+-- the line is shown by its layout, behind a prompt, with a trailing text or none, and this is known
+abbrev pub shown_by : Layout → List ℕ → Line → Option (List ℕ) → Screen
+shown_by layout prompt line trailing = record {
+  position = layout.cursor;
+  prompt = prompt;
+  text = line.text;
+  origin = layout.prompt_size;
+  behind = trailing;
+  known = true;
+}
 
--- the cursor stands where the shown text ends, and a column is free behind it
-abbrev pub HasRoom : Surface → Screen → Type 0
-HasRoom surface screen =
-    (screen.position ≡ surface.measure screen.text screen.origin) × (screen.position.col + 1 < surface.columns)
+-- the shown text is printable ASCII and newlines with nothing behind it, the cursor stands where it ends, and a column is free behind that
+pub record HasRoom (surface : Surface) (screen : Screen) : Type 0 where
+  pub plain : list_all is_plain screen.text ≡ true
+  pub bare : screen.behind ≡ None
+  pub at_end : screen.position ≡ surface.measure screen.text screen.origin
+  pub free : screen.position.col + 1 < surface.columns
 
 -- the screen with one more character behind the shown text
 abbrev pub with_shown : Screen → ℕ → Screen
-with_shown screen c = record {
+with_shown screen c = record screen {
   position = record { row = screen.position.row; col = screen.position.col + 1 };
   text = screen.text ++ c ∷ [];
-  origin = screen.origin;
 }
 
--- the shown text ends on the cursor's row, so many columns behind it
-abbrev pub EndsBehind : Surface → Screen → ℕ → Type 0
-EndsBehind surface screen columns =
-    ((surface.measure screen.text screen.origin).row ≡ screen.position.row)
-    × (screen.position.col + columns ≡ (surface.measure screen.text screen.origin).col)
+-- the shown text is printable ASCII and newlines with nothing behind it, and ends on the cursor's row, so many columns behind the cursor
+pub record EndsBehind (surface : Surface) (screen : Screen) (columns : ℕ) : Type 0 where
+  pub plain : list_all is_plain screen.text ≡ true
+  pub bare : screen.behind ≡ None
+  pub row : (surface.measure screen.text screen.origin).row ≡ screen.position.row
+  pub column : screen.position.col + columns ≡ (surface.measure screen.text screen.origin).col
 
 -- a call that may fail: the surface stays, an error of input or output raises the count of failures and nothing else changes it, and the
 -- only other error is that memory ran out

@@ -4,7 +4,7 @@ ghost use Rattle.std.specs.List.{list_all};
 ghost use Rattle.line_config.specs.Error.{IsOneMore};
 ghost use Rattle.line_buffer.specs.Printable.{is_plain, is_printable};
 ghost use Rattle.line_buffer.specs.declared.layout.Position.{Position};
-ghost use Rattle.line_keys.specs.Display.{IsFullRedraw, next_column};
+ghost use Rattle.line_keys.specs.Display.{IsFullRedraw, KeepsShown, next_column};
 ghost use Rattle.line_state.specs.ScreenState.{Agrees, BeepsAtMost, DrawsNoLine, DrawsPart, EndsBehind, HasRoom, HoldsAtMost, ResizesTo, Tries, WritesAtMost, shown_by, with_shown};
 
 use crate::screen_state::ScreenState;
@@ -28,15 +28,17 @@ pub trait Renderer: ScreenState {
     fn move_cursor(&mut self, old: Position, new: Position) -> Result<()>
         ensures moved { (Self.screen self.old).position ≡ old
             → OnOk result ((Self.screen self.new).position ≡ new) }
-        ensures text { (Self.screen self.new).text ≡ (Self.screen self.old).text }
-        ensures origin { (Self.screen self.new).origin ≡ (Self.screen self.old).origin }
+        ensures known { (Self.screen self.old).position ≡ old
+            → OnOk result ((Self.screen self.new).known ≡ (Self.screen self.old).known) }
+        ensures shown { KeepsShown (Self.screen self.old) (Self.screen self.new) }
         ensures part { DrawsPart Self.ScreenState result self.old self.new };
 
     /// Draws the prompt, the line and the text behind it in full. That text, `hint`, is a hint or a verdict's message.
     ///
-    /// The cursor then stands where `new_layout` has it, if what is handed over agrees: the prompt ends at the prompt end of
-    /// `new_layout`, which is the layout of a full redraw; the cursor of `old_layout` is the drawn one; and a highlighter
-    /// comes only with colors. `old_layout` says which rows were drawn before; with none nothing is cleared.
+    /// These are then known to be shown, with the cursor where `new_layout` has it, if what is handed over agrees: the
+    /// prompt ends at the prompt end of `new_layout`, which is the layout of a full redraw; the cursor of `old_layout` is
+    /// the drawn one; and a highlighter comes only with colors. `old_layout` says which rows were drawn before; with none
+    /// nothing is cleared.
     fn refresh_line<P: Prompt, H: Highlighter>(
         &mut self,
         prompt: &P,
@@ -49,7 +51,8 @@ pub trait Renderer: ScreenState {
         ensures shown { Agrees (Self.surface self.old) (Self.screen self.old)
             (P.raw_text prompt.now) line.now (option_map (λ s. s.now) hint.entry)
             (option_map (λ l. l.now) old_layout.entry) new_layout.now (is_some highlighter.entry)
-            → OnOk result (Self.screen self.new ≡ shown_by new_layout.now line.now) }
+            → OnOk result (Self.screen self.new ≡ shown_by new_layout.now
+            (P.raw_text prompt.now) line.now (option_map (λ s. s.now) hint.entry)) }
         ensures redraws { OnOk result (IsOneMore (Self.redraws self.old) (Self.redraws self.new)) }
         ensures beside { Self.beside self.new ≡ Self.beside self.old }
         ensures tries { Tries Self.ScreenState result self.old self.new };
@@ -86,8 +89,9 @@ pub trait Renderer: ScreenState {
     fn calculate_position(&self, s: &str, orig: Position) -> Position
         ensures { result ≡ (Self.surface self.now).measure s.now orig };
 
-    /// Writes a text where the cursor stands. Where that is the end of the shown text, a column is free behind it, and the
-    /// text is one printable ASCII character, the character is shown and the cursor goes one column on.
+    /// Writes a text where the cursor stands. Where that is the end of the shown text, which is printable ASCII and
+    /// newlines with nothing behind it, a column is free there, and the text is one printable ASCII character, the
+    /// character is shown and the cursor goes one column on.
     fn write_and_flush(&mut self, buf: &str) -> Result<()>
         ensures shown { (c : ℕ) → buf.now ≡ c ∷ [] → is_printable c ≡ true
             → HasRoom (Self.surface self.old) (Self.screen self.old)
@@ -109,8 +113,8 @@ pub trait Renderer: ScreenState {
     fn clear_rows(&mut self, layout: &Layout) -> Result<()>
         ensures part { DrawsPart Self.ScreenState result self.old self.new };
 
-    /// Clears the rest of the cursor's row. Where the shown text ends on that row, and what it has from the cursor on is
-    /// printable ASCII, that part is taken away from it.
+    /// Clears the rest of the cursor's row. Where the shown text is printable ASCII and newlines with nothing behind it,
+    /// and ends on that row, what it has from the cursor on is taken away from it.
     fn clear_to_eol(&mut self) -> Result<()>
         ensures position { (Self.screen self.new).position ≡ (Self.screen self.old).position }
         ensures cleared { (kept gone : List ℕ) → (Self.screen self.old).text ≡ kept ++ gone
@@ -128,11 +132,12 @@ pub trait Renderer: ScreenState {
         ensures failures { Self.failures self.new ≡ Self.failures self.old };
 
     /// Gives the screen another number of columns and of rows. Nothing is drawn, and the cursor is taken to stand where it
-    /// stood: a full redraw is to follow.
+    /// stood. What is known of it then is not said: a full redraw is to follow.
     fn resize(&mut self, columns: Unit, rows: Unit)
         requires { 0 < columns }
         ensures surface { ResizesTo columns rows (Self.surface self.old) (Self.surface self.new) }
-        ensures screen { Self.screen self.new ≡ Self.screen self.old }
+        ensures position { (Self.screen self.new).position ≡ (Self.screen self.old).position }
+        ensures shown { KeepsShown (Self.screen self.old) (Self.screen self.new) }
         ensures beside { Self.beside self.new ≡ Self.beside self.old }
         ensures redraws { Self.redraws self.new ≡ Self.redraws self.old }
         ensures failures { Self.failures self.new ≡ Self.failures self.old };

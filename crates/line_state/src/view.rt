@@ -160,7 +160,8 @@ impl<'out, 'prompt, W: Renderer, P: Prompt> View<'out, 'prompt, W, P> {
     ) -> Result<()>
         requires { ColorsAreOn ⟦<Self as Drawn>⟧ self.old (is_some highlighter) }
         ensures { let d = ⟦<Self as Drawn>⟧ in DrawsInFull d result self.old self.new
-            (d.display self.old).prompt_end true line.now (option_map (λ s. s.now) info.entry) }
+            (d.display self.old).prompt (d.display self.old).prompt_end true line.now
+            (option_map (λ s. s.now) info.entry) }
     {
         self.redraw(self.prompt, self.prompt_size, true, line, info, highlighter)
     }
@@ -179,7 +180,7 @@ impl<'out, 'prompt, W: Renderer, P: Prompt> View<'out, 'prompt, W, P> {
     ) -> Result<()>
         requires { ColorsAreOn ⟦<Self as Drawn>⟧ self.old (is_some highlighter) }
         ensures { let d = ⟦<Self as Drawn>⟧ in DrawsInFull d result self.old self.new
-            ((d.display self.old).surface.measure prompt.now corner) false line.now
+            prompt.now ((d.display self.old).surface.measure prompt.now corner) false line.now
             (option_map (λ s. s.now) info.entry) }
     {
         let corner = Position { row: 0, col: 0 };
@@ -220,6 +221,7 @@ impl<'out, 'prompt, W: Renderer, P: Prompt> View<'out, 'prompt, W, P> {
         ensures display { let d = ⟦<Self as Drawn>⟧.display in d self.new ≡ record (d self.old) {
           surface = (d self.new).surface;
           prompt_end = (d self.new).prompt_end;
+          screen = (d self.new).screen;
         } }
         ensures beside { let d = ⟦<Self as Drawn>⟧ in d.beside self.new ≡ d.beside self.old }
         ensures redraws { let d = ⟦<Self as Drawn>⟧ in d.redraws self.new ≡ d.redraws self.old }
@@ -246,7 +248,8 @@ impl<'out, 'prompt, W: Renderer, P: Prompt> View<'out, 'prompt, W, P> {
             (d.display self.old).surface.measure (Q.raw_text prompt.now) corner ≡ prompt_size }
         requires colored { ColorsAreOn ⟦<Self as Drawn>⟧ self.old (is_some highlighter) }
         ensures { let d = ⟦<Self as Drawn>⟧ in DrawsInFull d result self.old self.new
-            prompt_size default_prompt line.now (option_map (λ s. s.now) info.entry) }
+            (Q.raw_text prompt.now) prompt_size default_prompt line.now
+            (option_map (λ s. s.now) info.entry) }
     {
         let new_layout = self
             .out

@@ -1,16 +1,15 @@
 -- Laws of what a terminal shows of what is written.
-use Rattle.std.specs.Prelude.{◌≡◌, false, true, ◌<◌, ℕ, ◌+◌, ◌++◌, Bool, List, [], ◌∷◌, Option, None, IfSome, IsUtf8, chars, encode_utf8_all, map}
+use Rattle.std.specs.Prelude.{◌≡◌, false, true, ◌<◌, ℕ, ◌+◌, ◌++◌, Bool, List, [], ◌∷◌, Option, None, IsUtf8, chars, encode_utf8_all, map}
 use Rattle.std.specs.List.{fold, list_all}
 use Rattle.unicode_segmentation.specs.Grapheme.{graphemes}
 use Rattle.line_buffer.specs.Printable.{is_printable}
 use Rattle.line_buffer.specs.declared.layout.Layout.{Layout}
 use Rattle.line_buffer.specs.declared.layout.Position.{Position}
-use Rattle.line_config.specs.Usual.{IsUsualOrOwn}
 use Rattle.line_config.specs.declared.prompt.Prompt as prompts
 use Rattle.line_keys.specs.Display.{corner}
 use Rattle.line_parts.specs.declared.highlight.Highlighter as highlighters
 use Rattle.line_screen.specs.Measure.{after_cluster, columns_of, ends_row, measured}
-use Rattle.line_term.specs.Drawn.{cleaned, uncolored, visible}
+use Rattle.line_term.specs.Drawn.{cleaned, visible}
 use Rattle.line_term.specs.Escape as bytes
 use Rattle.line_term.specs.Escape.{clear_row, move_bytes}
 use Rattle.line_term.specs.Page.{IsAt, Page, at, begun, continued, put_text}

@@ -5,7 +5,7 @@ ghost use Rattle.std.specs.Io.KnownBytes.{Appends};
 ghost use Rattle.line_config.specs.Error.{FaultsOnly, IsOneMore};
 ghost use Rattle.line_buffer.specs.Printable.{is_printable};
 ghost use Rattle.line_buffer.specs.declared.layout.GraphemeClusterMode.TheVariants.{Unicode};
-ghost use Rattle.line_keys.specs.Display.{uncounted};
+ghost use Rattle.line_keys.specs.Display.{KeepsShown, uncounted};
 ghost use Rattle.line_state.specs.ScreenState.{Agrees, BeepsAtMost, DrawsNoLine, EndsBehind, HasRoom, HoldsAtMost, Tries, WritesAtMost, shown_by, with_shown};
 ghost use Rattle.line_screen.specs.Measure.{measured};
 ghost use Rattle.line_screen.specs.Surroundings.{blank_screen};
@@ -285,10 +285,10 @@ impl<O: Write + Drop, R: RawReader> Renderer for Ansi<O, R> {
     /// written, and a full redraw is to follow.
     fn move_cursor(&mut self, old: Position, new: Position) -> Result<()>
         ensures moved { OnOk result ((⟦<Self as ScreenState>⟧.screen self.new).position ≡ new) }
-        ensures text { (⟦<Self as ScreenState>⟧.screen self.new).text
-            ≡ (⟦<Self as ScreenState>⟧.screen self.old).text }
-        ensures origin { (⟦<Self as ScreenState>⟧.screen self.new).origin
-            ≡ (⟦<Self as ScreenState>⟧.screen self.old).origin }
+        ensures known { OnOk result ((⟦<Self as ScreenState>⟧.screen self.new).known
+            ≡ (⟦<Self as ScreenState>⟧.screen self.old).known) }
+        ensures shown { KeepsShown (⟦<Self as ScreenState>⟧.screen self.old)
+            (⟦<Self as ScreenState>⟧.screen self.new) }
         ensures writes { WritesPart ⟦<Self as ScreenState>⟧ ⟦<Self as Output>⟧ result
             self.old self.new (move_bytes old new) }
     {
@@ -317,7 +317,8 @@ impl<O: Write + Drop, R: RawReader> Renderer for Ansi<O, R> {
             (P.raw_text prompt.now) line.now (option_map (λ s. s.now) hint.entry)
             (option_map (λ l. l.now) old_layout.entry) new_layout.now (is_some highlighter.entry)
             → OnOk result (⟦<Self as ScreenState>⟧.screen self.new
-            ≡ shown_by new_layout.now line.now) }
+            ≡ shown_by new_layout.now (P.raw_text prompt.now) line.now
+            (option_map (λ s. s.now) hint.entry)) }
         ensures redraws { OnOk result (IsOneMore (⟦<Self as ScreenState>⟧.redraws self.old)
             (⟦<Self as ScreenState>⟧.redraws self.new)) }
         ensures uncounted { OnErr result (⟦<Self as ScreenState>⟧.redraws self.new

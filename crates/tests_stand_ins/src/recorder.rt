@@ -1,6 +1,6 @@
 //! A renderer that writes down each call that it gets, and can fail one of them.
-ghost use Rattle.std.specs.Prelude.{◌≡◌, ◌≤◌, ◌<◌, string_bytes, OnOk};
-ghost use Rattle.line_config.specs.Error.{FaultsOnly};
+ghost use Rattle.std.specs.Prelude.{◌≡◌, ◌≤◌, ◌<◌, true, option_map, string_bytes, IfOk, OnOk};
+ghost use Rattle.line_config.specs.Error.{FaultsOnly, MemoryOnly};
 ghost use Rattle.line_config.specs.Failures.{CountsFailures};
 ghost use Rattle.tests_stand_ins.specs.Screen.{after_byte, measured_by_bytes};
 
@@ -27,8 +27,10 @@ pub struct Recorder {
     rows: Unit,
     colors: bool,
     place: Position,
+    prompt: String,
     text: String,
     origin: Position,
+    hint: Option<String>,
     redraws: u64,
     failures: u64,
     calls: u64,
@@ -49,8 +51,10 @@ impl Recorder {
             rows: 24,
             colors,
             place: ORIGIN,
+            prompt: String::new(alloc),
             text: String::new(alloc),
             origin: ORIGIN,
+            hint: None,
             redraws: 0,
             failures: 0,
             calls: 0,
@@ -87,8 +91,10 @@ impl Recorder {
         ensures rows { self.new.rows ≡ self.old.rows }
         ensures colors { self.new.colors ≡ self.old.colors }
         ensures place { self.new.place ≡ self.old.place }
+        ensures prompt { self.new.prompt ≡ self.old.prompt }
         ensures text { self.new.text ≡ self.old.text }
         ensures origin { self.new.origin ≡ self.old.origin }
+        ensures hint { self.new.hint ≡ self.old.hint }
         ensures redraws { self.new.redraws ≡ self.old.redraws }
         ensures counts { CountsFailures result self.old.failures self.new.failures }
         ensures faults { FaultsOnly result }
@@ -116,8 +122,10 @@ impl Recorder {
         ensures redraws { self.new.redraws ≡ self.old.redraws }
         ensures failures { self.new.failures ≡ self.old.failures }
     {
+        self.prompt.clear();
         self.text.clear();
         self.origin = ORIGIN;
+        self.hint = None;
         self.place = ORIGIN;
     }
 }
@@ -171,6 +179,18 @@ fn shown<'l, H: Highlighter>(
     }
 }
 
+/// A text of its own.
+fn owned(alloc: Global, text: Option<&str>) -> Result<Option<String>>
+    ensures value { IfOk result (λ t.
+        option_map string_bytes t ≡ option_map (λ s. s.now) text.entry) }
+    ensures memory { MemoryOnly result }
+{
+    match text {
+        Some(text) => Ok(Some(String::from_str(alloc, text)?)),
+        None => Ok(None),
+    }
+}
+
 /// Where the text ends that begins at `origin`.
 #[tactic(auto, unfolding(crate::specs::Screen::measured_by_bytes))]
 pub(crate) fn measured(columns: Unit, text: &str, origin: Position) -> Position
@@ -200,6 +220,7 @@ fn after_byte(columns: Unit, place: Position, byte: u8) -> Position
 }
 
 impl ScreenState for Recorder {
+    ghost use Rattle.std.specs.Prelude.{true, option_map, string_bytes};
     ghost use Rattle.line_buffer.specs.declared.layout.GraphemeClusterMode.TheVariants.{Unicode};
     ghost use Rattle.line_keys.specs.Display.{uncounted};
     ghost use Rattle.tests_stand_ins.specs.Screen.{measured_by_bytes};
@@ -214,8 +235,11 @@ impl ScreenState for Recorder {
 
     ghost screen = { λ r. record {
       position = r.place;
+      prompt = string_bytes r.prompt;
       text = string_bytes r.text;
       origin = r.origin;
+      behind = option_map string_bytes r.hint;
+      known = true;
     } };
 
     ghost beside = { λ _. uncounted };
@@ -257,8 +281,11 @@ impl Renderer for Recorder {
             shown(self.alloc, line, highlighter).as_str(),
         )?;
         self.note(&call)?;
+        self.prompt.clear();
+        self.prompt.push_str(prompt.raw())?;
         self.text.clear();
         self.text.push_str(line.as_str())?;
+        self.hint = owned(self.alloc, hint)?;
         self.place = new_layout.cursor;
         self.origin = new_layout.prompt_size;
         self.redraws = self.redraws.saturating_add(1);

@@ -1,4 +1,4 @@
-use Rattle.std.proofs.Common.{◌≡◌, length, Option, option_map, string_bytes}
+use Rattle.std.proofs.Common.{◌≡◌, true, length, Option, option_map, string_bytes}
 use Rattle.std.specs.Borrow.{GName}
 use Rattle.line_buffer.specs.declared.layout.GraphemeClusterMode.TheVariants.{Unicode}
 use Rattle.line_keys.specs.declared.editor_state.EditorState as editors
@@ -37,7 +37,7 @@ invariant-turns g l =
         prompt = g.P.Prompt.raw_text s.view.prompt.now;
         prompt_end = s.view.prompt_size;
         layout = s.view.layout;
-        screen = record { position = s.view.out.now.shown.place; text = string_bytes s.view.out.now.shown.text; origin = s.view.out.now.shown.origin };
+        screen = record { position = s.view.out.now.shown.place; prompt = string_bytes s.view.out.now.shown.prompt; text = string_bytes s.view.out.now.shown.text; origin = s.view.out.now.shown.origin; behind = option_map string_bytes s.view.out.now.shown.hint; known = true };
         lit = s.view.highlight_char;
       };
       loan = λ s. (s.view.out.ghost_name, option_map (λ h. h.ghost_name) s.parties.helper);

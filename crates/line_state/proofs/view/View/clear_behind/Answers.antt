@@ -30,7 +30,7 @@ returns g c =
       layout = rw (← c.requires.placed) refl;
       right = λ front gone plain print is bare shows.
           cleared_right _ _ front gone c.args.count (g.met.W.Renderer.one_column out) below c.requires.fits c.requires.placed (λ kept gone text print behind. cleared.cleared kept gone text print behind) refl
-          cleared.part.tries.surface refl plain print is bare shows;
+          cleared.part.tries.surface refl refl plain print is bare shows;
       kept = tt;
       beside = search rules;
       part = search rules;

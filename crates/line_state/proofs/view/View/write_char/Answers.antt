@@ -41,8 +41,8 @@ returns g c =
     let below_there = subst (λ (p : Position). p.col < (g.W.ScreenState.surface out).columns) self.measured (g.met.W.Renderer.column_below out (g.P.Prompt.raw_text self.prompt.now) corner some) in
     record {
       layout = refl;
-      right = λ line end plain right.
-          written_right line _ _ c.args.c (g.met.W.Renderer.one_column out) end plain print free below_there (written.shown c.args.c text print) refl written.part.tries.surface refl right;
+      right = λ line end plain bare right.
+          written_right line _ _ c.args.c (g.met.W.Renderer.one_column out) end plain print free below_there bare (written.shown c.args.c text print) refl written.part.tries.surface refl refl right;
       kept = tt;
       beside = search rules;
       part = search rules;

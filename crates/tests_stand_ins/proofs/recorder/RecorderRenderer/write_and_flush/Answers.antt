@@ -3,6 +3,6 @@ use Rattle.tests_stand_ins.proofs.recorder.RecorderRenderer.write_and_flush.Goal
 
 pub returns-clause-shown : goal.returns-clause-shown
 returns-clause-shown c = λ ch e print room.
-    let one = measured_by_bytes-one c.args.self.now.columns ch c.args.self.now.place room.1 print in
+    let one = measured_by_bytes-one c.args.self.now.columns ch c.args.self.now.place room.free print in
     let noted = c.in_ok-note.ensures in
-    cc (c.in_ok-push_str.ensures.bytes, noted.columns, noted.place, noted.text, noted.origin)
+    cc (c.in_ok-push_str.ensures.bytes, noted.columns, noted.place, noted.prompt, noted.text, noted.origin, noted.hint)
