@@ -11,7 +11,7 @@ use Rattle.std.proofs.lemmas.List.Folds.{list_all-append}
 use Rattle.std.proofs.lemmas.Str.{encode_ascii}
 use Rattle.line_term.specs.Drawn.{begins_below, behind_parameters, shift_in, color_length, colored_from, drawn, drawn_char, is_control, is_parameter, passing_behind, uncolored_from, visible}
 use Rattle.line_term.specs.Page.{Page, below, put_down}
-use Rattle.line_term.specs.Terminal.{Reading, Terminal, ended, escape, plain, put, seen, sent, sequence, showing}
+use Rattle.line_term.specs.Terminal.{Reading, Terminal, escape, plain, put, put_sequence, sent, sequence}
 use Rattle.line_term.proofs.GoesLemmas.{coming, no_control, put_all}
 use Rattle.line_term.proofs.WentLemmas.{Went, went-char, went-control, went-end, went-newline, went-return}
 
@@ -32,26 +32,22 @@ behind-after place (c ∷ cs) some = by_tests (λ more. behind-after (place + 1)
 
 -- a parameter, or what parts two, is read
 pub parameter-read : (columns k c : ℕ) (page : Page) (text : List ℕ) → is_parameter c ≡ true
-    → (m : ℕ) × (put columns (at_text page text (sequence k)) c ≡ at_text page text (sequence m))
+    → (m : ℕ) × (put columns (at_text page text (sequence false k)) c ≡ at_text page text (sequence false m))
 unfolding put
-parameter-read columns k c page text is = by_test (is_in_range 48 57 c)
+parameter-read columns k c page text is = by_test (is_in_range 48 57 c) refl
   where
     t : Terminal
-    t = at_text page text (sequence k)
+    t = at_text page text (sequence false k)
 
-    no_end : ((c == 109) ≡ false) × (is_in_range 64 126 c ≡ false)
-    no_end = (grind (arith, nat_tests), grind (arith, nat_tests))
-
-    by_test : (d : Bool) → (m : ℕ) × (cond d (at_text page text (sequence (k * 10 + (c - 48))))
-        (cond (c == 109) (at_text page text plain) (cond (is_in_range 64 126 c) (showing (ended columns (seen columns t) k c)) (at_text page text (sequence 0)))) ≡ at_text page text (sequence m))
-    by_test true = (k * 10 + (c - 48), refl)
-    by_test false = (0, ap₂ (λ a b. cond a (at_text page text plain) (cond b (showing (ended columns (seen columns t) k c)) (at_text page text (sequence 0)))) no_end.0 no_end.1)
+    by_test : (d : Bool) → is_in_range 48 57 c ≡ d → (m : ℕ) × (put_sequence columns t false k c ≡ at_text page text (sequence false m))
+    by_test true digit = (k * 10 + (c - 48), rw digit refl)
+    by_test false digit = let mark : is_in_range 58 59 c ≡ true = grind (arith, nat_tests) in (0, rw (digit, mark) refl)
 
 -- an `m` ends a sequence
 pub end-read : (columns k c : ℕ) (page : Page) (text : List ℕ) → c ≡ 109
-    → put columns (at_text page text (sequence k)) c ≡ at_text page text plain
+    → put columns (at_text page text (sequence false k)) c ≡ at_text page text plain
 unfolding put
-end-read columns k c page text is = ap (put columns (at_text page text (sequence k))) is
+end-read columns k c page text is = ap (put columns (at_text page text (sequence false k))) is
 
 -- characters that pass are read one by one
 passing-sent : (columns n c : ℕ) (t : Terminal) (cs : List ℕ) → c < 128
@@ -60,7 +56,7 @@ passing-sent columns n c t cs below = ap (λ b. sent columns t (b ++ colored_fro
 
 -- the rest of a color sequence is read
 rest-read : (columns k place n : ℕ) (page : Page) (text : List ℕ) (cs : List ℕ) → behind_parameters place cs ≡ place + suc n
-    → sent columns (at_text page text (sequence k)) (colored_from (suc n) cs)
+    → sent columns (at_text page text (sequence false k)) (colored_from (suc n) cs)
     ≡ sent columns (at_text page text plain) (colored_from 0 (drop (suc n) cs))
 rest-read columns k place n page text [] ends = absurd (omega arith)
 rest-read columns k place n page text (c ∷ cs) ends =
@@ -68,11 +64,11 @@ rest-read columns k place n page text (c ∷ cs) ends =
   where
     Rest : Type 0
     Rest = (m i : ℕ) → behind_parameters (place + 1) cs ≡ place + 1 + suc i
-        → sent columns (at_text page text (sequence m)) (colored_from (suc i) cs)
+        → sent columns (at_text page text (sequence false m)) (colored_from (suc i) cs)
         ≡ sent columns (at_text page text plain) (colored_from 0 (drop (suc i) cs))
 
     t : Terminal
-    t = at_text page text (sequence k)
+    t = at_text page text (sequence false k)
 
     by_tests : Rest → (m q : Bool) → (c == 109) ≡ m → is_parameter c ≡ q
         → cond m (place + 1) (cond q (behind_parameters (place + 1) cs) 0) ≡ place + suc n

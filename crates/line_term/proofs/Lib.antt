@@ -1,5 +1,6 @@
 pub mod AlikeLemmas
 pub mod BackLemmas
+pub mod CellLemmas
 pub mod ColorLemmas
 pub mod ControlLemmas
 pub mod CutLemmas
@@ -16,9 +17,9 @@ pub mod ReadingLemmas
 pub mod RedrawLemmas
 pub mod RowLemmas
 pub mod SequenceLemmas
+pub mod ShownLemmas
 pub mod SilentLemmas
 pub mod TypingLemmas
 pub mod Utf8Lemmas
 pub mod WentLemmas
 pub mod WrittenLemmas
-pub mod ShownLemmas

@@ -7,29 +7,27 @@ use Rattle.std.proofs.lemmas.Fmt.{decimal_by_steps}
 use Rattle.std.proofs.lemmas.Bool.Decides.{nat_tests}
 use Rattle.std.proofs.lemmas.List.Sums.{fold-append}
 use Rattle.line_buffer.specs.declared.layout.Position.{Position}
-use Rattle.line_term.specs.Escape.{bell, clear_below, clear_from, clear_row, columns_bytes, hold, move_bytes, next_line, paste_marked, paste_typed, release, return, rows_bytes, steps}
+use Rattle.line_term.specs.Escape.{bell, clear_below, clear_from, clear_row, columns_bytes, hold, move_bytes, paste_marked, paste_typed, release, return, rows_bytes, steps}
 use Rattle.line_term.specs.Laws.{OthersStay}
-use Rattle.line_term.specs.Page.{IsAt, Page, at, below}
-use Rattle.line_term.specs.Terminal.{Reading, Shows, Turns, Terminal, ended, plain, put, seen, sent, sequence, showing, without_rest, without_row}
+use Rattle.line_term.specs.Page.{IsAt, Page, at}
+use Rattle.line_term.specs.Terminal.{Reading, Shows, Terminal, Turns, TurnsInRow, ended, is_known, put, seen, sent, sequence, showing, without_rest, without_row}
 use Rattle.line_term.proofs.GoesLemmas.{coming}
 use Rattle.line_term.proofs.WentLemmas.{seen-none}
-use Rattle.line_term.proofs.PrintLemmas.{newline-sent, ready-coming}
+use Rattle.line_term.proofs.PrintLemmas.{ready-coming}
 
 pub shows-page : (columns : ℕ) (page : Page) → Shows columns (showing page) page
 shows-page columns page = record { shown = seen-none columns page; ready = record { reading = refl; printable = refl } }
 
 -- with a control sequence read so far
 abbrev reading : Terminal → ℕ → Terminal
-reading t number = record t { reading = sequence number }
+reading t number = record t { reading = sequence false number }
 
 digit-read : (columns number digit : ℕ) (t : Terminal) → digit < 10 → put columns (reading t number) (48 + digit) ≡ reading t (number * 10 + digit)
 unfolding put
 digit-read columns number digit t small =
     let is : is_in_range 48 57 (48 + digit) ≡ true = grind (arith, nat_tests) in
     let value : 48 + digit - 48 ≡ digit = omega arith in
-    ap (λ b. cond b (reading t (number * 10 + (48 + digit - 48)))
-    (cond (48 + digit == 109) (record t { reading = plain })
-    (cond (is_in_range 64 126 (48 + digit)) (showing (ended columns (seen columns (reading t number)) number (48 + digit))) (reading t 0)))) is
+    rw is refl
     ∙ ap (λ d. reading t (number * 10 + d)) value
 
 -- the digits of a number are read one after another
@@ -72,9 +70,11 @@ letter-read : (columns n letter : ℕ) (t : Terminal) → is_move letter ≡ tru
 unfolding put
 letter-read columns n letter t is =
     let no_digit : is_in_range 48 57 letter ≡ false = grind (arith, nat_tests) in
+    let no_mark : is_in_range 58 59 letter ≡ false = grind (arith, nat_tests) in
+    let no_question : (letter == 63) ≡ false = grind (arith, nat_tests) in
     let no_color : (letter == 109) ≡ false = grind (arith, nat_tests) in
-    let ends : is_in_range 64 126 letter ≡ true = grind (arith, nat_tests) in
-    rw (no_digit, no_color, ends) (ap (λ p. showing (ended columns p n letter)) (seen-reading columns t (sequence n)))
+    let known : is_known n letter ≡ true = grind (arith, nat_tests) in
+    rw (no_digit, no_mark, no_question, no_color, known) (ap (λ p. showing (ended columns p n letter)) (seen-reading columns t (sequence false n)))
 
 -- some steps are a control sequence
 steps-some : (n letter : ℕ) → steps (suc n) letter ≡ 27 ∷ 91 ∷ decimal (suc n) ++ encode_utf8 letter
@@ -144,45 +144,61 @@ return-sent columns t page shows =
     ∙ ap (λ (p : Page). showing (at p.row 0 p)) (ap (seen columns) (sym (ready-coming t shows.ready)) ∙ shows.shown) in
     subst (λ s. Shows columns s (at page.row 0 page)) (sym goes) (shows-page columns (at page.row 0 page))
 
-turns : (f : Page → Page) (bytes : List ℕ) → ((columns : ℕ) (page : Page) (cs : List ℕ) → sent columns (coming page cs) bytes ≡ showing (f (seen columns (coming page cs))))
-    → Turns f bytes
-turns f bytes goes columns t page shows =
-    let to : sent columns t bytes ≡ showing (f page) =
-    ap (λ s. sent columns s bytes) (ready-coming t shows.ready) ∙ goes columns t.page t.text
-    ∙ ap (λ p. showing (f p)) (ap (seen columns) (sym (ready-coming t shows.ready)) ∙ shows.shown) in
-    subst (λ s. Shows columns s (f page)) (sym to) (shows-page columns (f page))
+turned : (columns : ℕ) (t : Terminal) (page next : Page) (bytes : List ℕ) → Shows columns t page
+    → (seen columns (coming t.page t.text) ≡ page → sent columns (coming t.page t.text) bytes ≡ showing next) → Shows columns (sent columns t bytes) next
+turned columns t page next bytes shows goes =
+    let there : seen columns (coming t.page t.text) ≡ page = ap (seen columns) (sym (ready-coming t shows.ready)) ∙ shows.shown in
+    subst (λ s. Shows columns s next) (sym (ap (λ s. sent columns s bytes) (ready-coming t shows.ready) ∙ goes there)) (shows-page columns next)
+
+quiet : (bytes : List ℕ) → ((columns : ℕ) (page : Page) (cs : List ℕ) → sent columns (coming page cs) bytes ≡ showing (seen columns (coming page cs)))
+    → Turns (λ page. page) bytes
+quiet bytes goes columns t page shows = turned columns t page page bytes shows (λ there. goes columns t.page t.text ∙ ap showing there)
 
 pub bell-turns : Turns (λ page. page) bell
 unfolding put seen
-bell-turns = turns (λ page. page) bell (λ columns page cs. refl)
+bell-turns = quiet bell (λ columns page cs. refl)
 
 pub hold-turns : Turns (λ page. page) hold
 unfolding put seen
-hold-turns = turns (λ page. page) hold (λ columns page cs. refl)
+hold-turns = quiet hold (λ columns page cs. refl)
 
 pub release-turns : Turns (λ page. page) release
 unfolding put seen
-release-turns = turns (λ page. page) release (λ columns page cs. refl)
+release-turns = quiet release (λ columns page cs. refl)
 
 pub marked-turns : Turns (λ page. page) paste_marked
 unfolding put seen
-marked-turns = turns (λ page. page) paste_marked (λ columns page cs. refl)
+marked-turns = quiet paste_marked (λ columns page cs. refl)
 
 pub typed-turns : Turns (λ page. page) paste_typed
 unfolding put seen
-typed-turns = turns (λ page. page) paste_typed (λ columns page cs. refl)
+typed-turns = quiet paste_typed (λ columns page cs. refl)
 
-pub row-turns : Turns without_row clear_row
+-- a cursor that does not wait is in its column
+in-column : (columns : ℕ) (page : Page) → page.col < columns → at page.row (min page.col (columns - 1)) page ≡ page
+in-column columns page room =
+    let col : min page.col (columns - 1) ≡ page.col = omega (arith, room) in
+    ap (λ c. at page.row c page) col
+
+row-sent : (columns : ℕ) (page : Page) (cs : List ℕ)
+    → sent columns (coming page cs) clear_row ≡ showing (let p = seen columns (coming page cs) in without_row (at p.row (min p.col (columns - 1)) p))
 unfolding put seen
-row-turns = turns without_row clear_row (λ columns page cs. refl)
+row-sent columns page cs = refl
 
-pub below-turns : Turns without_rest clear_below
+pub row-turns : TurnsInRow without_row clear_row
+row-turns columns t page room shows = turned columns t page (without_row page) clear_row shows
+    (λ there. row-sent columns t.page t.text ∙ ap (λ (p : Page). showing (without_row (at p.row (min p.col (columns - 1)) p))) there
+    ∙ ap (λ p. showing (without_row p)) (in-column columns page room))
+
+below-sent : (columns : ℕ) (page : Page) (cs : List ℕ)
+    → sent columns (coming page cs) clear_below ≡ showing (let p = seen columns (coming page cs) in without_rest (at p.row (min p.col (columns - 1)) p))
 unfolding put seen
-below-turns = turns without_rest clear_below (λ columns page cs. refl)
+below-sent columns page cs = refl
 
-pub next-turns : Turns below next_line
-next-turns = λ columns t page shows.
-    subst (λ s. Shows columns s (below page)) (sym (newline-sent columns t shows.ready ∙ ap (λ p. showing (below p)) shows.shown)) (shows-page columns (below page))
+pub below-turns : TurnsInRow without_rest clear_below
+below-turns columns t page room shows = turned columns t page (without_rest page) clear_below shows
+    (λ there. below-sent columns t.page t.text ∙ ap (λ (p : Page). showing (without_rest (at p.row (min p.col (columns - 1)) p))) there
+    ∙ ap (λ p. showing (without_rest p)) (in-column columns page room))
 
 -- ---- whole moves
 
@@ -232,16 +248,16 @@ move-turns columns base old new t page there fits_old room fits_new fits_col wit
         (steps-sent columns new.col 67 (sent columns (sent columns t (rows_bytes old.row new.row)) return) there_first refl fits_col returned))
 
 -- to the first row, from which on all is cleared
-pub clear-turns : (columns base : ℕ) (cursor : Position) (t : Terminal) (page : Page) → page.row ≡ base + cursor.row → cursor.row < 2 ^ 64 → Shows columns t page
+pub clear-turns : (columns base : ℕ) (cursor : Position) (t : Terminal) (page : Page) → page.row ≡ base + cursor.row → cursor.row < 2 ^ 64 → 0 < columns → Shows columns t page
     → Shows columns (sent columns t (clear_from cursor)) (without_rest (at base 0 page))
-clear-turns columns base cursor t page there fits shows =
+clear-turns columns base cursor t page there fits some_columns shows =
     let up = steps-sent columns cursor.row 65 t page refl fits shows in
     let some = up-some columns cursor.row page in
     let first : page.row - cursor.row ≡ base = omega (arith, there) in
     let on_row = subst (Shows columns (sent columns t (steps cursor.row 65))) some.1 up in
     let returned = return-sent columns (sent columns t (steps cursor.row 65)) (at (page.row - cursor.row) some.0 page) on_row in
     subst (λ s. Shows columns s (without_rest (at base 0 page))) (sym (fold-append (put columns) t (steps cursor.row 65 ++ return) clear_below))
-    (below-turns columns (sent columns t (steps cursor.row 65 ++ return)) (at base 0 page)
+    (below-turns columns (sent columns t (steps cursor.row 65 ++ return)) (at base 0 page) some_columns
     (subst (λ s. Shows columns s (at base 0 page)) (sym (fold-append (put columns) t (steps cursor.row 65) return))
     (subst (λ r. Shows columns (sent columns (sent columns t (steps cursor.row 65)) return) (at r 0 page)) first returned)))
 

@@ -25,6 +25,7 @@ use Rattle.line_term.specs.Shown.{Begins, IsMeasured, IsShown}
 use Rattle.line_term.specs.Terminal.{IsReady, Shows, Terminal, put, seen, sent, without_rest}
 use Rattle.line_term.proofs.AlikeLemmas.{Alike, alike-picture}
 use Rattle.line_term.proofs.MoveLemmas.{clear-turns, hold-turns, move-turns, release-turns}
+use Rattle.line_term.proofs.CellLemmas.{before, stays-text}
 use Rattle.line_term.proofs.PrintLemmas.{Prints, clusters-last, earlier, prints-cleaned, prints-colored, text-at, text-down, wrapped-row}
 
 -- ---- a text, plain or as a highlighter shows it
@@ -102,6 +103,13 @@ behind-below : (columns : ℕ) (place : Position) (behind : Option (List ℕ)) �
 behind-below columns place None room = room
 behind-below columns place (Some text) room = measured-below columns text place room
 
+above-before : (page : Page) (r k : ℕ) → r < page.row → before page r k ≡ true
+above-before page r k above = grind (arith, nat_tests)
+
+behind-above : (columns : ℕ) (page : Page) (behind : Option (List ℕ)) (r k : ℕ) → before page r k ≡ true → (put_behind columns page behind).cells r k ≡ page.cells r k
+behind-above columns page None r k is = refl
+behind-above columns page (Some text) r k is = (stays-text columns page text r k is).same
+
 -- where all that is shown ends
 shown-end : (columns : ℕ) (place : Position) (text : List ℕ) (behind : Option (List ℕ))
     → shown_end (measured columns) place text behind ≡ behind_end columns (measured columns text place) behind
@@ -165,6 +173,11 @@ cleared-alike base page = record { row = refl; col = refl; cells = λ r k from. 
   behind : (r k : ℕ) → base ≤ r → (nat_lt base r || ((r == base) && nat_le 0 k)) ≡ true
   behind r k from = grind (arith, nat_tests)
 
+cleared-above : (base : ℕ) (page : Page) (row col : ℕ) → row < base → (without_rest (at base 0 page)).cells row col ≡ page.cells row col
+cleared-above base page row col less =
+    let not_behind : (nat_lt base row || ((row == base) && nat_le 0 col)) ≡ false = grind (arith, nat_tests) in
+    ap (λ b. cond b blank (page.cells row col)) not_behind
+
 blank-alike : (base : ℕ) (page : Page) → Begins base None page → Alike base page (blank_page base)
 blank-alike base page begins = record { row = begins.0.row ∙ omega arith; col = begins.0.col; cells = begins.1 }
 
@@ -225,38 +238,58 @@ module _ {P H : Type 0} (p : prompts.Ghosts P) (h : highlighters.Ghosts H) where
   drawing-shows columns base handed bytes t page draws is alike shows =
       drawing-arrives columns base handed bytes t page draws is (record { shows = shows; at = begin-at base page alike })
 
-  -- what is shown then
-  shown-then : (columns base : ℕ) (handed : Handed P H) (page : Page) (t : Terminal) → Alike base page (blank_page base)
+  -- a picture changes no row above it
+  picture-above : (columns : ℕ) (page : Page) (prompt text : List ℕ) (behind : Option (List ℕ)) (r k : ℕ) → r < page.row
+      → (picture columns page prompt text behind).cells r k ≡ page.cells r k
+  picture-above columns page prompt text behind r k above =
+      let first = stays-text columns page prompt r k (above-before page r k above) in
+      let then = stays-text columns (put_text columns page prompt) text r k first.before in
+      behind-above columns (put_text columns (put_text columns page prompt) text) behind r k then.before ∙ then.same ∙ first.same
+
+  -- what is shown then, and what stays
+  abbrev Redrawn : ℕ → ℕ → Handed P H → Page → Terminal → Type 0
+  Redrawn columns base handed page t =
+      (shown : IsShown columns base (p.raw_text handed.prompt) handed.line.text handed.behind handed.layout.cursor t)
+      × ((row col : ℕ) → row < base → shown.page.cells row col ≡ page.cells row col)
+
+  shown-then : (columns base : ℕ) (handed : Handed P H) (old page : Page) (t : Terminal) → Alike base page (blank_page base)
+      → ((row col : ℕ) → row < base → page.cells row col ≡ old.cells row col)
       → (let end = picture columns page (p.raw_text handed.prompt) handed.line.text handed.behind in
       Shows columns t (at (base + handed.layout.cursor.row) handed.layout.cursor.col end))
-      → IsShown columns base (p.raw_text handed.prompt) handed.line.text handed.behind handed.layout.cursor t
-  shown-then columns base handed page t alike shows =
+      → Redrawn columns base handed old t
+  shown-then columns base handed old page t alike above shows =
       let raw = p.raw_text handed.prompt in
-      let end = picture columns page raw handed.line.text handed.behind in
-      record {
-        page = at (base + handed.layout.cursor.row) handed.layout.cursor.col end;
-        shows = shows;
-        at = record { row = refl; col = refl };
-        cells = (alike-picture columns base page (blank_page base) raw handed.line.text handed.behind alike).cells;
-      }
+      let end = picture columns page raw handed.line.text handed.behind in (
+        record {
+          page = at (base + handed.layout.cursor.row) handed.layout.cursor.col end;
+          shows = shows;
+          at = record { row = refl; col = refl };
+          cells = (alike-picture columns base page (blank_page base) raw handed.line.text handed.behind alike).cells;
+        },
+        λ row col less. picture-above columns page raw handed.line.text handed.behind row col (omega (arith, less, alike.row)) ∙ above row col less,
+      )
 
-  -- the rows that were drawn before are cleared, if there are any
-  begun-from : (columns base : ℕ) (old : Option Layout) (t : Terminal) (page : Page) → Begins base old page → Shows columns t page
+  -- the rows that were drawn before are cleared, if there are any, and those above stay
+  begun-from : (columns base : ℕ) (old : Option Layout) (t : Terminal) (page : Page) → 0 < columns → Begins base old page → Shows columns t page
       → (begun_page : Page) × Shows columns (sent columns t (clear_drawn old)) begun_page × Alike base begun_page (blank_page base)
-  begun-from columns base None t page begins shows = (page, shows, blank-alike base page begins)
-  begun-from columns base (Some old) t page begins shows =
-      (without_rest (at base 0 page), clear-turns columns base old.cursor t page begins.0 (omega (arith, begins.1)) shows, cleared-alike base page)
+      × ((row col : ℕ) → row < base → begun_page.cells row col ≡ page.cells row col)
+  begun-from columns base None t page some begins shows = (page, shows, blank-alike base page begins, λ row col less. refl)
+  begun-from columns base (Some old) t page some begins shows = (
+    without_rest (at base 0 page),
+    clear-turns columns base old.cursor t page begins.0 (omega (arith, begins.1)) some shows,
+    cleared-alike base page,
+    cleared-above base page,
+  )
 
   pub redraws-show : RedrawsShow p h
   redraws-show columns base wanted old handed bytes t page redraws is begins shows =
-      subst (λ b. IsShown columns base (p.raw_text handed.prompt) handed.line.text handed.behind handed.layout.cursor (sent columns t b)) (sym redraws.whole)
-      (once-shows columns t page wanted (clear_drawn old ++ redraws.drawn)
-      (IsShown columns base (p.raw_text handed.prompt) handed.line.text handed.behind handed.layout.cursor) shows
+      subst (λ b. Redrawn columns base handed page (sent columns t b)) (sym redraws.whole)
+      (once-shows columns t page wanted (clear_drawn old ++ redraws.drawn) (Redrawn columns base handed page) shows
       (λ u held.
-      let from = begun-from columns base old u page begins held in
+      let from = begun-from columns base old u page (omega (arith, is.cursor.2)) begins held in
       let end = at (base + handed.layout.cursor.row) handed.layout.cursor.col (picture columns from.0 (p.raw_text handed.prompt) handed.line.text handed.behind) in (
         end,
         subst (λ s. Shows columns s end) (sym (fold-append (put columns) u (clear_drawn old) redraws.drawn))
             (drawing-shows columns base handed redraws.drawn (sent columns u (clear_drawn old)) from.0 redraws.draws is from.2 from.1),
-        λ v shown. shown-then columns base handed from.0 v from.2 shown,
+        λ v shown. shown-then columns base handed page from.0 v from.2 from.3 shown,
       )))

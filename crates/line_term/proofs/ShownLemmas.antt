@@ -1,5 +1,5 @@
--- Which cells a text changes that is put down, and what a terminal shows after a part was drawn.
-use Rattle.std.proofs.Common.{◌≡◌, ◌<◌, ◌≤◌, ℕ, ◌+◌, min, ◌==◌, ◌||◌, ◌&&◌, nat_le, nat_lt, Bool, true, false, cond, List, [], ◌∷◌, ◌++◌, map, Option, None, refl, subst, sym, ap, ap₂, ◌∙◌, arith}
+-- Where the clusters of a text are shown, and what a terminal shows after a part was drawn.
+use Rattle.std.proofs.Common.{◌≡◌, ◌<◌, ◌≤◌, ℕ, ◌+◌, min, ◌==◌, ◌&&◌, nat_le, Bool, true, false, cond, List, [], ◌∷◌, ◌++◌, map, Option, None, refl, subst, sym, ap, ap₂, ◌∙◌, arith}
 use Rattle.std.specs.Prelude.{IsUtf8, chars, encode_utf8_all}
 use Rattle.std.specs.List.{fold, list_all}
 use Rattle.std.proofs.lemmas.Bool.{and_parts}
@@ -24,112 +24,14 @@ use Rattle.line_term.specs.Painted.{wrap}
 use Rattle.line_term.specs.Shown.{IsPlace, IsShown, first_cell, is_before}
 use Rattle.line_term.specs.Terminal.{Terminal, sent, without_row}
 use Rattle.line_term.proofs.AlikeLemmas.{Alike, alike-text}
+use Rattle.line_term.proofs.CellLemmas.{before, before-at, covers, stays-pieces, stays-text, untouched-text}
 use Rattle.line_term.proofs.MoveLemmas.{move-turns, row-turns}
 use Rattle.line_term.proofs.PrintLemmas.{cluster-last, clusters-at, clusters-last, earlier, text-at, wrapped-row}
 use Rattle.line_term.proofs.RedrawLemmas.{measured-row, texts-arrive}
 
--- a cell stands before the cursor of a page
-abbrev before : Page → ℕ → ℕ → Bool
-before page r k = nat_lt r page.row || ((r == page.row) && nat_lt k page.col)
-
--- ---- what is put down changes the cells from the old cursor to the new one
-
-abbrev covers : Page → ℕ → ℕ → ℕ → Bool
-covers page width r k = (r == page.row) && (nat_le page.col k && nat_lt k (page.col + width))
-
-shown-cell : (width : ℕ) (shown : List ℕ) (page : Page) (r k : ℕ) → covers page width r k ≡ false → (with_shown width shown page).cells r k ≡ page.cells r k
-shown-cell width shown page r k no_cover = ap (λ b. cond b (cond (k == page.col) (begun shown) continued) (page.cells r k)) no_cover
-
--- a cell before the cursor stays, and stands before it
-record Stays (page next : Page) (r k : ℕ) : Type 0 where
-  same : next.cells r k ≡ page.cells r k
-  before : before next r k ≡ true
-
-stays-below : (page : Page) (r k : ℕ) → before page r k ≡ true → Stays page (below page) r k
-stays-below page r k is = record { same = refl; before = grind (arith, nat_tests) }
-
-stays-shown : (width : ℕ) (shown : List ℕ) (page : Page) (r k : ℕ) → before page r k ≡ true → Stays page (with_shown width shown page) r k
-stays-shown width shown page r k is =
-    let no_cover : covers page width r k ≡ false = grind (arith, nat_tests) in
-    record { same = shown-cell width shown page r k no_cover; before = grind (arith, nat_tests) }
-
-stays-down : (columns : ℕ) (page : Page) (piece : List ℕ) (r k : ℕ) → before page r k ≡ true → Stays page (put_down columns page piece) r k
-stays-down columns page piece r k is = by_cases (ends_row piece) (nat_le (page.col + columns_of columns piece) columns) where
-  width : ℕ
-  width = columns_of columns piece
-
-  shown : List ℕ
-  shown = encode_utf8_all (map visible (chars piece))
-
-  by_cases : (e b : Bool) → Stays page (cond e (below page) (with_shown width shown (cond b page (below page)))) r k
-  by_cases true b = stays-below page r k is
-  by_cases false true = stays-shown width shown page r k is
-  by_cases false false =
-      let first = stays-below page r k is in
-      let then = stays-shown width shown (below page) r k first.before in
-      record { same = then.same ∙ first.same; before = then.before }
-
-stays-pieces : (columns : ℕ) (page : Page) (pieces : List (List ℕ)) (r k : ℕ) → before page r k ≡ true → Stays page (fold (put_down columns) page pieces) r k
-stays-pieces columns page [] r k is = record { same = refl; before = is }
-stays-pieces columns page (piece ∷ pieces) r k is =
-    let first = stays-down columns page piece r k is in
-    let then = stays-pieces columns (put_down columns page piece) pieces r k first.before in
-    record { same = then.same ∙ first.same; before = then.before }
-
--- so does one that is not before the new cursor, and it was not before the old one
-record Untouched (page next : Page) (r k : ℕ) : Type 0 where
-  same : next.cells r k ≡ page.cells r k
-  behind : before page r k ≡ false
-
-untouched-below : (page : Page) (r k : ℕ) → before (below page) r k ≡ false → Untouched page (below page) r k
-untouched-below page r k is = record { same = refl; behind = grind (arith, nat_tests) }
-
-untouched-shown : (width : ℕ) (shown : List ℕ) (page : Page) (r k : ℕ) → before (with_shown width shown page) r k ≡ false → Untouched page (with_shown width shown page) r k
-untouched-shown width shown page r k is =
-    let no_cover : covers page width r k ≡ false = grind (arith, nat_tests) in
-    record { same = shown-cell width shown page r k no_cover; behind = grind (arith, nat_tests) }
-
-untouched-down : (columns : ℕ) (page : Page) (piece : List ℕ) (r k : ℕ) → before (put_down columns page piece) r k ≡ false → Untouched page (put_down columns page piece) r k
-untouched-down columns page piece r k is = by_cases (ends_row piece) (nat_le (page.col + columns_of columns piece) columns) is where
-  width : ℕ
-  width = columns_of columns piece
-
-  shown : List ℕ
-  shown = encode_utf8_all (map visible (chars piece))
-
-  by_cases : (e b : Bool) → before (cond e (below page) (with_shown width shown (cond b page (below page)))) r k ≡ false
-      → Untouched page (cond e (below page) (with_shown width shown (cond b page (below page)))) r k
-  by_cases true b is = untouched-below page r k is
-  by_cases false true is = untouched-shown width shown page r k is
-  by_cases false false is =
-      let last = untouched-shown width shown (below page) r k is in
-      let first = untouched-below page r k last.behind in
-      record { same = last.same ∙ first.same; behind = first.behind }
-
-untouched-pieces : (columns : ℕ) (page : Page) (pieces : List (List ℕ)) (r k : ℕ) → before (fold (put_down columns) page pieces) r k ≡ false
-    → Untouched page (fold (put_down columns) page pieces) r k
-untouched-pieces columns page [] r k is = record { same = refl; behind = is }
-untouched-pieces columns page (piece ∷ pieces) r k is =
-    let last = untouched-pieces columns (put_down columns page piece) pieces r k is in
-    let first = untouched-down columns page piece r k last.behind in
-    record { same = last.same ∙ first.same; behind = first.behind }
-
-untouched-unwaiting : (columns : ℕ) (page : Page) (r k : ℕ) → before (unwaiting columns page) r k ≡ false → Untouched page (unwaiting columns page) r k
-untouched-unwaiting columns page r k is = by_full (page.col == columns) is where
-  by_full : (full : Bool) → before (cond full (below page) page) r k ≡ false → Untouched page (cond full (below page) page) r k
-  by_full true is = untouched-below page r k is
-  by_full false is = record { same = refl; behind = is }
-
-untouched-text : (columns : ℕ) (page : Page) (text : List ℕ) (r k : ℕ) → before (put_text columns page text) r k ≡ false → Untouched page (put_text columns page text) r k
-unfolding put_text
-untouched-text columns page text r k is =
-    let last = untouched-unwaiting columns (fold (put_down columns) page (graphemes true text)) r k is in
-    let first = untouched-pieces columns page (graphemes true text) r k last.behind in
-    record { same = last.same ∙ first.same; behind = first.behind }
-
--- a cell before the place at which the cursor is
-before-at : (base : ℕ) (place : Position) (page : Page) (r k : ℕ) → IsAt base place page → before page r k ≡ is_before base place r k
-before-at base place page r k there = ap₂ (λ row col. nat_lt r row || ((r == row) && nat_lt k col)) there.row there.col
+text-front : (columns base : ℕ) (origin : Position) (page : Page) (text : List ℕ) (row col : ℕ) → IsAt base origin page → is_before base origin row col ≡ true
+    → (put_text columns page text).cells row col ≡ page.cells row col
+text-front columns base origin page text row col there is = (stays-text columns page text row col (before-at base origin page row col there ∙ is)).same
 
 -- the rest of what is shown stays
 text-rest : (columns base : ℕ) (origin : Position) (page : Page) (text : List ℕ) (row col : ℕ) → (measured columns text origin).row < 65535
@@ -240,7 +142,7 @@ text-cluster columns base origin page text front piece back parts in_row some la
     some (cluster-shown columns base p first piece in_row some last_q at_p)
 
 pub texts-are-shown : TextsAreShown
-texts-are-shown = record { clusters = text-cluster; rest = text-rest }
+texts-are-shown = record { clusters = text-cluster; front = text-front; rest = text-rest }
 
 -- ---- after a part was drawn
 
@@ -362,12 +264,12 @@ front-cells columns page kept gone r k print some parts is =
 clears : (columns base : ℕ) (prompt kept gone : List ℕ) (cursor : Position) (t : Terminal) → list_all is_printable gone ≡ true
     → graphemes true (kept ++ gone) ≡ graphemes true kept ++ graphemes true gone
     → cursor ≡ measured columns kept (measured columns prompt corner)
-    → (measured columns (kept ++ gone) (measured columns prompt corner)).row ≡ cursor.row → cursor.row < 65535 → 0 < columns
+    → (measured columns (kept ++ gone) (measured columns prompt corner)).row ≡ cursor.row → cursor.row < 65535 → cursor.col < columns
     → IsShown columns base prompt (kept ++ gone) None cursor t → IsShown columns base prompt kept None cursor (sent columns t clear_row)
-clears columns base prompt kept gone cursor t print parts is same_row last some shown =
+clears columns base prompt kept gone cursor t print parts is same_row last room shown =
     record {
       page = without_row shown.page;
-      shows = row-turns columns t shown.page shown.shows;
+      shows = row-turns columns t shown.page (omega (arith, shown.at.col, room)) shown.shows;
       at = record { row = shown.at.row; col = shown.at.col };
       cells = λ r k from. by_cases r k from (before left r k) ((r == shown.page.row) && nat_le shown.page.col k) refl refl;
     }
@@ -397,7 +299,7 @@ clears columns base prompt kept gone cursor t print parts is same_row last some 
         → (without_row shown.page).cells r k ≡ left.cells r k
     by_cases r k from true c eb ec =
         ap (λ x. cond x blank (shown.page.cells r k)) (not-before r k eb) ∙ shown.cells r k from
-        ∙ front-cells columns (put_text columns (blank_page base) prompt) kept gone r k print some parts eb
+        ∙ front-cells columns (put_text columns (blank_page base) prompt) kept gone r k print (omega (arith, room)) parts eb
     by_cases r k from false true eb ec = ap (λ x. cond x blank (shown.page.cells r k)) ec ∙ sym (blank-behind columns base prompt kept r k eb)
     by_cases r k from false false eb ec =
         ap (λ x. cond x blank (shown.page.cells r k)) ec ∙ shown.cells r k from

@@ -15,7 +15,7 @@ use Rattle.line_term.specs.Escape.{clear_row, move_bytes}
 use Rattle.line_term.specs.Page.{IsAt, Page, at, begun, continued, put_text}
 use Rattle.line_term.specs.Painted.{Handed, Redraws, wrap}
 use Rattle.line_term.specs.Shown.{Begins, IsMeasured, IsPlace, IsShown, first_cell, is_before}
-use Rattle.line_term.specs.Terminal.{Shows, Terminal, Turns, sent, without_rest, without_row}
+use Rattle.line_term.specs.Terminal.{Shows, Terminal, Turns, TurnsInRow, sent, without_rest, without_row}
 
 -- the bytes of a move take the cursor from the one place to the other, wherever the rows begin, and change no cell
 abbrev pub MovesArrive : Type 0
@@ -33,8 +33,8 @@ TextsArrive = (columns base : ℕ) (origin : Position) (text : List ℕ) (t : Te
 -- a bell and what is asked of a terminal change nothing that is shown; what clears a row's rest, or all below, leaves the cursor where it is
 pub record OthersStay : Type 0 where
   pub bell : Turns (λ page. page) bytes.bell
-  pub row : Turns without_row bytes.clear_row
-  pub below : Turns without_rest bytes.clear_below
+  pub row : TurnsInRow without_row bytes.clear_row
+  pub below : TurnsInRow without_rest bytes.clear_below
   pub hold : Turns (λ page. page) bytes.hold
   pub release : Turns (λ page. page) bytes.release
   pub marked : Turns (λ page. page) bytes.paste_marked
@@ -48,25 +48,29 @@ ShowsCluster columns base before cluster page =
     (page.cells (base + place.row) place.col ≡ begun (encode_utf8_all (map visible (chars cluster))))
     × ((k : ℕ) → place.col < k → k < place.col + width → page.cells (base + place.row) k ≡ continued)
 
--- a text that is put down shows each cluster that has columns where the clusters before it are measured to end, and what does not stand
--- before its own end is shown as before
+-- a text that is put down shows each cluster that has columns where the clusters before it are measured to end; what stands before its
+-- start and from its end on is shown as before
 pub record TextsAreShown : Type 0 where
   pub clusters : (columns base : ℕ) (origin : Position) (page : Page) (text : List ℕ) (front : List (List ℕ)) (cluster : List ℕ) (back : List (List ℕ))
       → graphemes true text ≡ front ++ cluster ∷ back → ends_row cluster ≡ false → 0 < columns_of columns cluster
       → (measured columns text origin).row < 65535 → IsAt base origin page
       → ShowsCluster columns base (fold (after_cluster columns) origin front) cluster (put_text columns page text)
+  pub front : (columns base : ℕ) (origin : Position) (page : Page) (text : List ℕ) (row col : ℕ) → IsAt base origin page
+      → is_before base origin row col ≡ true → (put_text columns page text).cells row col ≡ page.cells row col
   pub rest : (columns base : ℕ) (origin : Position) (page : Page) (text : List ℕ) (row col : ℕ) → (measured columns text origin).row < 65535
       → IsAt base origin page → is_before base (measured columns text origin) row col ≡ false
       → (put_text columns page text).cells row col ≡ page.cells row col
 
 module _ {P H : Type 0} (p : prompts.Ghosts P) (h : highlighters.Ghosts H) where
-  -- after a full redraw the prompt, the line and what stands behind it are shown, on rows that begin where those of the drawing before did
+  -- after a full redraw the prompt, the line and what stands behind it are shown, on rows that begin where those of the drawing before
+  -- did; the rows above stay
   abbrev pub RedrawsShow : Type 0
   RedrawsShow = (columns base : ℕ) (wanted : Bool) (old : Option Layout) (handed : Handed P H) (bytes : List ℕ) (t : Terminal) (page : Page)
       → Redraws p h (measured columns) wanted old handed bytes
       → IsMeasured columns (p.raw_text handed.prompt) handed.line.text handed.behind handed.layout
       → Begins base old page → Shows columns t page
-      → IsShown columns base (p.raw_text handed.prompt) handed.line.text handed.behind handed.layout.cursor (sent columns t bytes)
+      → (shown : IsShown columns base (p.raw_text handed.prompt) handed.line.text handed.behind handed.layout.cursor (sent columns t bytes))
+      × ((row col : ℕ) → row < base → shown.page.cells row col ≡ page.cells row col)
 
 -- so they are after each call that draws a part
 pub record PartsShow : Type 0 where
@@ -85,6 +89,6 @@ pub record PartsShow : Type 0 where
   pub clears : (columns base : ℕ) (prompt kept gone : List ℕ) (cursor : Position) (t : Terminal)
       → list_all is_printable gone ≡ true → graphemes true (kept ++ gone) ≡ graphemes true kept ++ graphemes true gone
       → cursor ≡ measured columns kept (measured columns prompt corner)
-      → (measured columns (kept ++ gone) (measured columns prompt corner)).row ≡ cursor.row → cursor.row < 65535 → 0 < columns
+      → (measured columns (kept ++ gone) (measured columns prompt corner)).row ≡ cursor.row → cursor.row < 65535 → cursor.col < columns
       → IsShown columns base prompt (kept ++ gone) None cursor t
       → IsShown columns base prompt kept None cursor (sent columns t clear_row)

@@ -5,6 +5,7 @@ use crate::parties::{Failing, NOBODY, Party, fault};
 use line_buffer::{GraphemeClusterMode, Layout, LineBuffer, Position};
 use line_config::{ReadlineError, Result};
 use line_screen::KeyQueue;
+use line_session::dim_hints::DimHints;
 use line_state::Renderer;
 use line_term::Ansi;
 use std::alloc::Global;
@@ -105,6 +106,25 @@ fn redraw(alloc: Global, terminal: &mut Terminal, failing: Failing) -> Result<()
     )
 }
 
+/// Draws a line in full with a styled prompt and a hint that has colors.
+fn redraw_with_colors(alloc: Global, terminal: &mut Terminal) -> Result<()> {
+    let line = LineBuffer::init(alloc, "ab", 2)?;
+    let begin = terminal.calculate_position("> ", Position { row: 0, col: 0 });
+    let layout = terminal.compute_layout(begin, true, &line, Some("c"));
+    terminal.refresh_line(
+        &("> ", "\x1b[1m> "),
+        &line,
+        Some("c"),
+        None,
+        &layout,
+        Some(&DimHints::new(false)),
+    )
+}
+
+/// A text of many bytes.
+const LONG: &str =
+    "xxxxxxxxxxxxxxxxxxxxxxxxxxxxxxxxxxxxxxxxxxxxxxxxxxxxxxxxxxxxxxxxxxxxxxxxxxxxxxxxxxxxxxxxxxxxxxxxxxxxxxxxx";
+
 /// Calls, and the bytes that each writes.
 const CALLS: &[(&str, &str)] = &[
     ("beep", "\x07"),
@@ -119,6 +139,11 @@ const CALLS: &[(&str, &str)] = &[
     ("end_synchronized_update", "\x1b[?2026l"),
     ("refresh_line", "\x1b[?2026h> abc\r\x1b[4C\x1b[?2026l"),
     (
+        "colors",
+        "\x1b[?2026h\x0f\x1b[1m> \x1b[0m\x0fab\x0f\x1b[2mc\x1b[0m\x1b[0m\x0f\r\x1b[4C\x1b[?2026l",
+    ),
+    ("a long text", LONG),
+    (
         "a text of more than ASCII",
         "\x0fe\u{301}日\x0f \x0f\x0f\u{fffd}\x0f\r\n\x0f",
     ),
@@ -132,6 +157,8 @@ fn call(alloc: Global, terminal: &mut Terminal, name: &str) -> Result<()> {
             terminal.move_cursor(Position { row: 0, col: 0 }, Position { row: 1, col: 2 })
         }
         "write_and_flush" => terminal.write_and_flush("xyz"),
+        "colors" => redraw_with_colors(alloc, terminal),
+        "a long text" => terminal.write_and_flush(LONG),
         "a text of more than ASCII" => terminal.write_and_flush("e\u{301}日\t\u{85}\r\n"),
         "clear_to_eol" => terminal.clear_to_eol(),
         "clear_screen" => terminal.clear_screen(),
