@@ -1,5 +1,5 @@
 -- What stays of a screen in memory, and what is cleared.
-use Rattle.std.specs.Prelude.{◌≡◌, true, [], None}
+use Rattle.std.specs.Prelude.{◌≡◌, ◌++◌, ℕ, List, true, [], None}
 use Rattle.line_keys.specs.Display.{Screen, corner}
 use Rattle.line_state.specs.declared.screen_state.ScreenState as screens
 use Rattle.line_screen.specs.declared.surroundings.Surroundings as surroundings
@@ -14,6 +14,12 @@ blank_screen = record {
   behind = None;
   known = true;
 }
+
+-- the shown text loses an end, and nothing else of what is shown changes
+pub record LosesEnd (old new : Screen) : Type 0 where
+  pub gone : List ℕ
+  pub parts : old.text ≡ new.text ++ gone
+  pub rest : new ≡ record old { text = new.text }
 
 module _ {X : Type 0} (e : screens.Ghosts X) (s : surroundings.Ghosts X) where
   -- the measure stays, and no full redraw and no failure is counted

@@ -1,13 +1,13 @@
 //! A screen that keeps what it shows, from which a program draws.
-ghost use Rattle.std.specs.Prelude.{◌≡◌, ℕ, ◌+◌, ◌<◌, ◌≤◌, min, [], ◌∷◌, ◌++◌, List, length, take, true, false, Ok, Some, None, IfOk, IfSome, OnOk, OnErr, is_some, option_map, string_bytes, string_capacity};
+ghost use Rattle.std.specs.Prelude.{◌≡◌, ℕ, ◌+◌, ◌<◌, ◌≤◌, min, [], ◌∷◌, ◌++◌, List, length, take, true, false, Ok, Some, None, IfOk, IfSome, OnOk, OnErr, option_map, string_bytes, string_capacity};
 ghost use Rattle.std.specs.List.{list_all};
 ghost use Rattle.std.specs.Option.{ForSome};
 ghost use Rattle.line_config.specs.Error.{MemoryOnly, max_count};
 ghost use Rattle.line_buffer.specs.Printable.{is_plain, is_printable};
 ghost use Rattle.line_buffer.specs.declared.layout.GraphemeClusterMode.TheVariants.{Unicode};
-ghost use Rattle.line_state.specs.ScreenState.{Agrees, EndsBehind, HasRoom, Tries, shown_by, with_shown};
+ghost use Rattle.line_state.specs.ScreenState.{EndsBehind, HasRoom, Tries, shown_by, with_shown};
 ghost use Rattle.line_screen.specs.Measure.{EndsPlain, measured};
-ghost use Rattle.line_screen.specs.Surroundings.{Clears, KeepsSurroundings, blank_screen};
+ghost use Rattle.line_screen.specs.Surroundings.{Clears, KeepsSurroundings, LosesEnd, blank_screen};
 
 use crate::measure::{measured, measured_line};
 use crate::surroundings::Surroundings;
@@ -293,11 +293,7 @@ impl<R: RawReader> Renderer for Plain<R> {
         new_layout: &Layout,
         highlighter: Option<&H>,
     ) -> Result<()>
-        ensures shown { Agrees (⟦<Self as ScreenState>⟧.surface self.old)
-            (⟦<Self as ScreenState>⟧.screen self.old)
-            (P.raw_text prompt.now) line.now (option_map (λ s. s.now) hint.entry)
-            (option_map (λ l. l.now) old_layout.entry) new_layout.now (is_some highlighter.entry)
-            → OnOk result (⟦<Self as ScreenState>⟧.screen self.new
+        ensures shown { OnOk result (⟦<Self as ScreenState>⟧.screen self.new
             ≡ shown_by new_layout.now (P.raw_text prompt.now) line.now
             (option_map (λ s. s.now) hint.entry)) }
         ensures redraws { OnOk result (⟦<Self as ScreenState>⟧.redraws self.new
@@ -415,6 +411,8 @@ impl<R: RawReader> Renderer for Plain<R> {
             (⟦<Self as ScreenState>⟧.screen self.old) (length gone)
             → OnOk result (⟦<Self as ScreenState>⟧.screen self.new
             ≡ record (⟦<Self as ScreenState>⟧.screen self.old) { text = kept }) }
+        ensures loses { LosesEnd (⟦<Self as ScreenState>⟧.screen self.old)
+            (⟦<Self as ScreenState>⟧.screen self.new) }
         ensures keeps { KeepsSurroundings ⟦<Self as ScreenState>⟧ ⟦<Self as Surroundings>⟧
             self.old self.new }
     {

@@ -101,6 +101,7 @@ module _ {H : Type 0} where
     -- what stays, and then stays
     pub keeps_then : (old mid new : Sitting H) → Keeps answers old mid → Keeps answers mid new → Keeps answers old new
     keeps_then old mid new first next = record {
+      prompt = next.prompt ∙ first.prompt;
       answers_alike = λ lines. next.answers_alike lines ∙ first.answers_alike lines;
       takes = next.takes ∙ first.takes;
       own = next.own ∙ first.own;
@@ -143,10 +144,11 @@ module _ {H : Type 0} where
     came_so bound old mid new begun left done (Err error) ends line prompt lines takes settings comes = tt
 
     -- what stays where a line ends
-    pub keeps_so : (old mid new : Sitting H) → new ≡ record mid { line = new.line; lines = new.lines } → ((lines : List (List ℕ)) → answers mid.helper lines ≡ answers old.helper lines)
+    pub keeps_so : (old mid new : Sitting H) → new ≡ record mid { line = new.line; lines = new.lines } → mid.prompt ≡ old.prompt → ((lines : List (List ℕ)) → answers mid.helper lines ≡ answers old.helper lines)
         → mid.takes ≡ old.takes → queue_binding mid.binds ≡ queue_binding old.binds → mid.decoder ≡ old.decoder → mid.settings ≡ old.settings → mid.columns ≡ old.columns → mid.rows ≡ old.rows
         → Keeps answers old new
-    keeps_so old mid new stays alike takes own decoder settings columns rows = record {
+    keeps_so old mid new stays prompt alike takes own decoder settings columns rows = record {
+      prompt = ap (λ (s : Sitting H). s.prompt) stays ∙ prompt;
       answers_alike = λ lines. ap (λ (s : Sitting H). answers s.helper lines) stays ∙ alike lines;
       takes = ap (λ (s : Sitting H). s.takes) stays ∙ takes;
       own = ap (λ (s : Sitting H). queue_binding s.binds) stays ∙ own;
@@ -160,9 +162,9 @@ module _ {H : Type 0} where
     pub starts_so : (prompt left right raw : List ℕ) (old mid new : Sitting H) (begun : BegunLine) → mid ≡ old → new.line ≡ Some begun
         → begun.kept.draft ≡ begun_with left right mid.lines → begun.input ≡ first_input mid.settings.edit_mode → begun.mode ≡ Editing → begun.draws ≡ true
         → begun.kept.drawing.prompt_end ≡ measured mid.columns raw corner → raw ≡ prompt
-        → new ≡ record mid { line = new.line; helper = new.helper; columns = new.columns; rows = new.rows; kills = new.kills } → new.kills ≡ with_last mid.kills other → new.columns ≡ mid.columns → new.rows ≡ mid.rows
+        → new ≡ record mid { line = new.line; prompt = new.prompt; helper = new.helper; columns = new.columns; rows = new.rows; kills = new.kills } → new.prompt ≡ raw → new.kills ≡ with_last mid.kills other → new.columns ≡ mid.columns → new.rows ≡ mid.rows
         → ((lines : List (List ℕ)) → answers new.helper lines ≡ answers mid.helper lines) → StartsWith answers prompt left right old new
-    starts_so prompt left right raw old mid new begun same line draft input mode draws prompt_end text stays reset columns rows alike =
+    starts_so prompt left right raw old mid new begun same line draft input mode draws prompt_end text stays copied reset columns rows alike =
         subst (λ o. StartsWith answers prompt left right o new) same (record {
           begun = begun;
           line = line;
@@ -175,6 +177,7 @@ module _ {H : Type 0} where
           kills = reset;
           items = ap (λ (s : Sitting H). s.items) stays;
           keeps = record {
+            prompt = copied ∙ text;
             answers_alike = alike;
             takes = ap (λ (s : Sitting H). s.takes) stays;
             own = ap (λ (s : Sitting H). queue_binding s.binds) stays;

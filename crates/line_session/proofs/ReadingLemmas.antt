@@ -48,13 +48,14 @@ module _ {H : Type 0} (answers : H → List (List ℕ) → Environment) (bound :
   start = starting (answers old.helper old.lines) true (first_standing before behind old)
 
   -- the line has begun
-  pub reads_begun : (now : Sitting H) (came : Fed) → CameBegun answers bound prompt before behind old now came → Keeps answers old now
+  pub reads_begun : (now : Sitting H) (came : Fed) → CameBegun answers bound prompt before behind old now came → Keeps answers (record old { prompt = prompt }) now
       → Reads answers bound pauses input input prompt before behind old now came
   reads_begun now came begun keeps = record {
     items = [];
     heard = subst (λ d. Heard pauses input old.decoder input [] d) (sym keeps.decoder) reading.nothing;
     over = by_fed came begun;
     keeps = record {
+      prompt = keeps.prompt;
       answers_alike = keeps.answers_alike;
       takes = keeps.takes;
       own = keeps.own;
@@ -137,6 +138,7 @@ module _ {H : Type 0} (answers : H → List (List ℕ) → Environment) (bound :
           heard = subst (λ d. Heard pauses input old.decoder later (reads.items ++ turn.items) d) (sym hears.keeps.decoder) (hears.heard reads.heard);
           over = by_fed turn.items here came came_here;
           keeps = record {
+            prompt = hears.keeps.prompt ∙ reads.keeps.prompt;
             answers_alike = λ lines. hears.keeps.answers_alike lines ∙ reads.keeps.answers_alike lines;
             takes = hears.keeps.takes ∙ reads.keeps.takes;
             own = hears.keeps.own ∙ reads.keeps.own;

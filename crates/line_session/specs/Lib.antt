@@ -3,6 +3,7 @@ pub mod Completing
 pub mod Dim
 pub mod Filed
 pub mod Kept
+pub mod OnTerminal
 pub mod OneChange
 pub mod OneSearch
 pub mod Pieces

@@ -66,7 +66,7 @@ module _ {H : Type 0} where
       pub heard : Heard pauses input old.decoder input' items now.decoder
       pub over : CameOver (rules_at answers bound old (measured old.columns prompt corner).col)
           (starting (answers old.helper old.lines) true (first_standing left right old)) items old now came
-      pub keeps : Keeps answers (record old { decoder = now.decoder }) now
+      pub keeps : Keeps answers (record old { prompt = prompt; decoder = now.decoder }) now
 
     -- a line was read of the input, and this is answered: the line; that the person interrupted; or the end of the input, by a key or as it
     -- has ended while the line goes on, and nothing is left behind Suspend. No line goes on then

@@ -1,5 +1,5 @@
 -- What an editor keeps between two calls, and what comes of the items that it reads.
-use Rattle.std.specs.Prelude.{◌≡◌, ◌++◌, ℕ, Bool, true, false, if◌then◌else◌, List, length, Option, Some, None, is_some, option_map, unwrap_or, Result, Ok, string_bytes}
+use Rattle.std.specs.Prelude.{◌≡◌, ◌⊎◌, ◌++◌, ℕ, Bool, true, false, if◌then◌else◌, List, length, Option, Some, None, is_some, option_map, unwrap_or, Result, Ok, string_bytes}
 use Rattle.line_buffer.specs.KillRing.{Ring, other, with_last}
 use Rattle.line_buffer.specs.declared.layout.GraphemeClusterMode.TheVariants.{Unicode}
 use Rattle.line_config.specs.Settings.{Settings}
@@ -33,10 +33,12 @@ pub record BegunLine : Type 0 where
   pub mode : Mode
   pub draws : Bool
 
--- the line that has begun, if one has; the lines of the history and which ones it takes; the kill ring; the items that are left to
--- read, and whether the queue of them binds keys; what the bytes that came have left; the helper; the settings; and the columns and the rows
+-- the line that has begun, if one has, and the prompt of the last one that began; the lines of the history and which ones it takes; the kill
+-- ring; the items that are left to read, and whether the queue of them binds keys; what the bytes that came have left; the helper; the
+-- settings; and the columns and the rows
 pub record Sitting (H : Type 0) : Type 0 where
   pub line : Option BegunLine
+  pub prompt : List ℕ
   pub lines : List (List ℕ)
   pub takes : HistoryRules
   pub kills : Ring
@@ -55,6 +57,14 @@ written_so_far sitting = option_map (λ (begun : BegunLine). (begun.kept.draft, 
 -- whether the program is suspended
 abbrev pub suspends : {H : Type 0} → Sitting H → Bool
 suspends sitting = unwrap_or (option_map (λ (begun : BegunLine). is_suspended begun.mode) sitting.line) false
+
+-- the line that has begun is drawn before the next key is read
+abbrev pub drawn_anew : {H : Type 0} → Sitting H → Sitting H
+drawn_anew sitting = record sitting { line = option_map (λ (begun : BegunLine). record begun { draws = true }) sitting.line }
+
+-- all stays, but that the line may be drawn before the next key is read
+abbrev pub StaysOrDraws : {H : Type 0} → Sitting H → Sitting H → Type 0
+StaysOrDraws old new = (new ≡ old) ⊎ (new ≡ drawn_anew old)
 
 -- nothing is lost where a call fails: the line that had begun is there, if one had, and so are the lines of the history
 pub record LosesNothing {H : Type 0} (old new : Sitting H) : Type 0 where
@@ -162,9 +172,10 @@ module _ {H : Type 0} where
       CameBegun prompt left right old = CameFrom (rules_at old (measured old.columns prompt corner).col) false
           (starting (answers old.helper old.lines) true (first_standing left right old)) old
 
-    -- what stays while turns are taken: those who answer, the lines that the history takes, the keys that the queue binds, what the bytes
-    -- have left, the settings, the columns and the rows
+    -- what stays while turns are taken: the prompt, those who answer, the lines that the history takes, the keys that the queue binds, what
+    -- the bytes have left, the settings, the columns and the rows
     pub record Keeps (old new : Sitting H) : Type 0 where
+      pub prompt : new.prompt ≡ old.prompt
       pub answers_alike : (lines : List (List ℕ)) → answers new.helper lines ≡ answers old.helper lines
       pub takes : new.takes ≡ old.takes
       pub own : queue_binding new.binds ≡ queue_binding old.binds
@@ -185,4 +196,4 @@ module _ {H : Type 0} where
       pub lines : new.lines ≡ old.lines
       pub kills : new.kills ≡ with_last old.kills other
       pub items : new.items ≡ old.items
-      pub keeps : Keeps old new
+      pub keeps : Keeps (record old { prompt = prompt }) new

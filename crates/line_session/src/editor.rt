@@ -5,8 +5,9 @@ ghost use Rattle.line_config.specs.Error.{FaultsOnly, MemoryOnly, UnlessFault};
 ghost use Rattle.line_editor.specs.Binding.{bound_of};
 ghost use Rattle.line_parts.specs.History.{TellsTaken, added};
 ghost use Rattle.line_session.specs.Kept.{answers_of};
+ghost use Rattle.line_session.specs.OnTerminal.{ShowsByMode};
 ghost use Rattle.line_session.specs.Reading.{BindingsLookAtNoHint, HearsOnce, ReadsLine, answer_of};
-ghost use Rattle.line_session.specs.Sitting.{BegunLine, Came, CameBegun, EndsAs, Keeps, LosesNothing, StartsWith, suspends, with_turn, written_so_far};
+ghost use Rattle.line_session.specs.Sitting.{BegunLine, Came, CameBegun, EndsAs, Keeps, LosesNothing, StartsWith, StaysOrDraws, drawn_anew, suspends, with_turn, written_so_far};
 ghost use Rattle.line_buffer.specs.KillRing.{empty_ring};
 ghost use Rattle.line_term.specs.Decoder.{finished, flushed, fresh, is_waiting, read};
 
@@ -84,6 +85,7 @@ impl<O: Write + Drop, H: Helper + Drop, S: History + Drop> Model for Editor<O, H
     ghost use Rattle.line_screen.specs.Measure.{measured};
     ghost use Rattle.line_session.specs.Kept.{Fits, answers_of};
     ghost use Rattle.line_session.specs.Sitting.{Sitting};
+    ghost use Rattle.line_term.specs.Shown.{known_screen};
 
     ghost Value = { Sitting H };
 
@@ -94,6 +96,7 @@ impl<O: Write + Drop, H: Helper + Drop, S: History + Drop> Model for Editor<O, H
         mode = begun.mode;
         draws = begun.draws;
       }) e.line;
+      prompt = string_bytes e.prompt.0;
       lines = S.lines e.history;
       takes = S.rules e.history;
       kills = e.kill_ring;
@@ -115,14 +118,14 @@ impl<O: Write + Drop, H: Helper + Drop, S: History + Drop> Model for Editor<O, H
           colors = e.screen.colors;
           mode = Unicode;
         })
-        (record {
+        (known_screen e.screen.shown.columns e.screen.whole e.screen.end (record {
           position = e.screen.shown.place;
           prompt = string_bytes e.screen.shown.prompt;
           text = string_bytes e.screen.shown.text;
           origin = e.screen.shown.origin;
           behind = option_map string_bytes e.screen.shown.hint;
           known = true;
-        })
+        }))
         (string_bytes e.prompt.0)
         (answers_of H.hint_at H.verdict_at H.lights H.Completer e.helper (S.lines e.history))) };
 }
@@ -132,6 +135,7 @@ impl<O: Write + Drop, H: Helper + Drop, S: History + Drop> Editor<O, H, S> {
     pub fn new(alloc: Global, config: Config, out: O, columns: Unit, helper: H, history: S) -> Self
         requires { 0 < columns }
         ensures line { result.line ≡ None }
+        ensures prompt { result.prompt ≡ [] }
         ensures lines { result.lines ≡ S.lines history }
         ensures takes { result.takes ≡ S.rules history }
         ensures binds { result.binds ≡ true }
@@ -257,15 +261,22 @@ impl<O: Write + Drop, H: Helper + Drop, S: History + Drop> Editor<O, H, S> {
         &self.helper
     }
 
-    /// Returns what is written to.
-    pub fn out(&self) -> &O {
+    /// Returns what is written to. Unless the line that has begun is to be drawn, the bytes that were written end in some that show it
+    /// on each terminal that is ready for them: its prompt, its text and what stands behind that, with the cursor where the line's is.
+    pub fn out(&self) -> &O
+        ensures shown { (begun : BegunLine) → self.now.line ≡ Some begun → begun.draws ≡ false
+            → ShowsByMode O.contents self.now.columns result.now begun.mode self.now.items
+            (answers_of H.hint_at H.verdict_at H.lights H.Completer self.now.helper self.now.lines)
+            self.now.prompt begun.kept.draft }
+    {
         self.screen.out()
     }
 
-    /// Writes to `out` from now on. Returns what was written to before.
+    /// Writes to `out` from now on, and draws the line that has begun at the next call. Returns what was written to before.
     pub fn replace_out(&mut self, out: O) -> O
-        ensures { self.new ≡ self.old }
+        ensures { self.new ≡ drawn_anew self.old }
     {
+        draw_anew(&mut self.line);
         self.screen.replace_out(out)
     }
 
@@ -302,7 +313,8 @@ impl<O: Write + Drop, H: Helper + Drop, S: History + Drop> Editor<O, H, S> {
             (bound_of g bindings.now) (P.raw_text prompt.now)
             initial.entry.0.now initial.entry.1.now self.old self.new) }
         ensures keeps { OnOk result
-            (Keeps (answers_of H.hint_at H.verdict_at H.lights H.Completer) self.old self.new) }
+            (Keeps (answers_of H.hint_at H.verdict_at H.lights H.Completer)
+            (record self.old { prompt = P.raw_text prompt.now }) self.new) }
         ensures lines { OnErr result (self.new.lines ≡ self.old.lines) }
         ensures faults { FaultsOnly result }
     {
@@ -319,7 +331,8 @@ impl<O: Write + Drop, H: Helper + Drop, S: History + Drop> Editor<O, H, S> {
             IfOk result (CameBegun (answers_of H.hint_at H.verdict_at H.lights H.Completer)
             (bound_of g bindings.now) (P.raw_text prompt.now) [] [] self.old self.new) }
         ensures keeps { OnOk result
-            (Keeps (answers_of H.hint_at H.verdict_at H.lights H.Completer) self.old self.new) }
+            (Keeps (answers_of H.hint_at H.verdict_at H.lights H.Completer)
+            (record self.old { prompt = P.raw_text prompt.now }) self.new) }
         ensures lines { OnErr result (self.new.lines ≡ self.old.lines) }
         ensures faults { FaultsOnly result }
     {
@@ -393,10 +406,10 @@ impl<O: Write + Drop, H: Helper + Drop, S: History + Drop> Editor<O, H, S> {
     /// that were typed ahead are kept.
     ///
     /// # Errors
-    /// `Io`, where the output fails, and `Memory`. The line goes on then.
+    /// `Io`, where the output fails. The line goes on then, and is drawn at the next call.
     pub fn abandon(&mut self) -> Result<()>
         ensures gone { OnOk result (self.new ≡ record self.old { line = None }) }
-        ensures kept { OnErr result (self.new ≡ self.old) }
+        ensures kept { OnErr result (self.new ≡ drawn_anew self.old) }
         ensures faults { FaultsOnly result }
     {
         if self.line.is_none() {
@@ -585,25 +598,41 @@ impl<O: Write + Drop, H: Helper + Drop, S: History + Drop> Editor<O, H, S> {
     }
 
     /// Asks the terminal to mark pasted texts, where the settings say so.
+    ///
+    /// # Errors
+    /// `Io`, where the output fails. The line that has begun is drawn at the next call then.
     fn ask_for_paste_marks(&mut self) -> Result<()>
-        ensures stays { self.new ≡ self.old }
+        ensures stays { OnOk result (self.new ≡ self.old) }
+        ensures failed { OnErr result (self.new ≡ drawn_anew self.old) }
         ensures faults { FaultsOnly result }
     {
         if !self.config.enable_bracketed_paste() {
             return Ok(());
         }
-        self.screen.enable_bracketed_paste()
+        let asked = self.screen.enable_bracketed_paste();
+        if asked.is_err() {
+            draw_anew(&mut self.line);
+        }
+        asked
     }
 
     /// Asks the terminal to mark pasted texts no more, where the settings say so.
+    ///
+    /// # Errors
+    /// `Io`, where the output fails. The line that has begun is drawn at the next call then.
     fn ask_for_no_paste_marks(&mut self) -> Result<()>
-        ensures stays { self.new ≡ self.old }
+        ensures stays { OnOk result (self.new ≡ self.old) }
+        ensures failed { OnErr result (self.new ≡ drawn_anew self.old) }
         ensures faults { FaultsOnly result }
     {
         if !self.config.enable_bracketed_paste() {
             return Ok(());
         }
-        self.screen.disable_bracketed_paste()
+        let asked = self.screen.disable_bracketed_paste();
+        if asked.is_err() {
+            draw_anew(&mut self.line);
+        }
+        asked
     }
 
     /// Appends the items of bytes to those that are left.
@@ -673,7 +702,7 @@ impl<O: Write + Drop, H: Helper + Drop, S: History + Drop> Editor<O, H, S> {
         ensures ends { IfOk result (EndsAs turned self.old self.new) }
         ensures stays { self.new
             ≡ record self.old { line = self.new.line; lines = self.new.lines } }
-        ensures kept { OnErr result (self.new ≡ self.old) }
+        ensures kept { OnErr result (StaysOrDraws self.old self.new) }
         ensures faults { FaultsOnly result }
     {
         match turned? {
@@ -684,11 +713,11 @@ impl<O: Write + Drop, H: Helper + Drop, S: History + Drop> Editor<O, H, S> {
         }
     }
 
-    /// Drops the line that has begun. Where that fails, the line goes on.
+    /// Drops the line that has begun. Where that fails, the line goes on, and is drawn at the next call.
     fn leave(&mut self, fed: Fed) -> Result<Fed>
         ensures answer { IfOk result (λ answer. answer ≡ fed) }
         ensures gone { OnOk result (self.new ≡ record self.old { line = None }) }
-        ensures kept { OnErr result (self.new ≡ self.old) }
+        ensures kept { OnErr result (self.new ≡ drawn_anew self.old) }
         ensures faults { FaultsOnly result }
     {
         self.ask_for_no_paste_marks()?;
@@ -702,7 +731,7 @@ impl<O: Write + Drop, H: Helper + Drop, S: History + Drop> Editor<O, H, S> {
         ensures submits { IfOk result (EndsAs (Ok Turned.Submitted) self.old self.new) }
         ensures stays { self.new
             ≡ record self.old { line = self.new.line; lines = self.new.lines } }
-        ensures kept { OnErr result (self.new ≡ self.old) }
+        ensures kept { OnErr result (StaysOrDraws self.old self.new) }
         ensures faults { FaultsOnly result }
     {
         let Some(begun) = &self.line else {
@@ -717,6 +746,17 @@ impl<O: Write + Drop, H: Helper + Drop, S: History + Drop> Editor<O, H, S> {
         )?;
         self.line = None;
         Ok(Fed::Submitted(text))
+    }
+}
+
+/// Has a line drawn before its next key is read, if one has begun.
+fn draw_anew<H: Helper>(line: &mut Option<Begun<H>>)
+    ensures none { line.old ≡ None → line.new ≡ None }
+    ensures some { (begun : _) → line.old ≡ Some begun
+        → line.new ≡ Some (record begun { draws = true }) }
+{
+    if let Some(begun) = line {
+        begun.draws = true;
     }
 }
 

@@ -37,8 +37,7 @@ pub trait Renderer: ScreenState {
     ///
     /// These are then known to be shown, with the cursor where `new_layout` has it, if what is handed over agrees: the
     /// prompt ends at the prompt end of `new_layout`, which is the layout of a full redraw; the cursor of `old_layout` is
-    /// the drawn one; and a highlighter comes only with colors. `old_layout` says which rows were drawn before; with none
-    /// nothing is cleared.
+    /// the drawn one; and a highlighter comes only with colors. `old_layout` says which rows were drawn before, if any were.
     fn refresh_line<P: Prompt, H: Highlighter>(
         &mut self,
         prompt: &P,
@@ -163,9 +162,11 @@ pub trait Renderer: ScreenState {
     fn move_cursor_at_leftmost(&mut self, rdr: &mut Self::Reader) -> Result<()>
         ensures part { DrawsPart Self.ScreenState result self.old self.new };
 
-    /// What is drawn from here on may be held back.
+    /// What is drawn from here on may be held back. What is shown stays; after an error it may be known no more.
     fn begin_synchronized_update(&mut self) -> Result<()>
-        ensures screen { Self.screen self.new ≡ Self.screen self.old }
+        ensures screen { OnOk result (Self.screen self.new ≡ Self.screen self.old) }
+        ensures position { (Self.screen self.new).position ≡ (Self.screen self.old).position }
+        ensures shown { KeepsShown (Self.screen self.old) (Self.screen self.new) }
         ensures beside { HoldsAtMost (Self.beside self.old) (Self.beside self.new) }
         ensures part { DrawsNoLine Self.ScreenState result self.old self.new }
     {
@@ -173,9 +174,11 @@ pub trait Renderer: ScreenState {
         Ok(())
     }
 
-    /// What was held back is shown.
+    /// What was held back is shown, and stays; after an error it may be known no more.
     fn end_synchronized_update(&mut self) -> Result<()>
-        ensures screen { Self.screen self.new ≡ Self.screen self.old }
+        ensures screen { OnOk result (Self.screen self.new ≡ Self.screen self.old) }
+        ensures position { (Self.screen self.new).position ≡ (Self.screen self.old).position }
+        ensures shown { KeepsShown (Self.screen self.old) (Self.screen self.new) }
         ensures beside { HoldsAtMost (Self.beside self.old) (Self.beside self.new) }
         ensures part { DrawsNoLine Self.ScreenState result self.old self.new }
     {

@@ -7,13 +7,16 @@ pub mod CutLemmas
 pub mod DrawnLemmas
 pub mod FeedLemmas
 pub mod GoesLemmas
+pub mod KnownLemmas
 pub mod MoveLemmas
 pub mod PaintedLemmas
+pub mod PartLemmas
 pub mod PastingLemmas
 pub mod PlainLemmas
 pub mod PrefixLemmas
 pub mod PrintLemmas
 pub mod ReadingLemmas
+pub mod ReadyLemmas
 pub mod RedrawLemmas
 pub mod RowLemmas
 pub mod SequenceLemmas

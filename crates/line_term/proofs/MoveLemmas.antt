@@ -10,6 +10,7 @@ use Rattle.line_buffer.specs.declared.layout.Position.{Position}
 use Rattle.line_term.specs.Escape.{bell, clear_below, clear_from, clear_row, columns_bytes, hold, move_bytes, paste_marked, paste_typed, release, return, rows_bytes, steps}
 use Rattle.line_term.specs.Laws.{OthersStay}
 use Rattle.line_term.specs.Page.{IsAt, Page, at}
+use Rattle.line_term.specs.Shown.{within}
 use Rattle.line_term.specs.Terminal.{Reading, Shows, Terminal, Turns, TurnsInRow, ended, is_known, put, seen, sent, sequence, showing, without_rest, without_row}
 use Rattle.line_term.proofs.GoesLemmas.{coming}
 use Rattle.line_term.proofs.WentLemmas.{seen-none}
@@ -91,7 +92,7 @@ abbrev stepped : ℕ → Page → ℕ → ℕ → Page
 stepped columns page zero letter = page
 stepped columns page (suc n) letter = ended columns page (suc n) letter
 
-steps-sent : (columns n letter : ℕ) (t : Terminal) (page : Page) → is_move letter ≡ true → n < 2 ^ 64 → Shows columns t page
+pub steps-sent : (columns n letter : ℕ) (t : Terminal) (page : Page) → is_move letter ≡ true → n < 2 ^ 64 → Shows columns t page
     → Shows columns (sent columns t (steps n letter)) (stepped columns page n letter)
 steps-sent columns zero letter t page is small shows = shows
 steps-sent columns (suc n) letter t page is small shows =
@@ -129,10 +130,12 @@ down-is columns (suc n) page within =
     let count : max 1 (suc n) ≡ suc n = omega arith in
     ap₂ (λ m c. at (page.row + m) c page) count col
 
-right-is : (columns n : ℕ) (page : Page) → page.col ≡ 0 → n < columns → stepped columns page n 67 ≡ at page.row n page
-right-is columns zero page first within = ap (λ c. at page.row c page) first
-right-is columns (suc n) page first within =
-    let col : min (page.col + max 1 (suc n)) (columns - 1) ≡ suc n = omega arith in
+right-is : (columns n : ℕ) (page : Page) → page.col ≡ 0 → stepped columns page n 67 ≡ at page.row (min n (columns - 1)) page
+right-is columns zero page first =
+    let col : page.col ≡ min 0 (columns - 1) = omega (arith, first) in
+    ap (λ c. at page.row c page) col
+right-is columns (suc n) page first =
+    let col : min (page.col + max 1 (suc n)) (columns - 1) ≡ min (suc n) (columns - 1) = omega (arith, first) in
     ap (λ c. at page.row c page) col
 
 -- a carriage return
@@ -144,7 +147,7 @@ return-sent columns t page shows =
     ∙ ap (λ (p : Page). showing (at p.row 0 p)) (ap (seen columns) (sym (ready-coming t shows.ready)) ∙ shows.shown) in
     subst (λ s. Shows columns s (at page.row 0 page)) (sym goes) (shows-page columns (at page.row 0 page))
 
-turned : (columns : ℕ) (t : Terminal) (page next : Page) (bytes : List ℕ) → Shows columns t page
+pub turned : (columns : ℕ) (t : Terminal) (page next : Page) (bytes : List ℕ) → Shows columns t page
     → (seen columns (coming t.page t.text) ≡ page → sent columns (coming t.page t.text) bytes ≡ showing next) → Shows columns (sent columns t bytes) next
 turned columns t page next bytes shows goes =
     let there : seen columns (coming t.page t.text) ≡ page = ap (seen columns) (sym (ready-coming t shows.ready)) ∙ shows.shown in
@@ -180,7 +183,7 @@ in-column columns page room =
     let col : min page.col (columns - 1) ≡ page.col = omega (arith, room) in
     ap (λ c. at page.row c page) col
 
-row-sent : (columns : ℕ) (page : Page) (cs : List ℕ)
+pub row-sent : (columns : ℕ) (page : Page) (cs : List ℕ)
     → sent columns (coming page cs) clear_row ≡ showing (let p = seen columns (coming page cs) in without_row (at p.row (min p.col (columns - 1)) p))
 unfolding put seen
 row-sent columns page cs = refl
@@ -190,7 +193,7 @@ row-turns columns t page room shows = turned columns t page (without_row page) c
     (λ there. row-sent columns t.page t.text ∙ ap (λ (p : Page). showing (without_row (at p.row (min p.col (columns - 1)) p))) there
     ∙ ap (λ p. showing (without_row p)) (in-column columns page room))
 
-below-sent : (columns : ℕ) (page : Page) (cs : List ℕ)
+pub below-sent : (columns : ℕ) (page : Page) (cs : List ℕ)
     → sent columns (coming page cs) clear_below ≡ showing (let p = seen columns (coming page cs) in without_rest (at p.row (min p.col (columns - 1)) p))
 unfolding put seen
 below-sent columns page cs = refl
@@ -203,11 +206,11 @@ below-turns columns t page room shows = turned columns t page (without_rest page
 -- ---- whole moves
 
 -- from a place to another
-pub move-turns : (columns base : ℕ) (old new : Position) (t : Terminal) (page : Page) → IsAt base old page → old.row < 2 ^ 64 → old.col < columns
-    → new.row < 2 ^ 64 → new.col < 2 ^ 64 → new.col < columns → Shows columns t page
-    → Shows columns (sent columns t (move_bytes old new)) (at (base + new.row) new.col page)
-move-turns columns base old new t page there fits_old room fits_new fits_col within shows =
-    subst (λ s. Shows columns s (at (base + new.row) new.col page)) (sym (fold-append (put columns) t (rows_bytes old.row new.row) (columns_bytes old.col new.col)))
+pub move-turns : (columns base : ℕ) (old new : Position) (t : Terminal) (page : Page) → 0 < columns → IsAt base (within columns old) page
+    → old.row < 2 ^ 64 → new.row < 2 ^ 64 → new.col < 2 ^ 64 → Shows columns t page
+    → Shows columns (sent columns t (move_bytes old new)) (at (base + new.row) (within columns new).col page)
+move-turns columns base old new t page some there fits_old fits_new fits_col shows =
+    subst (λ s. Shows columns s (at (base + new.row) (within columns new).col page)) (sym (fold-append (put columns) t (rows_bytes old.row new.row) (columns_bytes old.col new.col)))
     (to_column (old.col == new.col) refl)
   where
     up : List ℕ
@@ -217,15 +220,18 @@ move-turns columns base old new t page there fits_old room fits_new fits_col wit
     down = steps (new.row - old.row) 66
 
     on_row : Page
-    on_row = at (base + new.row) old.col page
+    on_row = at (base + new.row) (within columns old).col page
+
+    in_row : page.col < columns
+    in_row = omega (arith, there.col, some)
 
     first : Shows columns (sent columns t up) (at (page.row - (old.row - new.row)) page.col page)
-    first = subst (Shows columns (sent columns t up)) (up-is columns (old.row - new.row) page (omega (arith, there.col, room)))
+    first = subst (Shows columns (sent columns t up)) (up-is columns (old.row - new.row) page in_row)
         (steps-sent columns (old.row - new.row) 65 t page refl (omega (arith, fits_old)) shows)
 
     second : Shows columns (sent columns (sent columns t up) down) (at (page.row - (old.row - new.row) + (new.row - old.row)) page.col page)
     second = let middle : Page = at (page.row - (old.row - new.row)) page.col page in
-        subst (Shows columns (sent columns (sent columns t up) down)) (down-is columns (new.row - old.row) middle (omega (arith, there.col, room)))
+        subst (Shows columns (sent columns (sent columns t up) down)) (down-is columns (new.row - old.row) middle in_row)
         (steps-sent columns (new.row - old.row) 66 (sent columns t up) middle refl (omega (arith, fits_new)) first)
 
     row_is : page.row - (old.row - new.row) + (new.row - old.row) ≡ base + new.row
@@ -236,30 +242,29 @@ move-turns columns base old new t page there fits_old room fits_new fits_col wit
         (subst (Shows columns (sent columns (sent columns t up) down)) (ap₂ (λ r c. at r c page) row_is there.col) second)
 
     to_column : (b : Bool) → (old.col == new.col) ≡ b
-        → Shows columns (sent columns (sent columns t (rows_bytes old.row new.row)) (cond b [] (return ++ steps new.col 67))) (at (base + new.row) new.col page)
+        → Shows columns (sent columns (sent columns t (rows_bytes old.row new.row)) (cond b [] (return ++ steps new.col 67))) (at (base + new.row) (within columns new).col page)
     to_column true e =
         let same_col : old.col ≡ new.col = grind (arith, nat_tests) in
-        subst (λ c. Shows columns (sent columns t (rows_bytes old.row new.row)) (at (base + new.row) c page)) same_col rows
+        subst (λ c. Shows columns (sent columns t (rows_bytes old.row new.row)) (at (base + new.row) (min c (columns - 1)) page)) same_col rows
     to_column false e =
         let there_first : Page = at (base + new.row) 0 page in
         let returned = return-sent columns (sent columns t (rows_bytes old.row new.row)) on_row rows in
-        subst (λ s. Shows columns s (at (base + new.row) new.col page)) (sym (fold-append (put columns) (sent columns t (rows_bytes old.row new.row)) return (steps new.col 67)))
-        (subst (Shows columns _) (right-is columns new.col there_first refl within)
+        subst (λ s. Shows columns s (at (base + new.row) (within columns new).col page)) (sym (fold-append (put columns) (sent columns t (rows_bytes old.row new.row)) return (steps new.col 67)))
+        (subst (Shows columns _) (right-is columns new.col there_first refl)
         (steps-sent columns new.col 67 (sent columns (sent columns t (rows_bytes old.row new.row)) return) there_first refl fits_col returned))
 
--- to the first row, from which on all is cleared
-pub clear-turns : (columns base : ℕ) (cursor : Position) (t : Terminal) (page : Page) → page.row ≡ base + cursor.row → cursor.row < 2 ^ 64 → 0 < columns → Shows columns t page
-    → Shows columns (sent columns t (clear_from cursor)) (without_rest (at base 0 page))
-clear-turns columns base cursor t page there fits some_columns shows =
+-- to a row, from which on all is cleared
+pub clear-turns : (columns : ℕ) (cursor : Position) (t : Terminal) (page : Page) → cursor.row < 2 ^ 64 → 0 < columns → Shows columns t page
+    → Shows columns (sent columns t (clear_from cursor)) (without_rest (at (page.row - cursor.row) 0 page))
+clear-turns columns cursor t page fits some_columns shows =
     let up = steps-sent columns cursor.row 65 t page refl fits shows in
     let some = up-some columns cursor.row page in
-    let first : page.row - cursor.row ≡ base = omega (arith, there) in
+    let base = page.row - cursor.row in
     let on_row = subst (Shows columns (sent columns t (steps cursor.row 65))) some.1 up in
-    let returned = return-sent columns (sent columns t (steps cursor.row 65)) (at (page.row - cursor.row) some.0 page) on_row in
+    let returned = return-sent columns (sent columns t (steps cursor.row 65)) (at base some.0 page) on_row in
     subst (λ s. Shows columns s (without_rest (at base 0 page))) (sym (fold-append (put columns) t (steps cursor.row 65 ++ return) clear_below))
     (below-turns columns (sent columns t (steps cursor.row 65 ++ return)) (at base 0 page) some_columns
-    (subst (λ s. Shows columns s (at base 0 page)) (sym (fold-append (put columns) t (steps cursor.row 65) return))
-    (subst (λ r. Shows columns (sent columns (sent columns t (steps cursor.row 65)) return) (at r 0 page)) first returned)))
+    (subst (λ s. Shows columns s (at base 0 page)) (sym (fold-append (put columns) t (steps cursor.row 65) return)) returned))
 
 pub others-stay : OthersStay
 others-stay = record {

@@ -1,5 +1,5 @@
 -- A full redraw that is read by a terminal.
-use Rattle.std.proofs.Common.{◌≡◌, subst, ◌<◌, ◌≤◌, ℕ, ◌+◌, ◌==◌, ◌||◌, ◌&&◌, nat_le, nat_lt, Bool, true, false, cond, not, List, [], ◌++◌, Option, Some, None, refl, sym, ap, ap₂, ◌∙◌, arith, option_map}
+use Rattle.std.proofs.Common.{◌≡◌, subst, ◌<◌, ◌≤◌, ℕ, ◌+◌, ◌-◌, ◌==◌, ◌||◌, ◌&&◌, nat_le, nat_lt, Bool, true, false, cond, not, List, [], ◌++◌, Option, Some, None, refl, sym, ap, ap₂, ◌∙◌, arith, option_map}
 use Rattle.std.specs.Option.{IfSome}
 use Rattle.std.specs.Prelude.{IsUtf8, chars}
 use Rattle.std.specs.List.{fold}
@@ -21,7 +21,7 @@ use Rattle.line_term.specs.Escape.{hold, move_bytes, release}
 use Rattle.line_term.specs.Laws.{RedrawsShow, TextsArrive}
 use Rattle.line_term.specs.Page.{IsAt, Page, at, blank, blank_page, picture, put_behind, put_text}
 use Rattle.line_term.specs.Painted.{Draws, Handed, Painted, Paints, PaintsBehind, PaintsPrompt, at_once, clear_drawn, drawing, is_coloring, shown_as, wrap, wrap_ending}
-use Rattle.line_term.specs.Shown.{Begins, IsMeasured, IsShown}
+use Rattle.line_term.specs.Shown.{IsMeasured, IsPlace, IsShown, first_row, within}
 use Rattle.line_term.specs.Terminal.{IsReady, Shows, Terminal, put, seen, sent, without_rest}
 use Rattle.line_term.proofs.AlikeLemmas.{Alike, alike-picture}
 use Rattle.line_term.proofs.MoveLemmas.{clear-turns, hold-turns, move-turns, release-turns}
@@ -41,13 +41,13 @@ shown-prints columns t text shown bytes ready utf8 is =
     by_test true false e = prints-cleaned columns t text ready utf8
     by_test true true e = prints-colored columns t text shown ready utf8 ((bytes_eq-Decides (uncolored shown) (chars text)).0 e)
 
-text-prints : (columns : ℕ) (t : Terminal) (text bytes : List ℕ) (own : Option (Option (List ℕ))) → IsReady t → IsUtf8 text
+pub text-prints : (columns : ℕ) (t : Terminal) (text bytes : List ℕ) (own : Option (Option (List ℕ))) → IsReady t → IsUtf8 text
     → Paints own text bytes → Prints columns t text (sent columns t bytes)
 text-prints columns t text bytes None ready utf8 painted =
     subst (λ b. Prints columns t text (sent columns t b)) (sym painted) (prints-cleaned columns t text ready utf8)
 text-prints columns t text bytes (Some own) ready utf8 painted = shown-prints columns t text painted.0 bytes ready utf8 painted.1.1
 
-prompt-prints : (columns : ℕ) (t : Terminal) (raw bytes : List ℕ) (style : Option (List ℕ)) (own : Option (List ℕ → Option (List ℕ)))
+pub prompt-prints : (columns : ℕ) (t : Terminal) (raw bytes : List ℕ) (style : Option (List ℕ)) (own : Option (List ℕ → Option (List ℕ)))
     → IsReady t → IsUtf8 raw → PaintsPrompt own raw style bytes → Prints columns t raw (sent columns t bytes)
 prompt-prints columns t raw bytes style None ready utf8 painted =
     subst (λ b. Prints columns t raw (sent columns t b)) (sym painted) (prints-cleaned columns t raw ready utf8)
@@ -178,8 +178,9 @@ cleared-above base page row col less =
     let not_behind : (nat_lt base row || ((row == base) && nat_le 0 col)) ≡ false = grind (arith, nat_tests) in
     ap (λ b. cond b blank (page.cells row col)) not_behind
 
-blank-alike : (base : ℕ) (page : Page) → Begins base None page → Alike base page (blank_page base)
-blank-alike base page begins = record { row = begins.0.row ∙ omega arith; col = begins.0.col; cells = begins.1 }
+-- a cursor in a row goes where its place is
+pub in-row : (columns base : ℕ) (place : Position) (page : Page) → place.col < columns → IsAt base place page → IsAt base (within columns place) page
+in-row columns base place page room there = record { row = there.row; col = omega (arith, room, there.col) }
 
 begin-at : (base : ℕ) (page : Page) → Alike base page (blank_page base) → IsAt base corner page
 begin-at base page alike = record { row = alike.row ∙ omega arith; col = alike.col }
@@ -190,7 +191,7 @@ module _ {P H : Type 0} (p : prompts.Ghosts P) (h : highlighters.Ghosts H) where
       → IsMeasured columns (p.raw_text handed.prompt) handed.line.text handed.behind handed.layout
       → ArrivesAt columns base corner page t
       → (let end = picture columns page (p.raw_text handed.prompt) handed.line.text handed.behind in
-      Shows columns (sent columns t bytes) (at (base + handed.layout.cursor.row) handed.layout.cursor.col end))
+      Shows columns (sent columns t bytes) (at (base + handed.layout.cursor.row) (within columns handed.layout.cursor).col end))
   drawing-arrives columns base handed bytes t page draws is from =
       let layout = handed.layout in
       let behind = handed.behind in
@@ -202,7 +203,7 @@ module _ {P H : Type 0} (p : prompts.Ghosts P) (h : highlighters.Ghosts H) where
       let p₁ = layout.prompt_size in
       let p₂ = measure text p₁ in
       let p₃ = behind_end columns p₂ behind in
-      let some : 0 < columns = omega (arith, is.cursor.2) in
+      let some = is.some in
       let ends : layout.end ≡ p₃ = is.ends ∙ shown-end columns p₁ text behind in
       let last : p₃.row < 65535 = omega (arith, is.last_row, ap (λ (q : Position). q.row) ends) in
       let second : p₂.row < 65535 = line-row columns p₂ behind last in
@@ -212,29 +213,29 @@ module _ {P H : Type 0} (p : prompts.Ghosts P) (h : highlighters.Ghosts H) where
       let col₂ = measured-below columns text p₁ col₁ in
       let col₃ : layout.end.col < columns = omega (arith, behind-below columns p₂ behind col₂, ap (λ (q : Position). q.col) ends) in
       let front = subst (λ q. ArrivesAt columns base q (put_text columns page raw) (sent columns (sent columns t painted.prompt) (wrap measure raw corner))) (sym is.prompt_end)
-      (text-arrives columns base corner page t (sent columns t painted.prompt) raw is.prompt_text some first_at from
+      (text-arrives columns base corner page t (sent columns t painted.prompt) raw is.texts.0 some first_at from
       (prompt-prints columns t raw painted.prompt (p.own_style handed.prompt) (option_map (λ o s. h.own_prompt o s layout.default_prompt) highlighter)
-      from.shows.ready is.prompt_text draws.prompt)) in
+      from.shows.ready is.texts.0 draws.prompt)) in
       let t₁ = sent columns (sent columns t painted.prompt) (wrap measure raw corner) in
-      let middle = text-arrives columns base p₁ (put_text columns page raw) t₁ (sent columns t₁ painted.line) text is.line_text col₁ second front
-      (text-prints columns t₁ text painted.line (option_map (λ o. h.own_line o text handed.line.cursor) highlighter) front.shows.ready is.line_text draws.line) in
+      let middle = text-arrives columns base p₁ (put_text columns page raw) t₁ (sent columns t₁ painted.line) text is.texts.1 col₁ second front
+      (text-prints columns t₁ text painted.line (option_map (λ o. h.own_line o text handed.line.cursor) highlighter) front.shows.ready is.texts.1 draws.line) in
       let t₂ = sent columns (sent columns t₁ painted.line) (wrap measure text p₁) in
-      let back = behind-arrives columns base p₂ (put_text columns (put_text columns page raw) text) t₂ behind painted.behind (option_map h.own_hint highlighter) is.behind_text col₂ last
+      let back = behind-arrives columns base p₂ (put_text columns (put_text columns page raw) text) t₂ behind painted.behind (option_map h.own_hint highlighter) is.texts.2 col₂ last
       draws.behind middle in
       let t₃ = sent columns (sent columns t₂ painted.behind) (wrap_more measure behind p₂) in
       let end = picture columns page raw text behind in
-      subst (λ s. Shows columns s (at (base + layout.cursor.row) layout.cursor.col end))
+      subst (λ s. Shows columns s (at (base + layout.cursor.row) (within columns layout.cursor).col end))
       (sym (ap (sent columns t) (draws.whole ∙ drawing-of columns raw text behind layout painted is.prompt_end is.ends)
       ∙ parts-sent columns t painted.prompt (wrap measure raw corner) painted.line (wrap measure text p₁) painted.behind (wrap_more measure behind p₂)
       (move_bytes layout.end layout.cursor)))
-      (move-turns columns base layout.end layout.cursor t₃ end (subst (λ q. IsAt base q end) (sym ends) back.at) (omega (arith, is.last_row)) col₃
-      (omega (arith, is.cursor.0)) (omega (arith, is.cursor.1)) is.cursor.2 back.shows)
+      (move-turns columns base layout.end layout.cursor t₃ end some (in-row columns base layout.end end col₃ (subst (λ q. IsAt base q end) (sym ends) back.at))
+      (omega (arith, is.last_row)) (omega (arith, is.cursor.0)) (omega (arith, is.cursor.1)) back.shows)
 
   -- from where it begins, on a page that is like a blank one
   drawing-shows : (columns base : ℕ) (handed : Handed P H) (bytes : List ℕ) (t : Terminal) (page : Page) → Draws p h (measured columns) handed bytes
       → IsMeasured columns (p.raw_text handed.prompt) handed.line.text handed.behind handed.layout → Alike base page (blank_page base) → Shows columns t page
       → (let end = picture columns page (p.raw_text handed.prompt) handed.line.text handed.behind in
-      Shows columns (sent columns t bytes) (at (base + handed.layout.cursor.row) handed.layout.cursor.col end))
+      Shows columns (sent columns t bytes) (at (base + handed.layout.cursor.row) (within columns handed.layout.cursor).col end))
   drawing-shows columns base handed bytes t page draws is alike shows =
       drawing-arrives columns base handed bytes t page draws is (record { shows = shows; at = begin-at base page alike })
 
@@ -255,13 +256,13 @@ module _ {P H : Type 0} (p : prompts.Ghosts P) (h : highlighters.Ghosts H) where
   shown-then : (columns base : ℕ) (handed : Handed P H) (old page : Page) (t : Terminal) → Alike base page (blank_page base)
       → ((row col : ℕ) → row < base → page.cells row col ≡ old.cells row col)
       → (let end = picture columns page (p.raw_text handed.prompt) handed.line.text handed.behind in
-      Shows columns t (at (base + handed.layout.cursor.row) handed.layout.cursor.col end))
+      Shows columns t (at (base + handed.layout.cursor.row) (within columns handed.layout.cursor).col end))
       → Redrawn columns base handed old t
   shown-then columns base handed old page t alike above shows =
       let raw = p.raw_text handed.prompt in
       let end = picture columns page raw handed.line.text handed.behind in (
         record {
-          page = at (base + handed.layout.cursor.row) handed.layout.cursor.col end;
+          page = at (base + handed.layout.cursor.row) (within columns handed.layout.cursor).col end;
           shows = shows;
           at = record { row = refl; col = refl };
           cells = (alike-picture columns base page (blank_page base) raw handed.line.text handed.behind alike).cells;
@@ -270,24 +271,33 @@ module _ {P H : Type 0} (p : prompts.Ghosts P) (h : highlighters.Ghosts H) where
       )
 
   -- the rows that were drawn before are cleared, if there are any, and those above stay
-  begun-from : (columns base : ℕ) (old : Option Layout) (t : Terminal) (page : Page) → 0 < columns → Begins base old page → Shows columns t page
-      → (begun_page : Page) × Shows columns (sent columns t (clear_drawn old)) begun_page × Alike base begun_page (blank_page base)
-      × ((row col : ℕ) → row < base → begun_page.cells row col ≡ page.cells row col)
-  begun-from columns base None t page some begins shows = (page, shows, blank-alike base page begins, λ row col less. refl)
-  begun-from columns base (Some old) t page some begins shows = (
-    without_rest (at base 0 page),
-    clear-turns columns base old.cursor t page begins.0 (omega (arith, begins.1)) some shows,
-    cleared-alike base page,
-    cleared-above base page,
-  )
+  begun-from : (columns : ℕ) (old : Option Layout) (t : Terminal) (page : Page) → 0 < columns → IfSome old (λ l. IsPlace l.cursor) → Shows columns t page
+      → (let base = first_row old page in
+      (begun_page : Page) × Shows columns (sent columns t (clear_drawn old)) begun_page × Alike base begun_page (blank_page base)
+      × ((row col : ℕ) → row < base → begun_page.cells row col ≡ page.cells row col))
+  begun-from columns None t page some place shows =
+      let own : page.row - 0 ≡ page.row = omega arith in (
+        without_rest (at page.row 0 page),
+        subst (λ r. Shows columns (sent columns t (clear_drawn None)) (without_rest (at r 0 page))) own (clear-turns columns corner t page (omega arith) some shows),
+        cleared-alike page.row page,
+        cleared-above page.row page,
+      )
+  begun-from columns (Some old) t page some place shows =
+      let base = page.row - old.cursor.row in (
+        without_rest (at base 0 page),
+        clear-turns columns old.cursor t page (omega (arith, place.0)) some shows,
+        cleared-alike base page,
+        cleared-above base page,
+      )
 
   pub redraws-show : RedrawsShow p h
-  redraws-show columns base wanted old handed bytes t page redraws is begins shows =
+  redraws-show columns wanted old handed bytes t page redraws is place shows =
+      let base = first_row old page in
       subst (λ b. Redrawn columns base handed page (sent columns t b)) (sym redraws.whole)
       (once-shows columns t page wanted (clear_drawn old ++ redraws.drawn) (Redrawn columns base handed page) shows
       (λ u held.
-      let from = begun-from columns base old u page (omega (arith, is.cursor.2)) begins held in
-      let end = at (base + handed.layout.cursor.row) handed.layout.cursor.col (picture columns from.0 (p.raw_text handed.prompt) handed.line.text handed.behind) in (
+      let from = begun-from columns old u page is.some place held in
+      let end = at (base + handed.layout.cursor.row) (within columns handed.layout.cursor).col (picture columns from.0 (p.raw_text handed.prompt) handed.line.text handed.behind) in (
         end,
         subst (λ s. Shows columns s end) (sym (fold-append (put columns) u (clear_drawn old) redraws.drawn))
             (drawing-shows columns base handed redraws.drawn (sent columns u (clear_drawn old)) from.0 redraws.draws is from.2 from.1),

@@ -14,6 +14,7 @@ use Rattle.line_buffer.specs.Printable.{is_printable}
 use Rattle.line_buffer.specs.declared.layout.Position.{Position}
 use Rattle.line_buffer.proofs.PlainClusterLemmas.{clusters-plain}
 use Rattle.line_keys.specs.Display.{corner}
+use Rattle.line_screen.specs.MeasureLaws.{measured-below}
 use Rattle.line_screen.specs.Measure.{advanced, after_cluster, columns_of, ends_row, measured, start_below}
 use Rattle.line_state.proofs.PlainTextLemmas.{plain_text}
 use Rattle.line_term.specs.Drawn.{cleaned, visible}
@@ -21,13 +22,13 @@ use Rattle.line_term.specs.Escape.{clear_row, move_bytes}
 use Rattle.line_term.specs.Laws.{PartsShow, ShowsCluster, TextsAreShown}
 use Rattle.line_term.specs.Page.{IsAt, Page, at, begun, below, blank, blank_page, continued, picture, put_cluster, put_down, put_text, unwaiting, with_shown}
 use Rattle.line_term.specs.Painted.{wrap}
-use Rattle.line_term.specs.Shown.{IsPlace, IsShown, first_cell, is_before}
+use Rattle.line_term.specs.Shown.{IsPlace, IsShown, first_cell, is_before, within}
 use Rattle.line_term.specs.Terminal.{Terminal, sent, without_row}
 use Rattle.line_term.proofs.AlikeLemmas.{Alike, alike-text}
 use Rattle.line_term.proofs.CellLemmas.{before, before-at, covers, stays-pieces, stays-text, untouched-text}
 use Rattle.line_term.proofs.MoveLemmas.{move-turns, row-turns}
 use Rattle.line_term.proofs.PrintLemmas.{cluster-last, clusters-at, clusters-last, earlier, text-at, wrapped-row}
-use Rattle.line_term.proofs.RedrawLemmas.{measured-row, texts-arrive}
+use Rattle.line_term.proofs.RedrawLemmas.{in-row, measured-row, texts-arrive}
 
 text-front : (columns base : ℕ) (origin : Position) (page : Page) (text : List ℕ) (row col : ℕ) → IsAt base origin page → is_before base origin row col ≡ true
     → (put_text columns page text).cells row col ≡ page.cells row col
@@ -147,14 +148,18 @@ texts-are-shown = record { clusters = text-cluster; front = text-front; rest = t
 -- ---- after a part was drawn
 
 moves : (columns base : ℕ) (prompt text : List ℕ) (behind : Option (List ℕ)) (old new : Position) (t : Terminal)
-    → IsPlace columns old → IsPlace columns new → IsShown columns base prompt text behind old t
+    → 0 < columns → IsPlace old → IsPlace new → IsShown columns base prompt text behind old t
     → IsShown columns base prompt text behind new (sent columns t (move_bytes old new))
-moves columns base prompt text behind old new t from to shown = record {
-  page = at (base + new.row) new.col shown.page;
-  shows = move-turns columns base old new t shown.page shown.at (omega (arith, from.0)) from.2 (omega (arith, to.0)) (omega (arith, to.1)) to.2 shown.shows;
+moves columns base prompt text behind old new t some from to shown = record {
+  page = at (base + new.row) (within columns new).col shown.page;
+  shows = move-turns columns base old new t shown.page some shown.at (omega (arith, from.0)) (omega (arith, to.0)) (omega (arith, to.1)) shown.shows;
   at = record { row = refl; col = refl };
   cells = shown.cells;
 }
+
+-- a cursor whose place is in a row stands there
+stands-at : (columns base : ℕ) (place : Position) (page : Page) → place.col < columns → IsAt base (within columns place) page → IsAt base place page
+stands-at columns base place page room there = record { row = there.row; col = omega (arith, room, there.col) }
 
 -- a printable character is a cluster of one column
 one-cluster : (c : ℕ) → is_printable c ≡ true → graphemes true (c ∷ []) ≡ (c ∷ []) ∷ []
@@ -216,12 +221,13 @@ writes columns base c prompt text end t utf8 print parts is room last shown =
     let last_end = measured-row columns end (c ∷ []) last in
     let drawn = picture columns (blank_page base) prompt text None in
     let there : IsAt base end drawn = subst (λ q. IsAt base q drawn) (sym is) (line-at columns base prompt text (omega (arith, last_end, ap (λ (q : Position). q.row) is))) in
-    let alike : Alike base shown.page drawn = record { row = shown.at.row ∙ sym there.row; col = shown.at.col ∙ sym there.col; cells = shown.cells } in
-    let done = texts-arrive columns base end (c ∷ []) t shown.page (one-utf8 c print) room last shown.at shown.shows in
+    let stands = stands-at columns base end shown.page room shown.at in
+    let alike : Alike base shown.page drawn = record { row = stands.row ∙ sym there.row; col = stands.col ∙ sym there.col; cells = shown.cells } in
+    let done = texts-arrive columns base end (c ∷ []) t shown.page (one-utf8 c print) room last stands shown.shows in
     record {
       page = put_text columns shown.page (c ∷ []);
       shows = done.0;
-      at = done.1;
+      at = in-row columns base (measured columns (c ∷ []) end) (put_text columns shown.page (c ∷ [])) (measured-below columns (c ∷ []) end room) done.1;
       cells = λ row col from. (alike-text columns base shown.page drawn (c ∷ []) alike).cells row col from
           ∙ ap (λ (p : Page). p.cells row col) (put-more columns c (put_text columns (blank_page base) prompt) text print (omega (arith, room)) parts);
     }
@@ -269,11 +275,14 @@ clears : (columns base : ℕ) (prompt kept gone : List ℕ) (cursor : Position) 
 clears columns base prompt kept gone cursor t print parts is same_row last room shown =
     record {
       page = without_row shown.page;
-      shows = row-turns columns t shown.page (omega (arith, shown.at.col, room)) shown.shows;
+      shows = row-turns columns t shown.page (omega (arith, stands.col, room)) shown.shows;
       at = record { row = shown.at.row; col = shown.at.col };
       cells = λ r k from. by_cases r k from (before left r k) ((r == shown.page.row) && nat_le shown.page.col k) refl refl;
     }
   where
+    stands : IsAt base cursor shown.page
+    stands = stands-at columns base cursor shown.page room shown.at
+
     whole : Page
     whole = picture columns (blank_page base) prompt (kept ++ gone) None
 
@@ -287,11 +296,11 @@ clears columns base prompt kept gone cursor t print parts is same_row last room 
     whole-at = line-at columns base prompt (kept ++ gone) (omega (arith, last, same_row))
 
     not-before : (r k : ℕ) → before left r k ≡ true → ((r == shown.page.row) && nat_le shown.page.col k) ≡ false
-    not-before r k is = let row = shown.at.row ∙ sym left-at.row in let col = shown.at.col ∙ sym left-at.col in grind (arith, nat_tests)
+    not-before r k is = let row = stands.row ∙ sym left-at.row in let col = stands.col ∙ sym left-at.col in grind (arith, nat_tests)
 
     far-behind : (r k : ℕ) → before left r k ≡ false → ((r == shown.page.row) && nat_le shown.page.col k) ≡ false → before whole r k ≡ false
     far-behind r k is not_here =
-        let row = shown.at.row ∙ sym left-at.row in let col = shown.at.col ∙ sym left-at.col in
+        let row = stands.row ∙ sym left-at.row in let col = stands.col ∙ sym left-at.col in
         let end : whole.row ≡ left.row = whole-at.row ∙ ap (λ n. base + n) same_row ∙ sym left-at.row in
         grind (arith, nat_tests)
 

@@ -1,26 +1,27 @@
 -- Laws of what a terminal shows of what is written.
-use Rattle.std.specs.Prelude.{◌≡◌, false, true, ◌<◌, ℕ, ◌+◌, ◌++◌, Bool, List, [], ◌∷◌, Option, None, IsUtf8, chars, encode_utf8_all, map}
+use Rattle.std.specs.Prelude.{◌≡◌, false, true, ◌<◌, ℕ, ◌+◌, ◌++◌, Bool, List, [], ◌∷◌, Option, None, IfSome, IsUtf8, chars, encode_utf8_all, map}
 use Rattle.std.specs.List.{fold, list_all}
 use Rattle.unicode_segmentation.specs.Grapheme.{graphemes}
 use Rattle.line_buffer.specs.Printable.{is_printable}
 use Rattle.line_buffer.specs.declared.layout.Layout.{Layout}
 use Rattle.line_buffer.specs.declared.layout.Position.{Position}
 use Rattle.line_config.specs.declared.prompt.Prompt as prompts
-use Rattle.line_keys.specs.Display.{corner}
+use Rattle.line_keys.specs.Display.{Measure, corner}
 use Rattle.line_parts.specs.declared.highlight.Highlighter as highlighters
 use Rattle.line_screen.specs.Measure.{after_cluster, columns_of, ends_row, measured}
 use Rattle.line_term.specs.Drawn.{cleaned, visible}
 use Rattle.line_term.specs.Escape as bytes
 use Rattle.line_term.specs.Escape.{clear_row, move_bytes}
 use Rattle.line_term.specs.Page.{IsAt, Page, at, begun, continued, put_text}
-use Rattle.line_term.specs.Painted.{Handed, Redraws, wrap}
-use Rattle.line_term.specs.Shown.{Begins, IsMeasured, IsPlace, IsShown, first_cell, is_before}
-use Rattle.line_term.specs.Terminal.{Shows, Terminal, Turns, TurnsInRow, sent, without_rest, without_row}
+use Rattle.line_term.specs.Painted.{Handed, Redraws, wrap, wrap_ending}
+use Rattle.line_term.specs.Shown.{AreTexts, IsMeasured, IsPlace, IsShown, first_cell, first_row, is_before, within}
+use Rattle.line_term.specs.Terminal.{IsReady, Shows, Terminal, Turns, TurnsInRow, sent, without_rest, without_row}
 
 -- the bytes of a move take the cursor from the one place to the other, wherever the rows begin, and change no cell
 abbrev pub MovesArrive : Type 0
-MovesArrive = (columns base : ℕ) (old new : Position) (t : Terminal) (page : Page) → IsPlace columns old → IsPlace columns new → IsAt base old page
-    → Shows columns t page → Shows columns (sent columns t (move_bytes old new)) (at (base + new.row) new.col page)
+MovesArrive = (columns base : ℕ) (old new : Position) (t : Terminal) (page : Page) → 0 < columns → IsPlace old → IsPlace new
+    → IsAt base (within columns old) page → Shows columns t page
+    → Shows columns (sent columns t (move_bytes old new)) (at (base + new.row) (within columns new).col page)
 
 -- what is written for a text puts its clusters down, and takes the cursor where the text is measured to end and out of the wait at a
 -- row's end; above the last row that a measure knows
@@ -63,20 +64,20 @@ pub record TextsAreShown : Type 0 where
 
 module _ {P H : Type 0} (p : prompts.Ghosts P) (h : highlighters.Ghosts H) where
   -- after a full redraw the prompt, the line and what stands behind it are shown, on rows that begin where those of the drawing before
-  -- did; the rows above stay
+  -- did, and else in the cursor's row; the rows above stay
   abbrev pub RedrawsShow : Type 0
-  RedrawsShow = (columns base : ℕ) (wanted : Bool) (old : Option Layout) (handed : Handed P H) (bytes : List ℕ) (t : Terminal) (page : Page)
+  RedrawsShow = (columns : ℕ) (wanted : Bool) (old : Option Layout) (handed : Handed P H) (bytes : List ℕ) (t : Terminal) (page : Page)
       → Redraws p h (measured columns) wanted old handed bytes
       → IsMeasured columns (p.raw_text handed.prompt) handed.line.text handed.behind handed.layout
-      → Begins base old page → Shows columns t page
-      → (shown : IsShown columns base (p.raw_text handed.prompt) handed.line.text handed.behind handed.layout.cursor (sent columns t bytes))
-      × ((row col : ℕ) → row < base → shown.page.cells row col ≡ page.cells row col)
+      → IfSome old (λ l. IsPlace l.cursor) → Shows columns t page
+      → (shown : IsShown columns (first_row old page) (p.raw_text handed.prompt) handed.line.text handed.behind handed.layout.cursor (sent columns t bytes))
+      × ((row col : ℕ) → row < first_row old page → shown.page.cells row col ≡ page.cells row col)
 
 -- so they are after each call that draws a part
 pub record PartsShow : Type 0 where
   -- a move of the cursor
   pub moves : (columns base : ℕ) (prompt text : List ℕ) (behind : Option (List ℕ)) (old new : Position) (t : Terminal)
-      → IsPlace columns old → IsPlace columns new → IsShown columns base prompt text behind old t
+      → 0 < columns → IsPlace old → IsPlace new → IsShown columns base prompt text behind old t
       → IsShown columns base prompt text behind new (sent columns t (move_bytes old new))
   -- a printable character that is written at the line's end, and is a cluster of its own there
   pub writes : (columns base c : ℕ) (prompt text : List ℕ) (end : Position) (t : Terminal) → IsUtf8 text → is_printable c ≡ true
@@ -92,3 +93,25 @@ pub record PartsShow : Type 0 where
       → (measured columns (kept ++ gone) (measured columns prompt corner)).row ≡ cursor.row → cursor.row < 65535 → cursor.col < columns
       → IsShown columns base prompt (kept ++ gone) None cursor t
       → IsShown columns base prompt kept None cursor (sent columns t clear_row)
+
+-- bytes leave a terminal ready that was ready for them, on any number of columns
+abbrev pub KeepsReady : List ℕ → Type 0
+KeepsReady bytes = (columns : ℕ) (t : Terminal) → IsReady t → IsReady (sent columns t bytes)
+
+module _ {P H : Type 0} (p : prompts.Ghosts P) (h : highlighters.Ghosts H) where
+  -- so do those of each call, whatever was measured and by whatever layout
+  pub record TerminalsStayReady : Type 0 where
+    pub moves : (old new : Position) → IsPlace old → IsPlace new → KeepsReady (move_bytes old new)
+    pub texts : (measure : Measure) (text : List ℕ) (origin end : Position) → IsUtf8 text → KeepsReady (cleaned text ++ wrap_ending measure text origin end)
+    pub redraws : (measure : Measure) (wanted : Bool) (old : Option Layout) (handed : Handed P H) (bytes : List ℕ) → Redraws p h measure wanted old handed bytes
+        → AreTexts (p.raw_text handed.prompt) handed.line.text handed.behind → IsPlace handed.layout.end → IsPlace handed.layout.cursor
+        → IfSome old (λ l. IsPlace l.cursor) → KeepsReady bytes
+    pub rows : (cursor : Position) → IsPlace cursor → KeepsReady (bytes.clear_from cursor)
+    pub row : KeepsReady bytes.clear_row
+    pub screen : KeepsReady bytes.clear_all
+    pub line : KeepsReady bytes.next_line
+    pub bell : KeepsReady bytes.bell
+    pub hold : KeepsReady bytes.hold
+    pub release : KeepsReady bytes.release
+    pub marked : KeepsReady bytes.paste_marked
+    pub typed : KeepsReady bytes.paste_typed

@@ -7,6 +7,7 @@ pub mod Laws
 pub mod Output
 pub mod Page
 pub mod Painted
+pub mod Parts
 pub mod Paste
 pub mod Sequence
 pub mod Shown

@@ -1,15 +1,25 @@
 -- What a call leaves that writes to a terminal.
-use Rattle.std.specs.Prelude.{◌≡◌, ◌&&◌, Bool, true, not, ℕ, List, Result, Ok, Err, IfErr, OnErr, OnOk, ◌⊎◌}
+use Rattle.std.specs.Prelude.{◌≡◌, ◌&&◌, Bool, false, true, not, ℕ, List, Result, Ok, Err, IfErr, OnErr, OnOk, ◌⊎◌}
 use Rattle.line_term.specs.Written.{AppendsFirst}
 use Rattle.std.specs.Io.KnownBytes.{Appends}
 use Rattle.line_config.specs.Error.{is_io, is_memory}
 use Rattle.line_config.specs.Failures.{CountsFailures}
 use Rattle.line_config.specs.declared.error.ReadlineError.{ReadlineError}
+use Rattle.line_keys.specs.Display.{Screen}
 use Rattle.line_screen.specs.Measure.{measured}
+use Rattle.line_screen.specs.Surroundings.{blank_screen}
 use Rattle.line_state.specs.ScreenState.{DrawsNoLine, DrawsPart}
 use Rattle.line_state.specs.declared.screen_state.ScreenState as screens
 use Rattle.std.specs.declared.io.traits.Write as writers
 use Rattle.line_term.specs.declared.output.Output as outputs
+
+-- what is kept of a screen stays, whether or not it is known to be shown
+abbrev pub StaysKept : Screen → Screen → Type 0
+StaysKept old new = new ≡ record old { known = new.known }
+
+-- nothing is kept of what a screen shows, and nothing is known of it
+abbrev pub unknown_screen : Screen
+unknown_screen = record blank_screen { known = false }
 
 -- where memory ran out this holds
 abbrev pub OnMemory : {T : Type 0} → Result T ReadlineError → Type 0 → Type 0
@@ -29,17 +39,18 @@ module _ {X : Type 0} (e : screens.Ghosts X) (o : outputs.Ghosts X) where
     pub refused : OnMemory result (Untouched old new)
     pub synchronized : o.synchronized new ≡ o.synchronized old
 
-  -- such a call that draws a part; where it fails, what is shown stays
+  -- such a call that draws a part; where it fails, what is kept stays
   pub record WritesPart {T : Type 0} (result : Result T ReadlineError) (old new : X) (bytes : List ℕ) : Type 0 where
     pub part : DrawsPart e result old new
     pub writes : Writes result old new bytes
-    pub kept : OnErr result (e.screen new ≡ e.screen old)
+    pub kept : OnErr result (StaysKept (e.screen old) (e.screen new))
 
-  -- such a call that draws nothing
+  -- such a call that draws nothing: what is shown stays, and what is kept of it where it fails
   pub record WritesAside {T : Type 0} (result : Result T ReadlineError) (old new : X) (bytes : List ℕ) : Type 0 where
     pub part : DrawsNoLine e result old new
     pub writes : Writes result old new bytes
-    pub screen : e.screen new ≡ e.screen old
+    pub screen : OnOk result (e.screen new ≡ e.screen old)
+    pub kept : OnErr result (StaysKept (e.screen old) (e.screen new))
 
   -- bytes of which this holds are written; before there are any, a call may fail too
   pub record WritesSome {T : Type 0} (result : Result T ReadlineError) (old new : X) (P : List ℕ → Type 0) : Type 0 where
@@ -52,20 +63,21 @@ module _ {X : Type 0} (e : screens.Ghosts X) (o : outputs.Ghosts X) where
   abbrev pub holds_back : X → Bool
   holds_back x = o.synchronized x && not (e.beside x).held
 
-  -- the screen has so many columns and rows from now on, and nothing is written
+  -- the screen has so many columns and rows from now on, and nothing is written; what is kept stays, and is known to be shown no more
   pub record Resizes (old new : X) (columns rows : ℕ) : Type 0 where
     pub surface : e.surface new ≡ record (e.surface old) { measure = measured columns; columns = columns; rows = rows }
-    pub screen : e.screen new ≡ e.screen old
+    pub screen : e.screen new ≡ record (e.screen old) { known = false }
     pub beside : e.beside new ≡ e.beside old
     pub redraws : e.redraws new ≡ e.redraws old
     pub failures : e.failures new ≡ e.failures old
     pub written : o.written new ≡ o.written old
     pub synchronized : o.synchronized new ≡ o.synchronized old
 
-  -- what is shown stays, and so do how it is measured, what was counted, and whether full redraws are to be shown all at once
-  pub record StaysShown (old new : X) : Type 0 where
+  -- what is kept stays, and is known to be shown no more; so do how it is measured, what was counted, and whether full redraws are to be
+  -- shown all at once
+  pub record StaysUnknown (old new : X) : Type 0 where
     pub surface : e.surface new ≡ e.surface old
-    pub screen : e.screen new ≡ e.screen old
+    pub screen : e.screen new ≡ record (e.screen old) { known = false }
     pub beside : e.beside new ≡ e.beside old
     pub redraws : e.redraws new ≡ e.redraws old
     pub failures : e.failures new ≡ e.failures old

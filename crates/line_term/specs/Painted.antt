@@ -82,9 +82,9 @@ drawing measure prompt text behind layout painted =
     ++ painted.behind ++ wrap_behind measure behind end layout.end
     ++ move_bytes layout.end layout.cursor
 
--- the rows that were drawn before are cleared, if there are any
+-- the rows that were drawn before are cleared; where none were, those from the cursor's on
 abbrev pub clear_drawn : Option Layout → List ℕ
-clear_drawn None = []
+clear_drawn None = clear_from corner
 clear_drawn (Some old) = clear_from old.cursor
 
 -- bytes that are shown all at once, where that is wanted

@@ -3,24 +3,26 @@ ghost use Rattle.std.specs.Prelude.{◌≡◌, nat_lt, ℕ, ◌<◌, ◌&&◌, �
 ghost use Rattle.std.specs.List.{list_all};
 ghost use Rattle.std.specs.Io.KnownBytes.{Appends};
 ghost use Rattle.line_config.specs.Error.{FaultsOnly, IsOneMore};
-ghost use Rattle.line_buffer.specs.Printable.{is_printable};
+ghost use Rattle.line_buffer.specs.Printable.{is_plain, is_printable};
 ghost use Rattle.line_buffer.specs.declared.layout.GraphemeClusterMode.TheVariants.{Unicode};
 ghost use Rattle.line_keys.specs.Display.{KeepsShown, uncounted};
 ghost use Rattle.line_state.specs.ScreenState.{Agrees, BeepsAtMost, DrawsNoLine, EndsBehind, HasRoom, HoldsAtMost, Tries, WritesAtMost, shown_by, with_shown};
 ghost use Rattle.line_screen.specs.Measure.{measured};
-ghost use Rattle.line_screen.specs.Surroundings.{blank_screen};
 ghost use Rattle.line_term.specs.Drawn.{cleaned};
 ghost use Rattle.line_term.specs.Escape.{bell, clear_all, clear_from, clear_row, hold, move_bytes, next_line, paste_marked, paste_typed, release};
-ghost use Rattle.line_term.specs.Output.{Resizes, Sends, StaysShown, Writes, WritesAside, WritesPart, WritesSome, holds_back};
+ghost use Rattle.line_term.specs.Output.{Resizes, StaysUnknown, unknown_screen, Writes, WritesAside, WritesPart, WritesSome, holds_back};
 ghost use Rattle.line_term.specs.Painted.{AppendsSome, Draws, Redraws, asked, wrap};
+ghost use Rattle.line_term.specs.Shown.{EndsInRows, IsOnTerminal, TellsKnown};
 
 use crate::drawn::push_cleaned;
-use crate::escape::{push_if, push_move};
+use crate::escape::push_move;
 use crate::output::Output;
-use crate::painted::{asked, push_behind, push_clear, push_clear_from, push_line, push_prompt};
-use crate::send::{counted, send};
-use crate::wrap::{line_end, push_wrap, push_wrap_behind};
-use line_buffer::{GraphemeClusterMode, Layout, LineBuffer, Position, Unit};
+use crate::painted::{ORIGIN, asked, push_clear_from};
+use crate::parts::{follows, rest_of_row};
+use crate::redraw::push_redraw;
+use crate::send::{counted, send, send_if};
+use crate::wrap::push_wrap;
+use line_buffer::{GraphemeClusterMode, Layout, LineBuffer, Position, Unit, is_plain_text};
 use line_config::{Prompt, Result};
 use line_keys::raw_reader::RawReader;
 use line_parts::Highlighter;
@@ -29,8 +31,6 @@ use line_state::{Renderer, ScreenState};
 use std::alloc::Global;
 use std::io::Write;
 use std::mem;
-
-const ORIGIN: Position = Position { row: 0, col: 0 };
 
 /// A terminal that understands the usual control sequences, drawn by writing to `O`. What is to be shown is kept as `Plain`
 /// keeps it, with its measure; each call writes what changes, in one piece, and flushes it. Behind a text that fills a row
@@ -46,18 +46,35 @@ pub struct Ansi<O: Write + Drop, R: RawReader> {
     synchronized: bool,
     // Whether the terminal was asked to hold back what is written.
     held: bool,
+    // Where what is shown ends, by the layout of the last full redraw, and what was drawn in part since.
+    end: Position,
+    // Whether all of this was written, and the cursor moved from where it stood.
+    whole: bool,
+    // Whether the text is printable ASCII and newlines.
+    plain: bool,
     redraws: u64,
     failures: u64,
+    ghost text_is_plain: { plain ≡ list_all is_plain (string_bytes shown.text) },
+    ghost told: { TellsKnown O.contents shown.columns whole end out (record {
+      position = shown.place;
+      prompt = string_bytes shown.prompt;
+      text = string_bytes shown.text;
+      origin = shown.origin;
+      behind = option_map string_bytes shown.hint;
+      known = true;
+    }) },
 }
 
 impl<O: Write + Drop, R: RawReader> ScreenState for Ansi<O, R> {
     ghost use Rattle.line_keys.specs.Display.{uncounted};
+    ghost use Rattle.line_term.specs.Shown.{known_screen};
 
     ghost surface = { λ a. record (⟦<Plain<R> as ScreenState>⟧.surface a.shown) {
       colors = a.colors;
     } };
 
-    ghost screen = { λ a. ⟦<Plain<R> as ScreenState>⟧.screen a.shown };
+    ghost screen = { λ a. known_screen (⟦<Plain<R> as ScreenState>⟧.surface a.shown).columns a.whole a.end
+        (⟦<Plain<R> as ScreenState>⟧.screen a.shown) };
 
     ghost beside = { λ a. record uncounted { held = a.held } };
 
@@ -73,7 +90,8 @@ impl<O: Write + Drop, R: RawReader> Output for Ansi<O, R> {
 }
 
 impl<O: Write + Drop, R: RawReader> Ansi<O, R> {
-    /// Returns a terminal of so many columns and of 24 rows, with nothing shown and the cursor at the first column of a row.
+    /// Returns a terminal of so many columns and of 24 rows. What it shows is not known: a full redraw is to follow, which begins
+    /// at the first column of the cursor's row and clears what stands there and below.
     /// `colors` says whether highlighters are asked, and `synchronized` whether a full redraw is shown all at once.
     pub fn new(alloc: Global, out: O, columns: Unit, colors: bool, synchronized: bool) -> Self
         requires { 0 < columns }
@@ -85,7 +103,7 @@ impl<O: Write + Drop, R: RawReader> Ansi<O, R> {
               colors = colors;
               mode = Unicode;
             } }
-        ensures screen { ⟦<Self as ScreenState>⟧.screen result ≡ blank_screen }
+        ensures screen { ⟦<Self as ScreenState>⟧.screen result ≡ unknown_screen }
         ensures beside { ⟦<Self as ScreenState>⟧.beside result ≡ uncounted }
         ensures redraws { ⟦<Self as ScreenState>⟧.redraws result ≡ 0 }
         ensures failures { ⟦<Self as ScreenState>⟧.failures result ≡ 0 }
@@ -100,24 +118,34 @@ impl<O: Write + Drop, R: RawReader> Ansi<O, R> {
             colors,
             synchronized,
             held: false,
+            end: ORIGIN,
+            whole: false,
+            plain: true,
             redraws: 0,
             failures: 0,
         }
     }
 
-    /// Returns what is written to.
+    /// Returns what is written to. Where it is known what the screen shows, and the drawing ends above row 65535, the bytes that
+    /// were written end in some that show it on each terminal that is ready for them.
     pub fn out(&self) -> &O
-        ensures { O.contents result.now ≡ ⟦<Self as Output>⟧.written self.now }
+        ensures written { O.contents result.now ≡ ⟦<Self as Output>⟧.written self.now }
+        ensures shown { let screen = ⟦<Self as ScreenState>⟧.screen self.now in
+            let surface = ⟦<Self as ScreenState>⟧.surface self.now in
+            screen.known ≡ true → EndsInRows surface.measure screen
+            → IsOnTerminal O.contents surface.columns result.now screen }
     {
         &self.out
     }
 
-    /// Writes to `out` from now on. Returns what was written to before.
+    /// Writes to `out` from now on. Returns what was written to before. A full redraw is to follow.
     pub fn replace_out(&mut self, out: O) -> O
         ensures before { O.contents result ≡ ⟦<Self as Output>⟧.written self.old }
         ensures written { ⟦<Self as Output>⟧.written self.new ≡ O.contents out }
-        ensures stays { StaysShown ⟦<Self as ScreenState>⟧ ⟦<Self as Output>⟧ self.old self.new }
+        ensures stays { StaysUnknown ⟦<Self as ScreenState>⟧ ⟦<Self as Output>⟧
+            self.old self.new }
     {
+        self.whole = false;
         mem::replace(&mut self.out, out)
     }
 
@@ -133,6 +161,9 @@ impl<O: Write + Drop, R: RawReader> Ansi<O, R> {
             colors: _,
             synchronized: _,
             held: _,
+            end: _,
+            whole: _,
+            plain: _,
             redraws: _,
             failures: _,
         } = self;
@@ -142,134 +173,37 @@ impl<O: Write + Drop, R: RawReader> Ansi<O, R> {
     /// Asks the terminal to put marks round a text that is pasted.
     ///
     /// # Errors
-    /// `Io`, where the output fails. What is shown stays.
+    /// `Io`, where the output fails. A full redraw is to follow then.
     pub fn enable_bracketed_paste(&mut self) -> Result<()>
-        ensures writes { WritesPart ⟦<Self as ScreenState>⟧ ⟦<Self as Output>⟧ result
+        ensures writes { WritesAside ⟦<Self as ScreenState>⟧ ⟦<Self as Output>⟧ result
             self.old self.new paste_marked }
-        ensures screen { ⟦<Self as ScreenState>⟧.screen self.new
-            ≡ ⟦<Self as ScreenState>⟧.screen self.old }
+        ensures beside { ⟦<Self as ScreenState>⟧.beside self.new
+            ≡ ⟦<Self as ScreenState>⟧.beside self.old }
     {
-        self.write("\x1b[?2004h")
+        send(
+            &mut self.out,
+            b"\x1b[?2004h",
+            &mut self.whole,
+            &mut self.failures,
+        )
     }
 
     /// Asks the terminal to hand on a pasted text as if it were typed.
     ///
     /// # Errors
-    /// `Io`, where the output fails. What is shown stays.
+    /// `Io`, where the output fails. A full redraw is to follow then.
     pub fn disable_bracketed_paste(&mut self) -> Result<()>
-        ensures writes { WritesPart ⟦<Self as ScreenState>⟧ ⟦<Self as Output>⟧ result
+        ensures writes { WritesAside ⟦<Self as ScreenState>⟧ ⟦<Self as Output>⟧ result
             self.old self.new paste_typed }
-        ensures screen { ⟦<Self as ScreenState>⟧.screen self.new
-            ≡ ⟦<Self as ScreenState>⟧.screen self.old }
+        ensures beside { ⟦<Self as ScreenState>⟧.beside self.new
+            ≡ ⟦<Self as ScreenState>⟧.beside self.old }
     {
-        self.write("\x1b[?2004l")
-    }
-
-    /// Writes a control sequence.
-    fn write(&mut self, sequence: &str) -> Result<()>
-        ensures sends { Sends O.Write result self.old.out self.new.out
-            self.old.failures self.new.failures sequence.now }
-        ensures stays { self.new
-            ≡ record self.old { out = self.new.out; failures = self.new.failures } }
-    {
-        send(&mut self.out, sequence.as_bytes(), &mut self.failures)
-    }
-
-    /// Writes a control sequence where this is wanted.
-    fn write_if(&mut self, wanted: bool, sequence: &str) -> Result<()>
-        ensures sends { Sends O.Write result self.old.out self.new.out
-            self.old.failures self.new.failures (if wanted then sequence.now else []) }
-        ensures stays { self.new
-            ≡ record self.old { out = self.new.out; failures = self.new.failures } }
-    {
-        if wanted {
-            return self.write(sequence);
-        }
-        Ok(())
-    }
-
-    /// Writes the bytes of the call that is under way.
-    fn send(&mut self) -> Result<()>
-        ensures sends { Sends O.Write result self.old.out self.new.out
-            self.old.failures self.new.failures (string_bytes self.old.bytes) }
-        ensures stays { self.new
-            ≡ record self.old { out = self.new.out; failures = self.new.failures } }
-    {
-        send(&mut self.out, self.bytes.as_bytes(), &mut self.failures)
-    }
-
-    /// Appends the bytes of a full redraw.
-    fn push_redraw<P: Prompt, H: Highlighter>(
-        &mut self,
-        prompt: &P,
-        line: &LineBuffer,
-        hint: Option<&str>,
-        old_layout: Option<&Layout>,
-        new_layout: &Layout,
-        highlighter: Option<&H>,
-    ) -> Result<()>
-        ensures draws { OnOk result (AppendsSome (string_bytes self.old.bytes)
-            (string_bytes self.new.bytes) (Redraws P.Prompt H.Highlighter
-            (⟦<Self as ScreenState>⟧.surface self.old).measure
-            (self.old.synchronized && not self.old.held)
-            (option_map (λ l. l.now) old_layout.entry) (record {
-              prompt = prompt.now;
-              line = line.now;
-              behind = option_map (λ s. s.now) hint.entry;
-              layout = new_layout.now;
-              highlighter = asked self.old.colors (option_map (λ h. h.now) highlighter.entry);
-            }))) }
-        ensures stays { self.new ≡ record self.old { bytes = self.new.bytes } }
-        ensures faults { FaultsOnly result }
-    {
-        let at_once = self.holds_back();
-        push_if(&mut self.bytes, at_once, "\x1b[?2026h")?;
-        push_clear(&mut self.bytes, old_layout)?;
-        self.push_drawing(prompt, line, hint, new_layout, highlighter)?;
-        push_if(&mut self.bytes, at_once, "\x1b[?2026l")?;
-        Ok(())
-    }
-
-    /// Returns whether a full redraw is to be shown all at once, and the terminal does not hold back what is written.
-    fn holds_back(&self) -> bool
-        ensures { result ≡ self.now.synchronized && not self.now.held }
-    {
-        self.synchronized && !self.held
-    }
-
-    /// Appends the bytes of a drawing.
-    fn push_drawing<P: Prompt, H: Highlighter>(
-        &mut self,
-        prompt: &P,
-        line: &LineBuffer,
-        hint: Option<&str>,
-        layout: &Layout,
-        highlighter: Option<&H>,
-    ) -> Result<()>
-        ensures draws { OnOk result (AppendsSome (string_bytes self.old.bytes)
-            (string_bytes self.new.bytes) (Draws P.Prompt H.Highlighter
-            (⟦<Self as ScreenState>⟧.surface self.old).measure (record {
-              prompt = prompt.now;
-              line = line.now;
-              behind = option_map (λ s. s.now) hint.entry;
-              layout = layout.now;
-              highlighter = asked self.old.colors (option_map (λ h. h.now) highlighter.entry);
-            }))) }
-        ensures stays { self.new ≡ record self.old { bytes = self.new.bytes } }
-        ensures faults { FaultsOnly result }
-    {
-        let highlighter = asked(self.colors, highlighter);
-        let (bytes, alloc, screen) = (&mut self.bytes, self.alloc, &self.shown);
-        let text = line.as_str();
-        let (begin, end) = (layout.prompt_size, line_end(screen, text, hint, layout));
-        push_prompt(bytes, alloc, prompt, layout.default_prompt, highlighter)?;
-        push_wrap(bytes, alloc, screen, prompt.raw(), ORIGIN, begin)?;
-        push_line(bytes, alloc, line, highlighter)?;
-        push_wrap(bytes, alloc, screen, text, begin, end)?;
-        push_behind(bytes, alloc, hint, highlighter)?;
-        push_wrap_behind(bytes, alloc, screen, hint, end, layout.end)?;
-        push_move(bytes, layout.end, layout.cursor)?;
-        Ok(())
+        send(
+            &mut self.out,
+            b"\x1b[?2004l",
+            &mut self.whole,
+            &mut self.failures,
+        )
     }
 }
 
@@ -281,11 +215,12 @@ impl<O: Write + Drop, R: RawReader> Renderer for Ansi<O, R> {
     /// Moves the cursor from `old`, where it stands, to `new`.
     ///
     /// # Errors
-    /// `Io`, where the output fails, and `Memory`. What is held to be shown stays; after `Io` a part of the bytes may have been
+    /// `Io`, where the output fails, and `Memory`. What is kept stays; after `Io` a part of the bytes may have been
     /// written, and a full redraw is to follow.
     fn move_cursor(&mut self, old: Position, new: Position) -> Result<()>
         ensures moved { OnOk result ((⟦<Self as ScreenState>⟧.screen self.new).position ≡ new) }
-        ensures known { OnOk result ((⟦<Self as ScreenState>⟧.screen self.new).known
+        ensures known { (⟦<Self as ScreenState>⟧.screen self.old).position ≡ old
+            → OnOk result ((⟦<Self as ScreenState>⟧.screen self.new).known
             ≡ (⟦<Self as ScreenState>⟧.screen self.old).known) }
         ensures shown { KeepsShown (⟦<Self as ScreenState>⟧.screen self.old)
             (⟦<Self as ScreenState>⟧.screen self.new) }
@@ -294,7 +229,13 @@ impl<O: Write + Drop, R: RawReader> Renderer for Ansi<O, R> {
     {
         self.bytes.clear();
         push_move(&mut self.bytes, old, new)?;
-        self.send()?;
+        self.whole &= self.shown.cursor() == old;
+        send(
+            &mut self.out,
+            self.bytes.as_bytes(),
+            &mut self.whole,
+            &mut self.failures,
+        )?;
         self.shown.move_cursor(old, new)
     }
 
@@ -340,11 +281,32 @@ impl<O: Write + Drop, R: RawReader> Renderer for Ansi<O, R> {
             })) }
     {
         self.bytes.clear();
-        let drawn = self.push_redraw(prompt, line, hint, old_layout, new_layout, highlighter);
+        let at_once = self.synchronized & !self.held;
+        let drawn = push_redraw(
+            &mut self.bytes,
+            self.alloc,
+            &self.shown,
+            at_once,
+            prompt,
+            line,
+            hint,
+            old_layout,
+            new_layout,
+            asked(self.colors, highlighter),
+        );
         counted(&mut self.failures, drawn)?;
         self.shown
             .refresh_line(prompt, line, hint, old_layout, new_layout, None::<&()>)?;
-        self.send()?;
+        self.plain = is_plain_text(line.as_str());
+        self.whole = false;
+        send(
+            &mut self.out,
+            self.bytes.as_bytes(),
+            &mut self.whole,
+            &mut self.failures,
+        )?;
+        self.end = new_layout.end;
+        self.whole = true;
         self.redraws = self.redraws.saturating_add(1);
         Ok(())
     }
@@ -379,6 +341,7 @@ impl<O: Write + Drop, R: RawReader> Renderer for Ansi<O, R> {
             OnOk result (⟦<Self as ScreenState>⟧.screen self.new ≡ record screen {
               position = (⟦<Self as ScreenState>⟧.surface self.old).measure buf.now screen.position;
               text = screen.text ++ buf.now;
+              known = (⟦<Self as ScreenState>⟧.screen self.new).known;
             }) }
         ensures beside { WritesAtMost (⟦<Self as ScreenState>⟧.beside self.old)
             (⟦<Self as ScreenState>⟧.beside self.new) }
@@ -393,38 +356,66 @@ impl<O: Write + Drop, R: RawReader> Renderer for Ansi<O, R> {
         let place = self.shown.cursor();
         let end = self.shown.calculate_position(buf, place);
         push_wrap(&mut self.bytes, self.alloc, &self.shown, buf, place, end)?;
+        let follows = self.plain & follows(&self.shown, self.end, buf);
         self.shown.write_and_flush(buf)?;
-        self.send()
+        self.plain &= is_plain_text(buf);
+        self.whole &= follows;
+        self.end = end;
+        send(
+            &mut self.out,
+            self.bytes.as_bytes(),
+            &mut self.whole,
+            &mut self.failures,
+        )?;
+        Ok(())
     }
 
     fn beep(&mut self) -> Result<()>
+        ensures screen { ⟦<Self as ScreenState>⟧.screen self.new
+            ≡ ⟦<Self as ScreenState>⟧.screen self.old }
         ensures beside { BeepsAtMost (⟦<Self as ScreenState>⟧.beside self.old)
             (⟦<Self as ScreenState>⟧.beside self.new) }
         ensures writes { WritesAside ⟦<Self as ScreenState>⟧ ⟦<Self as Output>⟧ result
             self.old self.new bell }
     {
-        self.write("\x07")
+        // A bell is one byte: no part of it can be left out.
+        let mut whole = self.whole;
+        send(&mut self.out, b"\x07", &mut whole, &mut self.failures)
     }
 
     /// Clears the whole screen. The cursor goes to its first place.
     fn clear_screen(&mut self) -> Result<()>
-        ensures cleared { OnOk result (⟦<Self as ScreenState>⟧.screen self.new ≡ blank_screen) }
+        ensures cleared { OnOk result (⟦<Self as ScreenState>⟧.screen self.new ≡ unknown_screen) }
         ensures writes { WritesPart ⟦<Self as ScreenState>⟧ ⟦<Self as Output>⟧ result
             self.old self.new clear_all }
     {
-        self.write("\x1b[H\x1b[J")?;
+        self.whole = false;
+        send(
+            &mut self.out,
+            b"\x1b[H\x1b[J",
+            &mut self.whole,
+            &mut self.failures,
+        )?;
+        self.plain = true;
         self.shown.clear_screen()
     }
 
     /// Clears the rows of a drawn layout, from its first one. The cursor goes there.
     fn clear_rows(&mut self, layout: &Layout) -> Result<()>
-        ensures cleared { OnOk result (⟦<Self as ScreenState>⟧.screen self.new ≡ blank_screen) }
+        ensures cleared { OnOk result (⟦<Self as ScreenState>⟧.screen self.new ≡ unknown_screen) }
         ensures writes { WritesPart ⟦<Self as ScreenState>⟧ ⟦<Self as Output>⟧ result
             self.old self.new (clear_from layout.now.cursor) }
     {
         self.bytes.clear();
         push_clear_from(&mut self.bytes, layout.cursor)?;
-        self.send()?;
+        self.whole = false;
+        send(
+            &mut self.out,
+            self.bytes.as_bytes(),
+            &mut self.whole,
+            &mut self.failures,
+        )?;
+        self.plain = true;
         self.shown.clear_rows(layout)
     }
 
@@ -441,8 +432,20 @@ impl<O: Write + Drop, R: RawReader> Renderer for Ansi<O, R> {
         ensures writes { WritesPart ⟦<Self as ScreenState>⟧ ⟦<Self as Output>⟧ result
             self.old self.new clear_row }
     {
-        self.write("\x1b[K")?;
-        self.shown.clear_to_eol()
+        let rest = rest_of_row(&self.shown, self.end);
+        let length = self.shown.text().len();
+        send(
+            &mut self.out,
+            b"\x1b[K",
+            &mut self.whole,
+            &mut self.failures,
+        )?;
+        self.shown.clear_to_eol()?;
+        let gone = length.saturating_sub(self.shown.text().len());
+        self.whole &= self.plain & (rest == Some(gone));
+        self.plain = is_plain_text(self.shown.text());
+        self.end = self.shown.cursor();
+        Ok(())
     }
 
     fn update_size(&mut self)
@@ -454,6 +457,7 @@ impl<O: Write + Drop, R: RawReader> Renderer for Ansi<O, R> {
         ensures { Resizes ⟦<Self as ScreenState>⟧ ⟦<Self as Output>⟧ self.old self.new
             columns rows }
     {
+        self.whole = false;
         self.shown.resize(columns, rows);
     }
 
@@ -473,10 +477,10 @@ impl<O: Write + Drop, R: RawReader> Renderer for Ansi<O, R> {
         self.shown.grapheme_cluster_mode()
     }
 
-    /// Takes the cursor to the first column: of a new row, unless it stands there already. Nothing is shown then from there
-    /// on. The reader is not asked.
+    /// Takes the cursor to the first column: of a new row, unless it stands there already. What stands there is not known
+    /// then. The reader is not asked.
     fn move_cursor_at_leftmost(&mut self, rdr: &mut R) -> Result<()>
-        ensures cleared { OnOk result (⟦<Self as ScreenState>⟧.screen self.new ≡ blank_screen) }
+        ensures cleared { OnOk result (⟦<Self as ScreenState>⟧.screen self.new ≡ unknown_screen) }
         ensures writes { WritesPart ⟦<Self as ScreenState>⟧ ⟦<Self as Output>⟧ result
             self.old self.new
             (if nat_lt 0 (⟦<Self as ScreenState>⟧.screen self.old).position.col then next_line
@@ -485,7 +489,15 @@ impl<O: Write + Drop, R: RawReader> Renderer for Ansi<O, R> {
     {
         let _ = rdr;
         let is_behind = self.shown.cursor().col > 0;
-        self.write_if(is_behind, "\r\n")?;
+        self.whole = false;
+        send_if(
+            &mut self.out,
+            is_behind,
+            b"\r\n",
+            &mut self.whole,
+            &mut self.failures,
+        )?;
+        self.plain = true;
         self.shown.clear_screen()
     }
 
@@ -500,7 +512,13 @@ impl<O: Write + Drop, R: RawReader> Renderer for Ansi<O, R> {
         ensures writes { WritesAside ⟦<Self as ScreenState>⟧ ⟦<Self as Output>⟧ result
             self.old self.new (if ⟦<Self as Output>⟧.synchronized self.old then hold else []) }
     {
-        self.write_if(self.synchronized, "\x1b[?2026h")?;
+        send_if(
+            &mut self.out,
+            self.synchronized,
+            b"\x1b[?2026h",
+            &mut self.whole,
+            &mut self.failures,
+        )?;
         self.held = self.synchronized;
         Ok(())
     }
@@ -515,7 +533,13 @@ impl<O: Write + Drop, R: RawReader> Renderer for Ansi<O, R> {
         ensures writes { WritesAside ⟦<Self as ScreenState>⟧ ⟦<Self as Output>⟧ result
             self.old self.new (if ⟦<Self as Output>⟧.synchronized self.old then release else []) }
     {
-        self.write_if(self.synchronized, "\x1b[?2026l")?;
+        send_if(
+            &mut self.out,
+            self.synchronized,
+            b"\x1b[?2026l",
+            &mut self.whole,
+            &mut self.failures,
+        )?;
         self.held = false;
         Ok(())
     }

@@ -1,7 +1,7 @@
 //! Laws of the bytes that come from a terminal, and of those that are written to it. Each function's contract is a law, and its body
 //! does nothing.
 ghost use Rattle.line_term.specs.DecoderLaws.{ComesBack, ComesInPieces, EscapesAreKept, FlushSettles, PasteComesWhole, PastesGiveNoKey, RowsAreKeys, SequencesNeverType, TextIsTyped, TextsAreSilent};
-ghost use Rattle.line_term.specs.Laws.{MovesArrive, OthersStay, PartsShow, RedrawsShow, TextsAreShown, TextsArrive};
+ghost use Rattle.line_term.specs.Laws.{MovesArrive, OthersStay, PartsShow, RedrawsShow, TerminalsStayReady, TextsAreShown, TextsArrive};
 
 use line_config::Prompt;
 use line_parts::Highlighter;
@@ -73,9 +73,15 @@ pub fn others_stay()
 {}
 
 /// After a full redraw, of which a highlighter changes colors alone, a terminal shows prompt, line and the text behind it, nothing
-/// else from the prompt's row on, and its cursor is in its place. The rows begin where those of the drawing before did.
+/// else from the prompt's row on, and its cursor is in its place. The rows begin where those of the drawing before did, and where there
+/// was none in the cursor's row.
 pub fn redraws_show<P: Prompt, H: Highlighter>()
     ensures { RedrawsShow P.Prompt H.Highlighter }
+{}
+
+/// What each call writes leaves a terminal ready for the next one, where it was ready before.
+pub fn terminals_stay_ready<P: Prompt, H: Highlighter>()
+    ensures { TerminalsStayReady P.Prompt H.Highlighter }
 {}
 
 /// A text that is put down shows each cluster where the clusters before it are measured to end, and nothing behind its own end.

@@ -9,6 +9,8 @@ mod escape;
 pub mod laws;
 pub mod output;
 mod painted;
+mod parts;
+mod redraw;
 mod send;
 pub mod sequence;
 pub mod tables;

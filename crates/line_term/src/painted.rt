@@ -1,7 +1,8 @@
 //! The parts of a drawing, plain or as a highlighter shows them.
-ghost use Rattle.std.specs.Prelude.{◌≡◌, ◌++◌, [], OnOk, option_map, string_bytes, if◌then◌else◌};
+ghost use Rattle.std.specs.Prelude.{◌≡◌, ◌++◌, [], IfSome, OnOk, option_map, string_bytes, if◌then◌else◌};
 ghost use Rattle.line_config.specs.Error.{FaultsOnly, MemoryOnly};
 ghost use Rattle.line_term.specs.Escape.{clear_from};
+ghost use Rattle.line_term.specs.Shown.{IsPlace};
 ghost use Rattle.line_term.specs.Painted.{AppendsSome, Paints, PaintsBehind, PaintsPrompt, asked, clear_drawn, shown_as};
 
 use crate::drawn::{is_coloring, push_cleaned, push_colored};
@@ -10,6 +11,9 @@ use line_buffer::{Layout, LineBuffer, Position};
 use line_config::{Prompt, Result};
 use line_parts::Highlighter;
 use std::alloc::Global;
+
+/// The first column of the first row.
+pub(crate) const ORIGIN: Position = Position { row: 0, col: 0 };
 
 /// Appends a prompt: the raw one, or how a highlighter shows the one with styles. `default` says whether it is the line's own.
 pub(crate) fn push_prompt<P: Prompt, H: Highlighter>(
@@ -114,15 +118,16 @@ pub(crate) fn asked<'h, H: Highlighter>(colors: bool, highlighter: Option<&'h H>
     if colors { highlighter } else { None }
 }
 
-/// Appends what clears the rows of a layout that was drawn, if there is one.
+/// Appends what clears the rows of a layout that was drawn; where none was, those from the cursor's on.
 pub(crate) fn push_clear(bytes: &mut String, drawn: Option<&Layout>) -> Result<()>
     ensures appends { OnOk result (string_bytes bytes.new
         ≡ string_bytes bytes.old ++ clear_drawn (option_map (λ l. l.now) drawn.entry)) }
+    ensures places { IfSome (option_map (λ l. l.now) drawn.entry) (λ l. IsPlace l.cursor) }
     ensures memory { MemoryOnly result }
 {
     match drawn {
         Some(drawn) => push_clear_from(bytes, drawn.cursor),
-        None => Ok(()),
+        None => push_clear_from(bytes, ORIGIN),
     }
 }
 
@@ -130,6 +135,7 @@ pub(crate) fn push_clear(bytes: &mut String, drawn: Option<&Layout>) -> Result<(
 pub(crate) fn push_clear_from(bytes: &mut String, cursor: Position) -> Result<()>
     ensures appends { OnOk result
         (string_bytes bytes.new ≡ string_bytes bytes.old ++ clear_from cursor) }
+    ensures place { IsPlace cursor }
     ensures memory { MemoryOnly result }
 {
     push_steps(bytes, cursor.row, 'A')?;

@@ -137,10 +137,13 @@ const CALLS: &[(&str, &str)] = &[
     ("disable_bracketed_paste", "\x1b[?2004l"),
     ("begin_synchronized_update", "\x1b[?2026h"),
     ("end_synchronized_update", "\x1b[?2026l"),
-    ("refresh_line", "\x1b[?2026h> abc\r\x1b[4C\x1b[?2026l"),
+    (
+        "refresh_line",
+        "\x1b[?2026h\r\x1b[J> abc\r\x1b[4C\x1b[?2026l",
+    ),
     (
         "colors",
-        "\x1b[?2026h\x0f\x1b[1m> \x1b[0m\x0fab\x0f\x1b[2mc\x1b[0m\x1b[0m\x0f\r\x1b[4C\x1b[?2026l",
+        "\x1b[?2026h\r\x1b[J\x0f\x1b[1m> \x1b[0m\x0fab\x0f\x1b[2mc\x1b[0m\x1b[0m\x0f\r\x1b[4C\x1b[?2026l",
     ),
     ("a long text", LONG),
     (

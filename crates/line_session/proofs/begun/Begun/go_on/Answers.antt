@@ -1,4 +1,4 @@
-use Rattle.std.proofs.Common.{◌≡◌, ◌∙◌, true, Some, not, option_map, string_bytes, refl, sym, ap}
+use Rattle.std.proofs.Common.{◌≡◌, ◌∙◌, true, Some, not, option_map, string_bytes, sym, ap}
 use Rattle.line_buffer.specs.declared.layout.GraphemeClusterMode.TheVariants.{Unicode}
 use Rattle.line_keys.specs.Display.{Display}
 use Rattle.line_screen.specs.Measure.{measured}
@@ -6,6 +6,7 @@ use Rattle.line_session.specs.Kept.{answers_of}
 use Rattle.line_session.specs.Taken.{is_settled}
 use Rattle.line_editor.specs.declared.run.Turned.TheVariants as turned
 use Rattle.line_session.proofs.KeptLemmas.{answers_any, answers_back, comes_so, ended_so, fits_alike, lent_answers, rules_alike, stands_alike, starts_alike}
+use Rattle.line_term.specs.Shown.{known_screen}
 use Rattle.line_session.proofs.ModeLemmas.{shown_alike}
 use Rattle.line_session.proofs.begun.Begun.go_on.Goals as goal
 
@@ -46,7 +47,7 @@ returns-clause-fits g c =
     let prompt = ap (λ (d : Display). d.prompt) c.resume-state.ensures.display in
     fits_alike
     (λ a. record { measure = measured a.shown.columns; columns = a.shown.columns; rows = a.shown.rows; colors = a.colors; mode = Unicode })
-    (λ a. record { position = a.shown.place; prompt = string_bytes a.shown.prompt; text = string_bytes a.shown.text; origin = a.shown.origin; behind = option_map string_bytes a.shown.hint; known = true })
+    (λ a. known_screen a.shown.columns a.whole a.end (record { position = a.shown.place; prompt = string_bytes a.shown.prompt; text = string_bytes a.shown.text; origin = a.shown.origin; behind = option_map string_bytes a.shown.hint; known = true }))
     c.release-line.result.0 c.take_turns-turned.new.mode c.is_to_be_drawn-draws.result c.take_turns-turned.new.keys.rest _ _ _ _ _ _ screen
     (sym (c.leave-turned.ensures.frame.prompt ∙ c.take_turns-turned.ensures.keeps.frame.prompt ∙ prompt))
     (ap (λ h. answers_of g.H.Hinter.hint_at g.H.Validator.verdict_at g.H.Highlighter.lights g.H.Completer h (g.S.History.lines c.args.history.now)) back ∙ sym after)

@@ -1,4 +1,4 @@
-use Rattle.std.proofs.Common.{Some, option_map, refl, subst}
+use Rattle.std.proofs.Common.{Some, option_map, refl, subst, string_bytes}
 use Rattle.line_session.specs.Kept.{answers_of}
 use Rattle.line_session.specs.Sitting.{Keeps, Sitting}
 use Rattle.line_session.proofs.editor.Editor.resize.Goals as goal
@@ -9,6 +9,7 @@ returns-clause-keeps g c =
     let resized = c.resized-begun in
     let old : Sitting g.row.H.Denot = record {
       line = option_map (λ b. record { kept = b.line; input = b.input; mode = b.mode; draws = b.draws }) c.self.inside.line;
+      prompt = string_bytes c.self.inside.prompt.0;
       lines = g.S.History.lines c.self.inside.history;
       takes = g.S.History.rules c.self.inside.history;
       kills = c.self.inside.kill_ring;
@@ -27,7 +28,7 @@ returns-clause-keeps g c =
       rows = resized.new.screen.shown.rows;
     } in
     subst (λ o. Keeps asked (record o { columns = c.args.columns; rows = c.args.rows }) new) c.self.view_is
-    (record { answers_alike = resized.ensures.answers; takes = refl; own = refl; decoder = refl; settings = refl; columns = resized.ensures.columns; rows = resized.ensures.rows })
+    (record { prompt = refl; answers_alike = resized.ensures.answers; takes = refl; own = refl; decoder = refl; settings = refl; columns = resized.ensures.columns; rows = resized.ensures.rows })
 
 pub invariant_of-self-2 : goal.invariant_of-self-2
 invariant_of-self-2 g c = c.resized-begun.ensures.fits c.self.inside.keys.rest

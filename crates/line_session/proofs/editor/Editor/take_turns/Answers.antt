@@ -1,4 +1,4 @@
-use Rattle.std.proofs.Common.{rules, ◌≡◌, Some, option_map, refl, ap, subst}
+use Rattle.std.proofs.Common.{rules, ◌≡◌, Some, option_map, refl, ap, subst, string_bytes}
 use Rattle.std.specs.Prelude.{IfOk}
 use Rattle.line_keys.specs.Display.{Surface}
 use Rattle.line_editor.specs.Binding.{bound_of}
@@ -13,6 +13,7 @@ returns-clause-came g c =
     let bound = bound_of (λ vtable. (g.dyn-1.0.entry vtable).1) c.args.bindings.now in
     let old : Sitting g.row.H.Denot = record {
       line = option_map (λ b. record { kept = b.line; input = b.input; mode = b.mode; draws = b.draws }) c.self.inside.line;
+      prompt = string_bytes c.self.inside.prompt.0;
       lines = g.S.History.lines c.self.inside.history;
       takes = g.S.History.rules c.self.inside.history;
       kills = c.self.inside.kill_ring;
@@ -40,6 +41,7 @@ returns-clause-keeps g c =
     let rows = ap (λ (s : Surface). s.rows) c.go_on-begun.ensures.surface in
     let old : Sitting g.row.H.Denot = record {
       line = option_map (λ b. record { kept = b.line; input = b.input; mode = b.mode; draws = b.draws }) c.self.inside.line;
+      prompt = string_bytes c.self.inside.prompt.0;
       lines = g.S.History.lines c.self.inside.history;
       takes = g.S.History.rules c.self.inside.history;
       kills = c.self.inside.kill_ring;
@@ -60,4 +62,4 @@ returns-clause-keeps g c =
       rows = c.go_on-begun.new.screen.shown.rows;
     } in
     subst (λ o. Keeps asked o c.end.new.self) c.self.view_is
-    (keeps_so asked old mid _ c.end.ensures.stays c.go_on-begun.ensures.answers refl c.go_on-begun.ensures.own refl refl columns rows)
+    (keeps_so asked old mid _ c.end.ensures.stays refl c.go_on-begun.ensures.answers refl c.go_on-begun.ensures.own refl refl columns rows)

@@ -1,0 +1,105 @@
+//! The bytes of a full redraw.
+ghost use Rattle.std.specs.Prelude.{IfSome, OnOk, option_map, string_bytes};
+ghost use Rattle.line_config.specs.Error.{FaultsOnly};
+ghost use Rattle.line_term.specs.Painted.{AppendsSome, Draws, Redraws};
+ghost use Rattle.line_term.specs.Shown.{AreTexts, IsPlace};
+
+use crate::escape::{push_if, push_move};
+use crate::painted::{ORIGIN, push_behind, push_clear, push_line, push_prompt};
+use crate::wrap::{line_end, push_wrap, push_wrap_behind};
+use line_buffer::{Layout, LineBuffer};
+use line_config::{Prompt, Result};
+use line_keys::raw_reader::RawReader;
+use line_parts::Highlighter;
+use line_screen::Plain;
+use line_state::ScreenState;
+use std::alloc::Global;
+
+/// Appends the bytes of a full redraw, which is shown all at once where this is wanted.
+///
+/// # Errors
+/// `Io`, where the highlighter fails, and `Memory`. A beginning of the bytes may have been appended.
+pub(crate) fn push_redraw<P: Prompt, H: Highlighter, R: RawReader>(
+    bytes: &mut String,
+    alloc: Global,
+    screen: &Plain<R>,
+    at_once: bool,
+    prompt: &P,
+    line: &LineBuffer,
+    hint: Option<&str>,
+    old_layout: Option<&Layout>,
+    new_layout: &Layout,
+    highlighter: Option<&H>,
+) -> Result<()>
+    ensures draws { OnOk result (AppendsSome (string_bytes bytes.old)
+        (string_bytes bytes.new) (Redraws P.Prompt H.Highlighter
+        (⟦<Plain<R> as ScreenState>⟧.surface screen.now).measure at_once
+        (option_map (λ l. l.now) old_layout.entry) (record {
+          prompt = prompt.now;
+          line = line.now;
+          behind = option_map (λ s. s.now) hint.entry;
+          layout = new_layout.now;
+          highlighter = option_map (λ h. h.now) highlighter.entry;
+        }))) }
+    ensures texts { OnOk result (AreTexts (P.raw_text prompt.now) line.now.text
+        (option_map (λ s. s.now) hint.entry)) }
+    ensures cursor { OnOk result (IsPlace new_layout.now.cursor) }
+    ensures before { OnOk result (IfSome (option_map (λ l. l.now) old_layout.entry)
+        (λ l. IsPlace l.cursor)) }
+    ensures faults { FaultsOnly result }
+{
+    push_if(bytes, at_once, "\x1b[?2026h")?;
+    push_clear(bytes, old_layout)?;
+    push_drawing(
+        bytes,
+        alloc,
+        screen,
+        prompt,
+        line,
+        hint,
+        new_layout,
+        highlighter,
+    )?;
+    push_if(bytes, at_once, "\x1b[?2026l")?;
+    Ok(())
+}
+
+/// Appends the bytes of a drawing.
+///
+/// # Errors
+/// Those of `push_redraw`.
+fn push_drawing<P: Prompt, H: Highlighter, R: RawReader>(
+    bytes: &mut String,
+    alloc: Global,
+    screen: &Plain<R>,
+    prompt: &P,
+    line: &LineBuffer,
+    hint: Option<&str>,
+    layout: &Layout,
+    highlighter: Option<&H>,
+) -> Result<()>
+    ensures draws { OnOk result (AppendsSome (string_bytes bytes.old)
+        (string_bytes bytes.new) (Draws P.Prompt H.Highlighter
+        (⟦<Plain<R> as ScreenState>⟧.surface screen.now).measure (record {
+          prompt = prompt.now;
+          line = line.now;
+          behind = option_map (λ s. s.now) hint.entry;
+          layout = layout.now;
+          highlighter = option_map (λ h. h.now) highlighter.entry;
+        }))) }
+    ensures texts { OnOk result (AreTexts (P.raw_text prompt.now) line.now.text
+        (option_map (λ s. s.now) hint.entry)) }
+    ensures cursor { OnOk result (IsPlace layout.now.cursor) }
+    ensures faults { FaultsOnly result }
+{
+    let text = line.as_str();
+    let (begin, end) = (layout.prompt_size, line_end(screen, text, hint, layout));
+    push_prompt(bytes, alloc, prompt, layout.default_prompt, highlighter)?;
+    push_wrap(bytes, alloc, screen, prompt.raw(), ORIGIN, begin)?;
+    push_line(bytes, alloc, line, highlighter)?;
+    push_wrap(bytes, alloc, screen, text, begin, end)?;
+    push_behind(bytes, alloc, hint, highlighter)?;
+    push_wrap_behind(bytes, alloc, screen, hint, end, layout.end)?;
+    push_move(bytes, layout.end, layout.cursor)?;
+    Ok(())
+}
