@@ -298,7 +298,6 @@ impl<O: Write + Drop, R: RawReader> Renderer for Ansi<O, R> {
         self.shown
             .refresh_line(prompt, line, hint, old_layout, new_layout, None::<&()>)?;
         self.plain = is_plain_text(line.as_str());
-        self.whole = false;
         send(
             &mut self.out,
             self.bytes.as_bytes(),
