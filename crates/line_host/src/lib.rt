@@ -3,6 +3,7 @@
 
 pub mod bound;
 pub mod names;
+pub mod pending;
 pub mod pieces;
 pub mod session;
 pub mod settings;

@@ -11,6 +11,7 @@ ghost use Rattle.line_term.specs.Decoder.{finished, flushed, is_waiting, read};
 
 use crate::bound::BoundCommands;
 use crate::names::{command_named, event_named};
+use crate::pending::Pending;
 use crate::pieces::{Pieces, copy_text};
 use crate::settings::{Settings, is_yes};
 use crate::status::Status;
@@ -51,7 +52,7 @@ enum Heard<'t> {
 /// A session that reads lines from bytes, and leaves the bytes that are to be written to be taken.
 pub struct Session {
     alloc: Global,
-    editor: Editor<Vec<u8>, HostHelper, FileHistory>,
+    editor: Editor<Pending, HostHelper, FileHistory>,
     commands: BoundCommands,
     submitted: Option<String>,
     output: Pieces,
@@ -112,7 +113,7 @@ impl Session {
             highlighter: DimHints::new(is_yes(settings.brackets)),
             validator: switches,
         };
-        let out = Vec::new(alloc);
+        let out = Pending::new(alloc);
         let mut editor = Editor::new(alloc, config, out, settings.columns, helper, history);
         editor
             .resize(settings.columns, settings.rows)
@@ -289,8 +290,8 @@ impl Session {
         ensures stays { self.new ≡ record self.old { output = self.new.output } }
     {
         if self.output.is_empty() {
-            let written = self.editor.replace_out(Vec::new(self.alloc));
-            self.output = Pieces::of(written);
+            let written = self.editor.exchange_out(Pending::new(self.alloc));
+            self.output = written.into_pieces();
         }
         self.output.take(buffer)
     }

@@ -11,6 +11,7 @@ pub mod OnceLaws
 pub mod QueueViews
 pub mod ReadingLemmas
 pub mod SearchingLemmas
+pub mod ShowingLemmas
 pub mod StepLemmas
 pub mod TurnLemmas
 pub mod WholeLaws

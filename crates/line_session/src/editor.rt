@@ -5,7 +5,7 @@ ghost use Rattle.line_config.specs.Error.{FaultsOnly, MemoryOnly, UnlessFault};
 ghost use Rattle.line_editor.specs.Binding.{bound_of};
 ghost use Rattle.line_parts.specs.History.{TellsTaken, added};
 ghost use Rattle.line_session.specs.Kept.{answers_of};
-ghost use Rattle.line_session.specs.OnTerminal.{ShowsByMode};
+ghost use Rattle.line_session.specs.OnTerminal.{ShowsBegun};
 ghost use Rattle.line_session.specs.Reading.{BindingsLookAtNoHint, HearsOnce, ReadsLine, answer_of};
 ghost use Rattle.line_session.specs.Sitting.{BegunLine, Came, CameBegun, EndsAs, Keeps, LosesNothing, StartsWith, StaysOrDraws, drawn_anew, suspends, with_turn, written_so_far};
 ghost use Rattle.line_buffer.specs.KillRing.{empty_ring};
@@ -261,23 +261,35 @@ impl<O: Write + Drop, H: Helper + Drop, S: History + Drop> Editor<O, H, S> {
         &self.helper
     }
 
-    /// Returns what is written to. Unless the line that has begun is to be drawn, the bytes that were written end in some that show it
-    /// on each terminal that is ready for them: its prompt, its text and what stands behind that, with the cursor where the line's is.
+    /// Returns what is written to. Where the bytes of such an output are known, those that were written end in some that show the line
+    /// that has begun on each terminal that is ready for them, with its cursor: the prompt, the line, and the hint, a message or nothing
+    /// after it, above row 65535. So it is unless the line is drawn anew at the next call, and but for a list, a program that is
+    /// suspended, and a search with keys left.
     pub fn out(&self) -> &O
-        ensures shown { (begun : BegunLine) → self.now.line ≡ Some begun → begun.draws ≡ false
-            → ShowsByMode O.contents self.now.columns result.now begun.mode self.now.items
-            (answers_of H.hint_at H.verdict_at H.lights H.Completer self.now.helper self.now.lines)
-            self.now.prompt begun.kept.draft }
+        ensures shown { ShowsBegun O.contents
+            (answers_of H.hint_at H.verdict_at H.lights H.Completer) self.now result.now }
     {
         self.screen.out()
     }
 
-    /// Writes to `out` from now on, and draws the line that has begun at the next call. Returns what was written to before.
+    /// Writes to `out` from now on, and draws the line that has begun at the next call. Returns what was written to before, which shows
+    /// what `out` says.
     pub fn replace_out(&mut self, out: O) -> O
-        ensures { self.new ≡ drawn_anew self.old }
+        ensures stays { self.new ≡ drawn_anew self.old }
+        ensures shown { ShowsBegun O.contents
+            (answers_of H.hint_at H.verdict_at H.lights H.Completer) self.old result }
     {
         draw_anew(&mut self.line);
         self.screen.replace_out(out)
+    }
+
+    /// Writes to `out` from now on, whose bytes go to the same terminal, and draws nothing for it. Returns what was written to before. It
+    /// is for an output that is emptied now and then, of whose bytes no contract speaks.
+    pub fn exchange_out(&mut self, out: O) -> O
+        requires { (any : O) → O.contents any ≡ None }
+        ensures { self.new ≡ self.old }
+    {
+        self.screen.exchange_out(out)
     }
 
     /// Returns whether bytes have begun something that `flush` would settle: a program then waits for more only a moment.

@@ -113,6 +113,11 @@ pub not-whole : {O : Type 0} (contents : O → Option (List ℕ)) (columns : ℕ
     → TellsKnown contents columns whole end out s
 not-whole contents columns whole end out s part = λ known. absurd (let first = (and_parts whole _ known).0 in cc)
 
+-- and nothing is said where no bytes are known
+pub none-known : {O : Type 0} (contents : O → Option (List ℕ)) (columns : ℕ) (whole : Bool) (end : Position) (out : O) (s : Screen)
+    → ((any : O) → contents any ≡ None) → TellsKnown contents columns whole end out s
+none-known contents columns whole end out s none = λ known rows all. absurd (let one = all out in let other = none out in cc)
+
 -- bytes that change nothing
 pub stays : (columns : ℕ) (s : Screen) (bytes : List ℕ) → Turns (λ page. page) bytes → Takes columns s s bytes
 stays columns s bytes turns = λ base t shown. record {

@@ -73,11 +73,10 @@ module _ {X : Type 0} (e : screens.Ghosts X) (o : outputs.Ghosts X) where
     pub written : o.written new ≡ o.written old
     pub synchronized : o.synchronized new ≡ o.synchronized old
 
-  -- what is kept stays, and is known to be shown no more; so do how it is measured, what was counted, and whether full redraws are to be
-  -- shown all at once
-  pub record StaysUnknown (old new : X) : Type 0 where
+  -- a screen is this one, and how it is measured stays, what was counted, and whether full redraws are to be shown all at once
+  pub record StaysWith (old new : X) (shown : Screen) : Type 0 where
     pub surface : e.surface new ≡ e.surface old
-    pub screen : e.screen new ≡ record (e.screen old) { known = false }
+    pub screen : e.screen new ≡ shown
     pub beside : e.beside new ≡ e.beside old
     pub redraws : e.redraws new ≡ e.redraws old
     pub failures : e.failures new ≡ e.failures old

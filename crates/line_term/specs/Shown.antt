@@ -62,11 +62,11 @@ pub record AreShown (columns : ℕ) (written : List ℕ) (screen : Screen) : Typ
   pub shows : (t : Terminal) → IsReady t
       → (base : ℕ) × IsShown columns base screen.prompt screen.text screen.behind screen.position (sent columns t bytes)
 
--- the bytes of each output are known
+-- the bytes of each output of a type are known
 abbrev pub AreKnown : {O : Type 0} → (O → Option (List ℕ)) → Type 0
 AreKnown {O} contents = (out : O) → is_some (contents out) ≡ true
 
--- what was written shows a screen, where the bytes are known of which it is made
+-- where the bytes of each output of a type are known, those that were written to this one end in some that show a screen
 abbrev pub IsOnTerminal : {O : Type 0} → (O → Option (List ℕ)) → ℕ → O → Screen → Type 0
 IsOnTerminal {O} contents columns out screen =
     AreKnown contents → (written : List ℕ) → contents out ≡ Some written → ∥ AreShown columns written screen ∥₁

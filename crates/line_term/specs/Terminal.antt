@@ -1,6 +1,6 @@
 -- A terminal that reads bytes: what it shows, on rows without an end. It knows texts and the control sequences that are written here;
--- colors are left out, and of all else nothing is said.
-use Rattle.std.specs.Prelude.{◌≡◌, ◌<◌, Bool, false, ℕ, ◌+◌, ◌-◌, ◌*◌, ◌==◌, ◌&&◌, ◌||◌, max, min, true, nat_le, nat_lt, List, [], ◌∷◌, ◌++◌, if◌then◌else◌}
+-- colors are left out, what it is asked to hold back counts as shown, and of all else nothing is said.
+use Rattle.std.specs.Prelude.{◌≡◌, ◌<◌, Bool, false, ℕ, ◌+◌, ◌-◌, ◌*◌, ◌^◌, ◌==◌, ◌&&◌, ◌||◌, max, min, true, nat_le, nat_lt, List, [], ◌∷◌, ◌++◌, if◌then◌else◌}
 use Rattle.std.specs.List.{fold, list_all}
 use Rattle.line_buffer.specs.Printable.{is_printable}
 use Rattle.std.specs.Int.{is_in_range}
@@ -8,7 +8,7 @@ use Rattle.unicode_segmentation.specs.Grapheme.{graphemes}
 use Rattle.line_screen.specs.Measure.{columns_of}
 use Rattle.line_term.specs.Page.{Page, at, blank, put_cluster}
 
--- what is being read: text; what follows an ESC; a control sequence, whether it began by `?`, and the number that stands last in it;
+-- what is being read: text; what follows an ESC; a control sequence, whether it began by `?`, and its number so far;
 -- or something that is not known, behind which nothing is said any more
 pub data Reading : Type 0 where
   plain : Reading
@@ -40,10 +40,15 @@ without_rest page = record page {
 abbrev pub without_row : Page → Page
 without_row page = record page { cells = λ r k. if (r == page.row) && nat_le page.col k then blank else page.cells r k }
 
--- whether a control sequence without `?` is known: moves with any number, and the first place, the clearings and colors with none or 0,
--- but for colors, of which all are known
-abbrev pub is_known : ℕ → ℕ → Bool
-is_known number letter = is_in_range 65 67 letter || ((number == 0) && ((letter == 72) || ((letter == 74) || (letter == 75))))
+-- what stands for the number of a control sequence with several ones: only a color is known then
+abbrev pub several : ℕ
+several = 2 ^ 64
+
+-- whether a control sequence without `?` that is no color is known: a move with one number or none, and the first place and the clearings with
+-- none or 0
+abbrev pub is_known_sequence : ℕ → ℕ → Bool
+is_known_sequence number letter =
+    (is_in_range 65 67 letter && nat_lt number several) || ((number == 0) && ((letter == 72) || ((letter == 74) || (letter == 75))))
 
 -- whether one with `?` is, which asks a terminal to hold back what is shown, or for marks round a pasted text, or no longer
 abbrev pub is_asked : ℕ → ℕ → Bool
@@ -88,11 +93,11 @@ put_plain columns t byte =
 abbrev pub put_sequence : ℕ → Terminal → Bool → ℕ → ℕ → Terminal
 put_sequence columns t asked number byte =
     if is_in_range 48 57 byte then record t { reading = sequence asked (number * 10 + (byte - 48)) }
-    else if is_in_range 58 59 byte then record t { reading = sequence asked 0 }
+    else if is_in_range 58 59 byte then record t { reading = sequence asked several }
     else if byte == 63 then record t { reading = sequence true 0 }
     else if asked then (if is_asked number byte then showing (seen columns t) else astray t)
     else if byte == 109 then record t { reading = plain }
-    else if is_known number byte then showing (ended columns (seen columns t) number byte)
+    else if is_known_sequence number byte then showing (ended columns (seen columns t) number byte)
     else astray t
 
 -- a byte

@@ -1,5 +1,5 @@
 //! A screen that is drawn by writing bytes to a terminal.
-ghost use Rattle.std.specs.Prelude.{◌≡◌, nat_lt, ℕ, ◌<◌, ◌&&◌, ◌++◌, List, length, [], ◌∷◌, true, false, not, OnOk, OnErr, is_some, option_map, string_bytes, if◌then◌else◌};
+ghost use Rattle.std.specs.Prelude.{◌≡◌, nat_lt, ℕ, ◌<◌, ◌&&◌, ◌++◌, List, length, [], ◌∷◌, true, false, not, OnOk, OnErr, is_some, option_map, string_bytes, if◌then◌else◌, None};
 ghost use Rattle.std.specs.List.{list_all};
 ghost use Rattle.std.specs.Io.KnownBytes.{Appends};
 ghost use Rattle.line_config.specs.Error.{FaultsOnly, IsOneMore};
@@ -10,7 +10,7 @@ ghost use Rattle.line_state.specs.ScreenState.{Agrees, BeepsAtMost, DrawsNoLine,
 ghost use Rattle.line_screen.specs.Measure.{measured};
 ghost use Rattle.line_term.specs.Drawn.{cleaned};
 ghost use Rattle.line_term.specs.Escape.{bell, clear_all, clear_from, clear_row, hold, move_bytes, next_line, paste_marked, paste_typed, release};
-ghost use Rattle.line_term.specs.Output.{Resizes, StaysUnknown, unknown_screen, Writes, WritesAside, WritesPart, WritesSome, holds_back};
+ghost use Rattle.line_term.specs.Output.{Resizes, StaysWith, unknown_screen, Writes, WritesAside, WritesPart, WritesSome, holds_back};
 ghost use Rattle.line_term.specs.Painted.{AppendsSome, Draws, Redraws, asked, wrap};
 ghost use Rattle.line_term.specs.Shown.{EndsInRows, IsOnTerminal, TellsKnown};
 
@@ -55,6 +55,7 @@ pub struct Ansi<O: Write + Drop, R: RawReader> {
     redraws: u64,
     failures: u64,
     ghost text_is_plain: { plain ≡ list_all is_plain (string_bytes shown.text) },
+    // Whether what is kept of the screen is known to be shown is asked of `whole` and `end`, and not of its `known`.
     ghost told: { TellsKnown O.contents shown.columns whole end out (record {
       position = shown.place;
       prompt = string_bytes shown.prompt;
@@ -138,14 +139,28 @@ impl<O: Write + Drop, R: RawReader> Ansi<O, R> {
         &self.out
     }
 
-    /// Writes to `out` from now on. Returns what was written to before. A full redraw is to follow.
+    /// Writes to `out` from now on. Returns what was written to before, which shows what `out` says. A full redraw is to follow.
     pub fn replace_out(&mut self, out: O) -> O
         ensures before { O.contents result ≡ ⟦<Self as Output>⟧.written self.old }
+        ensures shown { let screen = ⟦<Self as ScreenState>⟧.screen self.old in
+            let surface = ⟦<Self as ScreenState>⟧.surface self.old in
+            screen.known ≡ true → EndsInRows surface.measure screen
+            → IsOnTerminal O.contents surface.columns result screen }
         ensures written { ⟦<Self as Output>⟧.written self.new ≡ O.contents out }
-        ensures stays { StaysUnknown ⟦<Self as ScreenState>⟧ ⟦<Self as Output>⟧
-            self.old self.new }
+        ensures stays { StaysWith ⟦<Self as ScreenState>⟧ ⟦<Self as Output>⟧ self.old self.new
+            (record (⟦<Self as ScreenState>⟧.screen self.old) { known = false }) }
     {
         self.whole = false;
+        mem::replace(&mut self.out, out)
+    }
+
+    /// Writes to `out` from now on, whose bytes go to the same terminal. Returns what was written to before. It is for an output
+    /// that is emptied now and then, of whose bytes no contract speaks.
+    pub fn exchange_out(&mut self, out: O) -> O
+        requires { (any : O) → O.contents any ≡ None }
+        ensures stays { StaysWith ⟦<Self as ScreenState>⟧ ⟦<Self as Output>⟧ self.old self.new
+            (⟦<Self as ScreenState>⟧.screen self.old) }
+    {
         mem::replace(&mut self.out, out)
     }
 
