@@ -12,7 +12,7 @@ use Rattle.line_session.specs.Searching.{aim_of, search_prompt}
 use Rattle.line_session.specs.declared.mode.Mode.{Mode}
 use Rattle.line_session.specs.declared.mode.Mode.TheVariants as modes
 
--- a screen of so many columns with a line behind a prompt, a text behind that, if there is one, and its cursor where the line's is
+-- a screen of so many columns with a line after a prompt, a text after that, if there is one, and its cursor where the line's is
 abbrev pub screen_of : ℕ → List ℕ → Line → Option (List ℕ) → Screen
 screen_of columns prompt line trailing =
     let prompt_end = measured columns prompt corner in record {
@@ -31,8 +31,8 @@ module _ {O : Type 0} (contents : O → Option (List ℕ)) (columns : ℕ) (out 
       let screen = screen_of columns prompt line trailing in
       EndsInRows (measured columns) screen → IsOnTerminal contents columns out screen
 
-  -- what was written shows the line as it is in a mode, with these items left: behind its own prompt, with a text behind it that may trail it;
-  -- in a search, once all items are read, behind that of the search, with its hint. Of a list, and of a program that is suspended, nothing is
+  -- what was written shows the line as it is in a mode, with these items left: after its own prompt, with a text that may trail it;
+  -- in a search, once all items are read, after that of the search, with its hint. Of a list, and of a program that is suspended, nothing is
   -- said
   abbrev pub ShowsByMode : Mode → List Item → Environment → List ℕ → Draft → Type 0
   ShowsByMode (modes.Searching searching) items environment prompt draft =
