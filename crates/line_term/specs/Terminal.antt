@@ -9,20 +9,20 @@ use Rattle.line_screen.specs.Measure.{columns_of}
 use Rattle.line_term.specs.Page.{Page, at, blank, put_cluster}
 
 -- what is being read: text; what follows an ESC; a control sequence, whether it began by `?`, and the number that stands last in it;
--- or something that is not known, behind which nothing is said any more
+-- or something that is not known, after which nothing is said any more
 pub data Reading : Type 0 where
   plain : Reading
   escape : Reading
   sequence : Bool → ℕ → Reading
   lost : Reading
 
--- what was shown before the text that came last, this text, of which more may come, and what is being read
+-- what was shown before the text that was read last, this text, of which more may follow, and what is being read
 pub record Terminal : Type 0 where
   pub page : Page
   pub text : List ℕ
   pub reading : Reading
 
--- what is shown: the clusters of the text that came last are put down one after another
+-- what is shown: the clusters of the text that was read last are put down one after another
 unfoldable pub seen : ℕ → Terminal → Page
 seen columns t = fold (λ page cluster. put_cluster columns page (columns_of columns cluster) cluster) t.page (graphemes true t.text)
 
@@ -49,7 +49,7 @@ is_known number letter = is_in_range 65 67 letter || ((number == 0) && ((letter 
 abbrev pub is_asked : ℕ → ℕ → Bool
 is_asked number letter = ((number == 2026) || (number == 2004)) && ((letter == 104) || (letter == 108))
 
--- the end of a known control sequence with a number; for a move none or 0 stands for 1. The cursor does not wait behind it
+-- the end of a known control sequence with a number; for a move none or 0 stands for 1. The cursor does not wait after it
 abbrev pub ended : ℕ → Page → ℕ → ℕ → Page
 ended columns page number letter =
     let count = max 1 number in
@@ -108,7 +108,7 @@ put columns t byte = elim t.reading [
 abbrev pub sent : ℕ → Terminal → List ℕ → Terminal
 sent columns t bytes = fold (put columns) t bytes
 
--- text is read, and what came last is printable ASCII
+-- text is read, and what was read last is printable ASCII
 pub record IsReady (t : Terminal) : Type 0 where
   pub reading : t.reading ≡ plain
   pub printable : list_all is_printable t.text ≡ true
