@@ -24,7 +24,7 @@ pub record HasValue (old new : Names) (text : List ℕ) (x : ℤ) : Type 0 where
   pub spelled : Spells text symbols
   pub computed : Computes old new symbols x
 
--- symbols are a line with an expression: alone, or behind a name and `=`
+-- symbols are a line with an expression: alone, or after a name and `=`
 pub data IsLineOf (e : Expression) (symbols : List Symbol) : Type 0 where
   alone : Writes Sum symbols e → IsLineOf e symbols
   behind_name : (name : List ℕ) (behind : List Symbol) → symbols ≡ word name ∷ equals ∷ behind

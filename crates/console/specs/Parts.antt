@@ -44,7 +44,7 @@ pub record IsWorth
   pub worth : value_of named expression ≡ Some x
 
 -- the result for each expression of a rank that the tokens from a place on begin with and do not
--- go on with: its value and the place behind it, or a complaint about it
+-- go on with: its value and the place after it, or a complaint about it
 abbrev pub Settles : List Placed → (List ℕ → Option ℤ) → Rank → ℕ → Result Part Fault → Type 0
 Settles tokens named rank start result =
     (used rest : List Symbol) (e : Expression) → drop start (symbols_of tokens) ≡ used ++ rest

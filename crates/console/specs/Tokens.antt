@@ -26,7 +26,7 @@ symbol_of Equals = equals
 abbrev pub symbols_of : List Placed → List Symbol
 symbols_of tokens = map (λ t. symbol_of t.token) tokens
 
--- what is spelled from one place of a text is, behind these symbols, spelled from an earlier place
+-- what is spelled from one place of a text is, after these symbols, spelled from an earlier place
 abbrev pub LeadsTo : List ℕ → ℕ → List Symbol → ℕ → Type 0
 LeadsTo text start symbols end =
     (more : List Symbol) → Spells (drop end text) more → Spells (drop start text) (symbols ++ more)

@@ -51,7 +51,7 @@ fn answers_to_file<R: Files + AllocGlobal>(
     Ok((!answers.is_empty()).then_some(answers))
 }
 
-/// Returns what is answered to a line that loads no file: the value of its expression, what is wrong with it, or what a word behind
+/// Returns what is answered to a line that loads no file: the value of its expression, what is wrong with it, or what a word after
 /// a colon asks for.
 fn answer_to_line(
     alloc: Global,
@@ -69,7 +69,7 @@ fn answer_to_line(
     }
 }
 
-/// Returns what is answered to a word behind a colon.
+/// Returns what is answered to a word after a colon.
 fn answer_to_word(alloc: Global, word: &str, vi: bool) -> Result<String> {
     match word {
         "keys" => {

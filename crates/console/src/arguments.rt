@@ -49,7 +49,7 @@ impl Arguments {
         }
     }
 
-    /// Takes an argument. Returns what the one behind it is; None where this one is not known.
+    /// Takes an argument. Returns what the one after it is; None where this one is not known.
     fn take(&mut self, next: Next, word: String) -> Option<Next> {
         match next {
             Next::Word => return self.take_word(word.as_str()),

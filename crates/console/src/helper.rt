@@ -18,7 +18,7 @@ pub(crate) type ConsoleHelper = Parts<
     MatchingBracketValidator,
 >;
 
-/// Returns the helper of the console, which completes the names in a folder behind the command that loads a file.
+/// Returns the helper of the console, which completes the names in a folder after the command that loads a file.
 ///
 /// # Errors
 /// `Memory`.

@@ -1,6 +1,6 @@
 //! The tables of keys, as they are shown to a person.
 
-/// The keys of both styles.
+/// The keys of both edit modes.
 const COMMON: &str = "\
 Left Right Home End     a character back, on; to the start, to the end
 Up Down                 a row up, down; from the first row to older lines, from the last to newer ones

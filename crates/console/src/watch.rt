@@ -20,7 +20,7 @@ const PAUSES_UNANSWERED: u32 = 50;
 /// After how many pauses the input counts as ended: eleven days of a terminal, and seconds of an input that is at its end.
 const PAUSES_AT_MOST: u32 = 10_000_000;
 
-/// How often is read at the end for an answer that has not come yet.
+/// How often is read at the end for an answer that has not arrived yet.
 const READS_AT_END: usize = 5;
 
 /// How many bytes are read at once.
@@ -35,9 +35,9 @@ pub(crate) struct Watch {
     size: Size,
     /// Whether it takes rows for columns in its answers, as tmux 3.3 does; known from its first answer on in which they differ.
     exchanges: Option<bool>,
-    /// Whether an answer has not come yet.
+    /// Whether an answer has not arrived yet.
     asked: bool,
-    /// How many pauses there were since keys came.
+    /// How many pauses there were since keys arrived.
     pauses: u32,
 }
 
@@ -80,7 +80,7 @@ impl Watch {
         self.pauses >= PAUSES_AT_MOST
     }
 
-    /// Gives the editor the size that the terminal reported behind what was read, if it did and it is another one.
+    /// Gives the editor the size that the terminal reported after what was read, if it did and it is another one.
     pub(crate) fn follow<O: Write + Drop>(&mut self, editor: &mut LineEditor<O>) -> Result<()> {
         let Some(answer) = editor.take_size() else {
             self.pauses = 0;
@@ -109,7 +109,7 @@ impl Watch {
         if exchanges { other } else { answer }
     }
 
-    /// Waits a moment for an answer that has not come yet, so that it is not left to who reads next.
+    /// Waits a moment for an answer that has not arrived yet, so that it is not left to whoever reads next.
     pub(crate) fn settle<R: Read, O: Write + Drop>(
         &mut self,
         input: &mut R,

@@ -8,7 +8,7 @@ use std::io::Write;
 use unicode_segmentation::UnicodeSegmentation;
 
 /// Prints the places of prompt, line and hint, a line for each cluster: row, column, and its bytes as hexadecimal numbers. The hint
-/// comes right behind the line. The last line is the cursor's place.
+/// comes right after the line. The last line is the cursor's place.
 pub fn print_cells<O: Write>(screen: &Plain<Script>, columns: Unit, out: &mut O) -> Result<()> {
     let mut place = Position { row: 0, col: 0 };
     place = print_text(screen.prompt(), place, columns, out)?;

@@ -8,12 +8,12 @@ use line_state::Renderer;
 use line_term::Ansi;
 use std::io::Write;
 
-/// A screen that tells what a turn did.
+/// A screen that prints what a turn did.
 pub trait Told: Renderer<Reader = Script> {
-    /// Prints that the screen was resized, where this is told.
+    /// Prints that the screen was resized, where this is to be printed.
     fn tell_resized<O: Write>(&self, out: &mut O) -> Result<()>;
 
-    /// Prints what was written behind the first `told` bytes, or what is shown. Returns how many bytes there are.
+    /// Prints what was written after the first `told` bytes, or what is shown. Returns how many bytes there are.
     fn tell<O: Write>(&self, told: usize, out: &mut O) -> Result<usize>;
 }
 

@@ -3,7 +3,7 @@ use Rattle.std.specs.Prelude.{nat_lt, drop, ℕ, suc, ◌+◌, ◌-◌, ◌^◌,
 use Rattle.std.specs.List.{repeat}
 use Rattle.line_buffer.specs.Character.{is_alphanumeric, is_one_alphanumeric}
 
--- a group begins or ends; a text came in at a place, went from it, or one came for another
+-- a group begins or ends; a text was inserted at a place, was removed from it, or replaced another
 pub data Entry : Type 0 where
   begins : Entry
   ends : Entry
@@ -38,7 +38,7 @@ abbrev pub begins_in_a_row : List Entry → ℕ
 begins_in_a_row (begins ∷ entries) = suc (begins_in_a_row entries)
 begins_in_a_row entries = 0
 
--- n groups are closed: so many of these begins go, and an end comes for each group that is left
+-- n groups are closed: so many of these begins are removed, and an end is added for each group that is left
 abbrev pub closed : ℕ → List Entry → List Entry
 closed n entries = replicate (n - begins_in_a_row entries) ends ++ drop (min n (begins_in_a_row entries)) entries
 
@@ -46,7 +46,7 @@ closed n entries = replicate (n - begins_in_a_row entries) ends ++ drop (min n (
 abbrev pub adds_end : ℕ → List Entry → Bool
 adds_end n entries = nat_lt (begins_in_a_row entries) n
 
--- the newest begins went, each of an open group
+-- the newest begins were removed, each of an open group
 abbrev pub without_begins : Changes → Changes
 without_begins c = record {
   entries = drop (min c.open_groups (begins_in_a_row c.entries)) c.entries;
@@ -57,24 +57,24 @@ without_begins c = record {
 abbrev pub ended : Changes → Changes
 ended c = record { entries = closed c.open_groups c.entries; open_groups = 0 }
 
--- a text came in at a place; the empty text leaves no entry
+-- a text was inserted at a place; the empty text leaves no entry
 abbrev pub with_insert : ℕ → List ℕ → List Entry → List Entry
 with_insert place [] entries = entries
 with_insert place (b ∷ bs) entries = inserted place (b ∷ bs) ∷ entries
 
--- a text came in that joins a newest insert which ends at its place
+-- a text was inserted that joins a newest insert which ends at its place
 abbrev pub with_joined_insert : ℕ → List ℕ → List Entry → List Entry
 with_joined_insert place text (inserted at old ∷ entries) =
     if at + length old == place then inserted at (old ++ text) ∷ entries else inserted place text ∷ inserted at old ∷ entries
 with_joined_insert place text entries = inserted place text ∷ entries
 
--- n copies of a character came in at a place: one alphanumeric character joins
+-- n copies of a character were inserted at a place: one alphanumeric character joins
 abbrev pub with_typed : ℕ → ℕ → ℕ → List Entry → List Entry
 with_typed place c n entries =
     if (n == 1) && is_alphanumeric c then with_joined_insert place (encode_utf8 c) entries
     else with_insert place (repeat n (encode_utf8 c)) entries
 
--- a text went that joins a newest delete at its place, or one that it ends at
+-- a text was removed that joins a newest delete at its place, or one that it ends at
 abbrev pub with_joined_delete : ℕ → List ℕ → List Entry → List Entry
 with_joined_delete place text (deleted at old ∷ entries) =
     if at == place then deleted at (old ++ text) ∷ entries
@@ -82,28 +82,28 @@ with_joined_delete place text (deleted at old ∷ entries) =
     else deleted place text ∷ deleted at old ∷ entries
 with_joined_delete place text entries = deleted place text ∷ entries
 
--- a text went from a place: one alphanumeric cluster joins, and the empty text leaves no entry
+-- a text was removed from a place: one alphanumeric cluster joins, and the empty text leaves no entry
 abbrev pub with_delete : ℕ → List ℕ → List Entry → List Entry
 with_delete place [] entries = entries
 with_delete place (b ∷ bs) entries =
     if is_one_alphanumeric (b ∷ bs) then with_joined_delete place (b ∷ bs) entries else deleted place (b ∷ bs) ∷ entries
 
--- a text came for another at a place: it joins a newest replace whose new text ends there
+-- a text replaced another at a place: it joins a newest replace whose new text ends there
 abbrev pub with_replace : ℕ → List ℕ → List ℕ → List Entry → List Entry
 with_replace place old new (replaced at before after ∷ entries) =
     if at + length after == place then replaced at (before ++ old) (after ++ new) ∷ entries
     else replaced place old new ∷ replaced at before after ∷ entries
 with_replace place old new entries = replaced place old new ∷ entries
 
--- a text came for a range of another
+-- a text replaced a range of another
 abbrev pub with_replaced : List ℕ → ℕ → ℕ → List ℕ → List Entry → List Entry
 with_replaced text from to new entries = with_replace from (slice_range text from to) new entries
 
--- a text came for the whole of another
+-- a text replaced the whole of another
 abbrev pub with_update : List ℕ → List ℕ → List Entry → List Entry
 with_update old new entries = with_insert 0 new (with_delete 0 old entries)
 
--- the text that came in last: that of the newest entry which is no end
+-- the text that was inserted last: that of the newest entry which is no end
 abbrev pub last_insert_of : List Entry → Option (List ℕ)
 last_insert_of [] = None
 last_insert_of (ends ∷ entries) = last_insert_of entries

@@ -14,7 +14,7 @@ use Rattle.line_buffer.specs.Line.{Line, before, after}
 abbrev pub clusters : List ℕ → List (List ℕ)
 clusters text = graphemes true text
 
--- the text behind its first n clusters
+-- the text after its first n clusters
 abbrev pub behind_first : ℕ → List ℕ → List ℕ
 behind_first n text = concat (drop n (clusters text))
 
@@ -49,6 +49,6 @@ abbrev pub is_no_conjunct : IndicConjunctBreak → Bool
 is_no_conjunct InCb.None = true
 is_no_conjunct _ = false
 
--- the character joins no other such one: between the two clusters part, whatever stands before and behind
+-- the character joins no other such one: between the two clusters part, whatever stands before and after
 abbrev pub stands_alone : ℕ → Bool
 stands_alone c = is_apart (grapheme_cluster_break c) && is_no_conjunct (indic_conjunct_break c)

@@ -22,7 +22,7 @@ ClonesAreSame {T} cloning =
 abbrev pub IsOnlyDefault : {T : Type 0} → (T → Type 0) → T → Type 0
 IsOnlyDefault {T} is_default value = (one : T) → is_default one ↔ (one ≡ value)
 
--- one screen position comes before another where its row is above, or in the same row its column is left
+-- one screen position is before another where its row is above, or in the same row its column is left
 abbrev pub IsReadingOrder : (Position → Position → Ordering) → Type 0
 IsReadingOrder compare = (one other : Position)
     → (compare one other ≡ Less) ↔ ((one.row < other.row) ⊎ ((one.row ≡ other.row) × (one.col < other.col)))

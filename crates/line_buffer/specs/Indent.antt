@@ -24,12 +24,12 @@ abbrev pub shifted : Bool → ℕ → List ℕ → List ℕ
 shifted true amount line = drop (length (blank_front amount line)) line
 shifted false amount line = replicate amount 32 ++ line
 
--- where an offset in a line goes: with its character, or to the line's start
+-- where an offset in a line moves: with its character, or to the line's start
 abbrev pub moved_in : Bool → ℕ → List ℕ → ℕ → ℕ
 moved_in true amount line offset = offset - length (blank_front amount line)
 moved_in false amount line offset = offset + amount
 
--- where an offset among lines with a newline between each two goes
+-- where an offset among lines with a newline between each two moves
 abbrev pub moved_among : Bool → ℕ → List (List ℕ) → ℕ → ℕ
 moved_among dedent amount [] offset = offset
 moved_among dedent amount (line ∷ more) offset =
@@ -56,7 +56,7 @@ whole_lines l (Some r) = (start_of_line (with_cursor l r.0), end_of_line (with_c
 abbrev pub indented_range : Line → Movement → ℕ × ℕ
 indented_range l m = whole_lines l (unless_empty (range_by_lines l m))
 
--- the lines between two places are shifted, and the cursor goes with its character
+-- the lines between two places are shifted, and the cursor moves with its character
 abbrev pub indented : Bool → ℕ → Line → ℕ × ℕ → Line
 indented dedent amount l r =
     let held = lines (slice_range l.text r.0 r.1) in
@@ -95,7 +95,7 @@ pub record EndsLine (text : List ℕ) (from to : ℕ) : Type 0 where
   pub boundary : IsCharBoundary text from
   pub end : prefix_len is_no_newline (drop to text) ≡ 0
 
--- a success shifts the line that begins at a place, tells of it, and gives where it ends then
+-- a success shifts the line that begins at a place, records it, and returns where it ends then
 pub record ShiftsLine {E : Type 0} (result : Result ℕ E) (old new : Line) (c c' : Changes) (dedent : Bool) (amount place : ℕ) : Type 0 where
   pub line : OnOk result (new ≡ with_line_shifted dedent amount old place (line_from old.text place))
   pub changes : OnOk result (c' ≡ on_entries (with_shift dedent amount place (line_from old.text place)) c)

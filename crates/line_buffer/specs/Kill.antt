@@ -45,16 +45,16 @@ ring_mode (BackwardChar _) = None
 ring_mode (ForwardChar _) = None
 ring_mode m = Some (mode_of (direction_of m))
 
--- the place, the text and the side of what goes with a range
+-- the place, the text and the side of what is removed with a range
 abbrev pub kill_answer : Line → Movement → Option (ℕ × ℕ) → Option (ℕ × List ℕ × Direction)
 kill_answer l m range = option_map (λ r. (r.0, slice_range l.text r.0 r.1, direction_of m)) range
 
--- the changes once a range of the line went
+-- the changes once a range of the line was removed
 abbrev pub with_killed : Line → Option (ℕ × ℕ) → Changes → Changes
 with_killed l None c = c
 with_killed l (Some r) c = with_entries c (with_delete r.0 (slice_range l.text r.0 r.1) c.entries)
 
--- the ring once a range of the line went by a movement
+-- the ring once a range of the line was removed by a movement
 abbrev pub ring_with_killed : Line → Movement → Option (ℕ × ℕ) → Ring → Ring
 ring_with_killed l m None ring = ring
 ring_with_killed l m (Some r) ring = with_kept ring (slice_range l.text r.0 r.1) (ring_mode m)

@@ -33,7 +33,7 @@ with_last r last = record { size = r.size; slots = r.slots; current = r.current;
 abbrev pub current_text : Ring → List ℕ
 current_text r = slice_index_or r.slots r.current []
 
--- the slot behind the current one: 0 on an empty ring, and behind the last that there may be
+-- the slot after the current one: 0 on an empty ring, and after the last that there may be
 abbrev pub next_slot : Ring → ℕ
 next_slot r = if (length r.slots == 0) || (r.current + 1 == r.size) then 0 else r.current + 1
 
@@ -85,7 +85,7 @@ abbrev pub with_kept : Ring → List ℕ → Option Mode → Ring
 with_kept r text None = r
 with_kept r text (Some mode) = after_kill r text mode
 
--- the text that a yank gives: the current slot's, if one is held
+-- the text that is yanked: the current slot's, if one is held
 abbrev pub yanked_text : Ring → Option (List ℕ)
 yanked_text r = if length r.slots == 0 then None else Some (current_text r)
 
@@ -111,6 +111,6 @@ yank_pop_size r = if length r.slots == 0 then None else last_yank r.last
 abbrev pub after_yank_pop : Ring → Ring
 after_yank_pop r = if is_some (yank_pop_size r) then after_yank (back_one r) else r
 
--- what a yank-pop gives: the bytes of the yank before, and the text one slot back
+-- what a yank-pop returns: the bytes of the yank before, and the text one slot back
 abbrev pub yank_popped : Ring → Option (ℕ × List ℕ)
 yank_popped r = option_map (λ size. (size, current_text (back_one r))) (yank_pop_size r)

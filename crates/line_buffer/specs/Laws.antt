@@ -13,11 +13,11 @@ use Rattle.line_buffer.specs.declared.movement.At.{At}
 use Rattle.line_buffer.specs.declared.movement.Word.{Word}
 use Rattle.line_buffer.specs.declared.kill_ring.Mode.{Mode}
 
--- entries that tell how a text came from another give that one when all are taken back
+-- entries that record how a text came from another restore that one when all are taken back
 abbrev pub TakingAllBack : Type 0
 TakingAllBack = (entries : List Entry) (l : Line) (start : List ℕ) → TellsOf entries l.text start → (all_taken_back entries l).text ≡ start
 
--- where no group is open, so many steps at once are as many single steps, and no group is open behind them
+-- where no group is open, so many steps at once are as many single steps, and no group is open after them
 abbrev pub UndoingStepByStep : Type 0
 UndoingStepByStep = (entries : List Entry) (l : Line) (n : ℕ) → NoGroupOpen entries → 0 < n
     → (after_undo n (entries, l) ≡ iterate (after_undo 1) n (entries, l)) × NoGroupOpen (after_undo n (entries, l)).0
@@ -26,7 +26,7 @@ UndoingStepByStep = (entries : List Entry) (l : Line) (n : ℕ) → NoGroupOpen 
 abbrev pub IsRing : Ring → Type 0
 IsRing r = (length r.slots ≤ r.size) × (0 < length r.slots → r.current < length r.slots)
 
--- after a reset, what is killed is what a yank gives
+-- after a reset, what is killed is what is yanked
 abbrev pub KilledIsYanked : Type 0
 KilledIsYanked = (r : Ring) (text : List ℕ) (mode : Mode) → IsRing r → 0 < r.size → yanked_text (after_kill (with_last r other) text mode) ≡ Some text
 
@@ -45,7 +45,7 @@ abbrev pub KillsInARowShareASlot : Type 0
 KillsInARowShareASlot = (r : Ring) (more : List (List ℕ × Mode)) → IsRing r → 0 < length r.slots → r.last ≡ killed
     → after_kills r more ≡ record { size = r.size; slots = slice_set r.slots r.current (all_joined (current_text r) more); current = r.current; last = killed }
 
--- so after a reset a yank gives all of them
+-- so after a reset a yank returns all of them
 abbrev pub KillsInARowAreYanked : Type 0
 KillsInARowAreYanked = (r : Ring) (text : List ℕ) (mode : Mode) (more : List (List ℕ × Mode)) → IsRing r → 0 < r.size
     → yanked_text (after_kills (after_kill (with_last r other) text mode) more) ≡ Some (all_joined text more)
@@ -59,7 +59,7 @@ abbrev pub ClosedGroupIsOneStep : Type 0
 ClosedGroupIsOneStep = (c : Changes) (inside : List Entry) (l : Line) → c.open_groups ≡ 0 → 0 < length inside → list_all is_change inside ≡ true
     → after_undo 1 ((ended (record (begun c) { entries = inside ++ (begun c).entries })).entries, l) ≡ (c.entries, all_taken_back inside l)
 
--- the last number that passes is not past the bound, no number behind it passes, and it passes unless it is 0
+-- the last number that passes is not past the bound, no number after it passes, and it passes unless it is 0
 abbrev pub LastFittingIsLast : Type 0
 LastFittingIsLast = (passes : ℕ → Bool) (m : ℕ) →
     (last_fitting passes m ≤ m)

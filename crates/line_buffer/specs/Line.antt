@@ -20,24 +20,24 @@ after l = drop l.cursor l.text
 abbrev pub with_cursor : Line → ℕ → Line
 with_cursor l place = record { text = l.text; cursor = place }
 
--- the cursor goes to the place, if there is one
+-- the cursor moves to the place, if there is one
 abbrev pub moved_to : Line → Option ℕ → Line
 moved_to l None = l
 moved_to l (Some place) = with_cursor l place
 
--- a text comes in at the cursor, which goes behind it
+-- a text is inserted at the cursor, which then stands after it
 abbrev pub inserted_at_cursor : Line → List ℕ → Line
 inserted_at_cursor l t = record { text = insert_slice l.text l.cursor t; cursor = l.cursor + length t }
 
--- a text comes in at a place, and the cursor stays
+-- a text is inserted at a place, and the cursor stays
 abbrev pub inserted_at : Line → ℕ → List ℕ → Line
 inserted_at l place t = record { text = insert_slice l.text place t; cursor = l.cursor }
 
--- a text comes for a range, and the cursor goes behind it
+-- a text replaces a range, and the cursor then stands after it
 abbrev pub replaced_in : Line → ℕ → ℕ → List ℕ → Line
 replaced_in l from to t = record { text = replace_range l.text from to t; cursor = from + length t }
 
--- the bytes of a range go, and the cursor goes to where they were
+-- the bytes of a range are removed, and the cursor moves to where they were
 abbrev pub without : Line → Option (ℕ × ℕ) → Line
 without l None = l
 without l (Some r) = record { text = remove_range l.text r.0 r.1; cursor = r.0 }
@@ -50,7 +50,7 @@ is_no_newline b = not (b == 10)
 abbrev pub end_of_line : Line → ℕ
 end_of_line l = l.cursor + prefix_len is_no_newline (after l)
 
--- the start of the cursor's line: behind the last newline before the cursor, else the text's start
+-- the start of the cursor's line: after the last newline before the cursor, else the text's start
 abbrev pub start_of_line : Line → ℕ
 start_of_line l = l.cursor - suffix_len is_no_newline (before l)
 

@@ -17,7 +17,7 @@ line_above text =
     if (length text == 0) then None
     else if slice_index text (length text - 1) == 10 then Some (last_line (take (length text - 1) text)) else None
 
--- where the text goes on behind its first newline, if it has one
+-- where the text goes on after its first newline, if it has one
 abbrev pub next_line : List ℕ → Option ℕ
 next_line text = if prefix_len is_no_newline text == length text then None else Some (prefix_len is_no_newline text + 1)
 
@@ -31,7 +31,7 @@ abbrev pub lines_below : ℕ → List ℕ → ℕ → ℕ
 lines_below zero text start = start
 lines_below (suc n) text start = elim (next_line (drop start text)) [ Some bytes ↦ lines_below n text (start + bytes) | None ↦ start ]
 
--- behind the newline of the line that begins at a place, or the text's end
+-- after the newline of the line that begins at a place, or the text's end
 abbrev pub line_stop : List ℕ → ℕ → ℕ
 line_stop text start = unwrap_or (option_map (λ bytes. start + bytes) (next_line (drop start text))) (length text)
 

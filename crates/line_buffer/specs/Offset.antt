@@ -18,7 +18,7 @@ pub record IsOffsetOn (result : Option ℕ) (l : Line) (offset : Option ℕ) : T
   pub on : IfSome result (λ p. l.cursor ≤ p)
   pub boundary : IfSome result (λ p. IsCharBoundary l.text p)
 
--- the same of an offset that is not behind the cursor
+-- the same of an offset that is not after the cursor
 pub record IsOffsetBack (result : Option ℕ) (l : Line) (offset : Option ℕ) : Type 0 where
   pub place : result ≡ offset
   pub back : IfSome result (λ p. p ≤ l.cursor)
@@ -30,7 +30,7 @@ pub record IsSpan (text : List ℕ) (from to : ℕ) : Type 0 where
   pub start : IsCharBoundary text from
   pub end : IsCharBoundary text to
 
--- a result is this range, which does not begin behind the cursor, or there is none
+-- a result is this range, which does not begin after the cursor, or there is none
 pub record IsRangeIfAny (result : Option (ℕ × ℕ)) (l : Line) (span : Option (ℕ × ℕ)) : Type 0 where
   pub range : result ≡ span
   pub ordered : IfSome result (λ r. r.0 ≤ r.1)

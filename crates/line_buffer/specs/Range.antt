@@ -18,7 +18,7 @@ up_to_cursor l place = option_map (λ from. (from, l.cursor)) place
 abbrev pub from_cursor : Line → Option ℕ → Option (ℕ × ℕ)
 from_cursor l place = option_map (λ to. (l.cursor, to)) place
 
--- the range of a search: on behind the character that is found or up to it, back to where the search leads
+-- the range of a search: on after the character that is found or up to it, back to where the search leads
 abbrev pub searched : Line → CharSearch → ℕ → Option (ℕ × ℕ)
 searched l (Forward c) n = from_cursor l (option_map (behind_char c) (found_on c l n))
 searched l (ForwardBefore c) n = from_cursor l (found_on c l n)

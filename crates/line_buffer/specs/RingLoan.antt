@@ -1,4 +1,4 @@
--- What a kill ring is once a text that it gave is let go.
+-- What a kill ring is once a text that it lent is let go.
 use Rattle.std.specs.Prelude.{◌≡◌}
 use Rattle.std.specs.Borrow.{Fml, MutBor}
 use Rattle.std.specs.Io.BufRead.{Rests}

@@ -38,7 +38,7 @@ nth_or_last places n = last_or None (take n places)
 abbrev pub behind_cluster : Line → ℕ
 behind_cluster l = l.cursor + bytes_to (clusters (after l)) 1
 
--- the place of the n-th character c behind the cluster after the cursor
+-- the place of the n-th character c after the cluster at the cursor
 abbrev pub found_on : ℕ → Line → ℕ → Option ℕ
 found_on c l n = option_map (λ bytes. behind_cluster l + bytes) (nth_or_last (places_of c (drop (behind_cluster l) l.text)) n)
 
@@ -50,7 +50,7 @@ found_back c l n = nth_or_last (reverse (places_of c (before l))) n
 abbrev pub char_before : List ℕ → ℕ → ℕ
 char_before text place = last_fitting (is_boundary text) (place - 1)
 
--- the place behind a character at a place
+-- the place after a character at a place
 abbrev pub behind_char : ℕ → ℕ → ℕ
 behind_char c place = place + len_utf8 c
 

@@ -27,11 +27,11 @@ exchanged text p = slice_range text p.from2 p.to2 ++ (slice_range text p.to1 p.f
 abbrev pub parts : ℕ → ℕ → ℕ → ℕ → Parts
 parts from1 to1 from2 to2 = record { from1 = from1; to1 = to1; from2 = from2; to2 = to2 }
 
--- the line with two parts in each other's place, the cursor behind both
+-- the line with two parts in each other's place, the cursor after both
 abbrev pub with_exchanged : Line → Parts → Line
 with_exchanged l p = replaced_in l p.from1 p.to2 (exchanged l.text p)
 
--- the changes once this exchange of two parts was told
+-- the changes once this exchange of two parts was recorded
 abbrev pub with_exchange : List ℕ → Parts → List Entry → List Entry
 with_exchange text p entries = with_replace p.from1 (slice_range text p.from1 p.to2) (exchanged text p) entries
 
@@ -52,7 +52,7 @@ chars_beside l place =
 abbrev pub chars_exchanged : Line → Line
 chars_exchanged l = if has_two_chars l then with_exchanged l (chars_beside l (between_chars l)) else l
 
--- the changes once this exchange was told, where there is one
+-- the changes once this exchange was recorded, where there is one
 abbrev pub with_chars_exchanged : Line → List Entry → List Entry
 with_chars_exchanged l entries = if has_two_chars l then with_exchange l.text (chars_beside l (between_chars l)) entries else entries
 
@@ -76,11 +76,11 @@ words_beside l n =
 abbrev pub are_apart : Parts → Bool
 are_apart p = not ((p.from1 == p.from2) || nat_lt p.from2 p.to1)
 
--- two words change places, or the cursor goes behind the first
+-- two words change places, or the cursor moves to after the first
 abbrev pub words_exchanged : Line → ℕ → Line
 words_exchanged l n = if are_apart (words_beside l n) then with_exchanged l (words_beside l n) else with_cursor l (words_beside l n).to1
 
--- the changes once the exchange of the words was told, where there are two
+-- the changes once the exchange of the words was recorded, where there are two
 abbrev pub with_words_exchanged : Line → ℕ → List Entry → List Entry
 with_words_exchanged l n entries = if are_apart (words_beside l n) then with_exchange l.text (words_beside l n) entries else entries
 
@@ -100,12 +100,12 @@ first_alphanumeric text = option_map (bytes_to (clusters text)) (position is_alp
 abbrev pub next_alphanumeric : Line → Option ℕ
 next_alphanumeric l = option_map (λ bytes. l.cursor + bytes) (first_alphanumeric (after l))
 
--- the line with the next word's letters changed, the cursor behind the word
+-- the line with the next word's letters changed, the cursor after the word
 abbrev pub with_cased : WordAction → Line → Option ℕ → Line
 with_cased action l None = l
 with_cased action l (Some from) = replaced_in l from (word_end_from l from 1) (cased action (slice_range l.text from (word_end_from l from 1)))
 
--- the changes once the change of these letters was told
+-- the changes once the change of these letters was recorded
 abbrev pub with_case : WordAction → Line → Option ℕ → List Entry → List Entry
 with_case action l None entries = entries
 with_case action l (Some from) entries =
@@ -116,6 +116,6 @@ with_case action l (Some from) entries =
 abbrev pub word_cased : WordAction → Line → Line
 word_cased action l = with_cased action l (next_alphanumeric l)
 
--- the changes once the change of the next word was told
+-- the changes once the change of the next word was recorded
 abbrev pub with_word_cased : WordAction → Line → List Entry → List Entry
 with_word_cased action l entries = with_case action l (next_alphanumeric l) entries

@@ -14,7 +14,7 @@ text_before (inserted place t) text = remove_range text place (place + length t)
 text_before (deleted place t) text = insert_slice text place t
 text_before (replaced place old new) text = replace_range text place (place + length new) old
 
--- where the cursor goes when an entry is taken back: to where a text came in, or behind the text that comes back
+-- where the cursor moves when an entry is taken back: to where a text was inserted, or to after the text that is restored
 abbrev pub cursor_before : Entry → ℕ → ℕ
 cursor_before begins cursor = cursor
 cursor_before ends cursor = cursor
@@ -49,12 +49,12 @@ Fits (inserted place t) text = OccursAt text place t
 Fits (deleted place t) text = IsCharBoundary text place
 Fits (replaced place old new) text = OccursAt text place new
 
--- the entries tell how a text came from another: taken back, they give that one
+-- the entries record how a text came from another: taken back, they restore that one
 abbrev pub TellsOf : List Entry → List ℕ → List ℕ → Type 0
 TellsOf [] text start = text ≡ start
 TellsOf (e ∷ entries) text start = Fits e text × TellsOf entries (text_before e text) start
 
--- the entries tell how a text came from some other
+-- the entries record how a text came from some other
 pub record Tells (entries : List Entry) (text : List ℕ) : Type 0 where
   pub start : List ℕ
   pub told : TellsOf entries text start
@@ -107,20 +107,21 @@ pub record GroupsFit (c : Changes) : Type 0 where
 pub record UndoesStepByStep {T E : Type 0} (result : Result T E) (n : ℕ) (old new : Line) (c c' : Changes) : Type 0 where
   pub steps : c.open_groups ≡ 0 → OnOk result (◌≡◌ {A = List Entry × Line} (c'.entries, new) (iterate (after_undo 1) (max n 1) (c.entries, old)))
 
--- what old entries tell of a text, new ones tell of another: both lead back to the same start
+-- what old entries record of a text, new ones record of another: both lead back to the same start
 pub record StillTells (old : List Entry) (text : List ℕ) (new : List Entry) (text' : List ℕ) : Type 0 where
   pub tells : (start : List ℕ) → TellsOf old text start → TellsOf new text' start
 
--- of each text new entries tell what the old ones tell
+-- of each text new entries record what the old ones record
 pub record TellTheSame (old new : List Entry) : Type 0 where
   pub of : (text : List ℕ) → StillTells old text new text
 
--- after a call's success the changes tell of the new text what they told of the old one; after its error there are none
+-- after a call's success the changes record of the new text what they recorded of the old one; after its error there are none
 pub record KeepsTold {T E : Type 0} (result : Result T E) (old : Changes) (line : Line) (new : Changes) (line' : Line) : Type 0 where
   pub tells : OnOk result (StillTells old.entries line.text new.entries line'.text)
   pub err : OnErr result (new ≡ no_changes)
 
--- after a call's success the changes tell of the new text what they told of the old one; after its error they do too, or there are none
+-- after a call's success the changes record of the new text what they recorded of the old one; after its error they do too, or there
+-- are none
 pub record StillTellsOrGone {T E : Type 0} (result : Result T E) (old : Changes) (line : Line) (new : Changes) (line' : Line) : Type 0 where
   pub tells : OnOk result (StillTells old.entries line.text new.entries line'.text)
   pub err : OnErr result (StillTells old.entries line.text new.entries line'.text ⊎ (new ≡ no_changes))

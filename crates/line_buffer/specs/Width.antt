@@ -55,7 +55,7 @@ abbrev pub IsSeam : ℕ → ℕ → Type 0
 IsSeam last first = (front behind before after : List ℕ) → chars (front ++ behind) ≡ chars front ++ chars behind
     → chars front ≡ before ++ last ∷ [] → chars behind ≡ first ∷ after → AddUp front behind
 
--- a text's columns are those before the place and those from it, with another text behind it and without
+-- a text's columns are those before the place and those from it, with another text after it and without
 pub record PartsAt (text behind : List ℕ) (place : ℕ) : Type 0 where
   pub boundary : IsCharBoundary text place
   pub whole : AddUp (take place text) (drop place text ++ behind)

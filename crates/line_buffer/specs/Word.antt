@@ -75,13 +75,13 @@ word_back word l n =
     if (n == 0) || (l.cursor == 0) then None
     else Some (bytes_to cs (unwrap_or (nth (reverse (edges begins_word (kinds_of word cs))) n) 0))
 
--- where there are fewer words among so many clusters: behind them for Emacs, else before the last one, if that is not the first
+-- where there are fewer words among so many clusters: after them for Emacs, else before the last one, if that is not the first
 abbrev pub past_the_words : Word → ℕ → Option ℕ
 past_the_words Emacs count = Some count
 past_the_words Big count = if count == 1 then None else Some (count - 1)
 past_the_words Vi count = if count == 1 then None else Some (count - 1)
 
--- where n words lead, in clusters from the cursor on: to the n-th start behind it; before the last cluster of the n-th word that ends behind the cursor's cluster, for Emacs after it; to the n-th end
+-- where n words lead, in clusters from the cursor on: to the n-th start after it; before the last cluster of the n-th word that ends after the cursor's cluster, for Emacs after it; to the n-th end
 abbrev pub word_edge : At → Word → List (List ℕ) → ℕ → Option ℕ
 word_edge Start word cs n = or_else (nth (edges begins_word (kinds_of word cs)) n) (past_the_words word (length cs))
 word_edge BeforeEnd Emacs cs n = or_else (option_map (λ i. i + 1) (nth (edges ends_word (kinds_of Emacs (drop 1 cs))) n)) (past_the_words Emacs (length cs))
@@ -108,11 +108,11 @@ abbrev pub edge_behind : (Kind → Kind → Bool) → Option Kind → Kind → B
 edge_behind test None new = false
 edge_behind test (Some old) new = test old new
 
--- an edge behind a cluster of the old kind, where there is a cluster behind it
+-- an edge after a cluster of the old kind, where there is a cluster after it
 abbrev pub edge_before : (Kind → Kind → Bool) → Kind → Option Kind → Bool
 edge_before test old None = false
 edge_before test old (Some new) = test old new
 
--- the same in all clusters, where the edge is counted behind the first
+-- the same in all clusters, where the edge is counted after the first
 abbrev pub edge_behind_first : List (List ℕ) → ℕ → ℕ × ℕ
 edge_behind_first cs i = (bytes_to cs i, bytes_to cs (i + 1))

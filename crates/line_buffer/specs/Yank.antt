@@ -9,12 +9,12 @@ abbrev pub yanks : Line → List ℕ → Option Bool
 yanks l [] = None
 yanks l (b ∷ bs) = Some (l.cursor == length l.text)
 
--- n copies of a text come in at the cursor; none of an empty text
+-- n copies of a text are inserted at the cursor; none of an empty text
 abbrev pub line_yanked : Line → List ℕ → ℕ → Line
 line_yanked l [] n = l
 line_yanked l (b ∷ bs) n = inserted_at_cursor l (repeat n (b ∷ bs))
 
--- the entries once n copies of a text came in at a place
+-- the entries once n copies of a text were inserted at a place
 abbrev pub with_yank : ℕ → List ℕ → ℕ → List Entry → List Entry
 with_yank place [] n entries = entries
 with_yank place (b ∷ bs) n entries = with_insert place (repeat n (b ∷ bs)) entries
@@ -31,15 +31,15 @@ can_pop l size = nat_le size l.cursor && is_boundary l.text (l.cursor - size)
 abbrev pub popped : Line → ℕ → Line
 popped l size = without l (Some (l.cursor - size, l.cursor))
 
--- the bytes go, and the text comes in their place
+-- the bytes are removed, and the text takes their place
 abbrev pub line_yank_popped : Line → ℕ → List ℕ → Line
 line_yank_popped l size t = if can_pop l size then line_yanked (popped l size) t 1 else l
 
--- whether the text that comes in changes the line; none where the bytes cannot go
+-- whether the text that is inserted changes the line; none where the bytes cannot be removed
 abbrev pub yank_pops : Line → ℕ → List ℕ → Option Bool
 yank_pops l size t = if can_pop l size then yanks (popped l size) t else None
 
--- the changes once both were told: the bytes that went, and the text that came in
+-- the changes once both were recorded: the bytes that were removed, and the text that was inserted
 abbrev pub with_yank_pop : Line → ℕ → List ℕ → List Entry → List Entry
 with_yank_pop l size t entries =
     if can_pop l size then with_yank (l.cursor - size) t 1 (with_delete (l.cursor - size) (slice_range l.text (l.cursor - size) l.cursor) entries)

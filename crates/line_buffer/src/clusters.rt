@@ -13,7 +13,7 @@ use crate::movement::RepeatCount;
 use crate::printable::are_plain;
 use unicode_segmentation::UnicodeSegmentation;
 
-/// Returns the text behind its first `n` clusters.
+/// Returns the text after its first `n` clusters.
 fn behind_first(text: &str, n: RepeatCount) -> &str
     ensures { result.now ≡ behind_first n text.now }
 {
@@ -121,7 +121,7 @@ pub(crate) fn first_line_len(text: &str) -> usize
     text.find('\n').unwrap_or(text.len())
 }
 
-/// Returns where the text goes on behind its last newline, or its start.
+/// Returns where the text goes on after its last newline, or its start.
 pub(crate) fn last_line_start(text: &str) -> usize
     ensures { IsOffset result text.now (length text.now - suffix_len is_no_newline text.now) }
 {
@@ -141,7 +141,7 @@ pub(crate) fn line_above(text: &str) -> Option<usize>
     Some(last_line_start(above))
 }
 
-/// Returns where the text goes on behind its first newline, or `None` where it has none.
+/// Returns where the text goes on after its first newline, or `None` where it has none.
 pub(crate) fn next_line(text: &str) -> Option<usize>
     ensures { IsOffsetIfAny result text.now (next_line text.now) }
 {

@@ -21,7 +21,7 @@ enum Action {
     Other,
 }
 
-/// The last texts that were killed, at most so many as its size, and the one that a yank gives.
+/// The last texts that were killed, at most so many as its size, and the one that is yanked.
 #[derive(Debug, Drop)]
 pub struct KillRing {
     size: usize,
@@ -73,9 +73,8 @@ impl KillRing {
         self.last = Action::Other;
     }
 
-    /// Keeps a text that was killed: right after a kill it joins the current slot, on the side that
-    /// `mode` tells; else it takes the next slot, which becomes the current one. A ring of size 0
-    /// keeps nothing.
+    /// Keeps a text that was killed: right after a kill it joins the current slot, on the side that `mode`
+    /// says; else it takes the next slot, which becomes the current one. A ring of size 0 keeps nothing.
     ///
     /// # Errors
     ///
@@ -207,8 +206,7 @@ impl KillRing {
         self.put(next, text)
     }
 
-    /// Returns the slot behind the current one: 0 on an empty ring and behind the last that there
-    /// may be.
+    /// Returns the slot after the current one: 0 on an empty ring and after the last that there may be.
     fn next_slot(&self) -> usize
         ensures slot { result ≡ next_slot self.now }
         ensures within { result ≤ length self.now.slots }
@@ -239,7 +237,7 @@ impl KillRing {
     }
 }
 
-/// Puts a text behind another or before it.
+/// Puts a text after another or before it.
 fn join_text(text: &mut String, more: &str, mode: Mode) -> Result<(), OutOfMemory>
     ensures text { OnOk result
         (string_bytes text.new ≡ joined mode (string_bytes text.old) more.now) }

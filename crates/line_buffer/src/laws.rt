@@ -7,7 +7,7 @@ use crate::layout::{GraphemeClusterMode, Position};
 use crate::line_buffer::{Direction, WordAction};
 use crate::movement::{At, CharSearch, Movement, Word};
 
-/// Taking back a whole list of changes gives the text that it tells of.
+/// Taking back a whole list of changes restores the text that it began with.
 pub fn taking_all_back()
     ensures { TakingAllBack }
 {}
@@ -17,7 +17,7 @@ pub fn undoing_step_by_step()
     ensures { UndoingStepByStep }
 {}
 
-/// After a reset of the kill ring, what is killed is what a yank gives.
+/// After a reset of the kill ring, what is killed is what is yanked.
 pub fn killed_is_yanked()
     ensures { KilledIsYanked }
 {}
@@ -37,7 +37,7 @@ pub fn kills_in_a_row_share_a_slot()
     ensures { KillsInARowShareASlot }
 {}
 
-/// After a reset of the kill ring a yank gives all that was killed in a row.
+/// After a reset of the kill ring a yank returns all that was killed in a row.
 pub fn kills_in_a_row_are_yanked()
     ensures { KillsInARowAreYanked }
 {}

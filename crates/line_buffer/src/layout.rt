@@ -40,9 +40,9 @@ pub struct Layout {
     pub default_prompt: bool,
     /// Where the cursor is.
     pub cursor: Position,
-    /// Where what is shown ends, a text behind the line included.
+    /// Where what is shown ends, a text after the line included.
     pub end: Position,
-    /// Whether something is shown behind the line.
+    /// Whether something is shown after the line.
     pub has_info: bool,
 }
 

@@ -53,7 +53,7 @@ impl CharSearch {
     }
 }
 
-/// A part of the line, told by where it leads from the cursor.
+/// A part of the line, named by where it leads from the cursor.
 #[derive(Debug, Clone, PartialEq, Eq, Drop)]
 pub enum Movement {
     /// The cursor's line, without its newline.

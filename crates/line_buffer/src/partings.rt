@@ -1,4 +1,4 @@
-//! Places where the clusters of a text part, whatever stands before and behind: between two characters of printable ASCII or
+//! Places where the clusters of a text part, whatever stands before and after: between two characters of printable ASCII or
 //! newlines.
 ghost use Rattle.std.specs.Prelude.{◌≡◌, ◌<◌, ◌≤◌, length, take, IsCharBoundary};
 ghost use Rattle.line_buffer.specs.Cluster.{PartsClusters};

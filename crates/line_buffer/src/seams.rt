@@ -21,7 +21,7 @@ static LETTERS: [(u32, u32); 29] = [
 ];
 
 /// Returns the last place in `front` from which on its columns add up to those before it, with
-/// `behind` behind it and without. It need not find every such place.
+/// `behind` after it and without. It need not find every such place.
 pub(crate) fn seam(front: &str, behind: &str) -> usize
     ensures { PartsAt front.now behind.now result }
 {

@@ -84,10 +84,10 @@ impl Changeset {
     }
 
     /// Takes `n` steps back, one for `n` = 0, or as many as there are: the newest entries are taken
-    /// away and what they tell is reversed in the line, which is the one that they tell of. An
+    /// away and what they record is reversed in the line, which is the one that they record. An
     /// entry that was taken is a step where no more ends than begins were taken by then. The cursor
-    /// goes to where a text had come in, or behind a text that came back. Returns whether a change
-    /// of the text was taken back.
+    /// moves to where a text had been inserted, or to after a text that is restored. Returns
+    /// whether a change of the text was taken back.
     ///
     /// # Errors
     ///
@@ -104,9 +104,8 @@ impl Changeset {
         self.list.undo(line, n)
     }
 
-    /// Returns a copy of the text that came in last: of the newest entry but ends, the text that
-    /// was inserted or came for another. `None` where that entry is a begin or a delete, or there
-    /// is none.
+    /// Returns a copy of the text that was inserted last: of the newest entry but ends, the text that was
+    /// inserted or replaced another. `None` where that entry is a begin or a delete, or there is none.
     ///
     /// # Errors
     ///
@@ -126,7 +125,7 @@ impl Changeset {
         self.list.settled(outcome)
     }
 
-    /// Tells that `text` came in at `place`.
+    /// Records that `text` was inserted at `place`.
     pub(crate) fn insert_str(&mut self, place: usize, text: &str) -> Result<(), OutOfMemory>
         ensures { Adds result self.old self.new (with_insert place text.now) }
     {
@@ -134,7 +133,7 @@ impl Changeset {
         self.list.settled(outcome)
     }
 
-    /// Tells that the character came in at `place`.
+    /// Records that the character was inserted at `place`.
     pub(crate) fn insert_char(&mut self, place: usize, c: char) -> Result<(), OutOfMemory>
         ensures { Adds result self.old self.new (with_typed place c 1) }
     {
@@ -142,7 +141,7 @@ impl Changeset {
         self.list.settled(outcome)
     }
 
-    /// Tells that `text` went from `place`.
+    /// Records that `text` was removed from `place`.
     pub(crate) fn delete(&mut self, place: usize, text: &str) -> Result<(), OutOfMemory>
         ensures { Adds result self.old self.new (with_delete place text.now) }
     {
@@ -150,7 +149,7 @@ impl Changeset {
         self.list.settled(outcome)
     }
 
-    /// Tells that `text` went from `place`, and keeps it.
+    /// Records that `text` was removed from `place`, and keeps it.
     pub(crate) fn delete_text(&mut self, place: usize, text: String) -> Result<(), OutOfMemory>
         ensures { Adds result self.old self.new (with_delete place (string_bytes text)) }
     {
@@ -158,7 +157,7 @@ impl Changeset {
         self.list.settled(outcome)
     }
 
-    /// Tells that `new` came for `old` at `place`.
+    /// Records that `new` replaced `old` at `place`.
     pub(crate) fn replace(&mut self, place: usize, old: &str, new: &str) -> Result<(), OutOfMemory>
         ensures { Adds result self.old self.new (with_replace place old.now new.now) }
     {

@@ -10,7 +10,7 @@ use Rattle.line_host.specs.declared.status.Status.TheVariants.{Done, Empty}
 use Rattle.line_c.specs.declared.handle.Handle.{Handle}
 
 -- where there is no session, the number says so, and there is none still; else this holds of the session before and after, and of the status that
--- the number tells
+-- the number stands for
 abbrev pub Between : Option (Hosted Helped) → Option (Hosted Helped) → ℕ → (Hosted Helped → Hosted Helped → Status → Type 0) → Type 0
 Between None after code P = (code ≡ code_of Empty) × (after ≡ None)
 Between (Some old) None code P = ⊥

@@ -70,7 +70,7 @@ pub extern "C" fn line_c_free(handle: &mut Handle, alloc: Global) -> u32
     }
 }
 
-/// Begins an empty line behind a prompt.
+/// Begins an empty line after a prompt.
 #[unsafe(no_mangle)]
 pub extern "C" fn line_c_begin(handle: &mut Handle, alloc: Global, prompt: &[u8]) -> u32
     ensures { OnSession handle.old handle.new result
@@ -83,7 +83,7 @@ pub extern "C" fn line_c_begin(handle: &mut Handle, alloc: Global, prompt: &[u8]
     )
 }
 
-/// Begins a line behind a prompt, without styles and with them, with these texts before and behind the cursor.
+/// Begins a line after a prompt, without styles and with them, with these texts before and after the cursor.
 #[unsafe(no_mangle)]
 pub extern "C" fn line_c_begin_with(
     handle: &mut Handle,
@@ -112,7 +112,7 @@ pub extern "C" fn line_c_feed(handle: &mut Handle, alloc: Global, bytes: &[u8]) 
     on_session!(handle, alloc, |session| session.feed(bytes))
 }
 
-/// Settles what bytes have begun, as none have come for a while.
+/// Settles what bytes have begun, as none have arrived for a while.
 #[unsafe(no_mangle)]
 pub extern "C" fn line_c_flush(handle: &mut Handle, alloc: Global) -> u32
     ensures { OnSession handle.old handle.new result
@@ -147,7 +147,7 @@ pub extern "C" fn line_c_resize(handle: &mut Handle, alloc: Global, columns: u16
     on_session!(handle, alloc, |session| session.resize(columns, rows))
 }
 
-/// Tells whether bytes have begun something that `line_c_flush` would settle: 1 where they have, and else 0.
+/// Reports whether bytes have begun something that `line_c_flush` would settle: 1 where they have, and else 0.
 #[unsafe(no_mangle)]
 pub extern "C" fn line_c_is_waiting(handle: &mut Handle, alloc: Global, waiting: &mut u8) -> u32
     ensures session { OnSession handle.old handle.new result (λ old new came.
@@ -161,7 +161,8 @@ pub extern "C" fn line_c_is_waiting(handle: &mut Handle, alloc: Global, waiting:
     })
 }
 
-/// Takes bytes that are to be written to the terminal, as many as the buffer has room for. Tells how many: 0 where all were taken.
+/// Takes bytes that are to be written to the terminal, as many as the buffer has room for. Reports how many: 0 where all were
+/// taken.
 #[unsafe(no_mangle)]
 pub extern "C" fn line_c_output(
     handle: &mut Handle,
@@ -181,7 +182,7 @@ pub extern "C" fn line_c_output(
     })
 }
 
-/// Copies the text of the line that goes on, or else of the one that was submitted last. Tells its length in bytes.
+/// Copies the text of the line that goes on, or else of the one that was submitted last. Reports its length in bytes.
 #[unsafe(no_mangle)]
 pub extern "C" fn line_c_line(
     handle: &mut Handle,
@@ -197,7 +198,7 @@ pub extern "C" fn line_c_line(
     on_session!(handle, alloc, |session| session.copy_line(buffer, length))
 }
 
-/// Tells the cursor of the line that goes on: a byte offset.
+/// Reports the cursor of the line that goes on: a byte offset.
 #[unsafe(no_mangle)]
 pub extern "C" fn line_c_cursor(handle: &mut Handle, alloc: Global, cursor: &mut usize) -> u32
     ensures session { OnSession handle.old handle.new result (λ old new came.
@@ -236,7 +237,7 @@ pub extern "C" fn line_c_history_save(handle: &mut Handle, alloc: Global, append
     )
 }
 
-/// Takes bytes of the text of the history, as many as the buffer has room for. Tells how many: 0 where all were taken.
+/// Takes bytes of the text of the history, as many as the buffer has room for. Reports how many: 0 where all were taken.
 #[unsafe(no_mangle)]
 pub extern "C" fn line_c_saved(
     handle: &mut Handle,

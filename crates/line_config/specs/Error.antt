@@ -1,4 +1,4 @@
--- Counts of failures, and which errors come.
+-- Counts of failures, and which errors occur.
 use Rattle.std.specs.Prelude.{◌≡◌, ℕ, ◌+◌, ◌-◌, ◌<◌, ◌^◌, Bool, true, false, Result, Ok, Err}
 use Rattle.std.specs.IoError.{error_kind}
 use Rattle.std.specs.declared.io.ErrorKind.{ErrorKind}
@@ -38,7 +38,7 @@ is_fault Interrupted = false
 is_fault (Io _) = true
 is_fault Memory = true
 
--- an error of input or output comes only where P holds
+-- an error of input or output occurs only where P holds
 abbrev pub IoOnlyIf : {T : Type 0} → Result T ReadlineError → Type 0 → Type 0
 IoOnlyIf (Ok _) P = Unit {0}
 IoOnlyIf (Err e) P = is_io e ≡ true → P

@@ -8,7 +8,7 @@ abbrev pub UnlessIo : {T : Type 0} → Result T ReadlineError → Type 0 → Typ
 UnlessIo (Ok _) P = P
 UnlessIo (Err e) P = is_io e ≡ false → P
 
--- how a party counts its failures: an error of input or output raises the count, and nothing else changes it
+-- how failures are counted: an error of input or output raises the count, and nothing else changes it
 pub record CountsFailures {T : Type 0} (result : Result T ReadlineError) (old new : ℕ) : Type 0 where
   pub grows : old ≤ new
   pub rose : IoOnlyIf result (Rose old new)

@@ -60,7 +60,7 @@ defaults mode = record {
   enable_signals = false;
 }
 
--- how many milliseconds a style waits for the rest of a key sequence: no limit for Emacs
+-- how many milliseconds an edit mode waits for the rest of a key sequence: no limit for Emacs
 abbrev pub timeout_of : EditMode → Option ℕ
 timeout_of Emacs = None
 timeout_of Vi = Some 500

@@ -1,4 +1,4 @@
--- Answers that a trait gives where its implementer gives none.
+-- Answers of a trait where its implementer has none of its own.
 use Rattle.std.specs.Prelude.{◌≡◌, Option, Some, ◌⊎◌}
 
 -- an answer is the usual one, or the implementer's own

@@ -36,7 +36,7 @@ pub enum CompletionType {
     List,
 }
 
-/// The style of editing: which commands the keys stand for.
+/// The edit mode: which commands the keys stand for.
 #[derive(Clone, Copy, Debug, PartialEq, Eq)]
 pub enum EditMode {
     /// Gives the keys the commands of Emacs.
@@ -241,7 +241,7 @@ impl Config {
         self.keyseq_timeout
     }
 
-    /// Returns the style of editing. The default is `Emacs`.
+    /// Returns the edit mode. The default is `Emacs`.
     pub fn edit_mode(&self) -> EditMode
         ensures { result ≡ self.now.edit_mode }
     {
@@ -431,7 +431,7 @@ pub trait Configurer {
         config.keyseq_timeout = milliseconds;
     }
 
-    /// Sets the style of editing, and with it how long the rest of a key sequence is waited for:
+    /// Sets the edit mode, and with it how long the rest of a key sequence is waited for:
     /// without limit for Emacs, 500 milliseconds for Vi.
     fn set_edit_mode(&mut self, edit_mode: EditMode)
         ensures { self.new ≡ with_settings self.old
@@ -677,7 +677,7 @@ impl Builder {
         self
     }
 
-    /// Sets the style of editing, and with it how long the rest of a key sequence is waited for:
+    /// Sets the edit mode, and with it how long the rest of a key sequence is waited for:
     /// without limit for Emacs, 500 milliseconds for Vi.
     pub fn edit_mode(mut self, edit_mode: EditMode) -> Self
         ensures { result ≡ record self {

@@ -14,7 +14,7 @@ BoundCommands = List (Chord × Command)
 abbrev pub bound_value : Event × Cmd → Chord × Command
 bound_value pair = (chord_of pair.0, command_of pair.1)
 
--- the handler of an event behind one more command that is bound
+-- the handler of an event after one more command that is bound
 abbrev pub rebound : Chord → Option Handler → Chord × Command → Option Handler
 rebound chord found pair = if same_chord pair.0 chord then Some (answers (Some pair.1)) else found
 

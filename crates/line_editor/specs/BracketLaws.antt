@@ -11,7 +11,7 @@ use Rattle.line_editor.specs.Editor.{Editor, Ruler}
 use Rattle.line_editor.specs.Input.{Input}
 use Rattle.line_editor.specs.Laws.{after_commands}
 
--- where the bracket at the cursor and its match begin their clusters, going to the match and again to its match comes back
+-- where the bracket at the cursor and its match begin their clusters, moving to the match and again to its match leads back
 abbrev pub GoingToTheMatchTwice : Type 0
 GoingToTheMatchTwice = (ruler : Ruler) (environment : Environment) (editor : Editor) (input other : Input) (match : ℕ) →
     let line = editor.draft.line in
@@ -21,7 +21,7 @@ GoingToTheMatchTwice = (ruler : Ruler) (environment : Environment) (editor : Edi
     → (after_commands ruler environment editor ((input, move_to_bracket) ∷ (other, move_to_bracket) ∷ [])).draft ≡ editor.draft
 
 -- where the bracket at the cursor has a match, the ring has a slot at least and the last action was no kill, what is killed to the
--- match and yanked before the cursor gives the text back
+-- match and yanked before the cursor restores the text
 abbrev pub KilledToTheMatchComesBack : Type 0
 KilledToTheMatchComesBack = (ruler : Ruler) (environment : Environment) (editor : Editor) (input other : Input) (match : ℕ) →
     let line = editor.draft.line in

@@ -28,13 +28,13 @@ module _ {X : Type 0} (e : editors.Ghosts X) where
   abbrev pub sequences_here : X → InputMode → Count → KeyState → Sequences
   sequences_here editor mode count keys = sequences_of keys.bound (e.draft editor) (in_mode mode keys.input) count
 
-  -- the items that belong to a key of a mode, under a count, and what they come to
+  -- the items that belong to a key of a mode, under a count, and what they lead to
   abbrev pub TailHere : X → InputMode → KeyEvent → Count → Meaning → KeyState → List Item → Read → Type 0
   TailHere editor mode last count meaning keys =
       Tailed (sequences_here editor mode count keys) (e.environment editor) (e.draft editor) (in_mode mode keys.input) last meaning
 
 module _ {X Y : Type 0} (e : editors.Ghosts X) (r : readers.Ghosts Y) where
-  -- these items are read, behind those in front, from a draft
+  -- these items are read, after those in front, from a draft
   abbrev pub ReadsRest : (List Item → Read → Type 0) → List Item → Draft → Result read.Read ReadlineError → X → Y → X → Y → KeyState → Type 0
   ReadsRest Comes front from result editor reader editor' reader' keys =
       ReadsPart e r Comes front from (λ command draft. draft)
@@ -53,7 +53,7 @@ module _ {X Y : Type 0} (e : editors.Ghosts X) (r : readers.Ghosts Y) where
       ReadsRest (Spelled (keymap_of keys (r.own_binding (r.kept reader))) (e.environment editor) (e.draft editor) (in_mode mode keys.input))
       (key first ∷ []) (e.draft editor) result editor reader editor' reader' keys
 
-  -- what comes behind a key of a mode, in front of which a count may have been typed
+  -- what comes after a key of a mode, in front of which a count may have been typed
   abbrev pub ReadsKeyed : InputMode → Option Count → KeyEvent → Result read.Read ReadlineError → X → Y → X → Y → KeyState → Type 0
   ReadsKeyed mode typed last result editor reader editor' reader' keys =
       ReadsRest (Keyed (keymap_of keys (r.own_binding (r.kept reader))) (e.environment editor) (e.draft editor) (in_mode mode keys.input) typed last)
@@ -65,7 +65,7 @@ module _ {X Y : Type 0} (e : editors.Ghosts X) (r : readers.Ghosts Y) where
       ReadsPart e r (TailHere e editor mode last count meaning keys) [] (e.draft editor) (λ command draft. draft)
       (λ b. command_of b.command) (λ b. behind_input b (in_mode mode keys.input)) result editor keys reader editor' reader'
 
-  -- the motion of an operator, behind the items in front; of the input it looks at the last search alone
+  -- the motion of an operator, after the items in front; of the input it looks at the last search alone
   abbrev pub ReadsMotion : Operator → ℕ → List Item → Result read.Read ReadlineError → X → Y → X → Y → KeyState → Type 0
   ReadsMotion operator n front result editor reader editor' reader' keys = (input : Input) → input.last_search ≡ keys.input.last_search
       → ReadsPart e r (Operated (e.environment editor) (e.draft editor) input operator n) front (e.draft editor) (λ command draft. draft)

@@ -18,7 +18,7 @@ pub record LeftByResize {X : Type 0} (e : Ghosts X) (old new : X) : Type 0 where
   pub lit : (e.display new).lit ≡ (e.display old).lit
   pub failures : e.failures old ≤ e.failures new
 
--- the screen has so many columns and rows from now on, and the own prompt is measured anew. Then the line was drawn in full behind it
+-- the screen has so many columns and rows from now on, and the own prompt is measured anew. Then the line was drawn in full after it
 -- with its hint, and the kept layout is right. After an error the kept layout is the one from before
 pub record Resizes {X T : Type 0} (e : Ghosts X) (result : Result T ReadlineError) (old new : X) (columns rows : ℕ) : Type 0 where
   pub surface : ResizesTo columns rows (e.display old).surface (e.display new).surface

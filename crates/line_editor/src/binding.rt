@@ -22,12 +22,12 @@ pub enum Event {
     Any,
     /// A key, or keys one after another.
     KeySeq(Vec<KeyEvent>),
-    /// The mouse. It can be bound, but no reader gives it yet: such a binding is never asked.
+    /// The mouse. It can be bound, but no reader returns it yet: such a binding is never asked.
     Mouse,
 }
 
 impl Event {
-    /// Returns the event of one key.
+    /// Returns the input event of one key.
     ///
     /// # Errors
     /// That memory ran out.
@@ -40,7 +40,7 @@ impl Event {
         Ok(Event::KeySeq(keys))
     }
 
-    /// Returns an equal event, whose keys grow from `alloc`.
+    /// Returns an equal input event, whose keys grow from `alloc`.
     ///
     /// # Errors
     /// That memory ran out.
@@ -55,7 +55,7 @@ impl Event {
         }
     }
 
-    // Returns the event of keys one after another.
+    // Returns the input event of a key sequence.
     pub(crate) fn of_keys(alloc: Global, sequence: &[KeyEvent]) -> Result<Event>
         ensures event { IfOk result (λ event. chord_of event ≡ keys sequence.now) }
         ensures memory { MemoryOnly result }
@@ -63,7 +63,7 @@ impl Event {
         Ok(Event::KeySeq(sequence.to_vec(alloc)?))
     }
 
-    /// Returns the event with each of its keys in normal form, as `KeyEvent::normalize` gives it.
+    /// Returns the input event with each of its keys in normal form, as `KeyEvent::normalize` gives it.
     pub fn normalize(self) -> Event
         ensures { chord_of result ≡ normal_chord (chord_of self) }
     {
@@ -96,7 +96,7 @@ fn normalize_each(keys: &mut [KeyEvent])
     }
 }
 
-/// What a handler is shown of the moment in which its key came: the style and mode, the hint, the text and the cursor.
+/// What a handler is shown of the moment in which its key was read: edit mode, input mode, hint, text and cursor.
 #[derive(Clone, Copy)]
 pub struct EventContext<'r> {
     mode: EditMode,
@@ -108,7 +108,7 @@ pub struct EventContext<'r> {
 }
 
 impl<'r> EventContext<'r> {
-    // Returns what is shown of a style, a mode and the editor.
+    // Returns what is shown of an edit mode, an input mode and the editor.
     pub(crate) fn new<W: Refresher>(mode: EditMode, input_mode: InputMode, wrt: &'r W) -> Self
         ensures { let draft = W.draft wrt.now in (moment_of result ≡ record {
           style = mode;
@@ -129,14 +129,14 @@ impl<'r> EventContext<'r> {
         }
     }
 
-    /// Returns the style of editing.
+    /// Returns the edit mode.
     pub fn mode(&self) -> EditMode
         ensures { result ≡ (moment_of self.now).style }
     {
         self.mode
     }
 
-    /// Returns the mode of the Vi style; in Emacs it is `Insert`.
+    /// Returns Vi's input mode; in Emacs it is `Insert`.
     pub fn input_mode(&self) -> InputMode
         ensures { result ≡ (moment_of self.now).mode }
     {
@@ -172,15 +172,16 @@ impl<'r> EventContext<'r> {
     }
 }
 
-/// Answers a key or a sequence of keys with a command that may depend on the moment, or with none. A lawful handler's
+/// Answers a key or a key sequence with a command that may depend on the moment, or with none. A lawful handler's
 /// answer is a function of what it is handed.
 pub trait ConditionalEventHandler: Drop {
     ghost sure: { Self → Bool };
 
     ghost answer: { Self → Asked → Option Command };
 
-    /// Returns the command for the event `evt`, typed with the count `n`, or with its opposite where `positive` is false.
-    /// With None a key goes on to the reader's own binding, and then to the tables; behind a sequence one more key is read.
+    /// Returns the command for the input event `evt`, typed with the count `n`, or with its opposite where `positive` is
+    /// false. With None a key is looked up in the reader's own bindings, and then in the tables; after a key sequence one
+    /// more key is read.
     ///
     /// # Errors
     /// `Io`, only where this handler is not sure, and `Memory`.
@@ -201,7 +202,7 @@ pub trait ConditionalEventHandler: Drop {
         ensures faults { FaultsOnly result };
 }
 
-/// What an event is bound to.
+/// What an input event is bound to.
 #[derive(Drop)]
 pub enum EventHandler {
     /// The same command at each moment.

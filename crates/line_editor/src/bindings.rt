@@ -15,13 +15,13 @@ use tree::KeyTree;
 
 mod tree;
 
-/// The commands that a program binds to events: a map from event to handler.
+/// The commands that a program binds to events: a map from input event to handler.
 ///
-/// A key is looked up as it is read, and the map keeps an event as it was given. Where a reader gives its keys in normal
+/// A key is looked up as it is read, and the map keeps an event as it was bound. Where a reader returns its keys in normal
 /// form, bind events in normal form too (`Event::normalize`).
 ///
-/// Sequences of keys are kept as a tree, in which those that begin with the same keys share the nodes of these keys. A
-/// look-up goes from node to node by its keys, and looks at no more than the children of each.
+/// Key sequences are kept as a tree, in which those that begin with the same keys share the nodes of these keys. A look-up
+/// walks from node to node by its keys, and looks at no more than the children of each.
 #[derive(Drop)]
 pub struct Bindings {
     any: Option<EventHandler>,
@@ -41,7 +41,7 @@ impl Bindings {
         }
     }
 
-    /// Returns a map of commands: each event is bound to its command. Of several commands for one event the last one counts.
+    /// Returns a map of commands: each input event is bound to its command, and of several to the last one.
     ///
     /// # Errors
     /// That memory ran out.
@@ -60,7 +60,7 @@ impl Bindings {
         Ok(bindings)
     }
 
-    /// Binds an event to a handler. Returns the handler that it was bound to before, if it was.
+    /// Binds an input event to a handler. Returns the handler that it was bound to before, if it was.
     ///
     /// # Errors
     /// That memory ran out. Then the map is as it was.
@@ -82,7 +82,7 @@ impl Bindings {
         }
     }
 
-    /// Returns the handler that an event is bound to, if it is.
+    /// Returns the handler that an input event is bound to, if it is.
     pub fn get(&self, event: &Event) -> Option<&EventHandler>
         ensures { let g = ⟦<dyn ConditionalEventHandler as ConditionalEventHandler>⟧ in
             option_map (λ handler. handled g handler.now) result
@@ -95,7 +95,7 @@ impl Bindings {
         }
     }
 
-    /// Returns whether an event is bound, or is keys that a bound sequence begins with.
+    /// Returns whether an input event is bound, or is keys that a bound sequence begins with.
     pub fn begins(&self, event: &Event) -> bool
         ensures { let g = ⟦<dyn ConditionalEventHandler as ConditionalEventHandler>⟧ in
             result ≡ begins (bound_of g self.now) (chord_of event.now) }
@@ -106,7 +106,7 @@ impl Bindings {
         }
     }
 
-    /// Returns the number of different beginnings of the sequences of keys that are bound. A sequence is one of its own
+    /// Returns the number of different beginnings of the key sequences that are bound. A sequence is one of its own
     /// beginnings, and the empty one is not counted.
     pub fn nodes(&self) -> usize
         ensures { let g = ⟦<dyn ConditionalEventHandler as ConditionalEventHandler>⟧ in
@@ -123,7 +123,7 @@ impl Bindings {
         self.sequences.leads_on(front)
     }
 
-    // Returns the handler of a sequence of keys.
+    // Returns the handler of a key sequence.
     pub(crate) fn of_keys(&self, sequence: &[KeyEvent]) -> Option<&EventHandler>
         ensures { let g = ⟦<dyn ConditionalEventHandler as ConditionalEventHandler>⟧ in
             option_map (λ handler. handled g handler.now) result

@@ -36,13 +36,13 @@ pub enum Status {
 ///
 /// # Errors
 /// `Eof` for the end of the input on an empty line alone, and `Interrupted` for an interrupt alone, with the kept cursor at
-/// the kept end. Another error is one of input or output, where the renderer has failed or a party that the command asks is
-/// one that may fail, or that memory ran out. After one of input or output the line, its cursor, changes and history index
-/// are those of one moment of the command: before it, halfway or after it. The kill ring is the one that the command leaves;
-/// where that is another one than before, the line is not the one from before. Where memory ran out the line is of one
-/// moment, too, or there are no changes, the saved line and the history index are those of one moment, and the text, the
-/// cursor and the hint may be any; the kill ring is the one that the command leaves, the one from before, or that one with a
-/// kill as its last action.
+/// the kept end. Another error is one of input or output, where the renderer has failed or where those whom the command asks
+/// may fail, or that memory ran out. After one of input or output the line, its cursor, changes and history index are those
+/// of one moment of the command: before it, halfway or after it. The kill ring is the one that the command leaves; where that
+/// is another one than before, the line is not the one from before. Where memory ran out the line is of one moment, too, or
+/// there are no changes, the saved line and the history index are those of one moment, and the text, the cursor and the hint
+/// may be any; the kill ring is the one that the command leaves, the one from before, or that one with a kill as its last
+/// action.
 pub fn execute<'out, 'prompt, W: Renderer, H: Helper, P: Prompt, S: History>(
     cmd: Cmd,
     state: &mut State<'out, 'prompt, W, H, P, S>,
@@ -151,7 +151,7 @@ impl<'out, 'prompt, W: Renderer, H: Helper, P: Prompt, S: History> State<
             | Cmd::ReverseSearchHistory
             | Cmd::Suspend
             | Cmd::Unknown => Ok(()),
-            // These never come here: `execute` does them.
+            // This function never gets these: `execute` does them.
             Cmd::AcceptLine
             | Cmd::AcceptOrInsertLine { .. }
             | Cmd::EndOfFile
@@ -175,7 +175,7 @@ impl<'out, 'prompt, W: Renderer, H: Helper, P: Prompt, S: History> State<
         self.edit_insert('\n', 1)
     }
 
-    // Ends the input on an empty line; submits another one in the Vi style.
+    // Ends the input on an empty line; submits another line in Vi mode.
     fn end_of_file(&mut self, input_state: &InputState<'_>) -> Result<Status>
         ensures { let e = ⟦<Self as EditorState>⟧ in (indent : ℕ) → (kills : Ring)
             → Executes e result self.old (input_of input_state.now) indent kills
@@ -192,7 +192,7 @@ impl<'out, 'prompt, W: Renderer, H: Helper, P: Prompt, S: History> State<
         }
     }
 
-    // Takes the drawn cursor to the end of what is shown, and interrupts.
+    // Moves the screen cursor to the end of what is shown, and interrupts.
     fn interrupt(&mut self) -> Result<Status>
         ensures { let e = ⟦<Self as EditorState>⟧ in (input : Input) → (indent : ℕ) → (kills : Ring)
             → Executes e result self.old input indent kills commands.interrupt self.new kills }
@@ -201,7 +201,7 @@ impl<'out, 'prompt, W: Renderer, H: Helper, P: Prompt, S: History> State<
         Err(ReadlineError::Interrupted)
     }
 
-    // Validates the line, and submits it whatever is said of it.
+    // Validates the line, and submits it whatever the result is.
     fn accept_line(&mut self) -> Result<Status>
         ensures { let e = ⟦<Self as EditorState>⟧ in (input : Input) → (indent : ℕ) → (kills : Ring)
             → Executes e result self.old input indent kills commands.accept_line self.new kills }
@@ -211,7 +211,7 @@ impl<'out, 'prompt, W: Renderer, H: Helper, P: Prompt, S: History> State<
         Ok(Status::Submit)
     }
 
-    // Submits a valid line, and gives another one a newline unless a message says why it is refused.
+    // Submits a valid line, and puts a newline into another one unless a message says why it is refused.
     fn accept_or_insert_line(&mut self, accept_in_the_middle: bool) -> Result<Status>
         ensures { let e = ⟦<Self as EditorState>⟧ in (input : Input) → (indent : ℕ) → (kills : Ring)
             → Executes e result self.old input indent kills
@@ -236,12 +236,12 @@ enum Reply {
     Submits,
     // It stays as it is.
     Stays,
-    // It is given a newline.
+    // A newline is put into it.
     GoesOn,
 }
 
-// Returns what becomes of a line by its verdict. A valid one is submitted in the middle, where that is allowed, or at the end
-// of the input.
+// Returns what becomes of a line by its validation result. A valid one is submitted in the middle, where that is allowed, or
+// at the end of the input.
 fn reply_for(verdict: &ValidationResult, in_the_middle: bool, at_end: bool) -> Reply
     ensures { result ≡ reply_to (verdict_of verdict.now) (in_the_middle || at_end) }
 {

@@ -92,7 +92,7 @@ impl<'out, 'prompt, W: Renderer, H: Helper, P: Prompt, S: History> EditorState
     ghost redraws = { λ s. ⟦<View<'out, 'prompt, W, P> as Drawn>⟧.redraws s.view };
 }
 
-// What is shown behind the line.
+// What is shown after the line.
 #[derive(Clone, Copy)]
 enum Info<'m> {
     Nothing,
@@ -122,7 +122,7 @@ impl<'out, 'prompt, W: Renderer, H: Helper, P: Prompt, S: History> State<
     P,
     S,
 > {
-    /// Returns the state of an empty line behind the prompt, with nothing drawn yet.
+    /// Returns the edit state of an empty line after the prompt, with nothing drawn yet.
     ///
     /// # Errors
     /// None: an empty line takes no memory.
@@ -153,8 +153,8 @@ impl<'out, 'prompt, W: Renderer, H: Helper, P: Prompt, S: History> State<
         })
     }
 
-    /// Returns the state of a line behind the prompt, with the cursor at byte `cursor` of it, with no changes and with nothing
-    /// drawn yet.
+    /// Returns the edit state of a line after the prompt, with the cursor at byte `cursor` of it, with no changes and with
+    /// nothing drawn yet.
     ///
     /// # Errors
     /// That memory ran out.
@@ -222,7 +222,7 @@ impl<'out, 'prompt, W: Renderer, H: Helper, P: Prompt, S: History> State<
         self.view.out()
     }
 
-    /// Returns the helper, if there is one: its answers are those that the state goes by.
+    /// Returns the helper, if there is one: the edit state uses its answers.
     pub fn helper(&self) -> Option<&H>
         ensures some { is_some result
             ≡ is_some (⟦<Self as EditorState>⟧.environment self.now).verdict_at }
@@ -249,7 +249,7 @@ impl<'out, 'prompt, W: Renderer, H: Helper, P: Prompt, S: History> State<
         self.parties.history_index()
     }
 
-    /// Returns whether the line was last drawn behind its own prompt.
+    /// Returns whether the line was last drawn after its own prompt.
     pub fn is_default_prompt(&self) -> bool
         ensures { result ≡ (⟦<Self as EditorState>⟧.display self.now).layout.default_prompt }
     {
@@ -259,7 +259,7 @@ impl<'out, 'prompt, W: Renderer, H: Helper, P: Prompt, S: History> State<
     /// Asks the helper for the hint of the line; a hint that displays nothing counts as none. Nothing is drawn.
     ///
     /// # Errors
-    /// Those of the helper, where a party is not sure. The hint then stays.
+    /// `Io`, only where the helper, or the history that it may ask, is not sure, and `Memory`. The hint then stays.
     pub fn hint(&mut self) -> Result<()>
         ensures draft { let e = ⟦<Self as EditorState>⟧ in OnOk result
             (e.draft self.new ≡ hinted (e.environment self.old) (e.draft self.old)) }
@@ -384,7 +384,7 @@ impl<'out, 'prompt, W: Renderer, H: Helper, P: Prompt, S: History> State<
         self.view.take_back(count)
     }
 
-    // Asks for the hint and draws the line again where an edit was reported. Else the drawn cursor goes to where the line's is.
+    // Asks for the hint and draws the line again where an edit was reported. Else the screen cursor moves to the line's cursor.
     pub(crate) fn show_edit(&mut self, reported: bool) -> Result<()>
         ensures { ShowsEdit ⟦<Self as EditorState>⟧ reported result self.old self.new }
     {
@@ -394,7 +394,7 @@ impl<'out, 'prompt, W: Renderer, H: Helper, P: Prompt, S: History> State<
         self.move_cursor(CmdKind::MoveCursor)
     }
 
-    // Draws all again behind the own prompt, with an info behind the line.
+    // Draws all again after the own prompt, with an info after the line.
     fn draw(&mut self, info: Info<'_>) -> Result<()>
         ensures shown { OnOk result (Shows ⟦<Self as EditorState>⟧ self.new
             (shown_info info.entry (option_map H.Hint.display_text self.old.hint))) }

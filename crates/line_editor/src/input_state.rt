@@ -1,4 +1,4 @@
-//! Reads keys, and gives the commands that they stand for.
+//! Reads keys, and returns the commands that they stand for.
 ghost use Rattle.std.specs.Prelude.{◌≡◌, ◌↔◌, Option, false, IfOk, OnOk, OnErr, IsTrue};
 ghost use Rattle.line_config.specs.Error.{MemoryOnly};
 ghost use Rattle.line_editor.specs.Binding.{bound_of};
@@ -38,7 +38,7 @@ pub struct InputState<'b> {
 }
 
 impl<'b> InputState<'b> {
-    /// Returns the state before the first key, in the configured style; the Vi style begins in insert mode.
+    /// Returns the state before the first key, in the configured edit mode; Vi begins in insert mode.
     pub fn new(config: &Config, bindings: &'b Bindings) -> Self
         ensures input { input_of result ≡ first_input config.now.edit_mode }
         ensures bindings { let g = ⟦<dyn ConditionalEventHandler as ConditionalEventHandler>⟧ in
@@ -53,14 +53,14 @@ impl<'b> InputState<'b> {
         }
     }
 
-    /// Returns whether the style is that of Emacs.
+    /// Returns whether the edit mode is Emacs.
     pub fn is_emacs_mode(&self) -> bool
         ensures { IsTrue result ↔ ((input_of self.now).style ≡ EditMode.Emacs) }
     {
         self.mode == EditMode::Emacs
     }
 
-    /// Returns whether the style is that of Vi, and its keys are commands.
+    /// Returns whether the edit mode is Vi, in command mode.
     pub fn is_vi_cmd_mode(&self) -> bool
         ensures { result ≡ is_vi_command (input_of self.now) }
     {
@@ -72,14 +72,14 @@ impl<'b> InputState<'b> {
 
     /// Reads the keys of one phrase, and nothing past it, and returns the command that they stand for.
     ///
-    /// `single_esc_abort` is handed on to the reader for the first key, in the Emacs style alone.
+    /// `single_esc_abort` is handed on to the reader for the first key, in Emacs mode alone.
     ///
     /// # Errors
     /// `Eof` where the items ended inside a phrase or before one; then a phrase that was cut short can be read again with
-    /// more items behind it. Another error is one of input or output, where the reader or the renderer has failed, or the
-    /// helper, asked for a hint, or a handler is one that may fail; or that memory ran out. After an error the line, its
-    /// cursor and what is remembered of the keys stand as they were, and no item past the phrase that was begun is read;
-    /// after one of input or output the changes stand, too, but that open groups of them may have ended.
+    /// more items after it. Another error is one of input or output, where the reader or the renderer has failed, or
+    /// where the helper, asked for a hint, or a handler may fail; or that memory ran out. After an error the line, its
+    /// cursor and what is remembered of the keys stay as they were, and no item past the phrase that was begun is read;
+    /// after one of input or output the changes stay, too, except that open groups of them may have ended.
     pub fn next_cmd<R: RawReader, W: Refresher>(
         &mut self,
         rdr: &mut R,

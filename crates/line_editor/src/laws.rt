@@ -8,7 +8,7 @@ use line_keys::editor_state::EditorState;
 use line_parts::{Helper, History};
 use line_state::Renderer;
 
-/// Events that the map takes for the same are equal, and equal ones are the same.
+/// Input events that the map takes for the same are equal, and equal ones are the same.
 pub fn events_are_compared_by_value()
     ensures { ComparesEvents }
 {}
@@ -19,7 +19,7 @@ pub fn phrases_are_prefix_free()
 {}
 
 /// Each key begins a phrase, in each mode and whatever is bound, and so do the keys of a count with the key that ends it: with
-/// some items behind them, or with none, they come to a command.
+/// some items after them, or with none, they lead to a command.
 pub fn each_key_begins_a_phrase()
     ensures { EachKeyBegins }
 {}
@@ -48,25 +48,24 @@ pub fn turns_read_keys<
     ensures { TurnsReadKeys ⟦<State<'out, 'prompt, W, H, P, S> as EditorState>⟧ W.Reader.RawReader }
 {}
 
-/// Turns that proceed, and more such turns behind them, are one list of turns.
+/// Turns that proceed, and more such turns after them, are one list of turns.
 pub fn turns_follow_each_other()
     ensures { TurnsFollow }
 {}
 
-/// Turns that proceed leave unread what comes behind their items. So turns over items that came in parts are one list of
+/// Turns that proceed leave unread what stands after their items. So turns over items that arrived in parts are one list of
 /// turns over all of them.
 pub fn turns_leave_more_unread()
     ensures { TurnsBeforeMore }
 {}
 
-/// Turns that proceed, and a run behind them, are one run.
+/// Turns that proceed, and a run after them, are one run.
 pub fn turns_and_a_run_are_a_run()
     ensures { TurnsAndRun }
 {}
 
-/// Where a phrase was cut short, reading it again with more items behind it gives the whole phrase's turn: where the cut
-/// left the hint as it was, the phrase begins with a count, or it has another count and the bindings asked before that look
-/// at no hint.
+/// Where a phrase was cut short, reading it again with more items after it makes the whole phrase's turn: where the cut left the
+/// hint as it was, the phrase begins with a count, or it has another count and the bindings asked before that look at no hint.
 pub fn reading_again_gives_the_turn()
     ensures { ReadingAgain }
 {}
@@ -79,7 +78,7 @@ pub fn a_turn_read_again_is_the_whole_phrases()
 {}
 
 /// Where something is drawn of items that are no phrase yet, as of the keys of a count, something is drawn of each phrase that
-/// is read of them and of items behind them, from the draft which they left, if the binding of the first key looks at no hint.
+/// is read of them and of items after them, from the draft which they left, if the binding of the first key looks at no hint.
 pub fn what_a_cut_drew_is_drawn_again()
     ensures { DrawingStays }
 {}

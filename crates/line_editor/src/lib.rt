@@ -1,4 +1,4 @@
-//! The line editor: reads commands from keys, executes them on a line, and keeps the drawn cursor right.
+//! The line editor: reads commands from keys, executes them on a line and keeps the screen cursor right.
 #![tactic(auto)]
 
 pub mod binding;

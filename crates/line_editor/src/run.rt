@@ -32,8 +32,8 @@ pub enum Turned {
     Ended,
     /// The person interrupted.
     Interrupted,
-    /// The items ran out before a phrase or inside of one. The items of such a phrase are to be given again, with more
-    /// behind them.
+    /// The items ran out before a phrase or inside of one. The items of such a phrase are to be read again, with more after
+    /// them.
     NeedsMore,
 }
 
@@ -50,14 +50,14 @@ fn reset_kills(command: &Cmd, kill_ring: &mut KillRing)
 /// Reads one command and executes it. Returns how the turn ended.
 ///
 /// A program that gets its keys one after another draws the line once by `refresh_line`, and then calls this for as long as
-/// the reader has items. Where it answers `NeedsMore`, the items that were read of a phrase are to be given again, with more
-/// behind them.
+/// the reader has items. After `NeedsMore` no item is left unread: hand the reader the items of the phrase that was cut short
+/// again, with more after them.
 ///
 /// # Errors
-/// An error of input or output, where the reader or the renderer has failed, or some party or handler is one that may fail;
-/// or that memory ran out. Either reading failed: the line and its cursor, what is remembered of the keys and the kill ring
-/// are as they were, and no item past the phrase that was begun is read. Or the command failed: its phrase is read and no
-/// item more, and the line and the kill ring are left as `execute` leaves them. The error does not tell which.
+/// An error of input or output, where the reader or the renderer has failed, or where the helper, the history or a handler
+/// may fail; or that memory ran out. Either reading failed: the line and its cursor, what is remembered of the keys and the
+/// kill ring are as they were, and no item past the phrase that was begun is read. Or the command failed: its phrase is read
+/// and no item more, and the line and the kill ring are left as `execute` leaves them. The error does not say which.
 pub fn advance<'out, 'prompt, W: Renderer, H: Helper, P: Prompt, S: History>(
     state: &mut State<'out, 'prompt, W, H, P, S>,
     input_state: &mut InputState<'_>,
@@ -154,10 +154,11 @@ fn take_turn_from<'out, 'prompt, W: Renderer, H: Helper, P: Prompt, S: History>(
 /// and after each command what it changed.
 ///
 /// # Errors
-/// `Eof` where the items end, or for the end of the input on an empty line; `Interrupted` for an interrupt, with the drawn
+/// `Eof` where the items end, or for the end of the input on an empty line; `Interrupted` for an interrupt, with the screen
 /// cursor at the end of what is shown. Another error is one of input or output, where the reader or the renderer has failed,
-/// or some party or handler is one that may fail; or that memory ran out. Then either the first drawing failed, and nothing
-/// was read and the line is as it was; or turns were taken up to one that failed, and all is left as `advance` leaves it.
+/// or where the helper, the history or a handler may fail; or that memory ran out. Then either the first drawing failed, and
+/// nothing was read and the line is as it was; or turns were taken up to one that failed, and all is left as `advance` leaves
+/// it.
 pub fn run<'out, 'prompt, W: Renderer, H: Helper, P: Prompt, S: History>(
     state: &mut State<'out, 'prompt, W, H, P, S>,
     input_state: &mut InputState<'_>,

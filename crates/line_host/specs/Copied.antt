@@ -16,7 +16,7 @@ pub record TakesOutput (had has buffer filled : List ℕ) (count : ℕ) : Type 0
   pub kept : had ≢ [] → bytes ≡ had
   pub takes : Takes bytes has buffer filled count
 
--- a text was copied into a buffer, where it has room for all of it, and else nothing was; its length is told
+-- a text was copied into a buffer, where it has room for all of it, and else nothing was; its length is reported
 pub record Copies (text buffer filled : List ℕ) (told : ℕ) (came : Status) : Type 0 where
   pub tells : told ≡ length text
   pub copied : MatchBool (nat_le (length text) (length buffer))

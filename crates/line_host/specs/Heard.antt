@@ -1,4 +1,4 @@
--- What is heard, and what comes of it.
+-- What is heard, and what it leads to.
 use Rattle.std.specs.Prelude.{◌≡◌, ℕ, List, [], Some, Result, IfOk}
 use Rattle.line_config.specs.declared.error.ReadlineError.{ReadlineError}
 use Rattle.line_parts.specs.Environment.{Environment}
@@ -16,7 +16,7 @@ abbrev pub IsOfTerminal : Heard → Type 0
 IsOfTerminal (heard.Line line) = ⊥
 IsOfTerminal other = Unit {0}
 
--- what comes of bytes, of a pause, and of the end of all bytes; nothing comes of a line that begins
+-- what bytes, a pause and the end of all bytes lead to; a line that begins leads to nothing
 abbrev pub turn_of : Heard → Standing → Turn
 turn_of (heard.Line line) standing = record { after = standing; items = [] }
 turn_of (heard.Bytes bytes) standing = read standing bytes.now
@@ -29,7 +29,7 @@ Leaves (heard.Line line) old new = new.lines ≡ old.lines
 Leaves other old new = LosesNothing old new
 
 module _ {H : Type 0} (answers : H → List (List ℕ) → Environment) where
-  -- what came of it, by bindings
+  -- what became of it, by bindings
   abbrev pub HearsBy : Bound → Heard → Sitting H → Sitting H → Result Fed ReadlineError → Type 0
   HearsBy bound (heard.Line line) old new told =
       IfOk told (λ fed. CameBegun answers bound line.prompt.0.now line.initial.0.now line.initial.1.now old new fed × Keeps answers old new)

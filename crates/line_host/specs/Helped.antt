@@ -19,7 +19,7 @@ use Rattle.line_session.specs.declared.dim_hints.DimHints.{DimHints}
 use Rattle.line_session.specs.declared.parts.Parts.{Parts}
 use Rattle.line_session.specs.declared.words.Words.{Words}
 
--- a completer of words; and switches for hints, for colors and for verdicts
+-- a completer of words; and switches for hints, for colors and for validation
 abbrev pub Helped : Type 0
 Helped = Parts Words ScriptHelper DimHints ScriptHelper (String Global) (String Global)
 

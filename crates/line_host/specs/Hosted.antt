@@ -1,4 +1,4 @@
--- What a host's session holds, and what comes of its calls.
+-- What a host's session holds, and what its calls lead to.
 use Rattle.std.specs.Prelude.{◌≡◌, ◌≢◌, ◌<◌, ◌⊎◌, ◌++◌, ◌∷◌, [], ℕ, Bool, MatchOption, OnErr, OnOk, is_some, true, false, if◌then◌else◌, List, Option, Some, None, Result, Ok, Err, String, string_bytes}
 use Rattle.std.specs.Option.{option_or}
 use Rattle.std.specs.declared.alloc.Global.{Global}
@@ -30,7 +30,7 @@ pub record Hosted (H : Type 0) : Type 0 where
   pub output : List ℕ
   pub saved : List ℕ
 
--- these are texts: a prompt without styles and with them, and what stands before and behind the cursor
+-- these are texts: a prompt without styles and with them, and what stands before and after the cursor
 abbrev pub AreTexts : List ℕ → List ℕ → List ℕ → List ℕ → Type 0
 AreTexts prompt styled left right = IsUtf8 prompt × IsUtf8 styled × IsUtf8 left × IsUtf8 right
 
@@ -39,8 +39,8 @@ module _ {H : Type 0} where
   abbrev pub with_editor : Sitting H → Hosted H → Hosted H
   with_editor editor old = record old { editor = editor }
 
-  -- what came of a line, by its status: it goes on, or the program is suspended; it was submitted with its text; it ended or was interrupted; or
-  -- there was a fault, and something is left
+  -- what became of a line, by its status: it goes on, or the program is suspended; it was submitted with its text; it ended or was interrupted;
+  -- or there was a fault, and something is left
   abbrev pub CameTo : (Fed → Type 0) → Type 0 → Hosted H → Hosted H → Status → Type 0
   CameTo Comes Left old new status.Done = Comes fed.More × (suspends new.editor ≡ false) × (new ≡ with_editor new.editor old)
   CameTo Comes Left old new status.Suspended = Comes fed.More × (suspends new.editor ≡ true) × (new ≡ with_editor new.editor old)
@@ -54,7 +54,7 @@ module _ {H : Type 0} where
   abbrev pub line_of : Hosted H → Option (List ℕ)
   line_of session = option_or (text_of session.editor) session.submitted
 
-  -- the line is dropped, which is told by this status; or there was a fault, and nothing changes
+  -- the line is dropped, which this status reports; or there was a fault, and nothing changes
   abbrev pub Drops : Status → Hosted H → Hosted H → Status → Type 0
   Drops told old new came = ((came ≡ told) × (new ≡ with_editor (record old.editor { line = None }) old)) ⊎ (IsFault came × (new ≡ old))
 
@@ -93,7 +93,7 @@ module _ {H : Type 0} where
     pub saves : came ≡ status.Done → Files (λ had has. (new.saved ≡ to_save V3 append had) × (has ≡ settled had)) old.editor new.editor
     pub kept : came ≢ status.Done → new ≡ old
 
-  -- the cursor of the line that goes on was told, if one does
+  -- the cursor of the line that goes on was reported, if one does
   abbrev pub TellsCursor : Hosted H → ℕ → ℕ → Status → Type 0
   TellsCursor session before told came = MatchOption session.editor.line ((came ≡ status.NoLine) × (told ≡ before))
       (λ begun. (came ≡ status.Done) × (told ≡ begun.kept.draft.line.cursor))
@@ -106,7 +106,7 @@ module _ {H : Type 0} where
     pub binds : came ≡ status.Done → (pair : Chord × Command) × (new.commands ≡ old.commands ++ pair ∷ [])
     pub kept : came ≢ status.Done → new ≡ old
 
-  -- what a line comes to is told by a status, and the text of one that was submitted is kept
+  -- what becomes of a line is reported by a status, and the text of one that was submitted is kept
   abbrev pub Tells : Result Fed ReadlineError → Hosted H → Hosted H → Status → Type 0
   Tells (Ok fed.More) old new came = (came ≡ (if suspends old.editor then status.Suspended else status.Done)) × (new ≡ old)
   Tells (Ok (fed.Submitted text)) old new came = (came ≡ status.Submitted) × (new ≡ record old { submitted = Some (string_bytes text) })
@@ -115,17 +115,17 @@ module _ {H : Type 0} where
   Tells (Err error) old new came = IsFault came × (new ≡ old)
 
   module _ (answers : H → List (List ℕ) → Environment) where
-    -- what came of a line that had begun, under bindings of the commands
+    -- what became of a line that had begun, under bindings of the commands
     abbrev pub Turns : BoundCommands → Turn → Sitting H → BegunLine → Sitting H → Fed → Type 0
     Turns commands turn old begun new fed = (bound : Bound) × AreBound commands bound
         × Came answers bound (with_turn turn old) begun new fed × Keeps answers (with_turn turn old) new
 
-    -- what came of a line that began behind a prompt, with these texts before and behind the cursor
+    -- what became of a line that began after a prompt, with these texts before and after the cursor
     abbrev pub Begins : BoundCommands → List ℕ → List ℕ → List ℕ → Sitting H → Sitting H → Fed → Type 0
     Begins commands prompt left right old new fed = (bound : Bound) × AreBound commands bound
         × CameBegun answers bound prompt left right old new fed × Keeps answers old new
 
-    -- a line began behind a prompt, unless a text is none. After a fault the lines of the history are there
+    -- a line began after a prompt, unless a text is none. After a fault the lines of the history are there
     pub record BeginsLine (prompt styled left right : List ℕ) (old new : Hosted H) (came : Status) : Type 0 where
       pub begins : AreTexts prompt styled left right → CameTo (Begins old.commands prompt left right old.editor new.editor)
           (new.editor.lines ≡ old.editor.lines) old new came

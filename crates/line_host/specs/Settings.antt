@@ -12,7 +12,7 @@ use Rattle.line_host.specs.declared.settings.Settings.{Settings}
 abbrev pub is_yes : ℕ → Bool
 is_yes number = not (number == 0)
 
--- the settings of the editor; those that are not handed over are the usual ones, and the timeout is that of the style
+-- the settings of the editor; those that are not handed over are the usual ones, and the timeout is the edit mode's
 abbrev pub config_of : Settings → config.Settings
 config_of s = let mode = if is_yes s.vi then style.Vi else style.Emacs in record (defaults Unicode) {
   max_history_size = s.max_history_size;

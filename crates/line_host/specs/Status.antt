@@ -1,9 +1,9 @@
--- What a call of a session came to.
+-- How a call of a session ended.
 use Rattle.std.specs.Prelude.{ℕ}
 use Rattle.line_host.specs.declared.status.Status.{Status}
 use Rattle.line_host.specs.declared.status.Status.TheVariants as status
 
--- the number by which a host is told of a status
+-- the number that a host gets for a status
 abbrev pub code_of : Status → ℕ
 code_of status.Done = 0
 code_of status.Submitted = 1

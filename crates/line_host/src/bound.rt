@@ -36,7 +36,7 @@ impl BoundCommands {
         }
     }
 
-    /// Binds an event to a command.
+    /// Binds an input event to a command.
     ///
     /// # Errors
     /// `Memory`: nothing was bound then.
@@ -50,7 +50,7 @@ impl BoundCommands {
         Ok(())
     }
 
-    /// Returns the events with their commands, in the order in which they were bound.
+    /// Returns the input events with their commands, in the order in which they were bound.
     pub fn as_slice(&self) -> &[(Event, Cmd)]
         ensures { map bound_value result.now ≡ self.now }
     {

@@ -8,7 +8,7 @@ use line_keys::cmd::{Anchor, Cmd};
 use line_script::key_named;
 use std::alloc::Global;
 
-/// Returns the event of keys by their names, which stand one after another with spaces between them, as in `C-x C-e`. None where
+/// Returns the input event of keys by their names, with spaces between them, as in `C-x C-e`. None where
 /// there is no name, or a key is not called so.
 ///
 /// # Errors

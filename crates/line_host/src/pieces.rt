@@ -65,7 +65,7 @@ fn copy_start(bytes: &[u8], buffer: &mut [u8]) -> usize
     count
 }
 
-/// Copies a text into a buffer, where that has room for all of it. Tells its length in any case.
+/// Copies a text into a buffer, where that has room for all of it. Reports its length in any case.
 pub(crate) fn copy_text(text: &str, buffer: &mut [u8], told: &mut usize) -> Status
     ensures { Copies text.now buffer.old buffer.new told.new result }
 {

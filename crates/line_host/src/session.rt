@@ -33,14 +33,14 @@ use std::marker::Model;
 /// switched on.
 pub type HostHelper = Parts<Words, ScriptHelper, DimHints, ScriptHelper>;
 
-/// A prompt, without styles and with them, and the texts that stand before and behind the cursor at first.
+/// A prompt, without styles and with them, and the texts that stand before and after the cursor at first.
 #[derive(Clone, Copy)]
 struct NewLine<'t> {
     prompt: (&'t str, &'t str),
     initial: (&'t str, &'t str),
 }
 
-/// What is heard: that a line begins; bytes of the terminal, that none have come for a while, or that there are no more.
+/// What is heard: that a line begins; bytes of the terminal, that none have arrived for a while, or that there are no more.
 #[derive(Clone, Copy)]
 enum Heard<'t> {
     Line(NewLine<'t>),
@@ -128,12 +128,12 @@ impl Session {
         })
     }
 
-    /// Begins a line behind the prompt, without styles and with them, with these texts before and behind the cursor, draws it, and
+    /// Begins a line after the prompt, without styles and with them, with these texts before and after the cursor, draws it, and
     /// reads the keys that were typed ahead. A line that goes on is dropped.
     ///
-    /// Returns `Done`, where the line goes on; `Suspended`; `Submitted`; `Ended`; `Interrupted`; or a fault, `NoMemory` or `Failed`:
-    /// where the line has begun then it goes on at the next call, and where not, the one before it, or none. Returns `NotText`, where
-    /// one of these texts is not UTF-8, and nothing changes then.
+    /// Returns `Done`, where the line goes on; `Suspended`; `Submitted`; `Ended`; `Interrupted`; or a fault, `NoMemory` or `Failed`: if
+    /// the line has begun by then, it goes on at the next call; if not, the line before goes on, if there was one. Returns `NotText`,
+    /// where one of these texts is not UTF-8, and nothing changes then.
     pub fn begin(&mut self, prompt: &[u8], styled: &[u8], left: &[u8], right: &[u8]) -> Status
         ensures { BeginsLine answers prompt.now styled.now left.now right.now self.old self.new
             result }
@@ -152,7 +152,7 @@ impl Session {
         self.tell(fed)
     }
 
-    /// Reads bytes of the terminal, which may be cut anywhere. Keys behind the end of the line are kept for the next one.
+    /// Reads bytes of the terminal, which may be cut anywhere. Keys after the end of the line are kept for the next one.
     ///
     /// Returns `Done`, where the line goes on; `Suspended`; `Submitted`; `Ended`; `Interrupted`; a fault, `NoMemory` or `Failed`: the
     /// line goes on at the next call; or `NoLine`, and nothing is read then.
@@ -163,14 +163,14 @@ impl Session {
         self.hear(Heard::Bytes(bytes))
     }
 
-    /// Settles what bytes have begun, as none have come for a while: a lone Esc is the Esc key then. Returns what `feed` does.
+    /// Settles what bytes have begun, as none have arrived for a while: a lone Esc is the Esc key then. Returns what `feed` does.
     pub fn flush(&mut self) -> Status
         ensures { TakesTurns answers (flushed self.old.editor.decoder) self.old self.new result }
     {
         self.hear(Heard::Pause)
     }
 
-    /// Reads the end of all bytes. Returns what `feed` does, but for `Done`: a line that would go on ends, as no more can come.
+    /// Reads the end of all bytes. Returns what `feed` does, but for `Done`: a line that would go on ends, as no more can arrive.
     pub fn finish(&mut self) -> Status
         ensures { Finishes answers (finished self.old.editor.decoder) self.old self.new result }
     {
@@ -244,7 +244,7 @@ impl Session {
         }
     }
 
-    /// Tells what came of a line, and keeps the text of one that was submitted.
+    /// Returns the status of what became of a line, and keeps the text of one that was submitted.
     fn tell(&mut self, fed: Result<Fed>) -> Status
         requires { FaultsOnly fed }
         ensures { Tells fed self.old self.new result }
@@ -296,7 +296,7 @@ impl Session {
         self.output.take(buffer)
     }
 
-    /// Copies the text of the line that goes on, or else of the one that was submitted last, into `buffer`. Tells its length, in bytes.
+    /// Copies the text of the line that goes on, or else of the one that was submitted last, into `buffer`. Reports its length, in bytes.
     ///
     /// Returns `Done`; `TooSmall`, where the buffer has no room for all of it; or `NoLine`, where no line goes on and none was
     /// submitted. Nothing is copied then.
@@ -320,9 +320,9 @@ impl Session {
         }
     }
 
-    /// Tells the cursor of the line that goes on: a byte offset, on a character boundary.
+    /// Reports the cursor of the line that goes on: a byte offset, on a character boundary.
     ///
-    /// Returns `Done`, or `NoLine`, where no line goes on, and nothing is told then.
+    /// Returns `Done`, or `NoLine`, where no line goes on, and nothing is reported then.
     pub fn tell_cursor(&self, told: &mut usize) -> Status
         ensures { TellsCursor self.now told.old told.new result }
     {
@@ -367,8 +367,8 @@ impl Session {
         }
     }
 
-    /// Makes the text of the history, to be taken by `take_saved`: a header and all lines, or with `append` only the lines that came
-    /// since the history was saved or loaded last.
+    /// Makes the text of the history, to be taken by `take_saved`: a header and all lines, or with `append` only the lines that were
+    /// added since the history was last saved or loaded.
     ///
     /// Returns `Done`; `HasLine`, where a line goes on; or `NoMemory`. The text from before is there then.
     pub fn save_history(&mut self, append: bool) -> Status

@@ -79,7 +79,7 @@ impl Settings {
         }
     }
 
-    /// Returns the style of editing.
+    /// Returns the edit mode.
     fn edit_mode(&self) -> EditMode
         ensures { result ≡ (if is_yes self.now.vi then EditMode.Vi else EditMode.Emacs) }
     {

@@ -1,4 +1,4 @@
-//! What a call of a session came to.
+//! How a call of a session ended.
 ghost use Rattle.std.specs.Prelude.{◌≡◌, true, OnErr, OnOk};
 ghost use Rattle.line_config.specs.Error.{FaultsOnly, is_fault, is_memory};
 ghost use Rattle.line_host.specs.Status.{IsFault, code_of};
@@ -6,7 +6,7 @@ ghost use Rattle.line_host.specs.Status.{IsFault, code_of};
 use line_config::{ReadlineError, Result};
 use std::io::ErrorKind;
 
-/// What a call of a session came to. Each has the number by which a host is told of it.
+/// How a call of a session ended. Each has a number, which the host gets.
 #[derive(Clone, Copy, Debug, PartialEq, Eq)]
 pub enum Status {
     /// It is done; of a line: it goes on, and more bytes are wanted.

@@ -13,7 +13,7 @@ use Rattle.line_keys.specs.declared.keys.TheConstants.Modifiers.{NONE}
 use Rattle.line_keys.specs.declared.refresher.InputMode.TheVariants as modes
 use Rattle.line_keys.specs.declared.tables.Operator.{Operator}
 
--- % stands for the same in Vi's command mode, and behind an operator, whatever the count is
+-- % stands for the same in Vi's command mode, and after an operator, whatever the count is
 abbrev pub BracketTakesNoCount : Type 0
 BracketTakesNoCount = (draft : Draft) (typed : Option Count) (operator : Operator) (n : ℕ)
     → ((row_of Vi modes.Command (event (Char 37) NONE) draft).entry typed ≡ stays (gives move_to_bracket))

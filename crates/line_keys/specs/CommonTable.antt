@@ -1,4 +1,4 @@
--- The table of keys of both styles.
+-- The table of keys of both edit modes.
 use Rattle.std.specs.Prelude.{ℕ, true, ◌==◌, if◌then◌else◌, List, [], ◌∷◌, Option, None}
 use Rattle.line_buffer.specs.declared.movement.Movement.TheVariants.{BeginningOfLine, EndOfLine}
 use Rattle.line_buffer.specs.declared.movement.Word.TheVariants.{Big}
@@ -51,7 +51,7 @@ common_plain_rows UnknownEscSeq = always noop ∷ []
 common_plain_rows BracketedPasteStart = meaning_row (λ _. pastes) ∷ []
 common_plain_rows _ = []
 
--- the rows of both styles
+-- the rows of both edit modes
 abbrev pub common_row : EditMode → KeyCode → ℕ → Draft → Option Row
 common_row style (Char c) mods draft =
     if mods == bits_of CTRL then row_at (common_ctrl_rows style) c draft else None

@@ -1,4 +1,4 @@
--- What is drawn of a line, and what a full redraw of it would give.
+-- What is drawn of a line, and what a full redraw of it would show.
 use Rattle.std.specs.Prelude.{◌≡◌, ◌⊎◌, ℕ, ◌+◌, ◌-◌, Bool, true, false, if◌then◌else◌, nat_lt, min, List, take, Option, Some, None, is_some, OnOk, OnErr, Result}
 use Rattle.line_buffer.specs.Line.{Line}
 use Rattle.line_buffer.specs.declared.layout.Position.{Position}
@@ -21,7 +21,7 @@ pub record Surface : Type 0 where
   pub colors : Bool
   pub mode : GraphemeClusterMode
 
--- what a screen shows: the position of the drawn cursor, the prompt, the text, which begins at the origin, and what stands behind it, if
+-- what a screen shows: the position of the screen cursor, the prompt, the text, which begins at the origin, and what stands after it, if
 -- anything does; and whether this is known to be what it shows
 pub record Screen : Type 0 where
   pub position : Position
@@ -39,7 +39,7 @@ pub record KeepsShown (old new : Screen) : Type 0 where
   pub behind : new.behind ≡ old.behind
 
 -- what a screen was asked to do beside drawing the line: whether it holds back what is drawn, how many texts it wrote that are not the
--- line, and how many beeps it gave
+-- line, and how many beeps it made
 pub record Beside : Type 0 where
   pub held : Bool
   pub written : ℕ
@@ -116,8 +116,8 @@ pub record IsFullRedraw (surface : Surface) (prompt_end : Position) (line : Line
   pub has_info : layout.has_info ≡ is_some trailing
   pub mode : layout.grapheme_cluster_mode ≡ surface.mode
 
--- a full redraw was made behind this prompt, which ends there: the kept layout is its layout, and the screen is known to show the prompt,
--- the line from the prompt's end, with its cursor at the kept one, and the trailing text behind it
+-- a full redraw was made after this prompt, which ends there: the kept layout is its layout, and the screen is known to show the prompt,
+-- the line from the prompt's end, with its cursor at the kept one, and the trailing text after it
 pub record ShowsInFull (display : Display) (prompt : List ℕ) (prompt_end : Position) (line : Line) (trailing : Option (List ℕ)) : Type 0 where
   pub layout : IsFullRedraw display.surface prompt_end line trailing display.layout
   pub position : display.screen.position ≡ display.layout.cursor
@@ -127,8 +127,8 @@ pub record ShowsInFull (display : Display) (prompt : List ℕ) (prompt_end : Pos
   pub behind : display.screen.behind ≡ trailing
   pub known : display.screen.known ≡ true
 
--- the text is drawn: the screen is known to show it behind the own prompt, its cursor stands at the kept one, the layout has an info
--- where something stands behind the text, and else the kept end is a full redraw's
+-- the text is drawn: the screen is known to show it after the own prompt, its cursor stands at the kept one, the layout has an info
+-- where something stands after the text, and else the kept end is a full redraw's
 pub record ShowsText (display : Display) (text : List ℕ) : Type 0 where
   pub prompt : display.layout.prompt_size ≡ display.prompt_end
   pub ends : display.layout.has_info ≡ false → display.layout.end ≡ end_position display.surface.measure display.prompt_end text
@@ -145,8 +145,8 @@ pub record IsRight (display : Display) (line : Line) : Type 0 where
   pub drawn : ShowsText display line.text
   pub cursor : HasCursorAt display line
 
--- the cursor goes to a position: the kept one does, and the drawn one with it where it stood there, and all else stays; after an error the
--- kept one too
+-- the cursor moves to a position: the kept one does, and the screen cursor with it where it stood there, and all else stays; after an
+-- error the kept one too
 pub record GoesToPosition {T : Type 0} (result : Result T ReadlineError) (old new : Display) (place : Position) : Type 0 where
   pub layout : OnOk result (new.layout ≡ record old.layout { cursor = place })
   pub kept : OnErr result (new.layout ≡ old.layout)
@@ -155,7 +155,7 @@ pub record GoesToPosition {T : Type 0} (result : Result T ReadlineError) (old ne
   pub shows : KeepsShown old.screen new.screen
   pub lit : new.lit ≡ old.lit
 
--- the cursor goes to the end of what is shown
+-- the cursor moves to the end of what is shown
 abbrev pub GoesToShownEnd : {T : Type 0} → Result T ReadlineError → Display → Display → Type 0
 GoesToShownEnd result old new = GoesToPosition result old new old.layout.end
 

@@ -62,6 +62,6 @@ pub record KeepsLine (old new : Draft) : Type 0 where
   pub saved : new.saved ≡ old.saved
   pub index : new.index ≡ old.index
 
--- the text that taking back all changes gives
+-- the text that taking back all changes restores
 abbrev pub start_text : Draft → List ℕ
 start_text draft = first_text draft.changes draft.line

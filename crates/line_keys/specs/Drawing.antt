@@ -14,8 +14,8 @@ use Rattle.line_parts.specs.Asks.{Asks, for_hint, nobody}
 use Rattle.line_parts.specs.declared.highlight.CmdKind.{CmdKind}
 use Rattle.line_parts.specs.declared.highlight.CmdKind.TheVariants.{MoveCursor, Other}
 
--- what is drawn: nothing; the line in full with its hint; with another text behind it or none, for a kind that `highlight_char` is
--- told; with its hint behind another prompt; only what changed at its end, which is then at a position; the cursor where the line's is;
+-- what is drawn: nothing; the line in full with its hint; with another text after it or none, for a kind that `highlight_char` is
+-- told; with its hint after another prompt; only what changed at its end, which is then at a position; the cursor where the line's is;
 -- the cursor at a place on its way, and then where the line's is; or the cursor at the end of what is shown
 pub data Drawing : Type 0 where
   nothing : Drawing
@@ -39,27 +39,27 @@ pub record DrewNothing {X : Type 0} (e : Ghosts X) (old new : X) : Type 0 where
   pub display : e.display new ≡ e.display old
   pub redraws : e.redraws new ≡ e.redraws old
 
--- the line was drawn in full with this behind it, so often, and at last `highlight_char` was asked for this kind
+-- the line was drawn in full with this after it, so often, and at last `highlight_char` was asked for this kind
 pub record DrewLine {X : Type 0} (e : Ghosts X) (times : ℕ) (trailing : Option (List ℕ)) (kind : CmdKind) (old new : X) : Type 0 where
   pub shows : Shows e new trailing
   pub right : HasRightLayout e new
   pub lit : (e.display new).lit ≡ lit_after (e.environment old) (e.display old) (e.draft new).line kind
   pub redraws : Redraws e times times old new
 
--- the line was drawn in full with its hint behind another prompt, so often, and at last `highlight_char` was asked
+-- the line was drawn in full with its hint after another prompt, so often, and at last `highlight_char` was asked
 pub record DrewBehind {X : Type 0} (e : Ghosts X) (times : ℕ) (prompt : List ℕ) (old new : X) : Type 0 where
   pub shows : ShowsInFull (e.display new) prompt ((e.display new).surface.measure prompt corner) (e.draft new).line (hint_shown (e.draft new))
   pub other : (e.display new).layout.default_prompt ≡ false
   pub lit : (e.display new).lit ≡ lit_after (e.environment old) (e.display old) (e.draft new).line Other
   pub redraws : Redraws e times times old new
 
--- nothing was drawn in full: the kept cursor and end went to this position, where the line ends, and `highlight_char` was asked
+-- nothing was drawn in full: the kept cursor and end moved to this position, where the line ends, and `highlight_char` was asked
 pub record DrewPart {X : Type 0} (e : Ghosts X) (position : Position) (old new : X) : Type 0 where
   pub layout : (e.display new).layout ≡ ending_at position (e.display old).layout
   pub lit : (e.display new).lit ≡ lit_after (e.environment old) (e.display old) (e.draft new).line Other
   pub redraws : e.redraws new ≡ e.redraws old
 
--- the drawn cursor went where the kept one did, and nothing else was drawn; `highlight_char` was asked for this kind
+-- the screen cursor moved where the kept one did, and nothing else was drawn; `highlight_char` was asked for this kind
 pub record DrewCursorAlone {X : Type 0} (e : Ghosts X) (kind : CmdKind) (old new : X) : Type 0 where
   pub layout : (e.display new).layout ≡ record (e.display old).layout { cursor = (e.display new).layout.cursor }
   pub position : IsInPlace e old → IsInPlace e new
@@ -68,7 +68,7 @@ pub record DrewCursorAlone {X : Type 0} (e : Ghosts X) (kind : CmdKind) (old new
   pub lit : (e.display new).lit ≡ lit_after (e.environment old) (e.display old) (e.draft new).line kind
   pub redraws : e.redraws new ≡ e.redraws old
 
--- how the cursor was drawn: not at all; alone, where the line is not highlighted; or else by the line in full with nothing behind it
+-- how the cursor was drawn: not at all; alone, where the line is not highlighted; or else by the line in full with nothing after it
 pub data CursorWay {X : Type 0} (e : Ghosts X) (kind : CmdKind) (old new : X) : Type 0 where
   cursor_stayed : DrewNothing e old new → CursorWay e kind old new
   cursor_went : has_highlighting (e.environment old) (e.display old) (e.draft new).line kind ≡ false → DrewCursorAlone e kind old new → CursorWay e kind old new
@@ -88,8 +88,8 @@ pub record DrewCursorOver {X : Type 0} (e : Ghosts X) (line : Line) (old new : X
   pub first : DrewCursor e MoveCursor old way
   pub second : DrewCursor e MoveCursor way new
 
--- the kept cursor went to the kept end; all else that is kept stays, and so does what is shown, and what is known where the renderer stood
--- at the kept cursor
+-- the kept cursor moved to the kept end; all else that is kept stays, and so does what is shown, and what is known where the renderer
+-- stood at the kept cursor
 pub record DrewCursorAtEnd {X : Type 0} (e : Ghosts X) (old new : X) : Type 0 where
   pub layout : (e.display new).layout ≡ record (e.display old).layout { cursor = (e.display old).layout.end }
   pub known : IsInPlace e old → StaysKnown e old new
@@ -168,11 +168,11 @@ pub data ShowsChange {X : Type 0} (e : Ghosts X) (most : ℕ) (old new : X) : Ty
   drawn_in_full : Shows e new (hint_shown (e.draft new)) → Redraws e 1 most old new → ShowsChange e most old new
   drawn_plainly : ChangedPlainly e old new → ShowsChange e most old new
 
--- what a call leaves that edits the line or moves its cursor: the draft, and the text that all changes taken back give; and what it
--- draws, a line with so many full redraws: what is drawn stays good, and a changed text is drawn; of the parties, an error of input or
--- output comes of these alone.
--- After a fault the draft is that of a moment of the call, but for its hint: before it, halfway or behind it; or, where memory ran out,
--- one that has lost its changes. After any error the kept prompt is the one from before, or the own one
+-- what a call leaves that edits the line or moves its cursor: the draft, and the text that taking back all changes restores; and what it
+-- draws, a line with so many full redraws: what is drawn stays good, and a changed text is drawn; of the helper and the history, those in
+-- `asks` alone may cause an error of input or output. After a fault the draft is that of a moment of the call, but for its hint: before
+-- it, halfway or after it; or, where memory ran out, one that has lost its changes. After any error the kept prompt is the one from
+-- before, or the own one
 pub record DoesInTwo {X T : Type 0} (e : Ghosts X) (asks : Asks) (result : Result T ReadlineError) (old new : X) (halfway left : Draft) (drawing : Drawing) (times : ℕ) : Type 0 where
   pub draft : OnOk result (e.draft new ≡ left)
   pub fault : FaultLeaves result (e.environment old) (e.draft old) halfway left (e.draft new)
@@ -203,7 +203,7 @@ pub record ShowsEnd {X T : Type 0} (e : Ghosts X) (result : Result T ReadlineErr
   pub frame : Frame e old new
   pub fails : FailsByParty e for_hint result old new
 
--- what taking the drawn cursor to a position leaves: the draft as it was, and a right layout where the position is that of the line's
+-- what taking the screen cursor to a position leaves: the draft as it was, and a right layout where the position is that of the line's
 -- cursor
 pub record PutsCursorAt {X T : Type 0} (e : Ghosts X) (result : Result T ReadlineError) (old new : X) (kind : CmdKind) (position : Position) : Type 0 where
   pub draft : e.draft new ≡ e.draft old
@@ -227,8 +227,8 @@ pub record DrawsCursor {X T : Type 0} (e : Ghosts X) (result : Result T Readline
   pub frame : Frame e old new
   pub fails : FailsByRenderer e result old new
 
--- what showing an edit leaves: where it was reported the hint is asked again and the line is drawn in full with it; else the drawn
--- cursor goes to the line's; all but the hint stays in any case
+-- what showing an edit leaves: where it was reported the hint is asked again and the line is drawn in full with it; else the screen cursor
+-- goes to the line's; all but the hint stays in any case
 pub record ShowsEdit {X T : Type 0} (e : Ghosts X) (edited : Bool) (result : Result T ReadlineError) (old new : X) : Type 0 where
   pub draft : OnOk result (e.draft new ≡ (if edited then hinted (e.environment old) (e.draft old) else e.draft old))
   pub err : KeepsDraftOnErr e result old new (hinted (e.environment old) (e.draft old))

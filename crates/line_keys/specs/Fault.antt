@@ -16,7 +16,7 @@ pub record IsOf (environment : Environment) (before halfway moment draft : Draft
   pub text : KeepsText moment draft
   pub hint : IsEarlierHint before halfway draft.hint ⊎ (draft.hint ≡ (hinted environment draft).hint)
 
--- a draft is that of one moment of a call that edits the line: before it, halfway, or behind it
+-- a draft is that of one moment of a call that edits the line: before it, halfway, or after it
 pub data IsOfMoment (environment : Environment) (before halfway left draft : Draft) : Type 0 where
   as_before : IsOf environment before halfway before draft → IsOfMoment environment before halfway left draft
   as_halfway : IsOf environment before halfway halfway draft → IsOfMoment environment before halfway left draft
@@ -42,7 +42,7 @@ abbrev pub FaultLeaves : {T : Type 0} → Result T ReadlineError → Environment
 FaultLeaves (Ok _) environment before halfway left draft = Unit {0}
 FaultLeaves (Err e) environment before halfway left draft = FaultLeft e environment before halfway left draft
 
--- an error of input or output leaves a draft that is of a moment: before the call, or behind it
+-- an error of input or output leaves a draft that is of a moment: before the call, or after it
 abbrev pub IoLeft : ReadlineError → Environment → Draft → Draft → Draft → Type 0
 IoLeft e environment before left draft = is_io e ≡ true → IsOfMoment environment before left left draft
 

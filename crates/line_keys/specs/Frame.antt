@@ -1,4 +1,4 @@
--- What stays in each call of an editor, and which errors come, by what contracts see of the editor.
+-- What stays in each call of an editor, and which errors occur, by what contracts see of the editor.
 use Rattle.std.specs.Prelude.{◌≡◌, ◌≤◌, true, Result, ℕ}
 use Rattle.line_config.specs.Error.{FaultsOnly, IoOnlyIf, Rose}
 use Rattle.line_config.specs.Failures.{UnlessIo}
@@ -16,8 +16,8 @@ pub record Frame {X : Type 0} (e : Ghosts X) (old new : X) : Type 0 where
   pub sure : e.sure new ≡ e.sure old
   pub failures : e.failures old ≤ e.failures new
 
--- an error of input or output comes only where this holds, the only other error is that memory ran out, and without an error of
--- input or output the count of failures stays
+-- an error of input or output occurs only where this holds, the only other error is that memory ran out, and without an error
+-- of input or output the count of failures stays
 pub record FailsOnlyIf {T : Type 0} (result : Result T ReadlineError) (cause : Type 0) (old new : ℕ) : Type 0 where
   pub io : IoOnlyIf result cause
   pub faults : FaultsOnly result
@@ -35,6 +35,6 @@ PartyFailed e asks old new = is_sure (e.sure old) asks ≡ true → Rose (e.fail
 abbrev pub FailsByRenderer : {X T : Type 0} → Ghosts X → Result T ReadlineError → X → X → Type 0
 FailsByRenderer e result old new = FailsOnlyIf result (RendererFailed e old new) (e.failures old) (e.failures new)
 
--- how a call may fail that asks some of the parties too
+-- how a call may fail that asks the helper or the history too
 abbrev pub FailsByParty : {X T : Type 0} → Ghosts X → Asks → Result T ReadlineError → X → X → Type 0
 FailsByParty e asks result old new = FailsOnlyIf result (PartyFailed e asks old new) (e.failures old) (e.failures new)

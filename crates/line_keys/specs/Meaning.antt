@@ -27,7 +27,7 @@ holds on_text draft = not (length draft.line.text == 0)
 holds at_hint draft = is_some draft.hint && (draft.line.cursor == length draft.line.text)
 
 -- What a key stands for: a command, or one that depends on what is read next or was read before. What is read next is the
--- character to search for, a pasted text, a second key, the character that comes in place of others, or what an operator is
+-- character to search for, a pasted text, a second key, the character that replaces others, or what an operator is
 -- done to. What was read before is the last search, as it was or changed, or the last change, which is done again with the
 -- count that is typed, if any. A key that no table has stands for nothing, unless it begins a bound sequence.
 pub data Meaning : Type 0 where

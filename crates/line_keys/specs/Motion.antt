@@ -1,4 +1,4 @@
--- What is read behind the first key of a command: the motion of an operator, or the character of a search or a replacement.
+-- What is read after the first key of a command: the motion of an operator, or the character of a search or a replacement.
 use Rattle.std.specs.Prelude.{ℕ, ◌*◌, ◌==◌, ◌&&◌, Bool, false, if◌then◌else◌, min, List, [], ◌∷◌, find, Option, None, option_map, unwrap_or}
 use Rattle.line_buffer.specs.Search.{opposite}
 use Rattle.line_buffer.specs.declared.movement.At.{At}
@@ -37,7 +37,7 @@ abbrev pub motion_at : Motions → ℕ → Operator → ℕ → Motion
 motion_at motions c operator n =
     unwrap_or (option_map (λ entry. entry.1 operator n) (find (λ entry. entry.0 == c) motions)) no_motion
 
--- where an operator goes behind w and W: a change to the end of a word, every other one to the start of the next
+-- where an operator leads after w and W: a change to the end of a word, every other one to the start of the next
 abbrev pub word_place : Operator → At
 word_place Change = AfterEnd
 word_place _ = Start
@@ -85,7 +85,7 @@ motion_by operator (Char c) mods n =
 motion_by operator Backspace mods n = if mods == bits_of NONE then covers (BackwardChar n) else no_motion
 motion_by operator _ mods n = no_motion
 
--- the motion of a key behind an operator; its own key is none here
+-- the motion of a key after an operator; its own key is none here
 abbrev pub motion_of : Operator → KeyEvent → ℕ → Motion
 motion_of operator key n = motion_by operator key.0 (bits_of key.1) n
 
@@ -102,7 +102,7 @@ abbrev pub is_char : ℕ → KeyCode → Bool
 is_char c (Char d) = d == c
 is_char c _ = false
 
--- whether a key is the operator's own, its plain character, behind which it is done to the whole line
+-- whether a key is the operator's own, its plain character, after which it is done to the whole line
 abbrev pub is_own_key : Operator → KeyEvent → Bool
 is_own_key operator key = is_with NONE key && is_char (own_char operator) key.0
 
@@ -129,12 +129,12 @@ operated_to_bracket _ = unknown
 abbrev pub search_to : (ℕ → CharSearch) → KeyEvent → Option CharSearch
 search_to by typed = if is_with NONE typed then option_map by (char_of typed.0) else None
 
--- what the second key of a replacement gives, by its code: a character replaces clusters, and Esc does nothing
+-- what the second key of a replacement stands for, by its code: a character replaces clusters, and Esc does nothing
 abbrev pub replaced_by_code : ℕ → KeyCode → Command
 replaced_by_code n (Char c) = replace_char n c
 replaced_by_code n Esc = noop
 replaced_by_code n _ = unknown
 
--- what the second key of a replacement gives: a plain character replaces so many clusters, and Esc does nothing
+-- what the second key of a replacement stands for: a plain character replaces so many clusters, and Esc does nothing
 abbrev pub replaced_by : ℕ → KeyEvent → Command
 replaced_by n key = if is_with NONE key then replaced_by_code n key.0 else unknown

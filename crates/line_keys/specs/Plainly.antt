@@ -15,7 +15,7 @@ has_highlighting environment display line kind =
     (display.surface.colors && is_some environment.verdict_at)
     && (display.lit || environment.lights line.text line.cursor kind)
 
--- the line is printable ASCII and newlines; there is no hint, and no text was drawn behind the line
+-- the line is printable ASCII and newlines; there is no hint, and no text was drawn after the line
 abbrev pub is_bare : Display → Draft → Bool
 is_bare display draft =
     list_all is_plain draft.line.text && not (is_some draft.hint) && not display.layout.has_info
@@ -25,13 +25,14 @@ abbrev pub leaves_bare : Environment → Display → Draft → Bool
 leaves_bare environment display left =
     not (is_some left.hint) && not (has_highlighting environment display left.line Other)
 
--- the line takes a character plainly: printable ASCII at its end, with a column left behind it
+-- the line takes a character plainly: printable ASCII at its end, with a column left after it
 abbrev pub takes_char : Display → Draft → ℕ → Bool
 takes_char display draft c =
     is_printable c && is_at_end draft.line && nat_lt (display.layout.cursor.col + 1) display.surface.columns
     && is_bare display draft
 
--- the line gives its text from a place on plainly: printable ASCII on the row of the kept cursor and end, for which both have the columns
+-- the text of a line from a place on can be cleared plainly: printable ASCII on the row of the kept cursor and end, for which both have
+-- the columns
 abbrev pub gives_end : Display → Draft → ℕ → Bool
 gives_end display draft from =
     list_all is_printable (drop from draft.line.text)
@@ -44,7 +45,7 @@ gives_end display draft from =
 abbrev pub types_plainly : Environment → Display → Draft → Draft → ℕ → Bool
 types_plainly environment display draft left c = takes_char display draft c && leaves_bare environment display left
 
--- a plain kill: a line gives its end plainly, and what is left has no hint and no highlighting
+-- a plain kill: the end of a line can be cleared plainly, and what is left has no hint and no highlighting
 abbrev pub kills_plainly : Environment → Display → Draft → Draft → ℕ → Bool
 kills_plainly environment display draft left from = gives_end display draft from && leaves_bare environment display left
 

@@ -27,7 +27,7 @@ is_repeatable (move _) = true
 is_repeatable move_to_bracket = true
 is_repeatable command = is_repeatable_change command
 
--- a last change behind which typed characters belong to it: a replacement, or a typed character
+-- a last change after which typed characters belong to it: a replacement, or a typed character
 abbrev pub is_typed_on : Option Command → Bool
 is_typed_on (Some (replace _ _)) = true
 is_typed_on (Some (replace_to_bracket _)) = true
@@ -65,17 +65,17 @@ with_count (Some n) movement = counted_anew movement n
 abbrev pub over_text : Option (List ℕ) → Movement
 over_text text = ForwardChar (min 65535 (unwrap_or (option_map (λ t. length t) text) 0))
 
--- what is replaced again by the text that came in last: by a replacement of no clusters, as in replace mode, as many as it has bytes
+-- what is replaced again by the text that was inserted last: by a replacement of no clusters, as in replace mode, as many as it has bytes
 abbrev pub replaced_again : Option ℕ → Option (List ℕ) → Movement → Movement
 replaced_again new last (ForwardChar n) = if n == 0 then over_text last else with_count new (ForwardChar n)
 replaced_again new last movement = with_count new movement
 
--- a typed character again: by the dot it is the text that came in last, and for a binding it stays that character
+-- a typed character again: by the dot it is the text that was inserted last, and for a binding it stays that character
 abbrev pub typed_again : Bool → ℕ → Option (List ℕ) → ℕ → Command
 typed_again true n (Some text) c = insert n text
 typed_again by_dot n last c = self_insert n c
 
--- a command again, by the dot or for a binding, with a new count if there is one; the text that came in last is handed in
+-- a command again, by the dot or for a binding, with a new count if there is one; the text that was inserted last is handed in
 abbrev pub redone : Bool → Option ℕ → Option (List ℕ) → Command → Command
 redone by_dot new last (dedent movement) = dedent (with_count new movement)
 redone by_dot new last (indent movement) = indent (with_count new movement)
@@ -91,6 +91,6 @@ redone by_dot new last (yank n anchor) = yank (unwrap_or new n) anchor
 redone by_dot new last (replace_to_bracket None) = replace_to_bracket last
 redone by_dot new last command = command
 
--- what is done for a command that a program gave a key: it is done again, where it can be
+-- what is done for a command that a program bound to a key: it is done again, where it can be
 abbrev pub bound_anew : Option ℕ → Option (List ℕ) → Command → Command
 bound_anew new last command = if is_repeatable command then redone false new last command else command

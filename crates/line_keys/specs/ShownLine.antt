@@ -1,4 +1,4 @@
--- What is shown of the line: by a kept layout, with what may stand behind it, and in how many full redraws.
+-- What is shown of the line: by a kept layout, with what may stand after it, and in how many full redraws.
 use Rattle.std.specs.Prelude.{◌≡◌, ◌⊎◌, ◌+◌, ◌≤◌, true, if◌then◌else◌, List, Option, None, ℕ}
 use Rattle.line_buffer.specs.declared.layout.Layout.{Layout}
 use Rattle.line_config.specs.Error.{max_count}
@@ -32,16 +32,16 @@ IsInPlace e editor = (e.display editor).screen.position ≡ (e.display editor).l
 abbrev pub StaysKnown : {X : Type 0} → Ghosts X → X → X → Type 0
 StaysKnown e old new = (e.display new).screen.known ≡ (e.display old).screen.known
 
--- the line was drawn in full behind the editor's own prompt, with a trailing text if there is one
+-- the line was drawn in full after the editor's own prompt, with a trailing text if there is one
 pub record Shows {X : Type 0} (e : Ghosts X) (editor : X) (trailing : Option (List ℕ)) : Type 0 where
   pub in_full : ShowsInFull (e.display editor) (e.display editor).prompt (e.display editor).prompt_end (e.draft editor).line trailing
   pub own_prompt : (e.display editor).layout.default_prompt ≡ true
 
--- what stands behind a line that is drawn by a kept layout: the hint where the layout has an info, and else nothing
+-- what stands after a line that is drawn by a kept layout: the hint where the layout has an info, and else nothing
 abbrev pub info_kept : Layout → Draft → Option (List ℕ)
 info_kept layout draft = if layout.has_info then hint_shown draft else None
 
--- the kept layout is that of a full redraw of the line behind the own prompt, with its hint or with nothing as the layout has it
+-- the kept layout is that of a full redraw of the line after the own prompt, with its hint or with nothing as the layout has it
 pub record ShowsByLayout {X : Type 0} (e : Ghosts X) (editor : X) : Type 0 where
   pub layout : IsFullRedraw (e.display editor).surface (e.display editor).prompt_end (e.draft editor).line (info_kept (e.display editor).layout (e.draft editor)) (e.display editor).layout
   pub own_prompt : (e.display editor).layout.default_prompt ≡ true
@@ -54,24 +54,24 @@ Rises least most old new = old + most ≤ max_count → (old + least ≤ new) ×
 abbrev pub Redraws : {X : Type 0} → Ghosts X → ℕ → ℕ → X → X → Type 0
 Redraws e least most old new = Rises least most (e.redraws old) (e.redraws new)
 
--- a text may trail the line: its hint, its verdict's message, or none
+-- a text may trail the line: its hint, its validation message, or none
 abbrev pub MayTrail : Environment → Draft → Option (List ℕ) → Type 0
 MayTrail environment draft trailing =
     (trailing ≡ hint_shown draft) ⊎ (trailing ≡ message_of (verdict_on environment draft.line.text)) ⊎ (trailing ≡ None)
 
--- what is shown is the line with a text behind it that may trail it
+-- what is shown is the line with a text that may trail it
 pub record ShowsLine {X : Type 0} (e : Ghosts X) (editor : X) : Type 0 where
   pub trailing : Option (List ℕ)
   pub shows : Shows e editor trailing
   pub trails : MayTrail (e.environment editor) (e.draft editor) trailing
 
--- what is shown is the line with at most its verdict's message behind it
+-- what is shown is the line with at most its validation message after it
 pub record ShowsNoHint {X : Type 0} (e : Ghosts X) (editor : X) : Type 0 where
   pub trailing : Option (List ℕ)
   pub shows : Shows e editor trailing
   pub trails : (trailing ≡ message_of (verdict_on (e.environment editor) (e.draft editor).line.text)) ⊎ (trailing ≡ None)
 
--- what is shown is known, the line behind the own prompt and a text behind it that may trail it, and ends with them
+-- what is shown is known, the line after the own prompt and a text that may trail it, and ends with them
 pub record HasShownEnd {X : Type 0} (e : Ghosts X) (editor : X) : Type 0 where
   pub trailing : Option (List ℕ)
   pub ends : (e.display editor).layout.end ≡ shown_end (e.display editor).surface.measure (e.display editor).prompt_end (e.draft editor).line.text trailing
@@ -87,7 +87,7 @@ pub record KeepsDrawn {X : Type 0} (e : Ghosts X) (old new : X) : Type 0 where
   pub right : KeepsLayoutRight e old new
   pub line : ShowsLine e old → ShowsLine e new
 
--- what is drawn stays good behind the own prompt, and no hint stands behind the line any more
+-- what is drawn stays good after the own prompt, and no hint stands after the line any more
 pub record LosesHint {X : Type 0} (e : Ghosts X) (old new : X) : Type 0 where
   pub own_prompt : (e.display new).layout.default_prompt ≡ true
   pub right : KeepsLayoutRight e old new

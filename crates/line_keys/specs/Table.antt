@@ -1,4 +1,4 @@
--- The tables of keys: for a style of editing and a mode, what each key stands for.
+-- The tables of keys: for an edit mode and an input mode, what each key stands for.
 use Rattle.std.specs.Prelude.{ℕ, ◌==◌, if◌then◌else◌, Option, Some, None}
 use Rattle.std.specs.Option.{option_or}
 use Rattle.line_config.specs.declared.config.EditMode.{EditMode}
@@ -21,12 +21,12 @@ abbrev pub row_or_unlisted : Option Row → Row
 row_or_unlisted (Some r) = r
 row_or_unlisted None = meaning_row (λ _. unlisted)
 
--- the row of a key in the table of the style alone
+-- the row of a key in the table of the edit mode alone
 abbrev pub own_row : EditMode → InputMode → KeyEvent → Draft → Option Row
 own_row Emacs mode key draft = emacs_row key.0 (bits_of key.1) draft
 own_row Vi mode key draft = vi_row mode key.0 (bits_of key.1) draft
 
--- the row of a key, by the style of editing and its mode: that of the style's table, or else that of both styles
+-- the row of a key, by the edit mode and its input mode: that of the edit mode's table, or else that of both edit modes
 abbrev pub row_of : EditMode → InputMode → KeyEvent → Draft → Row
 row_of style mode key draft = row_or_unlisted
     (option_or (own_row style mode key draft) (common_row style key.0 (bits_of key.1) draft))

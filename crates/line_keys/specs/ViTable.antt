@@ -21,7 +21,7 @@ use Rattle.line_keys.specs.declared.refresher.InputMode.{InputMode}
 use Rattle.line_keys.specs.declared.tables.Operator.{Operator}
 use Rattle.line_keys.specs.declared.tables.Operator.TheVariants.{Change, Dedent, Delete, Indent, Yank}
 
--- insert and replace mode: a character comes in, or takes the place of one
+-- insert and replace mode: a character is inserted, or replaces one
 abbrev pub typed_char : InputMode → ℕ → Command
 typed_char InputMode.Replace c = overwrite c
 typed_char _ c = self_insert 1 c

@@ -110,7 +110,7 @@ impl TypedCount {
         }
     }
 
-    /// Adds a key. Digits that come behind a number of at least 1000, and minus signs, are passed over.
+    /// Adds a key. Digits that come after a number of at least 1000, and minus signs, are passed over.
     pub fn push(&mut self, key: KeyEvent)
         ensures { (keys : List KeyEvent)
             → IsCountOf self.old keys → IsCountOf self.new (keys ++ key ∷ []) }
@@ -154,7 +154,7 @@ impl TypedCount {
     }
 }
 
-// Returns a number with the digit of a key behind it, if the key is one.
+// Returns a number with the digit of a key after it, if the key is one.
 fn with_key(number: Option<RepeatCount>, key: KeyEvent) -> Option<RepeatCount>
     ensures { (digits : List ℕ) → number ≡ number_of digits
         → result ≡ number_of (digits ++ digits_of (key ∷ [])) }
@@ -165,7 +165,7 @@ fn with_key(number: Option<RepeatCount>, key: KeyEvent) -> Option<RepeatCount>
     with_digit(number, digit)
 }
 
-// Returns a number with a digit behind it; a number of at least 1000 stays.
+// Returns a number with a digit after it; a number of at least 1000 stays.
 fn with_digit(number: Option<RepeatCount>, digit: RepeatCount) -> Option<RepeatCount>
     requires { digit ≤ 9 }
     ensures { (digits : List ℕ) → number ≡ number_of digits

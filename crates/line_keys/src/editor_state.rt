@@ -8,7 +8,7 @@ ghost use Rattle.line_parts.specs.Environment.{Environment};
 /// What contracts see of an editor, and no code reads: the line that is edited, what answers for it, what is drawn, and
 /// the counts of failures and of full redraws.
 pub trait EditorState {
-    // What tells the loans of the renderer and of the helper from others.
+    // What distinguishes the loans of the renderer and of the helper from others.
     ghost Loan: { Type 0 };
 
     ghost draft: { Self → Draft };
@@ -19,7 +19,7 @@ pub trait EditorState {
 
     ghost loan: { Self → Loan };
 
-    // Which answers of the parties come without an error of input or output.
+    // Which answers of the helper and the history come without an error of input or output.
     ghost sure: { Self → Sureness };
 
     ghost failures: { Self → ℕ };

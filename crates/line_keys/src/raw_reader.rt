@@ -13,15 +13,15 @@ use line_config::ReadlineError;
 /// A source of keys and pasted texts: a finite list of items, of which each call takes the next one.
 ///
 /// # Errors
-/// A failed call takes nothing. `Eof` comes only at the end of the list, where no call succeeds, and `Interrupted` never.
-/// Another error is one of input or output, and then the count of failures has risen; or that memory ran out. Without an
-/// error of input or output the count of failures stays.
+/// A failed call takes nothing. `Eof` is returned only at the end of the list, where no call succeeds, and `Interrupted`
+/// never. Another error is one of input or output, and then the count of failures has risen; or that memory ran out.
+/// Without an error of input or output the count of failures stays.
 pub trait RawReader {
     ghost rest: { Self → List Item };
 
     ghost failures: { Self → ℕ };
 
-    // What no reading changes, and of it the commands that the reader itself gives keys.
+    // What no reading changes, and of it the commands that the reader itself has for keys.
     ghost Kept: { Type 0 };
 
     ghost kept: { Self → Kept };
@@ -56,7 +56,7 @@ pub trait RawReader {
         ensures counts { CountsFailures result (failures self.old) (failures self.new) }
         ensures stays { kept self.new ≡ kept self.old };
 
-    /// Returns the command that the reader itself gives the key, if it gives one.
+    /// Returns the command that the reader itself has for the key, if it has one.
     fn find_binding(&self, key: &KeyEvent) -> Option<Cmd>
         ensures { option_map command_of result ≡ own_binding (kept self.now) key.now };
 }

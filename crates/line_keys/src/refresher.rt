@@ -9,7 +9,7 @@ use crate::editor_state::EditorState;
 use line_config::Result;
 use line_parts::CmdKind;
 
-/// A mode of the Vi style of editing.
+/// An input mode of Vi.
 #[derive(Clone, Copy, PartialEq, Eq)]
 pub enum InputMode {
     /// Keys are commands.
@@ -42,15 +42,16 @@ impl Invoke for &str {
 /// Every call leaves the text, the cursor and the history index.
 ///
 /// # Errors
-/// An error of input or output, where the renderer failed or a party was asked that may fail; or that memory ran out. A call
-/// that draws then leaves the kept layout, and the hint is the one from before or the one that was to be drawn.
+/// An error of input or output, where the renderer failed, or where the helper or the history was asked and may fail; or
+/// that memory ran out. A call that draws then leaves the kept layout, and the hint is the one from before or the one that
+/// was to be drawn.
 pub trait Refresher: EditorState {
     /// Asks for the hint and draws all again.
     fn refresh_line(&mut self) -> Result<()>
         ensures { let e = Self.EditorState in Refreshes e result self.old self.new
             (hinted (e.environment self.old) (e.draft self.old)) with_hint };
 
-    /// Takes the hint away, and draws all again with a message, if there is one, behind the line.
+    /// Takes the hint away, and draws all again with a message, if there is one, after the line.
     fn refresh_line_with_msg(&mut self, msg: Option<&str>, kind: CmdKind) -> Result<()>
         ensures { let e = Self.EditorState in Refreshes e result self.old self.new
             (unhinted (e.draft self.old)) (with_text (option_map (λ s. s.now) msg.entry) kind) };
@@ -80,7 +81,7 @@ pub trait Refresher: EditorState {
         ensures undrawn { Undrawn Self.EditorState self.old self.new }
         ensures memory { MemoryOnly result };
 
-    /// Returns the text that came in last: that of the newest insert or replacement, unless a group was begun or a text
+    /// Returns the text that was inserted last: that of the newest insert or replacement, unless a group was begun or a text
     /// deleted since.
     ///
     /// # Errors

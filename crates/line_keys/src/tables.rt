@@ -26,7 +26,7 @@ pub use motions::{motion_of_key, multiplied, replaced_by};
 use vi_command::vi_command_entry;
 use vi_insert::vi_insert_entry;
 
-/// How a search for a character goes.
+/// Where a search for a character leads.
 #[derive(Clone, Copy, Debug, PartialEq, Eq)]
 pub enum SearchKind {
     /// To the character, after the cursor.
@@ -63,7 +63,7 @@ impl SearchKind {
     }
 }
 
-/// What is done to a part of the line; the key of a motion, which is read next, tells the part.
+/// What is done to a part of the line; the key of a motion, which is read next, says which part.
 #[derive(Clone, Copy, Debug, PartialEq, Eq)]
 pub enum Operator {
     /// Kills the text, and goes on in insert mode.
@@ -142,7 +142,7 @@ pub enum Motion {
     None,
 }
 
-/// Returns what a key stands for, by the style of editing and its mode, the count that is typed, if any, and the line.
+/// Returns what a key stands for, by the edit mode and the input mode, the count that is typed, if any, and the line.
 pub fn entry_of_key<W: Refresher>(
     mode: EditMode,
     input_mode: InputMode,
@@ -165,7 +165,7 @@ pub fn entry_of_key<W: Refresher>(
     }
 }
 
-// Returns what a key stands for in the table of the style alone.
+// Returns what a key stands for in the table of the edit mode alone.
 fn own_entry<W: Refresher>(
     mode: EditMode,
     input_mode: InputMode,

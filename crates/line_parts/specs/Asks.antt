@@ -2,7 +2,7 @@
 use Rattle.std.specs.Prelude.{Bool, true, ◌&&◌}
 
 -- whom a call may ask: nobody; the helper for a hint, where the history may be asked too; the history; the history for a line, and
--- then for a hint; the helper for a verdict; or any of these
+-- then for a hint; the helper for a validation result; or any of these
 pub data Asks : Type 0 where
   nobody : Asks
   for_hint : Asks
@@ -11,7 +11,7 @@ pub data Asks : Type 0 where
   for_verdict : Asks
   for_all : Asks
 
--- whether no error of input or output comes from a hint, from a verdict and from the history
+-- whether no error of input or output comes from a hint, from a validation result and from the history
 pub record Sureness : Type 0 where
   pub hints : Bool
   pub verdicts : Bool

@@ -15,7 +15,7 @@ use Rattle.line_parts.specs.declared.highlight.CmdKind.TheVariants.{MoveCursor, 
 abbrev pub is_even : ℕ → List ℕ → Bool
 is_even b part = count_by (λ c. c == b) part == count_by (λ c. c == partner b) part
 
--- the bytes that lead away from a bracket at a place, the nearest first: those behind an opening
+-- the bytes that lead away from a bracket at a place, the nearest first: those after an opening
 -- one, those before a closing one
 abbrev pub led_away : List ℕ → ℕ → ℕ → List ℕ
 led_away text b place = if is_open b then drop (place + 1) text else reverse (take place text)
@@ -24,7 +24,7 @@ led_away text b place = if is_open b then drop (place + 1) text else reverse (ta
 abbrev pub place_away : ℕ → ℕ → ℕ → ℕ
 place_away b place n = if is_open b then place + 1 + n else place - 1 - n
 
--- how many of so many bytes lead away from a bracket at a place: those behind an opening one, those before a closing one
+-- how many of so many bytes lead away from a bracket at a place: those after an opening one, those before a closing one
 abbrev pub count_away : Bool → ℕ → ℕ → ℕ
 count_away opens place count = if opens then count - (place + 1) else place
 

@@ -34,19 +34,19 @@ pub data IsBalanced : List ℕ → Type 0 where
       → text ≡ one ++ other → IsBalanced text
   plain : {text : List ℕ} {b : ℕ} → is_bracket b ≡ false → text ≡ b ∷ [] → IsBalanced text
 
--- some text behind it makes a text balanced
+-- some text after it makes a text balanced
 pub record CanBalance (text : List ℕ) : Type 0 where
   pub more : List ℕ
   pub balanced : IsBalanced (text ++ more)
 
--- a text is not balanced, and a row of closing brackets behind it makes it so
+-- a text is not balanced, and a row of closing brackets after it makes it so
 pub record IsIncomplete (text : List ℕ) : Type 0 where
   pub unbalanced : IsBalanced text → ⊥
   pub row : List ℕ
   pub closing : All (λ b. is_close b ≡ true) row
   pub balanced : IsBalanced (text ++ row)
 
--- the shortest beginning of a text that nothing behind it balances is a word with a bracket behind
+-- the shortest beginning of a text that nothing after it balances is a word with a bracket after
 -- it: that bracket is at fault
 pub record IsFault (text word : List ℕ) (b : ℕ) : Type 0 where
   pub behind : List ℕ
@@ -54,7 +54,7 @@ pub record IsFault (text word : List ℕ) (b : ℕ) : Type 0 where
   pub hopeless : CanBalance (word ++ b ∷ []) → ⊥
   pub shortest : (shorter left : List ℕ) → word ≡ shorter ++ left → CanBalance shorter
 
--- a closing bracket behind an opening one pairs with it
+-- a closing bracket after an opening one pairs with it
 pub record IsClosedIn (behind : List ℕ) (b : ℕ) : Type 0 where
   pub inside : List ℕ
   pub rest : List ℕ
@@ -79,7 +79,7 @@ unpaired_message b = codes "Mismatched brackets: '" ++ b ∷ codes "' is unpaire
 abbrev pub unclosed_message : ℕ → List ℕ
 unclosed_message b = codes "Mismatched brackets: '" ++ b ∷ codes "' is not properly closed"
 
--- the verdict on a text by its brackets
+-- the validation result for a text by its brackets
 pub data IsVerdict (text : List ℕ) (verdict : Verdict) : Type 0 where
   on_balanced : IsBalanced text → verdict ≡ valid None → IsVerdict text verdict
   on_incomplete : IsIncomplete text → verdict ≡ incomplete → IsVerdict text verdict

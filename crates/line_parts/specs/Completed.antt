@@ -29,7 +29,7 @@ pub record PathBefore : Type 0 where
   pub path : List ℕ
   pub quote : Quote
 
--- the path behind the quote that stands open, of double quotes or of single ones, or else the word
+-- the path after the quote that stands open, of double quotes or of single ones, or else the word
 abbrev pub path_behind : Option ℕ → Option ℕ → List ℕ → PathBefore
 path_behind (Some place) _ cs = record {
   start = place + 1;
@@ -69,7 +69,7 @@ breaks_in quote.Double = is_special
 breaks_in quote.Single = breaks_word
 breaks_in quote.None = breaks_word
 
--- a name as a candidate: behind the text of its folder, escaped, with a `/` behind a folder
+-- a name as a candidate: after the text of its folder, escaped, with a `/` after a folder
 abbrev pub offered : Quote → List ℕ → Listed → Offer
 offered kind folder entry = record {
   display = entry.name;
@@ -102,17 +102,17 @@ path_completion listing text =
 abbrev pub completed_by : {L : Type 0} → (L → List ℕ → Option (List Listed)) → FilenameCompleter L → List ℕ → ℕ → Completion
 completed_by listing completer text cursor = path_completion (listing completer.lister) (take cursor text)
 
--- whether a candidate shows a text that comes before another's, in the order of their bytes
+-- whether a candidate shows a text that stands before another's, in the order of their bytes
 abbrev pub is_before : Offer → Offer → Bool
 is_before one other = is_lt (slice_cmp nat_cmp one.display other.display)
 
--- candidates in the order of what they show; those that show one text in the order in which they came
+-- candidates in the order of what they show; those that show the same text in the order that they had
 pub record InOrder (old new : List Offer) : Type 0 where
   pub same : IsPermutation old new
   pub sorted : IsSortedBy is_before new
   pub stable : IsStableBy is_before old new
 
--- a candidate before those that come after it
+-- a candidate before those that follow it
 abbrev pub put_in : Offer → List Offer → List Offer
 put_in offer [] = offer ∷ []
 put_in offer (first ∷ more) = if is_before first offer then first ∷ put_in offer more else offer ∷ first ∷ more

@@ -18,8 +18,7 @@ EscapedIsUnescaped = (escape : ℕ) (is_break : ℕ → Bool) (kind : Quote) (te
     → on_chars (unescaped (Some escape)) (on_chars (escaped (Some escape) is_break kind) text)
     ≡ text
 
--- an escaped text behind a break character is the last word, where the escape character does not
--- stand before that
+-- an escaped text after a break character is the last word, where the escape character does not stand before that
 abbrev pub EscapedIsWord : Type 0
 EscapedIsWord = (escape break : ℕ) (is_break : ℕ → Bool) (before text : List ℕ)
     → is_break break ≡ true → ends_in escape before ≡ false

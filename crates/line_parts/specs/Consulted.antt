@@ -1,4 +1,4 @@
--- What is said of the parties that are asked about a line.
+-- What is said of those who are asked about a line.
 use Rattle.std.specs.Prelude.{◌≡◌}
 use Rattle.line_parts.specs.declared.consulted.Consulted.{Ghosts}
 

@@ -3,7 +3,7 @@ use Rattle.std.specs.Prelude.{ℕ, List}
 use Rattle.line_parts.specs.Shown.{Shown}
 use Rattle.line_parts.specs.declared.history.History.{Ghosts}
 
--- a history, and an index in it; the line that is being written comes after all others
+-- a history, and an index in it; the line that is being written follows all others
 pub record HistoryPosition (S : Type 0) : Type 0 where
   pub history : S
   pub index : ℕ

@@ -7,8 +7,8 @@ use Rattle.line_parts.specs.Verdict.{Verdict, valid}
 use Rattle.line_parts.specs.Written.{Written}
 use Rattle.line_parts.specs.declared.highlight.CmdKind.{CmdKind}
 
--- the helper's hints, its verdicts if there is a helper, its full drawings, its own completions and what it makes of an elected text by
--- itself, and the history's lines
+-- the helper's hints, its validation results if there is a helper, its full drawings, its own completions and what it makes of an
+-- elected text by itself, and the history's lines
 pub record Environment : Type 0 where
   pub hint_at : Shown → Option Suggestion
   pub verdict_at : Option (List ℕ → Verdict)
@@ -27,7 +27,7 @@ abbrev pub hint_for : Environment → List ℕ → ℕ → ℕ → Option Sugges
 hint_for environment text cursor index =
     visible (environment.hint_at (shown_at environment text cursor index))
 
--- the verdict on a text: without a helper it is valid
+-- the validation result for a text: without a helper it is valid
 abbrev pub verdict_on : Environment → List ℕ → Verdict
 verdict_on environment text =
     unwrap_or (option_map (λ verdict. verdict text) environment.verdict_at) (valid None)

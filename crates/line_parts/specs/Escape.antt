@@ -43,7 +43,7 @@ escaped (Some escape) is_break quote.Single cs = cs
 escaped (Some escape) is_break quote.Double cs = flat_map (escaped_char escape is_break) cs
 escaped (Some escape) is_break quote.None cs = flat_map (escaped_char escape is_break) cs
 
--- each escape character left out, and the character behind it kept
+-- each escape character left out, and the character after it kept
 abbrev pub unescaped : Option ℕ → List ℕ → List ℕ
 unescaped escape [] = []
 unescaped escape (c ∷ []) = if is_escape escape c then [] else c ∷ []

@@ -5,7 +5,7 @@ use Rattle.line_parts.specs.declared.escaped_line.Escapes.{Escapes}
 use Rattle.line_parts.specs.declared.escaped_line.Escapes.TheVariants.{V2, V3}
 
 -- the bytes that both forms escape, a backslash and a newline, each with the letter that stands for
--- it behind a backslash
+-- it after a backslash
 abbrev pub common_escapes : List (ℕ × ℕ)
 common_escapes = (92, 92) ∷ (10, 110) ∷ []
 

@@ -17,7 +17,7 @@ unfoldable pub hint_by : {H : Type 0} → (H → Shown → Option Suggestion) �
 hint_by hint_at None shown = None
 hint_by hint_at (Some helper) shown = hint_at helper.now shown
 
--- the verdicts of a helper, where there is one
+-- the validation results of a helper, where there is one
 unfoldable pub verdict_by : {H : Type 0} → (H → List ℕ → Verdict) → Option (MutBor H)
     → Option (List ℕ → Verdict)
 verdict_by verdict_at None = None

@@ -11,7 +11,7 @@ pub record Suggestion : Type 0 where
 abbrev pub suggestion_of : {T : Type 0} → Ghosts T → T → Suggestion
 suggestion_of hint h = record { display = hint.display_text h; completion = hint.completion_text h }
 
--- a hinter comes to this hint, unless it fails
+-- a hinter offers this hint, unless it fails
 abbrev pub Suggests : {T E : Type 0} → Ghosts T → Result (Option T) E → Option Suggestion → Type 0
 Suggests hint result suggestion = IfOk result (λ h. option_map (suggestion_of hint) h ≡ suggestion)
 

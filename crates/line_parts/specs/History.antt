@@ -66,7 +66,7 @@ leaves_out rules lines line = rules.max_len == 0 || length line == 0
 abbrev pub TellsTaken : {E : Type 0} → Result Bool E → HistoryRules → List (List ℕ) → List ℕ → Type 0
 TellsTaken result rules lines line = IfOk result (λ taken. taken ≡ not (leaves_out rules lines line))
 
--- the lines with one behind them, unless it is left out: the last so many
+-- the lines with one after them, unless it is left out: the last so many
 abbrev pub added : HistoryRules → List (List ℕ) → List ℕ → List (List ℕ)
 added rules lines line =
     if leaves_out rules lines line then lines else last_of rules.max_len (lines ++ line ∷ [])
@@ -83,7 +83,7 @@ all_taken rules lines (line ∷ more) =
     if leaves_out rules lines line then all_taken rules (added rules lines line) more
     else line ∷ all_taken rules (added rules lines line) more
 
--- a line of a history, its index, and a byte offset in it, which the search tells
+-- a line of a history, its index, and a byte offset in it, which the search found
 pub record Found : Type 0 where
   pub entry : List ℕ
   pub index : ℕ
@@ -93,7 +93,7 @@ pub record Found : Type 0 where
 abbrev pub found_of : SearchResult → Found
 found_of r = record { entry = cow_str_bytes r.entry; index = r.idx; pos = r.pos }
 
--- a look-up comes to this answer, unless it fails
+-- a look-up has this answer, unless it fails
 abbrev pub Finds : {E : Type 0} → Result (Option SearchResult) E → Option Found → Type 0
 Finds result answer = IfOk result (λ found. option_map found_of found ≡ answer)
 
@@ -115,7 +115,7 @@ abbrev pub first_in : List ℕ → List ℕ → Option ℕ
 first_in term line =
     least_below (length line + 1) (λ pos. starts_with (λ a b. a == b) (drop pos line) term)
 
--- where a term that a line must begin with stands: behind it
+-- where a term that a line must begin with stands: after it
 abbrev pub behind_start : List ℕ → List ℕ → Option ℕ
 behind_start term line =
     if starts_with (λ a b. a == b) line term then Some (length term) else None
@@ -130,7 +130,7 @@ abbrev pub count_on_side : SearchDirection → ℕ → ℕ → ℕ
 count_on_side Forward count start = count - start
 count_on_side Reverse count start = start + 1
 
--- the lines that an iterator has still to give
+-- the lines that an iterator has still to return
 abbrev pub lines_to_come : {Z : Type 0} → Iter (String Z) → List (List ℕ)
 lines_to_come it = map string_bytes (deque_iter_rest it)
 
@@ -164,13 +164,13 @@ search_in = nearest_match first_in
 abbrev pub starting_with : List (List ℕ) → List ℕ → ℕ → SearchDirection → Option Found
 starting_with = nearest_match behind_start
 
--- a history that counts the new lines, those that came since the last save or load that succeeded
+-- a history that counts the new lines, those that were added since the last save or load that succeeded
 pub record FiledHistory : Type 0 where
   pub lines : List (List ℕ)
   pub rules : HistoryRules
   pub new_lines : ℕ
 
--- the history with a line behind the others, unless it is left out
+-- the history with a line after the others, unless it is left out
 abbrev pub filed : FiledHistory → List ℕ → FiledHistory
 filed h line =
     if leaves_out h.rules h.lines line then h

@@ -13,7 +13,7 @@ start_in index lines = if index == length lines then length lines - 1 else index
 abbrev pub hint_start : Shown → ℕ
 hint_start shown = start_in shown.index shown.lines
 
--- what a line of the history has behind a text, where it is more than the text
+-- what a line of the history has after a text, where it is more than the text
 abbrev pub rest_behind : List ℕ → List ℕ → Option (List ℕ)
 rest_behind text line = if bytes_eq line text then None else Some (drop (length text) line)
 

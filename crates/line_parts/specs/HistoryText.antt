@@ -12,11 +12,11 @@ use Rattle.line_parts.specs.History.{FiledHistory, all_filed, all_taken, last_of
 use Rattle.line_parts.specs.declared.escaped_line.Escapes.{Escapes}
 use Rattle.line_parts.specs.declared.escaped_line.Escapes.TheVariants.{V2, V3}
 
--- lines as they are written, a line feed behind each
+-- lines as they are written, a line feed after each
 abbrev pub written : Escapes → List (List ℕ) → List ℕ
 written escapes lines = flat_map (λ line. escaped_line escapes line ++ 10 ∷ []) lines
 
--- the first line of a text with escapes, which tells them: `#V2` or `#V3`
+-- the first line of a text with escapes, which names them: `#V2` or `#V3`
 abbrev pub header : Escapes → List ℕ
 header V2 = 35 ∷ 86 ∷ 50 ∷ []
 header V3 = 35 ∷ 86 ∷ 51 ∷ []
@@ -34,7 +34,7 @@ abbrev pub without_return : List ℕ → List ℕ
 without_return line =
     if bytes_eq (last_of 1 line) (13 ∷ []) then take (length line - 1) line else line
 
--- the lines of a text: each that a line feed ends, without the carriage return before it; and what stands behind the last line
+-- the lines of a text: each that a line feed ends, without the carriage return before it; and what stands after the last line
 -- feed, if anything does
 abbrev pub lines_of : List ℕ → List (List ℕ)
 lines_of text = let pieces = slice_split is_newline text in
@@ -50,7 +50,7 @@ abbrev pub SaysLines : Option Escapes → List (List ℕ) → List (List ℕ) �
 SaysLines (Some escapes) written lines = AllZip (Says escapes) (filter is_some_text written) lines
 SaysLines None written lines = lines ≡ filter is_some_text written
 
--- a text has the header of some escapes or it has none, and says these lines: behind a header by
+-- a text has the header of some escapes or it has none, and says these lines: after a header by
 -- its escapes, without one each as it stands
 pub data IsHistoryText (text : List ℕ) (headed : Option Escapes) (lines : List (List ℕ)) : Type 0 where
   with_header : (escapes : Escapes) → headed ≡ Some escapes → (rest : List (List ℕ))
@@ -140,14 +140,13 @@ pub record ReadsHeader (text rest : Option (List ℕ)) (old new : FiledHistory) 
       → IfSome text (λ t. (escapes : Escapes) (more : List (List ℕ)) → lines_of t ≢ header escapes ∷ more)
   pub added : headed ≡ None → new ≡ all_filed old (filter is_some_text firsts)
 
--- the text that a save writes: all lines behind the header, or the new ones to be appended
+-- the text that a save writes: all lines after the header, or the new ones to be appended
 abbrev pub to_save : Escapes → Bool → FiledHistory → List ℕ
 to_save escapes append h =
     if append then written escapes (last_of h.new_lines h.lines) else saved escapes h.lines
 
--- a save with these escapes: what was to be saved stands behind what the writer had, and no line
--- counts as new; after an error the history is as it was. Want of memory is never an error of the
--- stream
+-- a save with these escapes: what was to be saved stands after what the writer had, and no line counts as new; after an error
+-- the history is as it was. Want of memory is never an error of the stream
 pub record Saves {T : Type 0} (escapes : Escapes) (append : Bool) (result : Result T ReadlineError) (had has : Option (List ℕ)) (old new : FiledHistory) : Type 0 where
   pub text : OnOk result (Appends had has (to_save escapes append old))
   pub history : OnOk result (new ≡ settled old)

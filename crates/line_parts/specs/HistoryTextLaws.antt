@@ -5,12 +5,12 @@ use Rattle.line_parts.specs.HistoryText.{EndsPlain, IsHistoryText, Loads, is_som
 use Rattle.line_parts.specs.declared.escaped_line.Escapes.{Escapes}
 use Rattle.line_parts.specs.declared.escaped_line.Escapes.TheVariants.{V2, V3}
 
--- a saved text, with an appended one behind it, says the lines of both, empty ones left out
+-- a saved text, with an appended one after it, says the lines of both, empty ones left out
 abbrev pub ReadsBack : Escapes → List (List ℕ) → List (List ℕ) → Type 0
 ReadsBack escapes xs ys =
     IsHistoryText (saved escapes xs ++ written escapes ys) (Some escapes) (filter is_some_text (xs ++ ys))
 
--- loading a saved text, with an appended one behind it, leaves what adding the lines of both leaves
+-- loading a saved text, with an appended one after it, leaves what adding the lines of both leaves
 abbrev pub LoadsBack : Escapes → List (List ℕ) → List (List ℕ) → Type 0
 LoadsBack escapes xs ys = (old new : FiledHistory) (answer : Bool)
     → Loads (saved escapes xs ++ written escapes ys) old new answer

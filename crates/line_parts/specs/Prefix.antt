@@ -8,7 +8,7 @@ use Rattle.std.specs.Str.{IsUtf8}
 abbrev pub BeginsWith : List ℕ → List ℕ → Type 0
 BeginsWith start text = (rest : List ℕ) × (text ≡ start ++ rest)
 
--- two texts begin with one character, and these stand behind it
+-- two texts begin with one character, and these stand after it
 abbrev pub BeginWithOne : List ℕ → List ℕ → List ℕ → List ℕ → Type 0
 BeginWithOne one other behind more =
     (c : ℕ) × (one ≡ encode_utf8 c ++ behind) × (other ≡ encode_utf8 c ++ more)

@@ -76,11 +76,11 @@ abbrev pub open_quote : Quote → List ℕ → Option ℕ
 open_quote kind cs =
     least_below (length cs) (λ place. is_closed (take place cs) && is_unclosed kind (drop place cs))
 
--- no quote of a kind closes what stands behind it
+-- no quote of a kind closes what stands after it
 abbrev pub NeverCloses : Quote → ℕ → List ℕ → Type 0
 NeverCloses kind mark text = is_unclosed kind (mark ∷ text) ≡ true
 
--- a text stands in quotes of a kind up to the first such quote, with this behind that
+-- a text stands in quotes of a kind up to the first such quote, with this after that
 abbrev pub ClosesBefore : Quote → ℕ → List ℕ → List ℕ → Type 0
 ClosesBefore kind mark text rest =
     (body : List ℕ) × (is_inside kind body ≡ true) × (text ≡ body ++ mark ∷ rest)
@@ -89,13 +89,13 @@ ClosesBefore kind mark text rest =
 abbrev pub IsUnpaired : List ℕ → Type 0
 IsUnpaired cs = (is_unclosed quote.Double cs ≡ true) ⊎ (is_unclosed quote.Single cs ≡ true) ⊎ (cs ≡ backslash ∷ [])
 
--- characters that begin with a piece of closed text, and what stands behind it
+-- characters that begin with a piece of closed text, and what stands after it
 pub record BeginsClosed (cs behind : List ℕ) : Type 0 where
   pub piece : List ℕ
   pub closed : is_closed_piece piece ≡ true
   pub whole : cs ≡ piece ++ behind
 
--- the quote of a kind stands open in a text, with this behind it, and no quote of the other kind does
+-- the quote of a kind stands open in a text, with this after it, and no quote of the other kind does
 pub record OpensAt (cs : List ℕ) (kind : Quote) (behind : List ℕ) : Type 0 where
   pub place : ℕ
   pub opens : open_quote kind cs ≡ Some place

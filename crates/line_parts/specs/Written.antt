@@ -24,7 +24,7 @@ put_to_cursor old start text = record {
 }
 
 -- a text was put in place of what stands from a byte offset to the cursor; after an error, which is want of memory, the changes
--- tell of the line still, or there are none
+-- still record the line, or there are none
 pub record PutsToCursor {T : Type 0} (result : Result T ReadlineError) (start : ℕ) (text : List ℕ) (line : Line) (changes : Changes) (line' : Line) (changes' : Changes) : Type 0 where
   pub written : OnOk result (written_as line' changes' ≡ put_to_cursor (written_as line changes) start text)
   pub told : StillTellsOrGone result changes line changes' line'

@@ -119,11 +119,11 @@ pub trait Completer {
     }
 
     /// Replaces what stands from `start` to the cursor by the text of the elected candidate. The
-    /// cursor then stands behind that text.
+    /// cursor then stands after that text.
     ///
     /// # Errors
-    /// `Io`, only where this completer is not sure, and `Memory`. The changes then tell of the line
-    /// still, or there are none.
+    /// `Io`, only where this completer is not sure, and `Memory`. The changes then still record the
+    /// line, or there are none.
     fn update(
         &self,
         line: &mut LineBuffer,

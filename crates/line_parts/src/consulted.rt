@@ -1,4 +1,4 @@
-//! What contracts see of the parties that are asked about a line.
+//! What contracts see of those who are asked about a line.
 ghost use Rattle.std.specs.Prelude.{ℕ, Option};
 ghost use Rattle.std.specs.Borrow.{GName};
 ghost use Rattle.line_parts.specs.Asks.{Sureness};

@@ -32,7 +32,7 @@ impl Escapes {
         }
     }
 
-    /// Returns the byte that a letter behind a backslash stands for: `None` where it stands for none.
+    /// Returns the byte that a letter after a backslash stands for: `None` where it stands for none.
     fn byte_of(self, letter: u8) -> Option<u8>
         ensures { MatchOption result ((b : ℕ) → escaped_byte self b ≢ 92 ∷ letter ∷ [])
             (λ b. escaped_byte self b ≡ 92 ∷ letter ∷ []) }
@@ -58,7 +58,7 @@ impl Escapes {
     }
 }
 
-/// Puts a byte behind a text, with its escape.
+/// Puts a byte after a text, with its escape.
 fn push_escaped(text: &mut Vec<u8>, byte: u8, escapes: Escapes) -> Result<()>
     ensures text { OnOk result (text.new.items ≡ text.old.items ++ escaped_byte escapes byte) }
     ensures faults { MemoryOnly result }
@@ -70,10 +70,10 @@ fn push_escaped(text: &mut Vec<u8>, byte: u8, escapes: Escapes) -> Result<()>
     Ok(())
 }
 
-/// Puts a line behind a text, with these escapes.
+/// Puts a line after a text, with these escapes.
 ///
 /// # Errors
-/// `Memory`, where an allocation fails. `text` may then have a part of the line behind it.
+/// `Memory`, where an allocation fails. `text` may then have a part of the line after it.
 pub fn push_escaped_line(text: &mut Vec<u8>, line: &str, escapes: Escapes) -> Result<()>
     ensures text { OnOk result
         (text.new.items ≡ text.old.items ++ escaped_line escapes line.now) }

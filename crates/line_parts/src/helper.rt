@@ -7,8 +7,8 @@ use crate::hint::Hinter;
 use crate::validate::Validator;
 
 /// Completes, hints, highlights and validates. A call of `highlight_char` may change what the
-/// helper remembers, but no hint, no verdict, no completion, nothing that it makes of an elected
-/// text by itself, and no later answer of that call.
+/// helper remembers, but no hint, no validation result, no completion, nothing that it makes of
+/// an elected text by itself, and no later answer of that call.
 pub trait Helper: Completer + Hinter + Highlighter + Validator {
     // Two values that differ only in what `highlight_char` may change answer alike.
     ghost hints_kept: { (one other : Self) → Self.steady one ≡ Self.steady other

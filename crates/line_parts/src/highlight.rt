@@ -26,7 +26,7 @@ pub enum CmdKind {
     ForcedRefresh,
 }
 
-/// Gives colors to a line, its prompt, its hint and its candidates. What is shown is to be as wide
+/// Adds colors to a line, its prompt, its hint and its candidates. What is shown has to be as wide
 /// as the text.
 pub trait Highlighter {
     // Whether no error of input or output comes from it.

@@ -1,4 +1,4 @@
-//! Hints: texts that are shown behind the line as its likely end.
+//! Hints: texts that are shown after the line as its likely end.
 ghost use Rattle.std.specs.Prelude.{◌≡◌, ℕ, Bool, true, false, List, [], Option, Some, None};
 ghost use Rattle.std.specs.Prelude.{option_map, IfOk, IsOk, string_bytes, IsTrue, length};
 ghost use Rattle.std.specs.Prelude.{◌==◌, ◌<◌};
@@ -11,7 +11,7 @@ use crate::history::{History, SearchDirection};
 use line_config::Result;
 use std::alloc::Global;
 
-/// A text that is shown behind the line.
+/// A text that is shown after the line.
 pub trait Hint {
     // The text that is displayed.
     ghost display_text: { Self → List ℕ };
@@ -19,7 +19,7 @@ pub trait Hint {
     // The text that completes the line, if the hint can be taken.
     ghost completion_text: { Self → Option (List ℕ) };
 
-    /// Returns the text that is shown behind the line.
+    /// Returns the text that is shown after the line.
     fn display(&self) -> &str
         ensures { result.now ≡ display_text self.now };
 
@@ -56,7 +56,7 @@ impl Hint for &str {
     }
 }
 
-/// Gives hints.
+/// Offers hints.
 pub trait Hinter {
     ghost use Rattle.line_parts.specs.Context.{shown_in};
     ghost use Rattle.line_parts.specs.Hint.{Suggestion, Suggests};
@@ -137,7 +137,7 @@ impl Hinter for HistoryHinter {
 
     ghost hint_at = { λ _ shown. option_map suggested (history_hint shown) };
 
-    /// Returns what the nearest line of the history that begins with `line` has behind it, going
+    /// Returns what the nearest line of the history that begins with `line` has after it, going
     /// back from the history index, or from the newest line where that is the index of the line
     /// that is being written. None for an empty line, for a cursor before the end, where no line
     /// begins so, and where the nearest one equals `line`.
@@ -179,7 +179,7 @@ fn start<S: History>(ctx: &Context<'_, S>) -> usize
     ctx.history_index().min(newest)
 }
 
-// Returns what a line of the history has behind a text that it begins with, where it is more.
+// Returns what a line of the history has after a text that it begins with, where it is more.
 fn rest_behind(alloc: Global, text: &str, line: &str) -> Result<Option<String>>
     requires { IsTrue (starts_with (λ a b. a == b) line.now text.now) }
     ensures answer { IfOk result (λ rest.

@@ -33,7 +33,7 @@ pub struct SearchResult<'a> {
     pub entry: CowStr<'a>,
     /// The index of the line.
     pub idx: usize,
-    /// A byte offset in the line: where the term first stands for `search`, behind it for `starts_with`, 0 for `get`.
+    /// A byte offset in the line: where the term first stands for `search`, after it for `starts_with`, 0 for `get`.
     pub pos: usize,
 }
 
@@ -178,7 +178,7 @@ pub trait History {
         ensures faults { FaultsOnly result };
 
     /// Returns the line that begins with `term` and is nearest to the index `start`, itself
-    /// included, in this direction, with the byte offset behind `term`. None for an empty term, and
+    /// included, in this direction, with the byte offset after `term`. None for an empty term, and
     /// where `start` is not the index of a line.
     ///
     /// # Errors

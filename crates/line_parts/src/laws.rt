@@ -31,25 +31,25 @@ pub fn none_is_nowhere()
     ensures { NoneIsNowhere }
 {}
 
-/// Reading a text that `save_to` wrote, or one with an appended text behind it, gives the lines of
-/// both in order but the empty ones, where none of them ends in a carriage return.
+/// Reading a text that `save_to` wrote, or one with an appended text after it, returns the lines of both in order
+/// but the empty ones, where none of them ends in a carriage return.
 pub fn saved_is_read()
     ensures { SavedIsRead }
 {}
 
-/// Loading a text that `save_to` wrote, or one with an appended text behind it, leaves a history as
+/// Loading a text that `save_to` wrote, or one with an appended text after it, leaves a history as
 /// adding the lines of both in order does, where none of them ends in a carriage return.
 pub fn saved_is_loaded()
     ensures { SavedIsLoaded }
 {}
 
-/// Reading a text that `save_v3_to` wrote, or one with an appended text behind it, gives the lines
-/// of both in order but the empty ones, whatever characters they have.
+/// Reading a text that `save_v3_to` wrote, or one with an appended text after it, returns the lines of both in
+/// order but the empty ones, whatever characters they have.
 pub fn saved_v3_is_read()
     ensures { SavedV3IsRead }
 {}
 
-/// Loading a text that `save_v3_to` wrote, or one with an appended text behind it, leaves a history
+/// Loading a text that `save_v3_to` wrote, or one with an appended text after it, leaves a history
 /// as adding the lines of both in order does, whatever characters they have.
 pub fn saved_v3_is_loaded()
     ensures { SavedV3IsLoaded }
@@ -60,8 +60,8 @@ pub fn text_says_one()
     ensures { TextSaysOne }
 {}
 
-/// There is one verdict on the brackets of a text: that on the brackets that are left when pairs
-/// that stand next to each other are struck out.
+/// The brackets of a text have one validation result: that of the brackets that are left when pairs that stand
+/// next to each other are struck out.
 pub fn brackets_have_one_verdict()
     ensures some { StrikingOutGivesAVerdict }
     ensures one { VerdictIsOne }
@@ -72,14 +72,14 @@ pub fn brackets_match_each_other()
     ensures { MatchIsMutual }
 {}
 
-/// Escaping a text and then unescaping it gives the text, where the escape character is one of the
+/// Escaping a text and then unescaping it restores the text, where the escape character is one of the
 /// characters that are escaped, and the text stands in no single quotes.
 #[tactic(auto, using(crate::proofs::WordLemmas::text_given_back))]
 pub fn escaped_is_unescaped()
     ensures { EscapedIsUnescaped }
 {}
 
-/// An escaped text behind a break character is the last word, where the escape character does not
+/// An escaped text after a break character is the last word, where the escape character does not
 /// stand before that character.
 #[tactic(auto, using(crate::proofs::WordStartLemmas::escaped_word))]
 pub fn escaped_is_word()
@@ -98,7 +98,7 @@ pub fn one_quote_is_open()
     ensures { OneQuoteIsOpen }
 {}
 
-/// Candidates can be put in order, and in one way: those that show one text stay in the order in which they came.
+/// Candidates can be put in order, and in one way: those that show the same text stay in the order that they had.
 pub fn candidates_have_one_order()
     ensures { OrderIsOne }
 {}

@@ -1,4 +1,4 @@
-//! The parties that are asked about a line: the helper, if there is one, and the history.
+//! Those who are asked about a line: the helper, if there is one, and the history.
 ghost use Rattle.std.specs.Prelude.{◌≡◌, ◌≤◌, ◌&&◌, true, false};
 ghost use Rattle.std.specs.Prelude.{is_some, length, map, option_map, IfOk, IfSome, MatchOption, Some};
 ghost use Rattle.line_config.specs.Usual.{IsUsualOrOwn};
@@ -23,7 +23,7 @@ use line_buffer::LineBuffer;
 use line_config::Result;
 use std::alloc::Global;
 
-/// The parties that are asked about a line: the helper, if there is one, and the history with the
+/// Those who are asked about a line: the helper, if there is one, and the history with the
 /// index of the line in it.
 pub struct Parties<'out, H: Helper, S: History> {
     helper: Option<&'out mut H>,
@@ -60,7 +60,7 @@ fn visible_hint<T: Hint + Drop>(hint: Option<T>) -> Option<T>
 }
 
 impl<'out, H: Helper, S: History> Parties<'out, H, S> {
-    /// Returns the parties that are asked about a line at the position `ctx` in the history.
+    /// Returns those who are asked about a line at the position `ctx` in the history.
     pub fn new(helper: Option<&'out mut H>, ctx: Context<'out, S>) -> Self
         ensures environment { ⟦<Self as Consulted>⟧.environment result ≡ environment_by
             H.hint_at H.verdict_at H.lights H.Completer helper.entry (S.lines ctx.entry.history) }
@@ -135,7 +135,7 @@ impl<'out, H: Helper, S: History> Parties<'out, H, S> {
         self.helper.is_some()
     }
 
-    /// Returns the helper's verdict on the text of `line`. Without a helper the text is valid.
+    /// Returns the helper's validation result for the text of `line`. Without a helper the text is valid.
     ///
     /// # Errors
     /// `Io`, only where the validator is not sure, and `Memory`.
@@ -153,9 +153,9 @@ impl<'out, H: Helper, S: History> Parties<'out, H, S> {
         }
     }
 
-    /// Returns whether the helper asks for a full drawing of `line` for its colors. `kind` says why
-    /// it is asked. Without a helper the answer is false. No hint, no verdict and no later answer
-    /// of this call changes.
+    /// Returns whether the helper asks for a full drawing of `line` for its colors. `kind` says why it
+    /// is asked. Without a helper the answer is false. This changes no hint, no validation result and
+    /// no later answer of this call.
     #[tactic(auto, unfolding(crate::specs::Helped::hint_by, crate::specs::Helped::hints_surely_by, crate::specs::Helped::is_sure_by, crate::specs::Helped::lights_by, crate::specs::Helped::verdict_by, crate::specs::Helped::completion_by, crate::specs::Helped::update_by))]
     pub fn highlight_char(&mut self, line: &LineBuffer, kind: CmdKind) -> bool
         ensures lit { result ≡ (⟦<Self as Consulted>⟧.environment self.old).lights
@@ -168,7 +168,7 @@ impl<'out, H: Helper, S: History> Parties<'out, H, S> {
         }
     }
 
-    /// Returns the helper, if there is one: its answers are those of the parties.
+    /// Returns the helper, if there is one: its answers are those that an editor gets here.
     #[tactic(auto, unfolding(crate::specs::Helped::hint_by, crate::specs::Helped::verdict_by, crate::specs::Helped::lights_by, crate::specs::Helped::update_by))]
     pub fn helper(&self) -> Option<&H>
         ensures some { is_some result

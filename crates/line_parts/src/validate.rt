@@ -10,7 +10,7 @@ use line_config::Result;
 use std::alloc::Global;
 use std::marker::Model;
 
-/// The verdict on a line.
+/// The result of validating a line.
 #[derive(Drop)]
 pub enum ValidationResult {
     /// The line is not complete: a newline is inserted.
@@ -61,13 +61,13 @@ pub trait Validator {
     // Whether no error of input or output comes from it.
     ghost sure: { Self → Bool };
 
-    // The verdict on a text.
+    // The validation result for a text.
     ghost verdict_at: { Self → List ℕ → Verdict };
 
     // Whether it may ask to validate with each key.
     ghost checks_typing: { Self → Bool } = { λ _. false };
 
-    /// Returns the verdict on the text.
+    /// Returns the validation result for the text.
     ///
     /// # Errors
     /// `Io`, only where this validator is not sure, and `Memory`.
@@ -123,8 +123,8 @@ impl Validator for MatchingBracketValidator {
 
     ghost verdict_at = { λ _ text. bracket_verdict text };
 
-    /// Returns the verdict on the brackets of the text: valid where they are balanced, incomplete
-    /// where closing brackets behind it balance them, else invalid with a message. The message
+    /// Returns the validation result for the brackets of the text: valid where they are balanced, incomplete
+    /// where closing brackets after it balance them, else invalid with a message. The message
     /// names the bracket at fault, or the last bracket before it that is open.
     ///
     /// # Errors
@@ -139,7 +139,7 @@ impl Validator for MatchingBracketValidator {
     }
 }
 
-// Returns the verdict on the brackets of a text.
+// Returns the validation result for the brackets of a text.
 fn check_brackets(alloc: Global, text: &str) -> Result<ValidationResult>
     ensures verdict { IfOk result (λ r. IsVerdict text.now (verdict_of r)) }
     ensures memory { MemoryOnly result }

@@ -15,7 +15,7 @@ use Rattle.line_keys.specs.declared.keys.TheConstants.Modifiers.{CTRL, NONE}
 use Rattle.line_screen.specs.declared.key_queue.Item.{Item}
 use Rattle.line_screen.specs.declared.key_queue.Item.TheVariants.{Key, Paste}
 
--- an item as the reader gives it
+-- an item as the reader returns it
 abbrev pub item_of : Item → input.Item
 item_of (Key k) = input.key k
 item_of (Paste text) = input.paste (string_bytes text)
@@ -35,7 +35,7 @@ standing q = q.read ++ q.rest
 abbrev pub kept_by : Queued → Bool × List input.Item
 kept_by q = (q.binds, standing q)
 
--- what a call reads that takes no memory: the item in front, where it is of the kind that is asked for; else it answers an error of
+-- what a call reads that takes no memory: the item in front, where it is of the kind that is asked for; else it returns an error of
 -- input or output, and the end of the input where nothing is left
 pub record Reads {T : Type 0} (result : Result T ReadlineError) (as_item : T → input.Item) (rest : List input.Item) : Type 0 where
   pub reads : (t : T) (more : List input.Item) → rest ≡ as_item t ∷ more → result ≡ Ok t

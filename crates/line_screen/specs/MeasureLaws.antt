@@ -207,7 +207,7 @@ measured-push columns text c origin h all print =
     ∙ after_char-printable columns p c print)
     ∙ wrapped-advanced columns p some (fold-within columns (graphemes true text) origin (omega arith))
 
--- so a printable text behind it ends where it would from there alone
+-- so a printable text after it ends where it would from there alone
 measured-more : (columns : ℕ) (text more : List ℕ) (origin : Position) → origin.col < columns
     → list_all is_plain text ≡ true → list_all is_printable more ≡ true
     → measured columns (text ++ more) origin ≡ measured columns more (measured columns text origin)
@@ -243,7 +243,7 @@ pub EndsPlain-nil : (columns : ℕ) (text : List ℕ) (origin end : Position) �
 EndsPlain-nil columns text origin end empty h is =
     rw (empty, is) (refl, h, sym (measured-nil columns origin h))
 
--- a printable text behind it goes on from its end
+-- a printable text after it goes on from its end
 pub EndsPlain-append : (columns : ℕ) (text more : List ℕ) (origin end : Position) → EndsPlain columns text origin end
     → list_all is_printable more ≡ true → EndsPlain columns (text ++ more) origin (measured columns more end)
 EndsPlain-append columns text more origin end known print = (

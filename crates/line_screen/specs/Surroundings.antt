@@ -28,13 +28,13 @@ module _ {X : Type 0} (e : screens.Ghosts X) (s : surroundings.Ghosts X) where
     pub redraws : e.redraws new ≡ e.redraws old
     pub failures : e.failures new ≡ e.failures old
 
-  -- so it is, and the prompt and the text behind the line stay
+  -- so it is, and the prompt and the text after the line stay
   pub record KeepsSurroundings (old new : X) : Type 0 where
     pub counts : KeepsCounts old new
     pub prompt : s.prompt new ≡ s.prompt old
     pub hint : s.hint new ≡ s.hint old
 
-  -- the screen is blank, without a prompt and a text behind the line
+  -- the screen is blank, without a prompt and a text after the line
   pub record Clears (old new : X) : Type 0 where
     pub counts : KeepsCounts old new
     pub screen : e.screen new ≡ blank_screen

@@ -27,7 +27,7 @@ pub fn measured(columns: Unit, text: &str, origin: Position) -> Position
     wrapped(columns, after_text(columns, origin, text))
 }
 
-/// Returns where the line's cursor is, and where its text ends, behind a prompt that ends at `origin`. With the cursor at the
+/// Returns where the line's cursor is, and where its text ends, after a prompt that ends at `origin`. With the cursor at the
 /// end the line is measured once; else what stands before a parting, at or before the cursor, is.
 pub(crate) fn measured_line(
     columns: Unit,

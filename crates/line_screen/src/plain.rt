@@ -100,7 +100,7 @@ impl<R: RawReader> Plain<R> {
         self.prompt.as_str()
     }
 
-    /// Returns the text behind the line of the last full redraw, if there was one: a hint, or a verdict's message. After
+    /// Returns the text after the line of the last full redraw, if there was one: a hint, or a validation message. After
     /// the screen was cleared there is none.
     pub fn hint(&self) -> Option<&str>
         ensures { option_map (λ s. s.now) result
@@ -150,7 +150,7 @@ impl<R: RawReader> Plain<R> {
         }
     }
 
-    /// Returns where the text ends with `more` behind it, if this is known. `from_cursor` is where `more` ends when written at
+    /// Returns where the text ends with `more` after it, if this is known. `from_cursor` is where `more` ends when written at
     /// the cursor. It looks at `more` alone.
     fn end_with(&self, more: &str, from_cursor: Position) -> Option<Position>
         requires { from_cursor ≡ measured self.now.columns more.now self.now.place }
@@ -348,8 +348,7 @@ impl<R: RawReader> Renderer for Plain<R> {
         measured(self.columns, s, orig)
     }
 
-    /// The text is shown behind what is shown already, and the cursor goes to its end. Where memory is refused, nothing
-    /// changes.
+    /// The text is shown after what is shown already, and the cursor goes to its end. Where memory is refused, nothing changes.
     fn write_and_flush(&mut self, buf: &str) -> Result<()>
         ensures shown { (c : ℕ) → buf.now ≡ c ∷ [] → is_printable c ≡ true
             → HasRoom (⟦<Self as ScreenState>⟧.surface self.old)
@@ -430,7 +429,7 @@ impl<R: RawReader> Renderer for Plain<R> {
         ensures { self.new ≡ self.old }
     {}
 
-    /// What is shown stays, and so do the prompt and the text behind the line.
+    /// What is shown stays, and so do the prompt and the text after the line.
     fn resize(&mut self, columns: Unit, rows: Unit)
         requires { 0 < columns }
         ensures surface { ⟦<Self as ScreenState>⟧.surface self.new

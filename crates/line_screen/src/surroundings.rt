@@ -2,7 +2,7 @@
 ghost use Rattle.std.specs.Prelude.{ℕ, List, Option};
 
 /// What contracts see of a screen beside its line, and no code reads: the prompt of the last full redraw, without styles,
-/// and the text behind the line, if there was one. After the screen was cleared there is neither.
+/// and the text after the line, if there was one. After the screen was cleared there is neither.
 pub trait Surroundings {
     ghost prompt: { Self → List ℕ };
 

@@ -9,7 +9,7 @@ use Rattle.line_script.specs.declared.report.Ending.TheVariants.{Ran, BadScript}
 use Rattle.line_script.specs.declared.report.Outcome.{Outcome}
 use Rattle.line_script.specs.declared.report.Outcome.TheVariants.{Submitted, Eof, Interrupted, Fault}
 
--- the end of a run that gave this answer
+-- the end of a run that had this answer
 abbrev pub outcome_of : Result (Unit {0}) ReadlineError → Outcome
 outcome_of (Ok _) = Submitted
 outcome_of (Err errors.Eof) = Eof
@@ -26,7 +26,7 @@ status_of (Ok (Ran Fault)) = 3
 status_of (Ok BadScript) = 4
 status_of (Err _) = 3
 
--- what is reported of a state: its line with the cursor, its place in the history, the kept cursor, and the full redraws
+-- what is reported of a state: its line with the cursor, its history index, the kept cursor, and the full redraws
 pub record Reports {X : Type 0} (e : Ghosts X) (state : X) (report : Report) : Type 0 where
   pub line : report.line.now ≡ (e.draft state).line.text
   pub cursor : report.cursor ≡ (e.draft state).line.cursor

@@ -11,19 +11,19 @@ pub enum Complaint<'l> {
     CarriageReturn,
     /// No line begins with this word.
     NoSuchLine(&'l str),
-    /// This word wants a text behind it.
+    /// This word wants a text after it.
     NeedsText(&'l str),
     /// This word takes no text.
     TakesNoText(&'l str),
-    /// This setting stands behind items.
+    /// This setting stands after items.
     BehindItems(&'l str),
     /// No key has this name.
     NoSuchKey(&'l str),
-    /// A backslash has something else behind it than `n` or a backslash.
+    /// A backslash has something else after it than `n` or a backslash.
     BadEscape,
     /// This is no number of columns.
     NoColumns(&'l str),
-    /// No style of editing has this name.
+    /// No edit mode has this name.
     NoSuchMode(&'l str),
 }
 
@@ -43,7 +43,7 @@ impl<'l> Complaint<'l> {
     }
 }
 
-/// Why a line is bad that has a text behind a word.
+/// Why a line is bad that has a text after a word.
 fn of_text<'l>(kind: &'l str, text: &'l str, behind_items: bool) -> Complaint<'l> {
     match kind {
         "type" | "paste" => Complaint::BadEscape,
@@ -84,7 +84,7 @@ pub(crate) fn complaint_at(script: &[u8], number: usize) -> Option<Complaint<'_>
     None
 }
 
-/// Returns whether a line gives items.
+/// Returns whether a line adds items.
 fn is_item(line: &[u8]) -> bool {
     line.starts_with(b"type ") || line.starts_with(b"key ") || line.starts_with(b"paste ")
 }

@@ -1,4 +1,4 @@
-//! The helper of a script, whose hints and verdicts are switched on by its settings.
+//! The helper of a script, whose hints and bracket checks are switched on by its settings.
 ghost use Rattle.std.specs.Prelude.{◌≡◌, true, false, None, option_map, if◌then◌else◌};
 ghost use Rattle.line_parts.specs.BracketVerdict.{bracket_verdict};
 ghost use Rattle.line_parts.specs.Hint.{suggested};

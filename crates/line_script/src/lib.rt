@@ -1,4 +1,4 @@
-//! Scripts of keys: how one is read, runs through the line editor, and what is printed of the line.
+//! Scripts of keys: how one is read and run through the line editor, and what is printed of the line.
 #![tactic(auto)]
 
 ghost use Rattle.std.specs.Prelude.{◌≡◌, ◌≤◌};

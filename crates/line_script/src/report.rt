@@ -19,12 +19,12 @@ pub enum Outcome {
     Eof,
     /// The line was interrupted.
     Interrupted,
-    /// A party failed, or memory ran out.
+    /// Input, output, the helper, a handler or the history failed, or memory ran out.
     Fault,
 }
 
 impl Outcome {
-    /// How a run ended that gave this answer.
+    /// How a run ended that had this answer.
     pub fn of(answer: Result<()>) -> Outcome
         ensures { result ≡ outcome_of answer }
     {
@@ -80,7 +80,7 @@ pub struct Report<'a> {
     pub line: &'a str,
     /// The cursor's place in it, in bytes.
     pub cursor: usize,
-    /// The place in the history.
+    /// The history index.
     pub place: usize,
     /// Where the cursor was drawn.
     pub at: Position,
@@ -90,6 +90,9 @@ pub struct Report<'a> {
 
 impl Report<'_> {
     /// Writes the report, a line for each part of it.
+    ///
+    /// # Errors
+    /// Those of `out`, which may then have a part of the report.
     pub fn write_to<O: Write>(&self, out: &mut O) -> io::Result<()> {
         writeln!(out, "outcome {}", self.outcome)?;
         out.write_all(b"line ")?;
@@ -103,6 +106,9 @@ impl Report<'_> {
 }
 
 /// Writes the text with its backslashes and newlines escaped, and what stands between them as it is.
+///
+/// # Errors
+/// Those of `out`, which may then have a part of the text.
 pub fn write_escaped<O: Write>(text: &str, out: &mut O) -> io::Result<()> {
     let mut rest = text.as_bytes();
     while let Some(at) = memchr2(b'\\', b'\n', rest) {

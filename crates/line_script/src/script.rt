@@ -24,7 +24,7 @@ const COLUMNS: Unit = 80;
 /// The reader of what a script types.
 pub type Script = KeyQueue;
 
-/// What the lines of a script give.
+/// What the lines of a script set and type.
 #[derive(Drop)]
 pub struct Parsed {
     /// The history that the settings fill.
@@ -35,17 +35,17 @@ pub struct Parsed {
     pub prompt: String,
     /// The columns of the screen, at least one.
     pub columns: Unit,
-    /// The style of editing.
+    /// The edit mode.
     pub edit_mode: EditMode,
     /// What the editor reads.
     pub items: Script,
-    /// Whether a line of items came, behind which no setting may stand.
+    /// Whether a line of items was read, after which no setting may stand.
     has_item_lines: bool,
     ghost some_columns: { 0 < columns },
 }
 
 impl Parsed {
-    /// What no line gives: the defaults of the settings, and no items.
+    /// What a script without lines stands for: the defaults of the settings, and no items.
     ///
     /// # Errors
     ///
@@ -62,11 +62,11 @@ impl Parsed {
         })
     }
 
-    /// Adds what a line gives; an empty one gives nothing. The number is for the error.
+    /// Adds what a line stands for; an empty one adds nothing. The number is for the error.
     ///
     /// # Errors
     ///
-    /// `BadLine` where it is not UTF-8, of no known form, or a setting behind a line of items, and `Fault` where an
+    /// `BadLine` where it is not UTF-8, of no known form, or a setting after a line of items, and `Fault` where an
     /// allocation failed.
     fn push_bytes(
         &mut self,
@@ -86,8 +86,8 @@ impl Parsed {
         }
     }
 
-    /// Adds what one line gives. Returns false, and adds nothing, where the line is of no known form, or is a setting
-    /// behind a line of items, even a bad one.
+    /// Adds what one line stands for. Returns false, and adds nothing, where the line is of no known form, or is a
+    /// setting after a line of items, even a bad one.
     ///
     /// # Errors
     ///
@@ -108,7 +108,7 @@ impl Parsed {
         Ok(is_known)
     }
 
-    /// Adds what the setting of this name gives, with the text behind the name. False where there is no such setting.
+    /// Adds the setting of this name, with the text after the name. False where there is no such setting.
     fn push_setting(
         &mut self,
         alloc: Global,
@@ -129,7 +129,7 @@ impl Parsed {
 /// Why there is no script.
 #[derive(Debug, Drop)]
 pub enum ScriptError {
-    /// The first line that is of no known form, by its number from 1.
+    /// The first bad line, by its number from 1.
     BadLine(usize),
     /// The input could not be read, or there was no memory for the script.
     Fault(ReadlineError),
@@ -157,13 +157,17 @@ impl From<ReadlineError> for ScriptError {
 }
 
 /// Reads a whole script, to the end of the input.
+///
+/// # Errors
+/// `BadLine` for the first line that is not UTF-8, is of no known form, or is a setting after a line of items. `Fault`
+/// where the input fails, or an allocation.
 pub fn read_script<R: Read + Drop>(alloc: Global, mut input: R) -> Result<Parsed, ScriptError> {
     let mut bytes = Vec::new(alloc);
     input.read_to_end(&mut bytes)?;
     parse_script(alloc, &bytes)
 }
 
-/// What a script gives, whose lines end in line feeds, the last one possibly in none. Empty lines give nothing.
+/// Reads a script, whose lines end in line feeds, the last one possibly in none. Empty lines add nothing.
 pub(crate) fn parse_script(alloc: Global, script: &[u8]) -> Result<Parsed, ScriptError> {
     let mut parsed = Parsed::new(alloc)?;
     let mut number = 1;
@@ -243,7 +247,7 @@ fn columns_in(digits: &str) -> Option<Unit>
     }
 }
 
-/// Takes the style of this name as the style of editing. False where there is no such style.
+/// Takes the edit mode of this name. False where there is no such edit mode.
 fn set_edit_mode(name: &str, edit_mode: &mut EditMode) -> bool {
     *edit_mode = match name {
         "emacs" => EditMode::Emacs,

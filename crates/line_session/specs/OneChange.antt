@@ -16,22 +16,22 @@ pub data GoneThrough (environment : Environment) (start : Draft) : Completing �
   on : {going : Completing} {draft new : Draft} {mode : Mode} → GoneThrough environment start going draft → (index : ℕ)
       → (goes : GoesOnTo environment going index draft new mode) → GoneThrough environment start goes.next new
 
--- however a completion was gone through, taking back the change by which the shown candidate came in, if it changed anything, gives the line
--- from before, with its cursor, where the helper puts texts in place of what stands from the start to the cursor
+-- however a completion was gone through, taking back the change by which the shown candidate was put in, if it changed anything, restores
+-- the line from before, with its cursor, where the helper puts texts in place of what stands from the start to the cursor
 abbrev pub CompletionIsOneChange : Type 0
 CompletionIsOneChange = (environment : Environment) (old new : Draft) (going : Completing)
     → ((written : Written) (start : ℕ) (text : List ℕ) → environment.own_update written start text ≡ None)
     → IsCharBoundary old.line.text old.line.cursor → GoneThrough environment old going new
     → KeepsLine old (before_shown going new)
 
--- and giving the candidates up gives that line
+-- and giving up the candidates restores that line
 abbrev pub GivingUpRestores : Type 0
 GivingUpRestores = (environment : Environment) (old draft new : Draft) (going : Completing) (mode : Mode)
     → ((written : Written) (start : ℕ) (text : List ℕ) → environment.own_update written start text ≡ None)
     → IsCharBoundary old.line.text old.line.cursor → GoneThrough environment old going draft → GivesUp environment going draft new mode
     → KeepsLine old new
 
--- a candidate that came in leaves the text before the completed part and behind the cursor
+-- a candidate that was put in leaves the text before the completed part and after the cursor
 abbrev pub CompletionKeepsTheRest : Type 0
 CompletionKeepsTheRest = (environment : Environment) (start : ℕ) (text : List ℕ) (grown : Bool) (old new : Draft)
     → ((written : Written) (start : ℕ) (text : List ℕ) → environment.own_update written start text ≡ None)

@@ -17,7 +17,7 @@ pub data SearchedThrough (environment : Environment) (start : Draft) : Search �
   on : {search : Search} {draft new : Draft} {mode : Mode} → SearchedThrough environment start search draft → (says : SearchCmd)
       → (goes : GoesOn environment says search draft new mode) → SearchedThrough environment start (search_of goes.searching) new
 
--- however a search went on, taking back the newest change, if the shown line is one, gives the text from before
+-- however a search went on, taking back the newest change, if the shown line is one, restores the text from before
 abbrev pub SearchIsOneChange : Type 0
 SearchIsOneChange = (environment : Environment) (start draft : Draft) (search : Search)
     → SearchedThrough environment start search draft
@@ -28,7 +28,7 @@ pub record Restores (start new : Draft) : Type 0 where
   pub line : new.line ≡ start.line
   pub index : new.index ≡ start.index
 
--- and giving the search up gives the line from before, with its cursor, as the line of the history that it was
+-- and giving up the search restores the line from before, with its cursor, as the line of the history that it was
 abbrev pub GivingUpSearchRestores : Type 0
 GivingUpSearchRestores = (environment : Environment) (start draft new : Draft) (search : Search) (mode : Mode)
     → IsCharBoundary start.line.text start.line.cursor → start.index ≤ length environment.lines

@@ -9,7 +9,7 @@ use Rattle.line_editor.specs.Keymap.{KeyLooksAtNoHint}
 use Rattle.line_session.specs.Steps.{Ends, Rules, Standing, Waits, starting}
 use Rattle.line_session.specs.declared.mode.Mode.TheVariants.{Editing}
 
--- the same with more items behind those that are left
+-- the same with more items after those that are left
 abbrev pub with_more : List Item → Standing → Standing
 with_more more standing = record standing { items = standing.items ++ more }
 
@@ -22,7 +22,7 @@ drawn_anew by standing = starting by.environment true standing
 abbrev pub GoesOnFrom : Rules → Standing → Bool → Standing → Type 0
 GoesOnFrom by left drawn next = (next ≡ starting by.environment false left) ⊎ ((drawn ≡ true) × (next ≡ drawn_anew by left))
 
--- from a start reading waited for a piece of items behind those that were there, was handed it, and waits again, as often as there are
+-- from a start reading waited for a piece of items after those that were there, was handed it, and waits again, as often as there are
 -- pieces; these are all their items, this is how it is left, and whether something was drawn of items that are no phrase yet
 pub data Waited (by : Rules) (start : Standing) : List Item → Standing → Bool → Type 0 where
   first : {left : Standing} → (waits : Waits by start left) → Waited by start [] left (any_drawn waits.shown)
@@ -30,8 +30,8 @@ pub data Waited (by : Rules) (start : Standing) : List Item → Standing → Boo
       → Waited by start items left drawn → GoesOnFrom by left drawn next → (waits : Waits by (with_more piece next) later)
       → Waited by start (items ++ piece) later (any_drawn waits.shown)
 
--- a line that ends ends the same however its items come, where no binding looks at the hint: in pieces, with a call for each, as all at once. A
--- call stops where the program is suspended, so all at once means by as many calls as it takes
+-- a line that ends has the same end however its items arrive, where no binding looks at the hint: in pieces, with a call for each, as all at
+-- once. A call stops where the program is suspended, so all at once means by as many calls as it takes
 abbrev pub EndsTheSame : Type 0
 EndsTheSame = (by : Rules) (start left next end : Standing) (items piece : List Item) (drawn : Bool) (answer : Answer)
     → ((typed : KeyEvent) → KeyLooksAtNoHint by.keymap.bound typed)

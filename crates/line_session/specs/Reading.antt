@@ -37,15 +37,15 @@ pub data Heard (pauses : Bool) (input : Option (List ℕ)) (before : decoding.St
 abbrev pub BindingsLookAtNoHint : Bound → Type 0
 BindingsLookAtNoHint bound = (typed : KeyEvent) → KeyLooksAtNoHint bound typed
 
--- what a line is answered with: itself, where it was submitted; that the person interrupted; or that the end of the input came, by a key or
--- while the line goes on
+-- what a line is answered with: itself, where it was submitted; that the person interrupted; or that the input ended, by a key or while the
+-- line goes on
 abbrev pub answer_of : Fed → Result (String Global) ReadlineError
 answer_of (fed.Submitted text) = Ok text
 answer_of fed.Interrupted = Err errors.Interrupted
 answer_of _ = Err errors.Eof
 
 module _ {H : Type 0} where
-  -- the line goes on behind all these items: they came in pieces, and more are awaited
+  -- the line goes on after all these items: they arrived in pieces, and more are awaited
   pub record GoesOnOver (by : Rules) (start : Standing) (items : List Item) (now : Sitting H) : Type 0 where
     pub left : BegunLine
     pub line : now.line ≡ Some left
@@ -54,13 +54,13 @@ module _ {H : Type 0} where
     pub draws : left.draws ≡ true → drawn ≡ true
     pub column : left.kept.drawing.prompt_end.col ≡ by.ruler.prompt_column
 
-  -- what came of a line over all these items: it goes on; or it has ended, as it does where they are all there at once
+  -- what became of a line over all these items: it goes on; or it has ended, as it does where they are all there at once
   abbrev pub CameOver : Rules → Standing → List Item → Sitting H → Sitting H → Fed → Type 0
   CameOver by start items old now fed.More = GoesOnOver by start items now × (now.lines ≡ old.lines)
   CameOver by start items old now ended = CameFrom by true (with_more items start) old now ended
 
   module _ (answers : H → List (List ℕ) → Environment) (bound : Bound) (pauses : Bool) where
-    -- what came of a line that began behind a prompt, with these texts before and behind the cursor, over all that was read of the input
+    -- what became of a line that began after a prompt, with these texts before and after the cursor, over all that was read of the input
     pub record Reads (input input' : Option (List ℕ)) (prompt left right : List ℕ) (old now : Sitting H) (came : Fed) : Type 0 where
       pub items : List Item
       pub heard : Heard pauses input old.decoder input' items now.decoder
@@ -69,7 +69,7 @@ module _ {H : Type 0} where
       pub keeps : Keeps answers (record old { prompt = prompt; decoder = now.decoder }) now
 
     -- a line was read of the input, and this is answered: the line; that the person interrupted; or the end of the input, by a key or as it
-    -- has ended while the line goes on, and nothing is left behind Suspend. No line goes on then
+    -- has ended while the line goes on, and nothing is left after Suspend. No line goes on then
     pub record ReadsLine (input input' : Option (List ℕ)) (prompt left right : List ℕ) (old new : Sitting H) (result : Result (String Global) ReadlineError) : Type 0 where
       pub came : Fed
       pub last : Sitting H
@@ -78,7 +78,7 @@ module _ {H : Type 0} where
       pub ended : came ≡ fed.More → IsAtEnd input' × (suspends last ≡ false)
       pub gone : new ≡ record last { line = None }
 
-    -- the input was read once, and this came of the line that had begun
+    -- the input was read once, and this became of the line that had begun
     pub record HearsOnce (input input' : Option (List ℕ)) (old : Sitting H) (begun : BegunLine) (new : Sitting H) (told : Fed) : Type 0 where
       pub turn : decoding.Turn
       pub heard : {first : Option (List ℕ)} {before : decoding.Standing} {items : List Item} → Heard pauses first before input items old.decoder

@@ -1,4 +1,4 @@
--- What an editor keeps between two calls, and what comes of the items that it reads.
+-- What an editor keeps between two calls, and what becomes of a line as it reads items.
 use Rattle.std.specs.Prelude.{◌≡◌, ◌⊎◌, ◌++◌, ℕ, Bool, true, false, if◌then◌else◌, List, length, Option, Some, None, is_some, option_map, unwrap_or, Result, Ok, string_bytes}
 use Rattle.line_buffer.specs.KillRing.{Ring, other, with_last}
 use Rattle.line_buffer.specs.declared.layout.GraphemeClusterMode.TheVariants.{Unicode}
@@ -34,7 +34,7 @@ pub record BegunLine : Type 0 where
   pub draws : Bool
 
 -- the line that has begun, if one has, and the prompt of the last one that began; the lines of the history and which ones it takes; the kill
--- ring; the items that are left to read, and whether the queue of them binds keys; what the bytes that came have left; the helper; the
+-- ring; the items that are left to read, and whether the queue of them binds keys; what the bytes that were read have left; the helper; the
 -- settings; and the columns and the rows
 pub record Sitting (H : Type 0) : Type 0 where
   pub line : Option BegunLine
@@ -50,7 +50,7 @@ pub record Sitting (H : Type 0) : Type 0 where
   pub columns : ℕ
   pub rows : ℕ
 
--- the draft of the line that has begun, what reading keys remembers, and the mode behind a resize, if a line has begun
+-- the draft of the line that has begun, what reading keys remembers, and the mode after a resize, if a line has begun
 abbrev pub written_so_far : {H : Type 0} → Sitting H → Option (Draft × Input × Mode)
 written_so_far sitting = option_map (λ (begun : BegunLine). (begun.kept.draft, begun.input, once_resized begun.mode)) sitting.line
 
@@ -75,13 +75,13 @@ pub record LosesNothing {H : Type 0} (old new : Sitting H) : Type 0 where
 abbrev pub text_of : {H : Type 0} → Sitting H → Option (List ℕ)
 text_of sitting = option_map (λ (begun : BegunLine). begun.kept.draft.line.text) sitting.line
 
--- whether the line goes on behind turns that ended so
+-- whether the line goes on after turns that ended so
 abbrev pub goes_on : Result Turned ReadlineError → Bool
 goes_on (Ok turned.Proceeds) = true
 goes_on (Ok turned.NeedsMore) = true
 goes_on _ = false
 
--- a turn of the bytes, a pause or the end among them: its items stand behind those that are left
+-- a turn of the bytes, a pause or the end among them: its items stand after those that are left
 abbrev pub with_turn : {H : Type 0} → decoding.Turn → Sitting H → Sitting H
 with_turn turn sitting = record sitting { items = sitting.items ++ turn.items; decoder = turn.after }
 
@@ -104,7 +104,7 @@ standing_with draft input mode items kills = record {
   mode = mode;
 }
 
--- the draft of a line that begins with a text before the cursor and one behind it
+-- the draft of a line that begins with a text before the cursor and one after it
 abbrev pub begun_with : List ℕ → List ℕ → List (List ℕ) → Draft
 begun_with left right lines = record (empty_draft (length lines)) {
   line = record { text = left ++ right; cursor = length left };
@@ -137,7 +137,7 @@ module _ {H : Type 0} where
     pub drawn : left.draws ≡ true → any_drawn waits.shown ≡ true
     pub column : left.kept.drawing.prompt_end.col ≡ by.ruler.prompt_column
 
-  -- what came of a line whose turns were taken, in a call or over several, from where the first one began
+  -- what became of a line whose turns were taken, in a call or over several, from where the first one began
   abbrev pub CameFrom : Rules → Bool → Standing → Sitting H → Sitting H → Fed → Type 0
   CameFrom by over_calls start old new fed.More = GoesOn by start new × (new.lines ≡ old.lines)
   CameFrom by over_calls start old new (fed.Submitted text) = SubmitsLine by over_calls start old new (string_bytes text)
@@ -161,13 +161,13 @@ module _ {H : Type 0} where
       abbrev pub rules_at : Sitting H → ℕ → Rules
       rules_at old column = rules_for bound old.binds old.settings column (answers old.helper old.lines)
 
-      -- what came of the line that has begun
+      -- what became of the line that has begun
       abbrev pub Came : Sitting H → BegunLine → Sitting H → Fed → Type 0
       Came old begun = CameFrom (rules_at old begun.kept.drawing.prompt_end.col) false
           (starting (answers old.helper old.lines) begun.draws
           (standing_with begun.kept.draft begun.input begun.mode old.items old.kills)) old
 
-      -- what came of a line that began behind a prompt, with these texts before and behind the cursor
+      -- what became of a line that began after a prompt, with these texts before and after the cursor
       abbrev pub CameBegun : List ℕ → List ℕ → List ℕ → Sitting H → Sitting H → Fed → Type 0
       CameBegun prompt left right old = CameFrom (rules_at old (measured old.columns prompt corner).col) false
           (starting (answers old.helper old.lines) true (first_standing left right old)) old
@@ -184,7 +184,7 @@ module _ {H : Type 0} where
       pub columns : new.columns ≡ old.columns
       pub rows : new.rows ≡ old.rows
 
-    -- a line begins behind a prompt, with these texts before and behind the cursor: it is to be drawn
+    -- a line begins after a prompt, with these texts before and after the cursor: it is to be drawn
     pub record StartsWith (prompt left right : List ℕ) (old new : Sitting H) : Type 0 where
       pub begun : BegunLine
       pub line : new.line ≡ Some begun

@@ -54,7 +54,7 @@ reads_no_command (modes.Listing listing) = true
 reads_no_command modes.Suspended = true
 reads_no_command _ = false
 
--- whether the line is shown behind its own prompt in this mode: not in a list, in a search, or while the program is suspended
+-- whether the line is shown after its own prompt in this mode: not in a list, in a search, or while the program is suspended
 abbrev pub shows_line : Mode → Bool
 shows_line (modes.Listing listing) = false
 shows_line (modes.Searching searching) = false
@@ -76,7 +76,7 @@ starting environment draws found =
     if is_suspended found.mode then resumed environment found
     else if draws then record found { editor = once_drawn environment found.editor } else found
 
--- the same mode behind a resize: a list ends, and a program that was suspended goes on
+-- the same mode after a resize: a list ends, and a program that was suspended goes on
 abbrev pub once_resized : Mode → Mode
 once_resized (modes.Listing listing) = modes.Editing
 once_resized modes.Suspended = modes.Editing
@@ -98,7 +98,7 @@ Answers settings environment (Some lefts.ForwardSearchHistory) mode old new next
 Answers settings environment (Some lefts.Suspend) mode old new next = (new ≡ old) × (next ≡ modes.Suspended)
 Answers settings environment left mode old new next = (new ≡ old) × (next ≡ modes.Editing)
 
--- the same behind a turn with this answer: the program does something where it proceeds, and else nothing is under way any more
+-- the same after a turn with this answer: the program does something where it proceeds, and else nothing is under way any more
 abbrev pub AnswersTurn : Rules → Answer → Option Left → Mode → Editor → Editor → Mode → Type 0
 AnswersTurn by proceeds left mode old new next =
     Answers by.settings by.environment left mode old.draft new.draft next × (new.kills ≡ old.kills)
@@ -110,7 +110,7 @@ pub record Executes (by : Rules) (mode : Mode) (command : Command) (input : Inpu
   pub leaves : Leaves (step by.ruler by.environment input found command) executed answer
   pub answers : AnswersTurn by answer (left_by command) mode executed new next
 
--- a search does what a command says to it; another command ends it, and is executed once the line was drawn behind its own prompt
+-- a search does what a command says to it; another command ends it, and is executed once the line was drawn after its own prompt
 abbrev pub DoesInSearch : Rules → Search → Option SearchCmd → Command → Input → Editor → Editor → Mode → Answer → Type 0
 DoesInSearch by search (Some says) command input found new next answer =
     (answer ≡ proceeds) × (new.kills ≡ found.kills) × Searches by.environment search says found.draft new.draft next
@@ -168,19 +168,19 @@ abbrev pub as_it_is : Item → Command
 as_it_is (key typed) = typing (character_of typed)
 as_it_is (paste text) = insert 1 text
 
--- whether an item is taken by itself: any one behind a quoted insert and in a list; and a pasted text that stands alone, as the key
+-- whether an item is taken by itself: any one after a quoted insert and in a list; and a pasted text that stands alone, as the key
 -- before it was read as the key of something else; but none while the program is suspended
 abbrev pub comes_in : Mode → Item → Bool
 comes_in modes.Suspended item = false
 comes_in mode (paste text) = true
 comes_in mode (key typed) = reads_no_command mode
 
--- an item comes in as it is
+-- an item is put in as it is
 abbrev pub ComesIn : Rules → Input → Item → Editor → Editor → Type 0
 ComesIn by input item old new =
     Leaves (step by.ruler by.environment input (ready (as_it_is item) old.draft old.kills) (as_it_is item)) new proceeds
 
--- what an item does that is taken by itself: it answers a list, or comes in as it is, which ends a search
+-- what an item does that is taken by itself: it answers a list, or is put in as it is, which ends a search
 abbrev pub DoesItem : Rules → Input → Mode → Item → Editor → Editor → Mode → Type 0
 DoesItem by input (modes.Listing listing) item old new next =
     Replies by.environment listing (reply_by listing.next item) old.draft new.draft next × (new.kills ≡ old.kills)
@@ -209,7 +209,7 @@ pub data Steps (by : Rules) (over_calls : Bool) (start : Standing) : Standing �
   item : {found next : Standing} → Steps by over_calls start found → ItemTaken by found next → Steps by over_calls start next
   resume : {found next : Standing} → over_calls ≡ true → Steps by over_calls start found → Resumed by found next → Steps by over_calls start next
 
--- steps, and behind them a turn with this answer, lead from a start to an end
+-- steps, and after them a turn with this answer, lead from a start to an end
 pub record Ends (by : Rules) (over_calls : Bool) (start end : Standing) (answer : Answer) : Type 0 where
   pub found : Standing
   pub steps : Steps by over_calls start found

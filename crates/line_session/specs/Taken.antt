@@ -30,11 +30,11 @@ pub record WaitsBehind (settled : Bool) (by : Rules) (start left : Standing) : T
   pub waits : Waits by start left
   pub drawn : settled ≡ false → any_drawn waits.shown ≡ true
 
--- whether the line need not be drawn before the next key is read: it stands behind its own prompt, or the mode does not show it there
+-- whether the line need not be drawn before the next key is read: it stands after its own prompt, or the mode does not show it there
 abbrev pub is_settled : Mode → Bool → Bool
 is_settled mode own_prompt = if shows_line mode then own_prompt else true
 
--- a turn that ended so comes to this answer
+-- a turn that ended so has this answer
 abbrev pub AnswersAs : Turned → (Answer → Type 0) → Type 0
 AnswersAs turned.Proceeds P = P proceeds
 AnswersAs turned.Submitted P = P submitted
@@ -50,7 +50,7 @@ ComesTo settled by start end turned.Ended = Ends by false start end ended
 ComesTo settled by start end turned.Interrupted = Ends by false start end interrupted
 ComesTo settled by start end turned.NeedsMore = WaitsBehind settled by start end
 
--- an item that comes in as it is, as the reader gives it
+-- an item that is put in as it is, as the reader returns it
 abbrev pub item_of : AsItIs → Item
 item_of (as_is.Key typed) = key typed
 item_of (as_is.Text text) = paste (string_bytes text)
@@ -82,7 +82,7 @@ module _ {X : Type 0} (e : editors.Ghosts X) where
   DrawnOnce mode items turned.Interrupted state = IsAtEnd e state × IsInPlace e state × HasShownEnd e state
   DrawnOnce mode items turned.NeedsMore state = is_settled mode (e.display state).layout.default_prompt ≡ true → IsShownWith mode items state
 
-  -- an item was put into a draft as it is, behind the own prompt
+  -- an item was put into a draft as it is, after the own prompt
   abbrev pub PutsIn : Settings → Input → Item → X → Draft → Ring → X → Ring → Type 0
   PutsIn settings input item old draft kills new kills' =
       Leaves (step (own_ruler (e.display old) settings.indent_size) (e.environment old) input (ready (as_it_is item) draft kills) (as_it_is item))

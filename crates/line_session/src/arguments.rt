@@ -1,4 +1,4 @@
-//! A completer of what stands behind a command.
+//! A completer of what stands after a command.
 ghost use Rattle.std.specs.Prelude.{◌≡◌, ◌&&◌, map, take, if◌then◌else◌, IfOk, string_bytes};
 ghost use Rattle.line_config.specs.Error.{MemoryOnly};
 ghost use Rattle.line_session.specs.Arguments.{is_argument};
@@ -10,13 +10,13 @@ use line_parts::completion::Candidate;
 use line_parts::{Completer, Context, History};
 use std::alloc::Global;
 
-/// Completes what stands behind a command and a space by one completer, and anything else by another. Only white space may stand
+/// Completes what stands after a command and a space by one completer, and anything else by another. Only white space may stand
 /// before the command.
 #[derive(Drop)]
 pub struct CommandArguments<A: Completer + Drop, B: Completer + Drop> {
     /// The command.
     pub command: String,
-    /// Completes what stands behind it.
+    /// Completes what stands after it.
     pub arguments: A,
     /// Completes anything else.
     pub others: B,
@@ -25,7 +25,7 @@ pub struct CommandArguments<A: Completer + Drop, B: Completer + Drop> {
 /// A candidate of one completer or of another.
 #[derive(Drop)]
 pub enum ArgumentOrOther<X, Y> {
-    /// One for what stands behind the command.
+    /// One for what stands after the command.
     Argument(X),
     /// One for anything else.
     Other(Y),
@@ -107,7 +107,7 @@ fn is_argument(command: &str, before: &str) -> bool
     }
 }
 
-/// Returns candidates for what stands behind the command.
+/// Returns candidates for what stands after the command.
 fn as_arguments<X: Drop, Y: Drop>(
     alloc: Global,
     found: Vec<X>,

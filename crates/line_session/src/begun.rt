@@ -62,7 +62,7 @@ fn give_back<T, U>(one: &mut T, other: &mut U)
     let _ = other;
 }
 
-/// Leaves the terminal's cursor below a line that has ended. Returns how it ended. Where more is awaited all stays.
+/// Leaves the terminal's cursor below a line that has ended. Returns how it ended. Where the line awaits more items, all stays.
 fn leave<'out, 'prompt, O: Write + Drop, H: Helper, P: Prompt, S: History>(
     alloc: Global,
     turned: Result<Turned>,
@@ -104,7 +104,7 @@ fn leave_others<'out, 'prompt, O: Write + Drop, H: Helper, P: Prompt, S: History
     state.move_cursor_at_leftmost(&mut KeyQueue::new(alloc))
 }
 
-/// Returns whether the line is to be drawn before the next key is read: unless more keys are awaited behind its own prompt, or for a
+/// Returns whether the line is to be drawn before the next key is read: unless more keys are awaited after its own prompt, or for a
 /// list.
 fn is_to_be_drawn<'out, 'prompt, O: Write + Drop, H: Helper, P: Prompt, S: History>(
     mode: &Mode,
@@ -122,7 +122,7 @@ fn is_to_be_drawn<'out, 'prompt, O: Write + Drop, H: Helper, P: Prompt, S: Histo
     }
 }
 
-/// Begins a line behind the prompt, with these texts before and behind the cursor. It is to be drawn.
+/// Begins a line after the prompt, with these texts before and after the cursor. It is to be drawn.
 ///
 /// # Errors
 /// `Memory`.

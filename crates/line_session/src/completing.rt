@@ -172,7 +172,7 @@ fn agree<'out, 'prompt, O: Write + Drop, H: Helper, P: Prompt, S: History>(
     Ok(())
 }
 
-/// Returns whether what so many candidates begin with in common is put in, which comes for what stands from `start` to the cursor.
+/// Returns whether what so many candidates begin with in common replaces what stands from `start` to the cursor.
 fn is_put_in(cursor: usize, start: usize, common: &str, count: usize) -> bool
     ensures { result ≡ (nat_lt (cursor - start) (length common.now) || (count == 1)) }
 {
@@ -200,7 +200,7 @@ fn elect<'out, 'prompt, O: Write + Drop, H: Helper, P: Prompt, S: History>(
 }
 
 impl Completing {
-    /// Shows the candidate behind the shown one: behind the last one, the line from before, and then the first one.
+    /// Shows the candidate after the shown one: the line from before follows the last one, and then the first one.
     ///
     /// # Errors
     /// Those of the helper and of the output: `Io` and `Memory`.
@@ -250,7 +250,7 @@ impl Completing {
         self.show(index, state)
     }
 
-    /// Shows the candidate at an index in place of the shown one: behind the last one, with a beep, the line from before.
+    /// Shows the candidate at an index in place of the shown one; past the last one, with a beep, the line from before.
     fn show<'out, 'prompt, O: Write + Drop, H: Helper, P: Prompt, S: History>(
         self,
         index: usize,
@@ -281,7 +281,7 @@ impl Completing {
         }))
     }
 
-    /// Gives the candidates up: shows the line from before them.
+    /// Gives up the candidates: shows the line from before them.
     ///
     /// # Errors
     /// Those of the output: `Io` and `Memory`.

@@ -32,7 +32,7 @@ const KILL_RING_SIZE: usize = 60;
 /// How many bytes `readline` reads at once.
 const BUFFER_SIZE: usize = 1024;
 
-/// What came of bytes that were read.
+/// How a line stands once bytes were read.
 #[derive(Debug, PartialEq, Eq, Drop)]
 pub enum Fed {
     /// The line goes on: more bytes are to be read, or the program is to suspend itself, where `Editor::is_suspended` says so.
@@ -163,9 +163,9 @@ impl<O: Write + Drop, H: Helper + Drop, S: History + Drop> Editor<O, H, S> {
         }
     }
 
-    /// Returns whether the person asked to suspend the program, which has not gone on since. The next call that reads keys or
-    /// resizes goes on: it draws the line, below what stands there. A call that reads keys then reads what was typed after that
-    /// key; `feed` without bytes does only that.
+    /// Returns whether the person asked to suspend the program and it has not gone on since. The next call that reads keys or resizes
+    /// goes on: it draws the line below what stands there. A call that reads keys then reads what was typed after the key that
+    /// suspends; `feed` without bytes does only that.
     pub fn is_suspended(&self) -> bool
         ensures { result ≡ suspends self.now }
     {
@@ -308,12 +308,12 @@ impl<O: Write + Drop, H: Helper + Drop, S: History + Drop> Editor<O, H, S> {
         self.decoder.take_size()
     }
 
-    /// Begins a line behind the prompt, with these texts before and behind the cursor, draws it, and takes the turns of the keys
+    /// Begins a line after the prompt, with these texts before and after the cursor, draws it, and takes the turns of the keys
     /// that were typed ahead. A line that had begun before is dropped.
     ///
     /// # Errors
-    /// `Io`, where the output or a party fails, and `Memory`. Where the line had begun by then, it can be asked for, and goes on
-    /// at the next call. Where it had not, the one before goes on, or none.
+    /// `Io`, where the output, the helper or the history fails, and `Memory`. If the line had begun by then, `line` returns its text,
+    /// and it goes on at the next call. If it had not, the line before goes on, if there was one.
     pub fn begin_with<P: Prompt>(
         &mut self,
         prompt: &P,
@@ -351,10 +351,11 @@ impl<O: Write + Drop, H: Helper + Drop, S: History + Drop> Editor<O, H, S> {
         self.begin_with(prompt, ("", ""), bindings)
     }
 
-    /// Reads bytes of the terminal, and takes the turns of their keys. Keys behind the end of the line are kept for the next one.
+    /// Reads bytes of the terminal, and takes the turns of their keys. Keys after the end of the line are kept for the next one.
     ///
     /// # Errors
-    /// `Io`, where the output or a party fails, and `Memory`. The line can be asked for, and goes on at the next call.
+    /// `Io`, where the output, the helper or the history fails, and `Memory`. The line, whose text `line` returns, goes on at the next
+    /// call.
     pub fn feed(&mut self, bytes: &[u8], bindings: &Bindings) -> Result<Fed>
         ensures came { (begun : BegunLine) → self.old.line ≡ Some begun →
             let g = ⟦<dyn ConditionalEventHandler as ConditionalEventHandler>⟧ in
@@ -461,13 +462,13 @@ impl<O: Write + Drop, H: Helper + Drop, S: History + Drop> Editor<O, H, S> {
         drawn
     }
 
-    /// Reads a line behind the prompt from `input`. A read of no bytes is a pause where `pauses` says so, as on a terminal that
+    /// Reads a line after the prompt from `input`. A read of no bytes is a pause where `pauses` says so, as on a terminal that
     /// waits only for a while, and else the end of the input.
     ///
     /// # Errors
     /// `Eof`, where the input ends, or by a command on an empty line; `Interrupted`, where the person interrupts: no line goes on
-    /// then. `Io`, where the input, the output or a party fails, and `Memory`: the line can be asked for then, and handed to
-    /// `begin_with`.
+    /// then. `Io`, where the input, the output, the helper or the history fails, and `Memory`: `line` and `pos` then return the line,
+    /// which can be handed to `begin_with`.
     pub fn readline<R: Read, P: Prompt>(
         &mut self,
         input: &mut R,
@@ -485,7 +486,7 @@ impl<O: Write + Drop, H: Helper + Drop, S: History + Drop> Editor<O, H, S> {
         self.readline_with_initial(input, pauses, prompt, ("", ""), bindings)
     }
 
-    /// Reads a line as `readline` does, which begins with these texts before and behind the cursor.
+    /// Reads a line as `readline` does, which begins with these texts before and after the cursor.
     ///
     /// # Errors
     /// Those of `readline`.
@@ -517,7 +518,7 @@ impl<O: Write + Drop, H: Helper + Drop, S: History + Drop> Editor<O, H, S> {
         Err(io::Error::from(io::ErrorKind::Other).into())
     }
 
-    /// Returns whether more comes of a line: it goes on, with an input that does, or as it was left behind Suspend.
+    /// Returns whether the line is to be read on: it goes on, and so does the input, or the program was asked to suspend itself.
     fn awaits_more(&self, fed: &Fed, goes_on: bool) -> bool
         ensures yes { result ≡ true → fed.now ≡ Fed.More }
         ensures no { result ≡ false → fed.now ≡ Fed.More
@@ -550,11 +551,11 @@ impl<O: Write + Drop, H: Helper + Drop, S: History + Drop> Editor<O, H, S> {
         }
     }
 
-    /// Reads from the input once, and takes the turns of what came; behind Suspend it takes those of what was typed before. Returns
-    /// what came of it, and whether the input goes on.
+    /// Reads from the input once, and takes the turns of what was read. After Suspend it reads nothing, and takes the turns of what
+    /// was typed after that key. Returns how the line stands then, and whether the input goes on.
     ///
     /// # Errors
-    /// `Io`, where the input, the output or a party fails, and `Memory`.
+    /// `Io`, where the input, the output, the helper or the history fails, and `Memory`.
     fn hear<R: Read>(
         &mut self,
         input: &mut R,
@@ -583,7 +584,7 @@ impl<O: Write + Drop, H: Helper + Drop, S: History + Drop> Editor<O, H, S> {
         }
     }
 
-    /// Begins a line behind the prompt, with these texts before and behind the cursor. It is to be drawn.
+    /// Begins a line after the prompt, with these texts before and after the cursor. It is to be drawn.
     fn start<P: Prompt>(&mut self, prompt: &P, initial: (&str, &str)) -> Result<()>
         ensures starts { OnOk result
             (StartsWith (answers_of H.hint_at H.verdict_at H.lights H.Completer)

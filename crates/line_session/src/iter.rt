@@ -33,7 +33,7 @@ impl<O: Write + Drop, H: Helper + Drop, S: History + Drop, R: Read, P: Prompt> D
 }
 
 impl<O: Write + Drop, H: Helper + Drop, S: History + Drop> Editor<O, H, S> {
-    /// Returns the lines of an input, each of which is read behind the prompt when it is asked for.
+    /// Returns the lines of an input, each of which is read, with the prompt before it, when it is asked for.
     pub fn iter<'a, R: Read, P: Prompt>(
         &'a mut self,
         input: &'a mut R,

@@ -41,7 +41,7 @@ impl Mode {
         }
     }
 
-    /// Returns the same mode behind a resize: a list ends, and a program that was suspended goes on.
+    /// Returns the same mode after a resize: a list ends, and a program that was suspended goes on.
     pub(crate) fn once_resized(self) -> Mode
         ensures { result ≡ once_resized self }
     {
@@ -71,7 +71,7 @@ impl Mode {
         }
     }
 
-    /// Returns whether the line is shown behind its own prompt: not in a list, in a search, or while the program is suspended.
+    /// Returns whether the line is shown after its own prompt: not in a list, in a search, or while the program is suspended.
     pub(crate) fn shows_line(&self) -> bool
         ensures { result ≡ shows_line self.now }
     {
@@ -82,7 +82,7 @@ impl Mode {
     }
 }
 
-/// An item that is taken by itself: it comes in as it is, or answers a list.
+/// An item that is taken by itself: it is put in as it is, or answers a list.
 #[derive(Drop)]
 pub(crate) enum AsItIs {
     /// A key.

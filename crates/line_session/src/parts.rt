@@ -40,9 +40,9 @@ pub struct Parts<
 > {
     /// Completes a part of the line.
     pub completer: C,
-    /// Gives the hints.
+    /// Offers the hints.
     pub hinter: N,
-    /// Gives the colors.
+    /// Adds the colors.
     pub highlighter: L,
     /// Says whether a line may be submitted.
     pub validator: V,

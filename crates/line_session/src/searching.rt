@@ -42,7 +42,7 @@ pub struct Searching {
     pub now: Sought,
     /// Where it stood with each shorter term, from the empty one on.
     pub shorter: Vec<Sought>,
-    /// Where it goes.
+    /// Its direction.
     pub direction: SearchDirection,
     /// The cursor from before, a byte offset of the line from before.
     pub pos: usize,
@@ -282,7 +282,7 @@ impl Searching {
         Ok(mode)
     }
 
-    // Gives the search up: shows the line from before, with its cursor, as the line of the history that it was.
+    // Gives up the search: shows the line from before, with its cursor, as the line of the history that it was.
     fn give_up<'out, 'prompt, O: Write + Drop, H: Helper, P: Prompt, S: History>(
         self,
         state: &mut State<'out, 'prompt, Ansi<O, KeyQueue>, H, P, S>,
@@ -301,7 +301,7 @@ impl Searching {
         Ok(Mode::Editing)
     }
 
-    // Shows the line that was found, or the one from before, behind the prompt of the search.
+    // Shows the line that was found, or the one from before, after the prompt of the search.
     fn show<'out, 'prompt, O: Write + Drop, H: Helper, P: Prompt, S: History>(
         self,
         alloc: Global,
@@ -358,7 +358,7 @@ impl Searching {
         Ok(())
     }
 
-    /// Draws the line behind the prompt of the search.
+    /// Draws the line after the prompt of the search.
     ///
     /// # Errors
     /// Those of the helper and of the output: `Io` and `Memory`.
@@ -464,8 +464,8 @@ fn failed(term: String, before: &Sought) -> Sought
     }
 }
 
-// Returns where a search goes on from that stands at one of so many lines: at the line before it, if there is one; or behind it, where
-// nothing is found once it is past the newest line.
+// Returns where a search that stands at one of so many lines goes on: backward at the line before it, if there is one; forward at the
+// line after it, where past the newest line nothing is found.
 fn next_start(direction: SearchDirection, count: usize, index: usize) -> Option<usize>
     ensures { result ≡ next_start direction count index }
 {

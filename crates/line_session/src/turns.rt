@@ -36,12 +36,12 @@ use std::io::Write;
 use std::mem;
 
 /// Takes turns until the line ends, or more items are awaited: where those that are left are no phrase yet, they are left to be
-/// read again, with more behind them; and where each is taken by itself, behind a quoted insert and in a list, none is left. Where
+/// read again, with more after them; where each is taken by itself, as after a quoted insert and in a list, none is left. Where
 /// `draws` says so, the line is drawn first. Returns how the last turn ended, which is never `Proceeds`.
 ///
-/// Behind a quoted insert an item comes in as it is: a key as its character, if it has one. A pasted text that stands alone comes
-/// in as any pasted text does: the key before it was read as the key of something else, as the motion of an operator.
-/// Where a command asks to suspend the program, the items behind it are left for the next call, which draws the line first.
+/// After a quoted insert an item is put in as it is: a key as its character, if it has one. A pasted text that stands alone is put
+/// in as any pasted text is: the key before it was read for something else, such as the motion of an operator. Where a command asks
+/// to suspend the program, the items after it are left for the next call, which draws the line first.
 ///
 /// # Errors
 /// Those of `take_turn`, of the helper and of drawing the line. An item that was taken is not taken again; and unless drawing the
@@ -108,7 +108,7 @@ fn resume<'out, 'prompt, O: Write + Drop, H: Helper, P: Prompt, S: History>(
     state.refresh_line()
 }
 
-/// Draws the line: in a search behind its prompt, and else behind its own.
+/// Draws the line: in a search after its prompt, and else after its own.
 ///
 /// # Errors
 /// Those of the helper and of the output: `Io` and `Memory`.
@@ -450,7 +450,7 @@ fn answer<'out, 'prompt, O: Write + Drop, H: Helper, P: Prompt, S: History>(
     }
 }
 
-/// Takes an item by itself: it answers a list, or comes in as it is. Returns what the next items are read as.
+/// Takes an item by itself: it answers a list, or is put in as it is. Returns what the next items are read as.
 ///
 /// # Errors
 /// Those of `execute`, and those of the output: `Io` and `Memory`.

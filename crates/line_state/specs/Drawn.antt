@@ -20,7 +20,7 @@ pub record KeepsSurface {X : Type 0} (d : Ghosts X) (old new : X) : Type 0 where
   pub prompt_end : (d.display new).prompt_end ≡ (d.display old).prompt_end
   pub failures : d.failures old ≤ d.failures new
 
--- a highlighter may come only where colors are shown
+-- a highlighter is passed only where colors are shown
 abbrev pub ColorsAreOn : {X : Type 0} → Ghosts X → X → Bool → Type 0
 ColorsAreOn d view highlighted = highlighted ≡ true → (d.display view).surface.colors ≡ true
 
@@ -28,7 +28,7 @@ ColorsAreOn d view highlighted = highlighted ≡ true → (d.display view).surfa
 abbrev pub FailsBySurface : {X T : Type 0} → Ghosts X → Result T ReadlineError → X → X → Type 0
 FailsBySurface d result old new = FailsOnlyIf result (Rose (d.failures old) (d.failures new)) (d.failures old) (d.failures new)
 
--- a full redraw of a line, behind a prompt that ends there and is the own one or another, with a trailing text or none; after an error
+-- a full redraw of a line, after a prompt that ends there and is the own one or another, with a trailing text or none; after an error
 -- the kept layout stays
 pub record DrawsInFull {X T : Type 0} (d : Ghosts X) (result : Result T ReadlineError) (old new : X) (text : List ℕ) (prompt_end : Position) (own : Bool) (line : Line) (trailing : Option (List ℕ)) : Type 0 where
   pub shown : OnOk result (ShowsInFull (d.display new) text prompt_end line trailing)
@@ -40,7 +40,7 @@ pub record DrawsInFull {X T : Type 0} (d : Ghosts X) (result : Result T Readline
   pub keeps : KeepsSurface d old new
   pub fails : FailsBySurface d result old new
 
--- the screen has so many columns and rows from now on, and the own prompt is measured anew. Then the line is drawn in full behind it,
+-- the screen has so many columns and rows from now on, and the own prompt is measured anew. Then the line is drawn in full after it,
 -- with a trailing text or none. After an error the kept layout stays
 pub record DrawsResized {X T : Type 0} (d : Ghosts X) (result : Result T ReadlineError) (old new : X) (columns rows : ℕ) (line : Line) (trailing : Option (List ℕ)) : Type 0 where
   pub surface : ResizesTo columns rows (d.display old).surface (d.display new).surface
@@ -56,7 +56,7 @@ pub record DrawsResized {X T : Type 0} (d : Ghosts X) (result : Result T Readlin
   pub failures : d.failures old ≤ d.failures new
   pub fails : FailsBySurface d result old new
 
--- a kept layout is drawn again behind the own prompt, and stays; where it is a full redraw's, the line is shown in full
+-- a kept layout is drawn again after the own prompt, and stays; where it is a full redraw's, the line is shown in full
 pub record RedrawsKept {X T : Type 0} (d : Ghosts X) (result : Result T ReadlineError) (old new : X) (line : Line) (trailing : Option (List ℕ)) : Type 0 where
   pub layout : (d.display new).layout ≡ (d.display old).layout
   pub lit : (d.display new).lit ≡ (d.display old).lit
@@ -82,8 +82,8 @@ cleared layout = ending_at corner layout
 abbrev pub KeepsEnd : {X T : Type 0} → Ghosts X → Result T ReadlineError → X → X → Type 0
 KeepsEnd d result old new = OnErr result ((d.display new).layout ≡ record (d.display old).layout { cursor = (d.display new).layout.cursor })
 
--- a printable character was written where the kept cursor is, with nothing of the line behind it: cursor and end go one column on; after
--- an error the kept layout stays
+-- a printable character was written where the kept cursor is, with nothing of the line after it: cursor and end move one column on;
+-- after an error the kept layout stays
 pub record Writes {X T : Type 0} (d : Ghosts X) (result : Result T ReadlineError) (old new : X) (c : ℕ) : Type 0 where
   pub layout : OnOk result ((d.display new).layout ≡ ending_at (columns_on 1 (d.display old).layout.cursor) (d.display old).layout)
   pub right : (line : Line) → is_at_end line ≡ true → list_all is_plain line.text ≡ true
@@ -92,7 +92,7 @@ pub record Writes {X T : Type 0} (d : Ghosts X) (result : Result T ReadlineError
   pub beside : WritesAtMost (d.beside old) (d.beside new)
   pub part : DrawsNoneInFull d result old new
 
--- the last characters of what is shown were taken away, printable ones: cursor and end go as many columns back from the end; after an
+-- the last characters of what is shown were taken away, printable ones: cursor and end move as many columns back from the end; after an
 -- error the kept end stays
 pub record TakesBack {X T : Type 0} (d : Ghosts X) (result : Result T ReadlineError) (old new : X) (count : ℕ) : Type 0 where
   pub layout : OnOk result ((d.display new).layout ≡ ending_at (columns_back count (d.display old).layout.end) (d.display old).layout)

@@ -11,7 +11,7 @@ use Rattle.line_keys.specs.Display.{Beside, Surface, Screen, IsFullRedraw, corne
 use Rattle.line_state.specs.declared.screen_state.ScreenState.{Ghosts}
 
 -- what is handed over for a full redraw agrees: the prompt ends at the layout's prompt end, the layout is a full redraw's, the old
--- layout's cursor is the drawn one, and a highlighter comes only with colors
+-- layout's cursor is the screen cursor, and a highlighter is passed only where colors are shown
 pub record Agrees (surface : Surface) (screen : Screen) (prompt : List ℕ) (line : Line) (trailing : Option (List ℕ)) (old : Option Layout) (layout : Layout) (highlighted : Bool) : Type 0 where
   pub prompt_end : layout.prompt_size ≡ surface.measure prompt corner
   pub full : IsFullRedraw surface layout.prompt_size line trailing layout
@@ -22,7 +22,7 @@ pub record Agrees (surface : Surface) (screen : Screen) (prompt : List ℕ) (lin
 abbrev pub ResizesTo : ℕ → ℕ → Surface → Surface → Type 0
 ResizesTo columns rows old new = new ≡ record old { measure = new.measure; columns = columns; rows = rows }
 
--- the line is shown by its layout, behind a prompt, with a trailing text or none, and this is known
+-- the line is shown by its layout, after a prompt, with a trailing text or none, and this is known
 abbrev pub shown_by : Layout → List ℕ → Line → Option (List ℕ) → Screen
 shown_by layout prompt line trailing = record {
   position = layout.cursor;
@@ -33,21 +33,21 @@ shown_by layout prompt line trailing = record {
   known = true;
 }
 
--- the shown text is printable ASCII and newlines with nothing behind it, the cursor stands where it ends, and a column is free behind that
+-- the shown text is printable ASCII and newlines with nothing after it, the cursor stands where it ends, and a column is free after that
 pub record HasRoom (surface : Surface) (screen : Screen) : Type 0 where
   pub plain : list_all is_plain screen.text ≡ true
   pub bare : screen.behind ≡ None
   pub at_end : screen.position ≡ surface.measure screen.text screen.origin
   pub free : screen.position.col + 1 < surface.columns
 
--- the screen with one more character behind the shown text
+-- the screen with one more character after the shown text
 abbrev pub with_shown : Screen → ℕ → Screen
 with_shown screen c = record screen {
   position = record { row = screen.position.row; col = screen.position.col + 1 };
   text = screen.text ++ c ∷ [];
 }
 
--- the shown text is printable ASCII and newlines with nothing behind it, and ends on the cursor's row, so many columns behind the cursor
+-- the shown text is printable ASCII and newlines with nothing after it, and ends on the cursor's row, so many columns after the cursor
 pub record EndsBehind (surface : Surface) (screen : Screen) (columns : ℕ) : Type 0 where
   pub plain : list_all is_plain screen.text ≡ true
   pub bare : screen.behind ≡ None

@@ -19,11 +19,11 @@ use line_buffer::{Changeset, KillRing, LineBuffer, Movement, OutOfMemory, Repeat
 use std::alloc::Global;
 use std::marker::Model;
 
-/// A line and its changes, which tell of the line at all times: taken back, they give the text that it began with.
+/// A line and its changes, which record at all times how it came about: taken back, they restore the text it began with.
 ///
 /// # Errors
-/// Each call that grows the text or the changes may run out of memory. Then there are no changes any more, and the line is
-/// text with its cursor on a boundary.
+/// Each call that grows the text or the changes may run out of memory. Then there are no changes to undo, and the line may
+/// be any text with its cursor on a boundary.
 #[derive(Drop)]
 pub struct EditedLine {
     line: LineBuffer,
@@ -76,7 +76,10 @@ impl EditedLine {
         &self.line
     }
 
-    /// Inserts `n` copies of a character at the cursor, which goes behind them.
+    /// Inserts `n` copies of a character at the cursor, which then stands after them.
+    ///
+    /// # Errors
+    /// `OutOfMemory` alone. The line may then be any text with its cursor on a boundary, and there are no changes to undo.
     pub fn insert(&mut self, c: char, n: RepeatCount) -> Result<(), OutOfMemory>
         ensures { EditsTo result self.old self.new (with_copies n c self.old) }
     {
@@ -92,6 +95,10 @@ impl EditedLine {
     }
 
     /// Kills the text of a movement, and keeps it in `kill_ring` as `LineBuffer::cut` does.
+    ///
+    /// # Errors
+    /// `OutOfMemory` alone. The line may then be any text with its cursor on a boundary, and there are no changes to undo.
+    /// `kill_ring` is then the one that the kill leaves, or the one from before with a kill as its last action.
     pub fn kill(&mut self, movement: &Movement, kill_ring: &mut KillRing) -> Result<(), OutOfMemory>
         ensures edit { let range = killed_range self.old.line movement.now in
             EditsTo result self.old self.new (without_range range self.old) }
@@ -119,6 +126,9 @@ impl EditedLine {
     }
 
     /// Takes `n` steps back, one for `n` = 0, or as many as there are. Returns whether a change of the text was taken back.
+    ///
+    /// # Errors
+    /// `OutOfMemory` alone. The line may then be any text with its cursor on a boundary, and there are no changes to undo.
     pub fn undo(&mut self, n: RepeatCount) -> Result<bool, OutOfMemory>
         ensures finds { Finds result self.old self.new (undone n self.old)
             (list_any is_change (newest_steps n self.old.changes.entries)) }
@@ -128,6 +138,9 @@ impl EditedLine {
     }
 
     /// Opens a group of changes.
+    ///
+    /// # Errors
+    /// `OutOfMemory` alone. The line stays, and there are then no changes to undo.
     pub fn begin_group(&mut self) -> Result<(), OutOfMemory>
         ensures edit { EditsTo result self.old self.new
             (record self.old { changes = begun self.old.changes }) }
@@ -137,6 +150,9 @@ impl EditedLine {
     }
 
     /// Closes every open group of changes. Returns whether an entry was added for it.
+    ///
+    /// # Errors
+    /// `OutOfMemory` alone. The line stays, and there are then no changes to undo.
     pub fn end_groups(&mut self) -> Result<bool, OutOfMemory>
         ensures answer { IfOk result (λ added.
             added ≡ adds_end self.old.changes.open_groups self.old.changes.entries) }
@@ -147,8 +163,8 @@ impl EditedLine {
         self.changes.end()
     }
 
-    /// Returns the text that came in last: that of the newest insert or replacement, unless a group was begun or a text
-    /// deleted since.
+    /// Returns the text that was inserted last: that of the newest insert or replacement, unless a group was begun or a
+    /// text deleted since.
     ///
     /// # Errors
     /// That memory ran out.

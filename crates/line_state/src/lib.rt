@@ -1,4 +1,4 @@
-//! The state of a line that is edited: the line with its changes, and what is drawn of it.
+//! The edit state of a line: the line with its changes, and what is drawn of it.
 #![tactic(auto)]
 
 pub mod drawn;

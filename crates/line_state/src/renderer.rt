@@ -13,7 +13,7 @@ use line_config::{Prompt, Result};
 use line_keys::raw_reader::RawReader;
 use line_parts::Highlighter;
 
-/// Draws the prompt, the line and the cursor, and tells where a text ends.
+/// Draws the prompt, the line and the cursor, and says where a text ends.
 ///
 /// Only a `refresh_line` that succeeds changes the count of full redraws, by one. A beep, a text that `write_and_flush`
 /// writes, and a synchronized update are what a renderer does beside drawing; each call says which of them it may do.
@@ -24,7 +24,7 @@ pub trait Renderer: ScreenState {
     /// What reads the keys of this terminal.
     type Reader: RawReader;
 
-    /// Moves the drawn cursor from `old`, where it stands, to `new`.
+    /// Moves the screen cursor from `old`, where it stands, to `new`.
     fn move_cursor(&mut self, old: Position, new: Position) -> Result<()>
         ensures moved { (Self.screen self.old).position ≡ old
             → OnOk result ((Self.screen self.new).position ≡ new) }
@@ -33,11 +33,12 @@ pub trait Renderer: ScreenState {
         ensures shown { KeepsShown (Self.screen self.old) (Self.screen self.new) }
         ensures part { DrawsPart Self.ScreenState result self.old self.new };
 
-    /// Draws the prompt, the line and the text behind it in full. That text, `hint`, is a hint or a verdict's message.
+    /// Draws the prompt, the line and the text after it in full. That text, `hint`, is a hint or a validation message.
     ///
     /// These are then known to be shown, with the cursor where `new_layout` has it, if what is handed over agrees: the
     /// prompt ends at the prompt end of `new_layout`, which is the layout of a full redraw; the cursor of `old_layout` is
-    /// the drawn one; and a highlighter comes only with colors. `old_layout` says which rows were drawn before, if any were.
+    /// the screen cursor; and a highlighter is passed only where colors are shown. `old_layout` says which rows were drawn
+    /// before, if any were.
     fn refresh_line<P: Prompt, H: Highlighter>(
         &mut self,
         prompt: &P,
@@ -89,8 +90,8 @@ pub trait Renderer: ScreenState {
         ensures { result ≡ (Self.surface self.now).measure s.now orig };
 
     /// Writes a text where the cursor stands. Where that is the end of the shown text, which is printable ASCII and
-    /// newlines with nothing behind it, a column is free there, and the text is one printable ASCII character, the
-    /// character is shown and the cursor goes one column on.
+    /// newlines with nothing after it, a column is free there, and the text is one printable ASCII character, the
+    /// character is shown and the cursor moves one column on.
     fn write_and_flush(&mut self, buf: &str) -> Result<()>
         ensures shown { (c : ℕ) → buf.now ≡ c ∷ [] → is_printable c ≡ true
             → HasRoom (Self.surface self.old) (Self.screen self.old)
@@ -104,16 +105,16 @@ pub trait Renderer: ScreenState {
         ensures beside { BeepsAtMost (Self.beside self.old) (Self.beside self.new) }
         ensures part { DrawsNoLine Self.ScreenState result self.old self.new };
 
-    /// Clears the whole screen. What is shown then is not said: a full redraw is to follow.
+    /// Clears the whole screen. What is shown then is not specified: a full redraw is to follow.
     fn clear_screen(&mut self) -> Result<()>
         ensures part { DrawsPart Self.ScreenState result self.old self.new };
 
-    /// Clears the rows of a drawn layout. What is shown then is not said: a full redraw is to follow.
+    /// Clears the rows of a drawn layout. What is shown then is not specified: a full redraw is to follow.
     fn clear_rows(&mut self, layout: &Layout) -> Result<()>
         ensures part { DrawsPart Self.ScreenState result self.old self.new };
 
-    /// Clears the rest of the cursor's row. Where the shown text is printable ASCII and newlines with nothing behind it,
-    /// and ends on that row, what it has from the cursor on is taken away from it.
+    /// Clears the rest of the cursor's row. Where the shown text is printable ASCII and newlines with nothing after it,
+    /// and ends on that row, the part of it from the cursor on is taken away.
     fn clear_to_eol(&mut self) -> Result<()>
         ensures position { (Self.screen self.new).position ≡ (Self.screen self.old).position }
         ensures cleared { (kept gone : List ℕ) → (Self.screen self.old).text ≡ kept ++ gone
@@ -122,7 +123,7 @@ pub trait Renderer: ScreenState {
             → OnOk result (Self.screen self.new ≡ record (Self.screen self.old) { text = kept }) }
         ensures part { DrawsPart Self.ScreenState result self.old self.new };
 
-    /// Asks the terminal for its size again. Columns and rows stay what they were: `resize` gives others.
+    /// Asks the terminal for its size again. Columns and rows stay what they were: `resize` sets others.
     fn update_size(&mut self)
         ensures screen { Self.screen self.new ≡ Self.screen self.old }
         ensures surface { Self.surface self.new ≡ Self.surface self.old }
@@ -130,8 +131,8 @@ pub trait Renderer: ScreenState {
         ensures redraws { Self.redraws self.new ≡ Self.redraws self.old }
         ensures failures { Self.failures self.new ≡ Self.failures self.old };
 
-    /// Gives the screen another number of columns and of rows. Nothing is drawn, and the cursor is taken to stand where it
-    /// stood. What is known of it then is not said: a full redraw is to follow.
+    /// Gives the screen another number of columns and of rows. Nothing is drawn, and the cursor counts as standing where it
+    /// stood. What is known of it then is not specified: a full redraw is to follow.
     fn resize(&mut self, columns: Unit, rows: Unit)
         requires { 0 < columns }
         ensures surface { ResizesTo columns rows (Self.surface self.old) (Self.surface self.new) }
@@ -158,11 +159,11 @@ pub trait Renderer: ScreenState {
     fn grapheme_cluster_mode(&self) -> GraphemeClusterMode
         ensures { result ≡ (Self.surface self.now).mode };
 
-    /// Takes the cursor to the first column, below what is there. What is shown then is not said.
+    /// Takes the cursor to the first column, below what is there. What is shown then is not specified.
     fn move_cursor_at_leftmost(&mut self, rdr: &mut Self::Reader) -> Result<()>
         ensures part { DrawsPart Self.ScreenState result self.old self.new };
 
-    /// What is drawn from here on may be held back. What is shown stays; after an error it may be known no more.
+    /// What is drawn from here on may be held back. What is shown stays; after an error it may no longer be known.
     fn begin_synchronized_update(&mut self) -> Result<()>
         ensures screen { OnOk result (Self.screen self.new ≡ Self.screen self.old) }
         ensures position { (Self.screen self.new).position ≡ (Self.screen self.old).position }
@@ -174,7 +175,7 @@ pub trait Renderer: ScreenState {
         Ok(())
     }
 
-    /// What was held back is shown, and stays; after an error it may be known no more.
+    /// What was held back is shown, and stays; after an error it may no longer be known.
     fn end_synchronized_update(&mut self) -> Result<()>
         ensures screen { OnOk result (Self.screen self.new ≡ Self.screen self.old) }
         ensures position { (Self.screen self.new).position ≡ (Self.screen self.old).position }
@@ -190,7 +191,7 @@ pub trait Renderer: ScreenState {
     ghost column_below: { (r : Self) (s : List ℕ) (o : Position) → o.col < (Self.surface r).columns
         → ((Self.surface r).measure s o).col < (Self.surface r).columns };
 
-    // Behind printable ASCII and newlines, a printable ASCII character takes one column.
+    // After printable ASCII and newlines, a printable ASCII character takes one column.
     ghost one_column: { (r : Self) (s : List ℕ) (c : ℕ) (o : Position)
         → o.col < (Self.surface r).columns → list_all is_plain s ≡ true → is_printable c ≡ true
         → (Self.surface r).measure (s ++ c ∷ []) o

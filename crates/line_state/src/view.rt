@@ -36,7 +36,7 @@ pub struct View<'out, 'prompt, W: Renderer, P: Prompt> {
     layout: Layout,
     // Whether the renderer is known to stand at the kept cursor, with the line drawn.
     in_place: bool,
-    // Whether the kept cursor was last drawn as that of a line behind the own prompt.
+    // Whether the kept cursor was last drawn as that of a line after the own prompt.
     at_cursor: bool,
     // Whether what is shown of the line is known to be printable ASCII and newlines, and how many characters at its
     // end are known to be printable then.
@@ -147,8 +147,8 @@ impl<'out, 'prompt, W: Renderer, P: Prompt> View<'out, 'prompt, W, P> {
         }
     }
 
-    /// Draws the line in full behind the prompt, with `info` behind it, if there is one. A highlighter may come only
-    /// with colors.
+    /// Draws the line in full after the prompt, with `info` after it, if there is one. Pass a highlighter only where colors
+    /// are shown.
     ///
     /// # Errors
     /// Those of the renderer.
@@ -166,8 +166,8 @@ impl<'out, 'prompt, W: Renderer, P: Prompt> View<'out, 'prompt, W, P> {
         self.redraw(self.prompt, self.prompt_size, true, line, info, highlighter)
     }
 
-    /// Draws the line in full behind another prompt, with `info` behind it, if there is one. A highlighter may
-    /// come only with colors.
+    /// Draws the line in full after another prompt, with `info` after it, if there is one. Pass a highlighter only where
+    /// colors are shown.
     ///
     /// # Errors
     /// Those of the renderer.
@@ -188,9 +188,9 @@ impl<'out, 'prompt, W: Renderer, P: Prompt> View<'out, 'prompt, W, P> {
         self.redraw(&prompt, prompt_size, false, line, info, highlighter)
     }
 
-    /// Gives the screen another number of columns and of rows, measures the prompt anew, and draws the line in full behind
-    /// it, with `info` behind the line, if there is one. The rows of the kept layout are cleared. A highlighter may come only
-    /// with colors.
+    /// Gives the screen another number of columns and of rows, measures the prompt anew, and draws the line in full after it,
+    /// with `info` after the line, if there is one. The rows of the kept layout are cleared. Pass a highlighter only where
+    /// colors are shown.
     ///
     /// # Errors
     /// Those of the renderer. Then the kept layout stays, which is that of the old columns.
@@ -271,8 +271,8 @@ impl<'out, 'prompt, W: Renderer, P: Prompt> View<'out, 'prompt, W, P> {
         Ok(())
     }
 
-    /// Draws the kept layout again behind the prompt, with `info` behind the line, if there is one, and keeps it. A
-    /// highlighter may come only with colors.
+    /// Draws the kept layout again after the prompt, with `info` after the line, if there is one, and keeps it. Pass a
+    /// highlighter only where colors are shown.
     ///
     /// # Errors
     /// Those of the renderer.
@@ -301,7 +301,7 @@ impl<'out, 'prompt, W: Renderer, P: Prompt> View<'out, 'prompt, W, P> {
         Ok(())
     }
 
-    /// Returns where the cursor of the line is in a full redraw behind the own prompt.
+    /// Returns where the cursor of the line is in a full redraw after the own prompt.
     pub fn cursor_position(&self, line: &LineBuffer) -> Position
         ensures { let d = ⟦<Self as Drawn>⟧.display self.now in
             result ≡ cursor_position d.surface.measure d.prompt_end line.now }
@@ -310,7 +310,7 @@ impl<'out, 'prompt, W: Renderer, P: Prompt> View<'out, 'prompt, W, P> {
         self.out.calculate_position(before, self.prompt_size)
     }
 
-    /// Returns where the cursor of the line is in a full redraw behind the own prompt, if the kept cursor is where that of
+    /// Returns where the cursor of the line is in a full redraw after the own prompt, if the kept cursor is where that of
     /// byte `from` is. In a line of printable ASCII and newlines it looks at no more than what stands between the two, where
     /// that has no newline and the cursor stays on its row.
     pub fn cursor_position_from(&self, line: &LineBuffer, from: usize) -> Position
@@ -380,7 +380,7 @@ impl<'out, 'prompt, W: Renderer, P: Prompt> View<'out, 'prompt, W, P> {
         })
     }
 
-    /// Returns whether a column is left on the row behind the one where the kept cursor is.
+    /// Returns whether the kept cursor's row has a column left after the one where it stands.
     pub fn has_free_column(&self) -> bool
         ensures { let d = ⟦<Self as Drawn>⟧.display self.now in
             result ≡ nat_lt (d.layout.cursor.col + 1) d.surface.columns }
@@ -388,7 +388,7 @@ impl<'out, 'prompt, W: Renderer, P: Prompt> View<'out, 'prompt, W, P> {
         self.layout.cursor.col < self.out.get_columns() - 1
     }
 
-    /// Takes the kept cursor to a position, and the drawn one with it. Nothing is drawn where it is there already.
+    /// Moves the kept cursor to a position, and the screen cursor with it. Nothing is drawn where it is there already.
     ///
     /// # Errors
     /// Those of the renderer.
@@ -411,7 +411,7 @@ impl<'out, 'prompt, W: Renderer, P: Prompt> View<'out, 'prompt, W, P> {
         Ok(())
     }
 
-    /// Takes the drawn cursor to where what is shown ends, a text behind the line included.
+    /// Moves the screen cursor to where what is shown ends, a text after the line included.
     ///
     /// # Errors
     /// Those of the renderer.
@@ -436,7 +436,7 @@ impl<'out, 'prompt, W: Renderer, P: Prompt> View<'out, 'prompt, W, P> {
     }
 
     // Returns whether the renderer is known to stand at the kept cursor, and what is shown to be printable ASCII and
-    // newlines with nothing behind it, of which at least `count` characters at the end are printable.
+    // newlines with nothing after it, of which at least `count` characters at the end are printable.
     fn knows_end(&self, count: usize) -> bool
         ensures { result ≡ true → KnowsEnd (W.surface self.now.out.now)
             (W.screen self.now.out.now) self.now.layout self.now.printable_at_end count }
@@ -444,8 +444,8 @@ impl<'out, 'prompt, W: Renderer, P: Prompt> View<'out, 'prompt, W, P> {
         self.in_place && self.shows_plain && !self.layout.has_info && count <= self.printable_at_end
     }
 
-    /// Writes one printable ASCII character where the kept cursor is, at the line's end, with a column left behind it.
-    /// The kept cursor and end go one column on.
+    /// Writes one printable ASCII character where the kept cursor is, at the line's end, with a column left after it.
+    /// The kept cursor and end move one column on.
     ///
     /// # Errors
     /// Those of the renderer.
@@ -468,8 +468,8 @@ impl<'out, 'prompt, W: Renderer, P: Prompt> View<'out, 'prompt, W, P> {
         Ok(())
     }
 
-    /// Takes the last `count` characters of what is shown away, printable ASCII on the row of the kept end. The kept
-    /// cursor and end go where they began.
+    /// Takes away the last `count` characters of what is shown, printable ASCII on the row of the kept end. The kept cursor
+    /// and end move to where they began.
     ///
     /// # Errors
     /// Those of the renderer.
@@ -492,8 +492,7 @@ impl<'out, 'prompt, W: Renderer, P: Prompt> View<'out, 'prompt, W, P> {
         self.layout.end.col
     }
 
-    // Takes the last `count` characters of what is shown away, which stand behind the kept cursor. The kept end goes
-    // there.
+    // Takes away the last `count` characters of what is shown, which stand after the kept cursor. The kept end moves there.
     fn clear_behind(&mut self, count: usize) -> Result<()>
         requires fits { count ≤ (⟦<Self as Drawn>⟧.display self.old).layout.end.col }
         requires placed { let layout = (⟦<Self as Drawn>⟧.display self.old).layout in
@@ -526,8 +525,8 @@ impl<'out, 'prompt, W: Renderer, P: Prompt> View<'out, 'prompt, W, P> {
         self.out.beep()
     }
 
-    /// Clears the whole screen, and takes the kept cursor and end to the first column of the first row. What is shown
-    /// then is not said: a full redraw is to follow.
+    /// Clears the whole screen, and moves the kept cursor and end to the first column of the first row. What is shown
+    /// then is not specified: a full redraw is to follow.
     ///
     /// # Errors
     /// Those of the renderer. Then the kept layout stays.
@@ -547,7 +546,7 @@ impl<'out, 'prompt, W: Renderer, P: Prompt> View<'out, 'prompt, W, P> {
         Ok(())
     }
 
-    /// Takes the drawn cursor to the first column, below what is there. What is shown then is not said, and the kept
+    /// Moves the screen cursor to the first column, below what is there. What is shown then is not specified, and the kept
     /// layout stays.
     ///
     /// # Errors
@@ -563,8 +562,8 @@ impl<'out, 'prompt, W: Renderer, P: Prompt> View<'out, 'prompt, W, P> {
         self.out.move_cursor_at_leftmost(rdr)
     }
 
-    /// Writes a text by itself below what is shown, from the first column on. What the screen shows then is not said, and the
-    /// kept layout stays: a full redraw is to follow, which comes below the text.
+    /// Writes a text by itself below what is shown, from the first column on. What the screen shows then is not specified,
+    /// and the kept layout stays: a full redraw is to follow, below the text.
     ///
     /// # Errors
     /// Those of the renderer.

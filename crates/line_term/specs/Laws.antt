@@ -63,7 +63,7 @@ pub record TextsAreShown : Type 0 where
       → (put_text columns page text).cells row col ≡ page.cells row col
 
 module _ {P H : Type 0} (p : prompts.Ghosts P) (h : highlighters.Ghosts H) where
-  -- after a full redraw the prompt, the line and what stands behind it are shown, on rows that begin where those of the drawing before
+  -- after a full redraw the prompt, the line and what stands after it are shown, on rows that begin where those of the drawing before
   -- did, and else in the cursor's row; the rows above stay
   abbrev pub RedrawsShow : Type 0
   RedrawsShow = (columns : ℕ) (wanted : Bool) (old : Option Layout) (handed : Handed P H) (bytes : List ℕ) (t : Terminal) (page : Page)
@@ -86,7 +86,7 @@ pub record PartsShow : Type 0 where
       → IsShown columns base prompt text None end t
       → IsShown columns base prompt (text ++ c ∷ []) None (measured columns (c ∷ []) end)
       (sent columns t (cleaned (c ∷ []) ++ wrap (measured columns) (c ∷ []) end))
-  -- a clearing of the rest of the row, where the printable text behind the cursor ends there
+  -- a clearing of the rest of the row, where the printable text after the cursor ends there
   pub clears : (columns base : ℕ) (prompt kept gone : List ℕ) (cursor : Position) (t : Terminal)
       → list_all is_printable gone ≡ true → graphemes true (kept ++ gone) ≡ graphemes true kept ++ graphemes true gone
       → cursor ≡ measured columns kept (measured columns prompt corner)

@@ -1,4 +1,4 @@
--- What a terminal shows of a line: its prompt, the line, and what stands behind it.
+-- What a terminal shows of a line: its prompt, the line, and what stands after it.
 use Rattle.std.specs.Prelude.{◌≡◌, ◌<◌, ◌≤◌, ◌^◌, ℕ, ◌+◌, ◌-◌, ◌++◌, ◌==◌, ◌&&◌, ◌||◌, min, nat_le, nat_lt, true, Bool, List, Option, Some, None, IfSome, IsUtf8, is_some, if◌then◌else◌}
 use Rattle.line_buffer.specs.declared.layout.Layout.{Layout}
 use Rattle.line_buffer.specs.declared.layout.Position.{Position}
@@ -15,7 +15,7 @@ IsPlace place = (place.row < 2 ^ 16) × (place.col < 2 ^ 16)
 abbrev pub within : ℕ → Position → Position
 within columns place = record place { col = min place.col (columns - 1) }
 
--- prompt, line and what stands behind it are shown from a row on, and nothing else there, and the cursor is at a place
+-- prompt, line and what stands after it are shown from a row on, and nothing else there, and the cursor is at a place
 pub record IsShown (columns base : ℕ) (prompt text : List ℕ) (behind : Option (List ℕ)) (cursor : Position) (t : Terminal) : Type 0 where
   pub page : Page
   pub shows : Shows columns t page
@@ -80,7 +80,7 @@ TellsKnown contents columns whole end out kept =
 abbrev pub known_screen : ℕ → Bool → Position → Screen → Screen
 known_screen columns whole end kept = record kept { known = is_known columns whole end kept }
 
--- the first cell of a cluster of so many columns that comes at a place: on the next row, where it does not fit
+-- the first cell of a cluster of so many columns that is put down at a place: on the next row, where it does not fit
 abbrev pub first_cell : ℕ → ℕ → Position → Position
 first_cell columns width place = if nat_le (place.col + width) columns then place else start_below place
 

@@ -33,7 +33,7 @@ use std::io::Write;
 use std::mem;
 
 /// A terminal that understands the usual control sequences, drawn by writing to `O`. What is to be shown is kept as `Plain`
-/// keeps it, with its measure; each call writes what changes, in one piece, and flushes it. Behind a text that fills a row
+/// keeps it, with its measure; each call writes what changes, in one piece, and flushes it. After a text that fills a row
 /// exactly, by a layout of its own, a new row is begun, so that the cursor does not wait at a row's end between two calls.
 #[derive(Drop)]
 pub struct Ansi<O: Write + Drop, R: RawReader> {

@@ -41,7 +41,7 @@ fn push_chars(bytes: &mut String, text: &str) -> Result<()>
     Ok(())
 }
 
-/// Appends a text with colors as it is drawn, and leaves no color on behind it.
+/// Appends a text with colors as it is drawn, and leaves no color on after it.
 pub(crate) fn push_colored(bytes: &mut String, text: &str) -> Result<()>
     ensures appends { OnOk result
         (string_bytes bytes.new ≡ string_bytes bytes.old ++ colored text.now) }
@@ -72,7 +72,7 @@ fn push_color_chars(bytes: &mut String, text: &str) -> Result<()>
     Ok(())
 }
 
-/// Appends a character of a text with colors, and returns how many of those behind it pass with it.
+/// Appends a character of a text with colors, and returns how many of those after it pass with it.
 fn push_first(bytes: &mut String, c: char, behind: &str) -> Result<usize>
     ensures appends { let below = begins_below (uncolored_from 0 (chars behind.now)) in
         IfOk result (λ n. string_bytes bytes.new ≡ string_bytes bytes.old
@@ -89,7 +89,7 @@ fn push_first(bytes: &mut String, c: char, behind: &str) -> Result<usize>
     Ok(passing)
 }
 
-/// Returns how many of the characters behind one pass with it: those of a color sequence.
+/// Returns how many of the characters after one pass with it: those of a color sequence.
 fn passing_behind(c: char, behind: &str) -> usize
     ensures { result ≡ passing_behind c (chars behind.now) }
 {
@@ -151,7 +151,7 @@ fn begins_below(text: &str) -> bool
     text.chars().next() == Some('\n')
 }
 
-/// Returns whether a newline stands in front, behind color sequences.
+/// Returns whether a newline stands in front, after color sequences.
 fn begins_below_colors(text: &str) -> bool
     ensures { result ≡ begins_below (uncolored_from 0 (chars text.now)) }
 {

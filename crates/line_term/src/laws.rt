@@ -6,22 +6,22 @@ ghost use Rattle.line_term.specs.Laws.{MovesArrive, OthersStay, PartsShow, Redra
 use line_config::Prompt;
 use line_parts::Highlighter;
 
-/// However bytes are cut into pieces, the same items come, and the same has begun.
+/// However bytes are cut into pieces, they stand for the same items, and the same has begun.
 pub fn comes_in_pieces()
     ensures { ComesInPieces }
 {}
 
-/// The UTF-8 of a text without Esc gives the key of each of its characters.
+/// The UTF-8 of a text without Esc stands for the key of each of its characters.
 pub fn text_is_typed()
     ensures { TextIsTyped }
 {}
 
-/// A pasted text without Esc comes whole, cleaned of carriage returns and control characters.
+/// A pasted text without Esc is handed over whole, cleaned of carriage returns and control characters.
 pub fn paste_comes_whole()
     ensures { PasteComesWhole }
 {}
 
-/// Each row of the tables of sequences gives its key, with each of its modifiers.
+/// Each row of the tables of sequences stands for its key, with each of its modifiers.
 pub fn rows_are_keys()
     ensures { RowsAreKeys }
 {}
@@ -31,7 +31,7 @@ pub fn sequences_never_type()
     ensures { SequencesNeverType }
 {}
 
-/// A control string and a report of the mouse give nothing, as long as they go on.
+/// A control string and a report of the mouse stand for no item, as long as they go on.
 pub fn texts_are_silent()
     ensures { TextsAreSilent }
 {}
@@ -41,7 +41,7 @@ pub fn escapes_are_kept()
     ensures { EscapesAreKept }
 {}
 
-/// A pasted text gives no key, and no control characters but newlines and tabs.
+/// A pasted text stands for no key, and has no control characters but newlines and tabs.
 pub fn pastes_give_no_key()
     ensures { PastesGiveNoKey }
 {}
@@ -72,7 +72,7 @@ pub fn others_stay()
     ensures { OthersStay }
 {}
 
-/// After a full redraw, of which a highlighter changes colors alone, a terminal shows prompt, line and the text behind it, nothing
+/// After a full redraw, of which a highlighter changes colors alone, a terminal shows prompt, line and the text after it, nothing
 /// else from the prompt's row on, and its cursor is in its place. The rows begin where those of the drawing before did, and where there
 /// was none in the cursor's row.
 pub fn redraws_show<P: Prompt, H: Highlighter>()
@@ -84,7 +84,7 @@ pub fn terminals_stay_ready<P: Prompt, H: Highlighter>()
     ensures { TerminalsStayReady P.Prompt H.Highlighter }
 {}
 
-/// A text that is put down shows each cluster where the clusters before it are measured to end, and nothing behind its own end.
+/// A text that is put down shows each cluster where the clusters before it are measured to end, and nothing after its own end.
 pub fn texts_are_shown()
     ensures { TextsAreShown }
 {}

@@ -59,7 +59,7 @@ pub(crate) fn push_line<H: Highlighter>(
     }
 }
 
-/// Appends a text behind the line, if there is one: that text, or how a highlighter shows it.
+/// Appends a text after the line, if there is one: that text, or how a highlighter shows it.
 pub(crate) fn push_behind<H: Highlighter>(
     bytes: &mut String,
     alloc: Global,

@@ -1,4 +1,4 @@
-//! An editor on a bench: parties that write down what they are asked, and can fail.
+//! An editor on a bench: a helper, a history and others that write down what they are asked, and can fail.
 
 use crate::report::{Row, Seen, looks_at};
 use crate::setup::{Failing, Setup, keys_named};
@@ -70,7 +70,7 @@ impl Bench {
         Ok(())
     }
 
-    /// Makes the editor of the line that the settings give, and does what a row says.
+    /// Makes the editor of the line of the settings, and does what a row says.
     fn makes(
         &mut self,
         alloc: Global,
@@ -297,7 +297,7 @@ impl Bench {
     }
 }
 
-/// Adds to a text the line that the settings give. Returns its cursor, None where it is no line.
+/// Adds to a text the line of the settings. Returns its cursor, None where it is no line.
 fn fill(alloc: Global, setup: &Setup<'_>, text: &mut String) -> Result<Option<usize>> {
     let (before, behind) = setup.line;
     let (Some(before), Some(behind)) = (unescape(alloc, before)?, unescape(alloc, behind)?) else {
@@ -308,7 +308,7 @@ fn fill(alloc: Global, setup: &Setup<'_>, text: &mut String) -> Result<Option<us
     Ok(Some(before.len()))
 }
 
-/// The prompt that the settings give, and its form with styles.
+/// The prompt of the settings, and its form with styles.
 fn prompt_of(alloc: Global, setup: &Setup<'_>) -> Result<(String, String)> {
     let raw = setup.parsed.prompt.as_str();
     let styled = setup.styled.unwrap_or(raw);
@@ -326,7 +326,7 @@ fn helper_of(setup: &Setup<'_>) -> Advisor {
     helper
 }
 
-/// A screen of the columns that the settings give, which fails as they say.
+/// A screen of the columns of the settings, which fails as they say.
 fn screen_of(alloc: Global, setup: &Setup<'_>) -> Recorder {
     let columns = setup.screen.unwrap_or(1).max(1);
     let Failing { call, by_its_own } = setup.failing[0];
@@ -338,7 +338,7 @@ fn screen_of(alloc: Global, setup: &Setup<'_>) -> Recorder {
     screen
 }
 
-/// A history of the lines that the settings give, which fails as they say.
+/// A history of the lines of the settings, which fails as they say.
 fn shelved(alloc: Global, setup: &Setup<'_>) -> Result<Shelf> {
     let Failing { call, by_its_own } = setup.failing[2];
     let mut history = Shelf::new(alloc, call);
@@ -395,7 +395,7 @@ fn keys_of(alloc: Global, items: &[(usize, &str)]) -> Result<Option<Vec<KeyEvent
     Ok(Some(keys))
 }
 
-/// The keys that the lines of a row type and then those of a phrase, behind the number of the first ones. None where a line
+/// The keys that the lines of a row type and then those of a phrase, after the number of the first ones. None where a line
 /// or a name is of another kind.
 fn phrase_of(alloc: Global, row: &Row<'_>, names: &str) -> Result<Option<(usize, Vec<KeyEvent>)>> {
     let Some(mut keys) = keys_of(alloc, row.items.as_slice())? else {

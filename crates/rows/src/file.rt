@@ -48,7 +48,7 @@ enum Ending {
     Help,
 }
 
-/// What comes of a case.
+/// How a case ends.
 #[derive(Clone, Copy)]
 enum Tried {
     Same,
@@ -90,7 +90,7 @@ fn play_file<R: Read + Drop, O: Write>(alloc: Global, mut input: R, out: &mut O)
     Ok(ending)
 }
 
-/// What the lines of a file give: the name, the settings and the ways of the cases that follow, and the lines of the case
+/// What the lines of a file say: the name, the settings and the ways of the cases that follow, and the lines of the case
 /// that is begun.
 #[derive(Drop)]
 struct Begun<'t> {
@@ -146,7 +146,7 @@ fn read_rows<O: Write>(alloc: Global, text: &str, out: &mut O) -> Result<Ending>
 }
 
 impl<'t> Begun<'t> {
-    /// Adds what a line gives.
+    /// Adds what a line says.
     fn adds(&mut self, alloc: Global, number: usize, line: &'t str) -> Result<()> {
         if line.is_empty() || line.starts_with("## ") {
             return Ok(());
@@ -169,7 +169,7 @@ impl<'t> Begun<'t> {
     }
 }
 
-/// The case of this name that lines give.
+/// The case of this name, of these lines.
 fn row_of<'t>(alloc: Global, name: &'t str, lines: &[(usize, &'t str)]) -> Result<Row<'t>> {
     let mut row = Row {
         name,
@@ -235,7 +235,7 @@ fn tries_way<O: Write>(
     tallies(alloc, begun, &row, tally, out)
 }
 
-/// The name of a case and, behind it, its lines as they are in one way.
+/// The name of a case and, after it, its lines as they are in one way.
 fn filled(alloc: Global, begun: &Begun<'_>, way: &str) -> Result<String> {
     let mut text = String::from_str(alloc, begun.name)?;
     text.push('\n')?;
@@ -264,7 +264,7 @@ fn fill(text: &mut String, line: &str, way: &str) -> Result<()> {
     Ok(())
 }
 
-/// Adds the names of the keys of a count, with a blank behind each.
+/// Adds the names of the keys of a count, with a blank after each.
 fn types_count(text: &mut String, count: &str) -> Result<()> {
     for digit in count.chars() {
         if digit != '-' {
@@ -392,7 +392,7 @@ fn sets_up<'t>(
     Ok(None)
 }
 
-/// Tries a case with what its settings gave.
+/// Tries a case with what its settings say.
 fn tries_set_up<O: Write>(
     alloc: Global,
     setup: &mut Setup<'_>,

@@ -1,4 +1,4 @@
-//! What is seen of an editor behind a row, and how it is compared with what the row wants.
+//! What is seen of an editor after a row, and how it is compared with what the row wants.
 
 use line_buffer::Movement;
 use line_config::{ReadlineError, Result};
@@ -26,7 +26,7 @@ pub struct Row<'t> {
 }
 
 impl<'t> Row<'t> {
-    /// The line of this place, with its number; behind the last one stands `run`.
+    /// The line of this place, with its number; after the last one stands `run`.
     pub fn step(&self, place: usize) -> (usize, &'t str) {
         match self.items.get(place) {
             Some(item) => *item,
@@ -44,7 +44,7 @@ pub struct Seen {
     says: String,
     /// The command that was read last.
     reads: String,
-    /// The command that x stands for behind it.
+    /// The command that x stands for after it.
     next: String,
     /// The mode that x was read in.
     mode: &'static str,
@@ -98,7 +98,7 @@ impl Seen {
         Ok("proceeds")
     }
 
-    /// A read ended so: with `left` 0 it was one of the key x behind the phrase, with 1 of the whole phrase, and with more of a
+    /// A read ended so: with `left` 0 it was one of the key x after the phrase, with 1 of the whole phrase, and with more of a
     /// phrase that is cut short, which is to end for want of keys.
     pub fn reads(&mut self, alloc: Global, left: usize, outcome: Result<Cmd>) -> Result<()> {
         match left {
@@ -116,7 +116,7 @@ impl Seen {
         }
     }
 
-    /// The key x stands for a command, which tells the mode.
+    /// The key x stands for a command, which shows the mode.
     fn stands_for(&mut self, alloc: Global, outcome: Result<Cmd>) -> Result<()> {
         let command = match outcome {
             Ok(command) => command,
@@ -168,7 +168,7 @@ pub fn looks_at(
     Ok(())
 }
 
-/// Writes down the style, what the error says, what was read, the mode, and the last insert.
+/// Writes down the edit mode, what the error says, what was read, the mode, and the last insert.
 fn looks_at_rest(
     state: &Editor<'_, '_>,
     input: &InputState<'_>,
@@ -320,7 +320,7 @@ fn is_seen(seen: &str, field: &str) -> bool {
     false
 }
 
-/// The value that came of the kind that a field is of.
+/// The value that was seen, of the kind that a field is of.
 fn came<'s>(seen: &'s str, field: &str) -> &'s str {
     let kind = field.split(' ').next().unwrap_or("");
     for line in seen.split('\n') {
@@ -331,7 +331,7 @@ fn came<'s>(seen: &'s str, field: &str) -> &'s str {
     seen.split('\n').next().unwrap_or("")
 }
 
-/// The first call of the renderer that is another than a row names, where it names any: what is wanted, and what came.
+/// The first call of the renderer that is another than a row names, where it names any: what is wanted, and what was called.
 fn log_difference<'w, 's>(log: &[&'w str], seen: &'s str) -> Option<(&'w str, &'s str)> {
     if log.is_empty() {
         return None;
@@ -349,7 +349,7 @@ fn log_difference<'w, 's>(log: &[&'w str], seen: &'s str) -> Option<(&'w str, &'
     Some((*log.get(count)?, "no more calls"))
 }
 
-/// Prints a value that differs, behind the row's name where it is the first.
+/// Prints a value that differs, after the row's name where it is the first.
 fn shows<O: Write>(
     row: &Row<'_>,
     before: bool,

@@ -12,7 +12,7 @@ use tests_parties::advisor::{Tip, Verdict};
 use tests_steps::source::Source;
 use tests_steps::watcher::Watcher;
 
-/// Which call of a party fails, from 1 on, or 0 for none, and whether it fails by an error of its own.
+/// Which call of one of those who are asked fails, from 1 on, or 0 for none, and whether it fails by an error of its own.
 #[derive(Clone, Copy)]
 pub struct Failing {
     pub call: u64,
@@ -24,7 +24,7 @@ const NEVER: Failing = Failing {
     by_its_own: false,
 };
 
-/// What a row's settings give.
+/// What a row's settings say.
 #[derive(Drop)]
 pub struct Setup<'t> {
     /// The settings that scripts have.
@@ -47,16 +47,16 @@ pub struct Setup<'t> {
     pub failing: [Failing; 4],
     /// The slots of the kill ring.
     pub kill_ring_size: usize,
-    /// Whether keys are also given one by one.
+    /// Whether keys are also handed over one by one.
     pub both_ways: bool,
-    /// The line that the editor is made of: the text before its cursor, and the text behind it.
+    /// The line that the editor is made of: the text before its cursor, and the text after it.
     pub line: (&'t str, &'t str),
     /// What keys are bound to.
     pub bound: Vec<(Event, Target)>,
 }
 
 impl<'t> Setup<'t> {
-    /// What no setting gives.
+    /// What holds without a setting.
     pub fn new(alloc: Global) -> Result<Setup<'t>> {
         Ok(Setup {
             parsed: Parsed::new(alloc)?,
@@ -75,7 +75,7 @@ impl<'t> Setup<'t> {
         })
     }
 
-    /// Adds what a setting gives. Returns false where there is no such setting.
+    /// Adds what a setting says. Returns false where there is no such setting.
     pub fn push(&mut self, alloc: Global, line: &'t str) -> Result<bool> {
         if self.switch(line) {
             return Ok(true);
@@ -96,7 +96,7 @@ impl<'t> Setup<'t> {
         }
     }
 
-    /// Binds the keys of these names to what stands behind them. False where the text is of no such form.
+    /// Binds the keys of these names to what stands after them. False where the text is of no such form.
     fn binds(&mut self, alloc: Global, text: &str) -> Result<bool> {
         let Some((names, target)) = text.split_once(" = ") else {
             return Ok(false);
@@ -176,7 +176,7 @@ impl<'t> Setup<'t> {
         true
     }
 
-    /// Takes which call of a party fails.
+    /// Takes which call of one of those who are asked fails.
     fn set_failing(&mut self, text: &str, by_its_own: bool) -> bool {
         let Some((party, number)) = text.split_once(' ') else {
             return false;
@@ -203,7 +203,7 @@ pub enum Target {
     Asks(Box<Watcher>),
 }
 
-/// The command of a text, or the handler behind `asks`.
+/// The command of a text, or the handler after `asks`.
 fn target_named(alloc: Global, text: &str) -> Result<Option<Target>> {
     if let Some(handler) = text.strip_prefix("asks ") {
         return Ok(match watcher(handler) {
@@ -234,7 +234,7 @@ fn lasting(alloc: Global, text: &str) -> Result<&'static str> {
     Ok(str::from_utf8(bytes.leak()).unwrap_or(""))
 }
 
-/// A hint that displays a text, and completes the line with it; with another one behind ` -> `; or with none behind ` !`.
+/// A hint that displays a text, and completes the line with it; with another one after ` -> `; or with none after ` !`.
 fn tip(text: &'static str) -> Tip {
     if let Some((shown, completion)) = text.split_once(" -> ") {
         return Tip(shown, Some(completion));

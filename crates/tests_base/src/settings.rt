@@ -230,7 +230,7 @@ fn colors_and_timeouts(rt: HostRuntime) {
             .color_mode(*value);
         holds(&rt, found == *shown, "color", index);
     }
-    // the style sets the timeout
+    // the edit mode sets the timeout
     let before = Config::builder(GraphemeClusterMode::Unicode)
         .keyseq_timeout(Some(7))
         .edit_mode(EditMode::Vi)

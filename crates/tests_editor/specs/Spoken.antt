@@ -50,7 +50,7 @@ blank = empty_draft 0
 abbrev pub changed_by_entries : List Entry → Draft
 changed_by_entries entries = record blank { changes = record { entries = entries; open_groups = 0 } }
 
--- the keys are a phrase: its command, and what is remembered behind it
+-- the keys are a phrase: its command, and what is remembered after it
 abbrev pub Comes : Keymap → Draft → Input → List KeyEvent → Commands.Command → Input → Type 0
 Comes keymap draft input typed command left = (environment : Environment) → (read : Read)
     × Phrase keymap environment draft input (map key typed) read × (read.command ≡ command) × (read.input ≡ left)
@@ -63,12 +63,12 @@ InCommandMode = Comes nothing_bound blank commanding
 abbrev pub InInsertMode : List KeyEvent → Commands.Command → Input → Type 0
 InInsertMode = Comes nothing_bound blank inserting
 
--- what 2 and the dot come to on an empty line, behind this last change
+-- what 2 and the dot lead to on an empty line, after this last change
 abbrev pub TwiceAgain : Commands.Command → Commands.Command → Type 0
 TwiceAgain change again = Comes nothing_bound blank (vi Command (Some change) None)
     (typed (50 ∷ 46 ∷ [])) again (vi Command (Some again) None)
 
--- what they come to where this text came in last
+-- what they lead to where this text came in last
 abbrev pub TwiceAgainBehind : List ℕ → Commands.Command → Commands.Command → Type 0
 TwiceAgainBehind text change again =
     Comes nothing_bound (changed_by_entries (inserted 0 text ∷ [])) (vi Command (Some change) None)

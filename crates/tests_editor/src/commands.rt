@@ -1,4 +1,4 @@
-//! Commands and calls of the state, executed one after another: where an allocation is refused, on long lines and
+//! Commands and calls of the edit state, executed one after another: where an allocation is refused, on long lines and
 //! histories, and on the last row; and what `Debug` writes.
 
 use line_buffer::{GraphemeClusterMode, KillRing, Unit};
@@ -42,7 +42,7 @@ fn does(
     Ok(())
 }
 
-/// The columns, what is typed behind a prompt that ends on the last row there is, the calls of the renderer, and the column
+/// The columns, what is typed after a prompt that ends on the last row there is, the calls of the renderer, and the column
 /// that it leads to.
 type Last = (Unit, &'static str, &'static str, Unit);
 

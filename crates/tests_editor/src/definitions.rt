@@ -50,7 +50,7 @@ pub fn which_keys_a_count_has()
     // In Vi's command mode 0 begins no count, and goes on with one.
     ensures zero_begins { begins_count styles.Vi modes.Command (event (Char 48) NONE) ≡ false }
     ensures zero_goes_on { continues_count styles.Vi (event (Char 48) NONE) ≡ true }
-    // Behind M-5 the key 3 is one of the count, and Enter ends it.
+    // After M-5 the key 3 is one of the count, and Enter ends it.
     ensures enter { is_count_before styles.Emacs modes.Insert (event (Char 53) ALT ∷ [])
         (event Enter NONE) ≡ true }
     ensures digit { is_count_before styles.Emacs modes.Insert (event (Char 53) ALT ∷ [])

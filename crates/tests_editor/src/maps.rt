@@ -1,4 +1,4 @@
-//! Bindings as a map, and sequences of keys that share their beginnings. Run with any one allocation refused,
+//! Bindings as a map, and key sequences that share their beginnings. Run with any one allocation refused,
 //! `forty_keys_are_bound_or_none` passes: it looks at what is left, or the refusal came before the call.
 
 mod pairs;
@@ -19,7 +19,7 @@ use std::test::Fail;
 enum On {
     Each,
     Mouse,
-    /// Keys one after another: those that a text writes, where a letter x stands for that letter with Ctrl; and behind
+    /// Keys one after another: those that a text writes, where a letter x stands for that letter with Ctrl; and after
     /// them so many of 500 different keys, from the one of a number on. The next 500 are these again.
     Keys(&'static str, usize, usize),
 }
@@ -147,7 +147,7 @@ fn events_are_bound_and_found(rt: HostRuntime) {
     }
 }
 
-/// Each of the 500 keys behind others, bound to a number of its own.
+/// Each of the 500 keys after others, bound to a number of its own.
 #[test]
 fn five_hundred_keys_share_a_node(rt: HostRuntime) {
     for front in ["", "X"] {

@@ -23,9 +23,9 @@ ghost use Rattle.line_keys.specs.declared.keys.KeyEvent.{KeyEvent};
 ghost use Rattle.line_keys.specs.declared.keys.TheConstants.Modifiers.{ALT, CTRL, NONE};
 ghost use Rattle.line_parts.specs.Environment.{Environment};
 
-/// What is read behind a key that searches.
+/// What is read after a key that searches.
 pub fn keys_behind_a_search()
-    // Behind a key that searches with the count 2, the key b gives the move to the second b.
+    // After a key that searches with the count 2, the key b gives the move to the second b.
     ensures plain_key { (s : Sequences) (environment : Environment) (draft : Draft) (last : KeyEvent) →
         Tailed s environment draft (first_input Emacs) last (searches 2 (λ c. Forward c))
         (key (event (Char 98) NONE) ∷ []) (record {
@@ -34,7 +34,7 @@ pub fn keys_behind_a_search()
           input = record (first_input Emacs) { last_search = Some (Forward 98) };
           shown = kept ∷ [];
         }) }
-    // Behind a key that searches with the count 2, Enter is read too, and stands for nothing.
+    // After a key that searches with the count 2, Enter is read too, and stands for nothing.
     ensures other_key { (s : Sequences) (environment : Environment) (draft : Draft) (last : KeyEvent) →
         Tailed s environment draft (first_input Emacs) last (searches 2 (λ c. Forward c))
         (key (event Enter NONE) ∷ []) (record {
@@ -205,7 +205,7 @@ pub fn what_a_key_stands_for()
       bound = (each_key, answers (Some noop)) ∷ (keys (event (F 2) NONE ∷ []), answers None) ∷ [];
       own = λ typed. None;
     }) (empty_draft 0) (first_input Emacs) None (event (F 2) NONE) ≡ None }
-    // Where C-X, a is bound, one more key is read behind C-X, and none behind C-X, b; C-X alone has no handler.
+    // Where C-X, a is bound, one more key is read after C-X, and none after C-X, b; C-X alone has no handler.
     ensures beginning_of_sequence { let begin = event (Char 88) CTRL in
         let bound = (keys (begin ∷ event (Char 97) NONE ∷ []), answers (Some noop)) ∷ [] in
         (leads_on bound (begin ∷ []) ≡ true)

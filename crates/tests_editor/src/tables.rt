@@ -19,14 +19,14 @@ use tests_parties::advisor::Advisor;
 use tests_stand_ins::recorder::Recorder;
 use tests_stand_ins::typist::Typist;
 
-/// A line, its cursor, and the hint behind it.
+/// A line, its cursor, and the hint after it.
 type Line = (&'static str, usize, Option<&'static str>);
 
 /// How a key is tried.
 enum Way {
     /// It is looked up in the tables, and typed.
     Alone,
-    /// It is looked up as a second key, and typed behind Ctrl-X.
+    /// It is looked up as a second key, and typed after Ctrl-X.
     Second,
     /// It is typed before é.
     Search,
@@ -91,7 +91,7 @@ fn meant(
     outcome.expect(rt, "no fault")
 }
 
-/// The command of a key where it is typed behind the keys of a count.
+/// The command of a key where it is typed after the keys of a count.
 fn commanded(
     rt: &impl Abort,
     alloc: Global,

@@ -26,7 +26,7 @@ pub fn counts_and_operators()
     ensures saturated { let killed = kill (ForwardChar 65535) in
         let keys = typed (49 ∷ 50 ∷ 51 ∷ 52 ∷ 53 ∷ 100 ∷ 57 ∷ 57 ∷ 57 ∷ 57 ∷ 108 ∷ []) in
         InCommandMode keys killed (vi Command (Some killed) None) }
-    // 3dd kills one line. Behind a count of its own d is no motion, and neither is c behind d.
+    // 3dd kills one line. After a count of its own d is no motion, and neither is c after d.
     ensures whole { let left = vi Command (Some (kill WholeLine)) None in
         InCommandMode (typed (51 ∷ 100 ∷ 100 ∷ [])) (kill WholeLine) left }
     ensures counted { InCommandMode (typed (100 ∷ 50 ∷ 100 ∷ [])) unknown commanding }
@@ -44,7 +44,7 @@ pub fn counts_and_operators()
 
 /// Searches for a character.
 pub fn searches()
-    // A search is kept where a plain character is read, also behind an operator; any other key leaves the one before.
+    // A search is kept where a plain character is read, also after an operator; any other key leaves the one before.
     ensures moved { let left = vi Command None (Some (Forward 120)) in
         InCommandMode (typed (102 ∷ 120 ∷ [])) (move (ViCharSearch 1 (Forward 120))) left }
     ensures killed { let killed = kill (ViCharSearch 2 (ForwardBefore 120)) in
@@ -79,8 +79,8 @@ pub fn the_last_change_again()
     ensures yanked { TwiceAgain (yank 1 After) (yank 2 After) }
     ensures replaced { TwiceAgain (replace_char 1 120) (replace_char 2 120) }
     ensures without_count { TwiceAgain (indent WholeLine) (indent WholeLine) }
-    // The text that came in last takes the place of what a replacement covers, and of a typed character. What was typed
-    // over the line covers as much again as it has bytes, whatever the count.
+    // The text that was inserted last takes the place of what a replacement covers, and of a typed character. What was
+    // typed over the line covers as much again as it has bytes, whatever the count.
     ensures replaced_by_text { let text = 120 ∷ 121 ∷ 122 ∷ [] in TwiceAgainBehind text
         (replace (ForwardChar 1) None) (replace (ForwardChar 2) (Some text)) }
     ensures typed_over { let text = 120 ∷ 121 ∷ 122 ∷ [] in TwiceAgainBehind text
@@ -92,7 +92,7 @@ pub fn the_last_change_again()
 
 /// Keys with Alt in insert mode.
 pub fn alt_in_insert_mode()
-    // Behind Alt in insert mode a phrase of command mode is read, in which 0 is no count.
+    // After Alt in insert mode a phrase of command mode is read, in which 0 is no count.
     ensures zero { InInsertMode (with_alt 48 ∷ []) (move BeginningOfLine) commanding }
     ensures killed { let killed = kill (ForwardWord 1 Start words.Vi) in
         InInsertMode (with_alt 100 ∷ typed (119 ∷ [])) killed (vi Command (Some killed) None) }
@@ -112,7 +112,7 @@ pub fn alt_in_insert_mode()
 {}
 
 /// What becomes the last change: in command mode each change that can be done again; in the others not a character that
-/// is typed behind a replacement or a typed one.
+/// is typed after a replacement or a typed one.
 pub fn what_becomes_the_last_change()
     ensures command_mode { let last = Some (kill WholeLine) in
         becomes_change Command last (self_insert 1 120) ≡ true }
@@ -130,7 +130,7 @@ pub fn what_becomes_the_last_change()
     ensures typed_over { becomes_change Replace None (overwrite 120) ≡ false }
 {}
 
-/// The key i begins a group of changes, Esc ends it, and Alt ends it before the phrase behind it is read.
+/// The key i begins a group of changes, Esc ends it, and Alt ends it before its own phrase is read.
 pub fn groups_of_insertions()
     ensures begun { LeavesDraft nothing_bound blank commanding (typed (105 ∷ [])) (in_group blank) }
     ensures ended { let draft = in_group blank in

@@ -41,7 +41,7 @@ impl Hint for Tip {
 }
 
 /// A helper: its answers, which are the same for each line, and what it was asked. It asks for a full drawing of one kind
-/// alone, shows for each line what it was asked last, and one of its hints and verdicts can fail.
+/// alone, shows for each line what it was asked last, and one of its hints and validation results can fail.
 #[derive(Drop)]
 pub struct Advisor {
     hint: Option<Tip>,
@@ -75,7 +75,7 @@ impl Advisor {
         }
     }
 
-    /// Its hint or verdict of the number `failing`, from 1 on, fails; none does where that is 0.
+    /// Its hint or validation result of the number `failing`, from 1 on, fails; none does where that is 0.
     pub fn fail_at(&mut self, failing: u64) {
         self.fail_by(failing, USUAL);
     }

@@ -1,4 +1,4 @@
-//! A count of the calls that a party gets, one of which fails.
+//! A count of the calls that a helper or a history gets, one of which fails.
 ghost use Rattle.line_config.specs.Error.{FaultsOnly};
 
 use crate::fault::{Fault, USUAL};

@@ -1,4 +1,4 @@
-//! The errors of input and output that parties answer, and how an answer is known to be one of them.
+//! The errors of input and output of those who are asked, and how an answer is known to be one.
 ghost use Rattle.std.specs.Prelude.{IsErr};
 ghost use Rattle.line_config.specs.Error.{FaultsOnly};
 
@@ -13,7 +13,7 @@ pub struct Fault {
     pub text: &'static str,
 }
 
-/// The fault of a party that was told of no other.
+/// The fault of a helper or a history that has no other.
 pub const USUAL: Fault = Fault {
     kind: ErrorKind::Other,
     text: "a party failed",
@@ -31,10 +31,10 @@ pub const CUT: Fault = Fault {
     text: "the answer broke off",
 };
 
-/// What a party says that does not answer.
+/// What one says that does not answer.
 pub const ASLEEP_TEXT: &str = "the party is asleep";
 
-/// The fault of a party that does not answer.
+/// The fault of one that does not answer.
 pub const ASLEEP: Fault = Fault {
     kind: ErrorKind::PermissionDenied,
     text: ASLEEP_TEXT,
@@ -49,7 +49,7 @@ impl Fault {
         Error::new(self.kind, self.text)
     }
 
-    /// The answer of a party that fails by it.
+    /// The answer of one that fails by it.
     pub fn answer<T>(self) -> Result<T>
         ensures faults { FaultsOnly result }
         ensures err { IsErr result }

@@ -1,4 +1,4 @@
-//! Brackets: the verdicts on them, and what the highlighter remembers, forgets and shows.
+//! Brackets: their validation results, and what the highlighter remembers, forgets and shows.
 
 use crate::ready::{Asked, Case, is_text};
 use line_config::ReadlineError;

@@ -106,7 +106,7 @@ pub(super) const CASES: &[Case<'_>] = &[
     (r"a\\ b", Asked::Word(5, Some('\\'), 2, r"\ b")),
     (r"\\\ b", Asked::Word(5, Some('\\'), 0, r"\\\ b")),
     (r"a\\\\ b", Asked::Word(7, Some('\\'), 2, r"\\\ b")),
-    // A quote behind an escape, and one that is not.
+    // A quote after an escape, and one that is not.
     (r#"a\"b"#, Asked::Word(4, Some('\\'), 0, r#"a\"b"#)),
     (r#"a"b"#, Asked::Word(3, Some('\\'), 2, "b")),
     // No escape character, and one that breaks no words.

@@ -75,7 +75,7 @@ impl Lister for Folder {
     }
 }
 
-/// The folder of this path; a comma stands between its names, and a slash behind those of folders.
+/// The folder of this path; a comma stands between its names, and a slash after those of folders.
 fn folder_of(
     alloc: Global,
     (path, names): (&str, &str),
@@ -179,7 +179,7 @@ pub(super) const NAMES: &str = "Users/,User Information/,lib.rs,é$a\"b";
 const BREAK_NAME: &str = " \t\n\"\\'`@$><=;|&{(\0x";
 
 pub(super) const CASES: &[Case<'_>] = &[
-    // The names that start so, escaped, and a slash behind a folder.
+    // The names that start so, escaped, and a slash after a folder.
     (
         "ls User",
         Asked::Path(
@@ -270,7 +270,7 @@ pub(super) const CASES: &[Case<'_>] = &[
             " \t\n\"\\'`@$><=;|&{(\0x →  \t\n\\\"\\\\'\\`@\\$><=;|&{(\0x",
         ),
     ),
-    // Single quotes know no escape, so these are closed; an escaped backslash does not escape the quote behind it.
+    // Single quotes know no escape, so these are closed; an escaped backslash does not escape the quote after it.
     (
         "'a\\' Us",
         Asked::Path(
@@ -323,7 +323,7 @@ pub(super) const CASES: &[Case<'_>] = &[
         "\"a\\ b/l",
         Asked::Path(7, "a b/", NAMES, 1, "lib.rs → a b/lib.rs"),
     ),
-    // The folder is cut off behind the last slash.
+    // The folder is cut off after the last slash.
     (
         "ls a/b/li",
         Asked::Path(9, "a/b/", NAMES, 3, "lib.rs → a/b/lib.rs"),
@@ -332,7 +332,7 @@ pub(super) const CASES: &[Case<'_>] = &[
     ("ls \"x", Asked::Path(5, "other/", NAMES, 4, "")),
     // Going back, the blank is passed together with the backslash before it, whatever stands before that.
     ("ls a\\\\ b", Asked::Path(8, "", " bc", 5, " bc → \\ bc")),
-    // What stands behind the cursor does not matter. A lone backslash at the end breaks the word, and goes in double quotes.
+    // What stands after the cursor does not matter. A lone backslash at the end breaks the word, and goes in double quotes.
     (
         "ls lib \"x",
         Asked::Path(6, "", NAMES, 3, "lib.rs → lib.rs"),

@@ -20,7 +20,7 @@ use tests_parties::fault::Fault;
 /// Lines that a table names.
 #[derive(Clone, Copy)]
 enum Lines {
-    /// These, with a bar behind each, which the last need not have.
+    /// These, with a bar after each, which the last need not have.
     These(&'static str),
     /// The lines `n0.`, `n1.` and so on, from one number up to another.
     Numbered(usize, usize),
@@ -28,14 +28,14 @@ enum Lines {
     Short(usize, usize),
     /// A short line without a carriage return at its end. None is left of that character alone.
     Cut(usize),
-    /// A text that is built of these pieces, with a bar behind each line.
+    /// A text that is built of these pieces, with a bar after each line.
     Pieces(&'static str),
 }
 
 /// The characters that a text of a history writes in ways of their own.
 const CHARACTERS: [char; 7] = ['a', '\\', '\n', '\r', 'n', 'r', '#'];
 
-/// Puts a short line behind a text.
+/// Puts a short line after a text.
 fn push_short(rt: &impl Abort, text: &mut String, number: usize) {
     let mut rest = number;
     for _ in 0..3 {
@@ -59,7 +59,7 @@ pub(super) fn built(rt: &impl Abort, alloc: Global, pieces: &str) -> String {
     text
 }
 
-/// The lines, each with a bar behind it.
+/// The lines, each with a bar after it.
 fn lines_of(rt: &impl Abort, alloc: Global, lines: Lines) -> String {
     let mut text = String::new(alloc);
     match lines {

@@ -12,7 +12,7 @@ use tests_parties::fault::GONE;
 /// What is asked about a long text; where the answer is a text, that stands beside it.
 #[derive(Clone, Copy)]
 enum Long {
-    /// The name of the verdict on its brackets, and its message.
+    /// The name of the validation result for its brackets, and its message.
     Verdict(&'static str, &'static str),
     /// How it is shown: with the cursor there, a bracket is remembered.
     Match(usize),
@@ -20,7 +20,7 @@ enum Long {
     Escaped(Quote, bool),
     /// The word before a cursor, which begins there.
     Word(usize, usize),
-    /// What two words begin with that go on in two ways behind it.
+    /// What two words begin with that go on in two ways after it.
     Alike,
     /// The hint at so many bytes of it, which is its rest.
     Hint(usize),
@@ -30,7 +30,7 @@ enum Long {
     Paired,
     /// That a text comes in place of it when it is elected: so many bytes, and so many then.
     Put(usize, usize),
-    /// That a helper's answers are those of the parties.
+    /// That a helper's answers are those that an editor gets.
     Helped,
     /// That it is the path of a folder, of which another text is a name.
     Path,

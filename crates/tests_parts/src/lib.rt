@@ -23,7 +23,7 @@ mod ready;
 #[cfg(test)]
 mod values;
 
-/// It holds; where it does not, the test fails and tells this name and number.
+/// It holds; where it does not, the test fails with this name and number.
 #[cfg(test)]
 fn holds(rt: &impl Abort, found: bool, name: &str, number: usize) {
     assert!(rt; found, "{name} {number}");

@@ -1,4 +1,4 @@
-//! The parties that a line editor asks, each through its trait.
+//! Those whom a line editor asks, each through its trait.
 
 mod faults;
 
@@ -53,7 +53,7 @@ pub(super) const CASES: &[Case<'_>] = &[
     ("ab", Asked::Plain),
 ];
 
-/// Whether the line `ab` is lit, its hint, and the name and message of its verdict.
+/// Whether the line `ab` is lit, its hint, and the name and message of its validation result.
 type Answers = (bool, Option<&'static str>, (&'static str, &'static str));
 
 /// Whether a helper answers so, beside a new history, which is empty.

@@ -19,15 +19,15 @@ pub(super) type Case<'t> = (&'t str, Asked<'t>);
 /// What is asked about a text, with the right answer at its end.
 #[derive(Clone, Copy)]
 pub(super) enum Asked<'t> {
-    /// The verdict on its brackets: a name and a message, empty where there is none. The unit takes each text.
+    /// The validation result for its brackets: name and message, empty where there is none. The unit takes each text.
     Verdict(&'t str, &'t str),
     /// Whether a bracket is remembered, with the cursor there.
     Remembered(usize, bool),
-    /// How it is shown, once the highlighter was told of it with the cursor there.
+    /// How it is shown, once the highlighter was asked about it with the cursor there.
     Match(usize, &'t str),
     /// How another line is shown then: the bracket counts as standing where it was.
     MatchIn(usize, &'t str, &'t str),
-    /// How it is shown, once the highlighter was told of it with the cursor at its start, and of a line by a kind.
+    /// How it is shown, once the highlighter was asked about it with the cursor at its start, and of a line by a kind.
     MatchAfter(CmdKind, &'t str, &'t str),
     /// Where the word before a cursor begins, by an escape character, and the word.
     Word(usize, Option<char>, usize, &'t str),
@@ -49,7 +49,7 @@ pub(super) enum Asked<'t> {
     Listed(usize, &'t str, &'t str, usize, &'t str),
 }
 
-/// The name of a verdict and its message, empty where it has none.
+/// The name of a validation result and its message, empty where it has none.
 pub(super) fn said(verdict: &ValidationResult) -> (&str, &str) {
     match verdict {
         ValidationResult::Incomplete => ("incomplete", ""),
@@ -60,7 +60,7 @@ pub(super) fn said(verdict: &ValidationResult) -> (&str, &str) {
     }
 }
 
-/// Whether this is the verdict on a text; none is asked for while it is typed.
+/// Whether this is the validation result for a text; none is asked for while it is typed.
 pub(super) fn says<V: Validator>(
     alloc: Global,
     validator: &V,
@@ -205,7 +205,7 @@ const REFUSED: &[Case<'_>] = &[
     ),
 ];
 
-/// Run with any one allocation refused, this passes: an answer that is given is the right one.
+/// Run with any one allocation refused, this passes: every answer is the right one.
 #[test]
 fn a_refused_allocation_has_no_answer(rt: HostRuntime) {
     for table in [brackets::AT_FAULT, REFUSED] {

@@ -1,4 +1,4 @@
-//! The second example of the documents: a program that gets its keys one by one.
+//! The program in the CALLING.md of line_editor that gets its keys one by one.
 
 use line_buffer::{GraphemeClusterMode, KillRing};
 use line_config::{Config, ReadlineError, Result};

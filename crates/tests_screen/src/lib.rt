@@ -23,7 +23,7 @@ mod read_line;
 #[cfg(test)]
 mod scripts;
 
-/// It holds in this case, of which this number tells more.
+/// It holds in this case, of which this number says more.
 #[cfg(test)]
 fn holds(rt: &impl Abort, is_so: bool, case: &str, number: usize) {
     assert!(rt; is_so, "{case:?} {number}");

@@ -62,7 +62,7 @@ fn puts_clusters_on_rows(rt: HostRuntime) {
     }
 }
 
-/// The columns, a text behind a prompt of two columns, the cursor in bytes and a text behind the line; where the cursor is,
+/// The columns, a text after a prompt of two columns, the cursor in bytes and a text after the line; where the cursor is,
 /// and where what is shown ends.
 type Layout = (
     Unit,

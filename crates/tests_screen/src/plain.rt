@@ -7,7 +7,7 @@ use line_state::Renderer;
 use std::alloc::Global;
 use std::process::Abort;
 
-/// A call of the screen. The first draws a line of two rows with something behind it. The last makes two calls that are as the
+/// A call of the screen. The first draws a line of two rows with something after it. The last makes two calls that are as the
 /// trait has them: nothing is held back.
 enum Call {
     Draw,

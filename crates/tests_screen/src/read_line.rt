@@ -1,4 +1,4 @@
-//! The first example of the README.
+//! The caller in the CALLING.md of line_screen.
 
 use line_buffer::{GraphemeClusterMode, KillRing};
 use line_config::{Config, Result};

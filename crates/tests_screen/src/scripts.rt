@@ -96,7 +96,7 @@ fn prints(rt: &impl Abort, alloc: Global, case: Case) {
     holds(rt, is_so, script, usize::from(ended));
 }
 
-/// Each outcome, bad lines, and what stands behind a submit, which has to be good too.
+/// Each outcome, bad lines, and what stands after a submit, which has to be good too.
 const SCRIPTS: &[Case] = &[
     (
         "type ab\nkey Left\ntype c\nkey Enter\n",
@@ -221,7 +221,7 @@ impl Read for Cut {
     }
 }
 
-/// Plays a script that its stream cuts short behind so many bytes: nothing is printed, and the status is that of a fault.
+/// Plays a script that its stream cuts short after so many bytes: nothing is printed, and the status is that of a fault.
 fn is_cut(rt: &impl Abort, alloc: Global, script: &'static str, at: usize, at_once: usize) {
     let mut out = Vec::new(alloc);
     let input = Cut {
@@ -236,7 +236,7 @@ fn is_cut(rt: &impl Abort, alloc: Global, script: &'static str, at: usize, at_on
 /// Scripts that are good or bad by where they are cut.
 const CUT: &[&str] = &["", "history é\n\ntype a\nkey Enter\n", "key\n"];
 
-/// Cuts each script behind each of its bytes, which come together or one by one.
+/// Cuts each script after each of its bytes, which come together or one by one.
 #[test]
 fn ends_with_the_fault_of_its_input(rt: HostRuntime) {
     for script in CUT {

@@ -75,7 +75,7 @@ impl Recorder {
         self.log.as_str()
     }
 
-    /// What it shows: the text behind the prompt, where the cursor is, and where the prompt ends.
+    /// What it shows: the text after the prompt, where the cursor is, and where the prompt ends.
     pub fn shows(&self) -> (&str, Position, Position) {
         (self.text.as_str(), self.place, self.origin)
     }
@@ -131,7 +131,7 @@ impl Recorder {
 }
 
 /// Shows where the prompt ends, where the cursor is and where what is shown ends, by row and column, and a `+` where
-/// something is shown behind the line; or that nothing was drawn.
+/// something is shown after the line; or that nothing was drawn.
 #[derive(Clone, Copy)]
 struct Places<'l>(Option<&'l Layout>);
 

@@ -16,7 +16,7 @@ same_bool true true = true
 same_bool false false = true
 same_bool _ _ = false
 
--- whether a style is that of Emacs
+-- whether an edit mode is that of Emacs
 abbrev pub is_emacs : EditMode → Bool
 is_emacs Emacs = true
 is_emacs Vi = false

@@ -1,4 +1,4 @@
-//! Commands and calls of an editor's state, made by their names.
+//! Commands and calls of an edit state, made by their names.
 
 use crate::source::Source;
 use line_buffer::{KillRing, Movement};
@@ -16,7 +16,7 @@ use tests_parties::shelf::Shelf;
 use tests_stand_ins::recorder::Recorder;
 use tests_stand_ins::typist::Typist;
 
-/// An editor whose parties are of the bench.
+/// An editor that asks the helper and the history of the bench.
 pub type Editor<'out, 'prompt> = State<'out, 'prompt, Recorder, Advisor, (String, String), Shelf>;
 
 /// How a command ended, in a word.
@@ -54,7 +54,7 @@ pub fn executed(
     Some(last)
 }
 
-/// Draws the empty line, and puts a text before the cursor and one behind it.
+/// Draws the empty line, and puts a text before the cursor and one after it.
 pub fn starts(
     state: &mut Editor<'_, '_>,
     input: &InputState<'_>,
@@ -66,7 +66,7 @@ pub fn starts(
     state.edit_insert_text(behind)
 }
 
-/// Makes the call of this name, with the arguments behind it. None where there is no such call.
+/// Makes the call of this name, with the arguments after it. None where there is no such call.
 fn call(
     alloc: Global,
     state: &mut Editor<'_, '_>,
@@ -175,8 +175,8 @@ fn goes(state: &mut Editor<'_, '_>, movement: &Movement) -> Result<()> {
     }
 }
 
-/// How a call of the renderer is written down, and its letter: all is drawn, the drawn cursor moves, a text is written,
-/// the rest of the row is cleared, the screen is cleared, the cursor goes to the first column, and it beeps.
+/// How a call of the renderer is written down, and its letter: all is drawn, the screen cursor moves, a text is
+/// written, the rest of the row is cleared, the screen is cleared, the cursor goes to the first column, and it beeps.
 const LETTERS: &[(&str, char)] = &[
     ("draw ", 'd'),
     ("move (", 'm'),

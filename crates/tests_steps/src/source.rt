@@ -40,7 +40,7 @@ impl<'t> Source<'t> {
         self.rest.is_empty()
     }
 
-    /// What is left behind so many bytes, which were read.
+    /// What is left after so many bytes, which were read.
     fn skip(&mut self, len: usize) {
         self.rest = self.rest.get(len..).unwrap_or("").trim_start_matches(parts);
     }

@@ -11,7 +11,7 @@ const CASES: &[Case] = &[
     (ROUND, "ab ac", "»¦a\t\x1b[Z", "a|", "\x07"),
     (ROUND, "ab ac", "»¦a\t\x1b[Z\x1b[Z", "ac|", ""),
     (ROUND, "ab ac", "»a|z¦\t\t", "ac|z", ""),
-    // Abort gives the candidates up, and anything else keeps the shown one
+    // Abort gives up the candidates, and anything else keeps the shown one
     (ROUND, "ab ac", "»¦x a\t\t\x07", "x a|", ""),
     (ROUND, "ab ac", "»¦a\t\x07\t", "ab|", ""),
     (ROUND, "ab ac", "»¦a\tx", "abx|", ""),

@@ -1,4 +1,4 @@
-//! What is left where a party fails, at each of its calls, and where memory runs out: commands are read on.
+//! What is left where one of those who are asked fails, at each of its calls, and where memory runs out: commands are read on.
 
 use crate::holds;
 use crate::parties::{Failing, NOBODY, fault};
@@ -15,7 +15,7 @@ use std::alloc::Global;
 use std::process::Abort;
 
 /// Who fails in turn, what is tried, the words or the lines of the history, what is typed, the line from before a completion or a
-/// search, and behind which text of a list the line is drawn on a new row.
+/// search, and after which text of a list the line is drawn on a new row.
 type Case = (
     &'static str,
     &'static str,
@@ -113,7 +113,7 @@ fn stands_as(session: &Session, other: &Session) -> bool {
     }
 }
 
-/// What is wrong about what a failure left: a session with the error of the party that fails or of refused memory, behind a key;
+/// What is wrong about what a failure left: a session with the error of the one that fails or of refused memory, after a key;
 /// and one in which nothing failed, with its line from before that key. Of what was typed nothing is lost but that key: one that was
 /// not taken is taken at the next call. Nothing is wrong where this is empty.
 fn wrong(
@@ -151,7 +151,7 @@ fn wrong(
     Ok("")
 }
 
-/// A session whose party fails, and its twin, in which nothing fails.
+/// A session in which one of those who are asked fails, and its twin, in which nothing fails.
 struct Twins {
     session: Session,
     twin: Session,
@@ -202,7 +202,7 @@ fn typed(
     )?))
 }
 
-/// Does what a case says with a party that fails. Returns None where nothing failed, and else what is wrong then.
+/// Does what a case says with one that fails. Returns None where nothing failed, and else what is wrong then.
 fn failed(alloc: Global, case: &Case, failing: Failing) -> Result<Option<&'static str>> {
     let bindings = bindings(alloc)?;
     let mut twins = new_twins(alloc, case, failing)?;
@@ -213,8 +213,8 @@ fn failed(alloc: Global, case: &Case, failing: Failing) -> Result<Option<&'stati
 /// How many calls past the last one are tried.
 const PAST: usize = 10;
 
-/// Fails each call of each party of a case, the first of which comes. What is left is right; and each failure is told, so behind a
-/// call that does not come none does.
+/// Fails each call of those who are asked in a case; the first of each is made. What is left is right; and each failure is
+/// reported, so after a call that is not made none is.
 fn each_fails(rt: &impl Abort, alloc: Global, case: &Case) {
     for name in case.0.split(' ') {
         let mut past: usize = 0;

@@ -8,7 +8,7 @@ use line_parts::MemHistory;
 use line_session::editor::Editor;
 
 const CASES: &[Case] = &[
-    // keys and commands of both styles
+    // keys and commands of both edit modes
     (ADD, "old", "»¦abc\r", "⏎abc", ""),
     (ADD, "old", "»¦\r", "⏎", ""),
     (ADD, "old", "»¦ab\x02c", "ac|b", ""),
@@ -19,7 +19,7 @@ const CASES: &[Case] = &[
     (ADD, "old", "»¦\x10", "old|", ""),
     (ADD, "old", "»¦ab\x1b3x\r", "⏎abxxx", ""),
     (ADD, "old", "»¦ab\x18\x15", "|", ""),
-    // the program is suspended, and goes on with what was typed behind that key
+    // the program is suspended, and goes on with what was typed after that key
     (ADD, "old", "»¦ab\x02\x1a", "‖a|b", ""),
     (ADD, "old", "»¦ab\x1a¦c", "abc|", ""),
     (ADD, "old", "»¦ab\x1ac¦…", "abc|", ""),
@@ -43,7 +43,7 @@ const CASES: &[Case] = &[
         "⏎axyb",
         "",
     ),
-    // behind a quoted insert the next item comes in as it is: a key's character, if it has one, or a pasted text
+    // after a quoted insert the next item comes in as it is: a key's character, if it has one, or a pasted text
     (ADD, "old", "»¦a\x16\tb\x11\x01\r", "⏎a\tb\x01", ""),
     (ADD, "old", "»¦a\x16\rb\x16\x7f", "a\rb\x7f|", ""),
     (ADD, "old", "»¦a\x16\x1b¦…¦b", "a\x1bb|", ""),
@@ -58,7 +58,7 @@ const CASES: &[Case] = &[
     (ADD_VI, "old", "»¦a\x16\x03b\r", "⏎a\x03b", ""),
     // what cannot be given up stays
     (ADD, "old", "»¦ab\x07c", "abc|", ""),
-    // what is typed before a line begins and behind its end is kept
+    // what is typed before a line begins and after its end is kept
     (ADD, "old", "a", "", ""),
     (ADD, "old", "a¦»x|y", "xa|y", ""),
     (ADD, "old", "a\rb\r¦»¦»", "⏎b", ""),

@@ -1,4 +1,4 @@
-//! Parties of a session, of whose calls one can fail.
+//! Those whom a session asks, of whose calls one can fail.
 ghost use Rattle.std.specs.Prelude.{◌≡◌, None, Some, false, map, string_bytes};
 ghost use Rattle.line_config.specs.Error.{FaultsOnly};
 ghost use Rattle.line_parts.specs.Colored.{IsShownAs};
@@ -24,7 +24,7 @@ pub(crate) type Failing = (&'static str, usize);
 /// Nobody fails.
 pub(crate) const NOBODY: Failing = ("", 0);
 
-/// The fault of the party of this name.
+/// The fault of the one of this name.
 pub(crate) fn fault(name: &'static str) -> Fault {
     Fault {
         kind: ErrorKind::PermissionDenied,
@@ -32,7 +32,7 @@ pub(crate) fn fault(name: &'static str) -> Fault {
     }
 }
 
-/// The calls of the party of this name, of which one fails if it is the one that does.
+/// The calls of the one of this name, one of which fails if it is the one that does.
 pub(crate) fn calls(name: &str, failing: Failing) -> Countdown {
     let (fails, call) = failing;
     Countdown::with(if fails == name { call as u64 } else { 0 }, fault(fails))

@@ -102,7 +102,7 @@ fn come_to_the_same(alloc: Global, bytes: &[u8]) -> bool {
     single.finish(&mut of_single).is_ok() && are_same(&mut of_whole, &mut of_single)
 }
 
-/// Whether bytes give nothing.
+/// Whether bytes stand for nothing.
 fn types_nothing(alloc: Global, bytes: &[u8]) -> bool {
     let mut decoder = Decoder::new(alloc);
     let mut keys = KeyQueue::new(alloc);

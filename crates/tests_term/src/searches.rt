@@ -64,7 +64,7 @@ const CASES: &[Case] = &[
     (SEARCH, LINES, "»¦abc\x12al\x7f\x7f", "abc|", ""),
     (SEARCH, LINES, "»¦abc\x02\x12\x7f", "ab|c", ""),
     (SEARCH, LINES, "»¦\x12onez\x7f\x12", "alpha |one", ""),
-    // Abort gives the line from before, with its cursor
+    // Abort restores the line from before, with its cursor
     (SEARCH, LINES, "»¦abc\x02\x12o\x07", "ab|c", ""),
     (SEARCH, LINES, "»¦abc\x02\x12o\x07X", "abX|c", ""),
     (SEARCH, LINES, "»¦abc\x12o¦\x1b¦…", "abc|", ""),
@@ -111,7 +111,7 @@ const CASES: &[Case] = &[
     (SEARCH, "", "»¦\x12", "|", "\x07"),
     (SEARCH, "", "»¦\x12o", "o|", ""),
     (SEARCH, "", "»¦\x13o", "o|", "\x07"),
-    // in the style of Vi
+    // in Vi mode
     (SEARCH_VI, LINES, "»¦\x12one\r", "⏎gamma one", ""),
     (SEARCH_VI, LINES, "»¦\x12one¦\x1b¦…", "gamma| one", ""),
     (SEARCH_VI, LINES, "»¦abc\x12o¦\x1b¦…¦u", "abc|", ""),

@@ -1,5 +1,5 @@
 //! The sequences that terminals send, by what they come to: those of the keys that terminfo has for each terminal, and those of other
-//! protocols; each whole, cut at each place, and behind an Esc.
+//! protocols; each whole, cut at each place, and after an Esc.
 
 use crate::by_bytes::{Wanted, come_over_a_pause, come_to, first_wrong};
 use crate::holds;
@@ -226,7 +226,7 @@ const PLAIN: &[(&[u8], &str)] = &[
     (b"\x1b_", "M-_"),
     (b"\x1bX", "M-X"),
     (b"\x1b^", "M-^"),
-    // two sequences, one behind the other
+    // two sequences, one after the other
     (b"\x1b[A\x1b[B", "Up Down"),
     (b"a\x1b[3~b", "a Delete b"),
 ];
@@ -345,7 +345,7 @@ fn of_others(rt: HostRuntime) {
     }
 }
 
-/// Bytes before a pause, bytes behind it, and the keys that they come to.
+/// Bytes before a pause, bytes after it, and the keys that they come to.
 const PAUSED: &[(&[u8], &[u8], &str)] = &[
     (b"\x1b", b"[A", "Esc [ A"),
     (b"\x1b\x1b", b"x", "Esc Esc x"),

@@ -15,7 +15,7 @@ use std::alloc::Global;
 use std::process::Abort;
 use tests_parties::shelf::Shelf;
 
-/// A session whose parties can fail.
+/// A session in which those who are asked can fail.
 pub(crate) type Session = Editor<Counted, Parts<Party, Party, Party, Party>, Shelf>;
 
 /// What is tried, the words or the lines of the history, what is typed, what comes of it, and what is written to the terminal on the
@@ -29,9 +29,9 @@ pub(crate) type Case = (
 );
 
 // What is tried.
-/// Candidates come one after another, in the style of Emacs.
+/// Candidates come one after another, in Emacs mode.
 pub(crate) const ROUND: &str = "round";
-/// The same in the style of Vi.
+/// The same in Vi mode.
 pub(crate) const ROUND_VI: &str = "round vi";
 /// Candidates are listed at another Tab.
 pub(crate) const LIST: &str = "list";
@@ -41,13 +41,13 @@ pub(crate) const LIST_AT_ONCE: &str = "list at once";
 pub(crate) const ASK: &str = "list, ask";
 /// Past one candidate it is asked at once.
 pub(crate) const ASK_AT_ONCE: &str = "list, ask at once";
-/// A history is searched, in the style of Emacs.
+/// A history is searched, in Emacs mode.
 pub(crate) const SEARCH: &str = "search";
-/// The same in the style of Vi.
+/// The same in Vi mode.
 pub(crate) const SEARCH_VI: &str = "search vi";
-/// A history takes the lines that are submitted, in the style of Emacs.
+/// A history takes the lines that are submitted, in Emacs mode.
 pub(crate) const ADD: &str = "add";
-/// The same in the style of Vi.
+/// The same in Vi mode.
 pub(crate) const ADD_VI: &str = "add vi";
 
 /// The lines of a history.
@@ -59,9 +59,9 @@ pub(crate) const MANY: &str = "a1 a2 a3 a4 a5 a6 a7 a8 a9 aa ab abcdefgh";
 // What is typed is cut into steps, each of which is fed at once, but for those that begin so.
 /// Ends a step.
 const CUT: char = '¦';
-/// Begins a line, with the texts behind it before and behind the cursor.
+/// Begins a line, whose texts before and after the cursor follow.
 const BEGIN: char = '»';
-/// Gives the screen the number of columns behind it.
+/// Gives the screen the number of columns that follows.
 const SIZE: char = '↔';
 /// The bytes pause.
 const PAUSE: &str = "…";
@@ -178,7 +178,7 @@ fn done(session: &mut Session, step: &str, piece: usize, bindings: &Bindings) ->
     Ok(fed)
 }
 
-/// Begins a line with the texts before and behind the mark of the cursor, or an empty one where there is no mark.
+/// Begins a line with the texts before and after the mark of the cursor, or an empty one where there is no mark.
 fn begun(session: &mut Session, texts: &str, bindings: &Bindings) -> Result<Fed> {
     match texts.split_once(CURSOR) {
         Some(texts) => session.begin_with(&"> ", texts, bindings),
@@ -198,7 +198,7 @@ pub(crate) fn marked(alloc: Global, session: &Session) -> Result<String> {
     }
 }
 
-/// What came of it, told as in a case.
+/// What became of it, written as in a case.
 fn came(alloc: Global, fed: &Fed, session: &Session) -> Result<String> {
     let line = marked(alloc, session)?;
     Ok(match fed {

@@ -43,7 +43,7 @@ impl Counted {
         str::from_utf8(self.bytes.as_slice()).is_ok_and(|written| written.contains(text))
     }
 
-    /// Whether what was written behind the last of these texts begins on a new row. An empty text stands nowhere.
+    /// Whether what was written after the last of these texts begins on a new row. An empty text stands nowhere.
     pub(crate) fn goes_on_below(&self, text: &str) -> bool {
         let written = str::from_utf8(self.bytes.as_slice()).unwrap_or("");
         match written.rsplit_once(text) {
@@ -91,7 +91,7 @@ fn terminal(alloc: Global, most: usize, failing: usize, kind: ErrorKind) -> Term
     Ansi::new(alloc, out, 10, true, true)
 }
 
-/// Draws a line in full, with a hint behind it.
+/// Draws a line in full, with a hint after it.
 fn redraw(alloc: Global, terminal: &mut Terminal, failing: Failing) -> Result<()> {
     let line = LineBuffer::init(alloc, "ab", 2)?;
     let begin = terminal.calculate_position("> ", Position { row: 0, col: 0 });

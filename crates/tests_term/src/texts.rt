@@ -67,7 +67,7 @@ const PASTED: &[(&[u8], &str)] = &[
         "a\tbcd",
     ),
     (b"\x1b[200~a\r\x01\nb\x1b[201~", "a\n\nb"),
-    // an Esc is left out, and what is behind it is text, unless it is the mark
+    // an Esc is left out, and what is after it is text, unless it is the mark
     (b"\x1b[200~a\x1b[31mb\x1b[201~", "a[31mb"),
     (b"\x1b[200~\x1b[200~a\x1b[201~", "[200~a"),
     (b"\x1b[200~a\x1b[20\x1b[201~", "a[20"),

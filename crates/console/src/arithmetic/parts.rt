@@ -21,7 +21,7 @@ pub const MOST_NESTED: usize = 200;
 pub struct Part {
     /// Its value.
     pub value: i64,
-    /// The place of the token behind it.
+    /// The place of the token after it.
     pub next: usize,
 }
 

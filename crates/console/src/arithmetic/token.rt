@@ -99,7 +99,7 @@ fn skip_blanks(text: &str, at: usize) -> usize
     run_end(text, at, Kind::Blank)
 }
 
-// A token that was read, and the place behind it.
+// A token that was read, and the place after it.
 #[derive(Clone, Copy)]
 struct Read<'a> {
     token: Token<'a>,

@@ -17,7 +17,7 @@ use std::alloc::Global;
 use std::ops::Range;
 
 impl LineBuffer {
-    /// Inserts `n` copies of the character at the cursor, which goes behind them, and returns
+    /// Inserts `n` copies of the character at the cursor, which then stands after them, and returns
     /// whether it was at the text's end.
     ///
     /// # Errors
@@ -55,8 +55,7 @@ impl LineBuffer {
         Ok(at_end)
     }
 
-    /// Inserts the character at the cursor, which goes behind it, and returns whether it was at the
-    /// text's end.
+    /// Inserts the character at the cursor, which then stands after it, and returns whether it was at the text's end.
     fn insert_char(&mut self, c: char) -> Result<bool, OutOfMemory>
         ensures answer { IfOk result (λ at_end. at_end ≡ is_at_end self.old) }
         ensures line { OnOk result (self.new ≡ inserted_at_cursor self.old (encode_utf8 c)) }
@@ -72,7 +71,7 @@ impl LineBuffer {
         self.insert_text(c.encode_utf8(&mut bytes))
     }
 
-    /// Appends the character to the text, at whose end the cursor is. The cursor goes after it.
+    /// Appends the character to the text, at whose end the cursor is. The cursor then stands after it.
     fn push_char(&mut self, c: char) -> Result<(), OutOfMemory>
         requires { self.old.cursor ≡ length self.old.text }
         ensures line { OnOk result (self.new ≡ inserted_at_cursor self.old (encode_utf8 c)) }
@@ -144,8 +143,8 @@ impl LineBuffer {
         Ok(())
     }
 
-    /// Inserts `n` copies of the text at the cursor, which goes behind them. Returns whether it was
-    /// at the text's end, or `None` for an empty text.
+    /// Inserts `n` copies of the text at the cursor, which then stands after them. Returns whether
+    /// it was at the text's end, or `None` for an empty text.
     ///
     /// # Errors
     ///
@@ -205,7 +204,7 @@ impl LineBuffer {
     }
 
     /// Takes `size` bytes before the cursor away and inserts the text in their place, with the
-    /// cursor behind it. Returns whether the cursor was then at the text's end; `None` for an empty
+    /// cursor after it. Returns whether the cursor was then at the text's end; `None` for an empty
     /// text, and where `size` bytes pass the text's start or cut a character: then nothing changes.
     ///
     /// # Errors
@@ -287,8 +286,7 @@ impl LineBuffer {
         Ok(())
     }
 
-    /// Puts a text in place of a range of bytes, and the cursor behind it. The range begins and
-    /// ends on boundaries.
+    /// Puts a text in place of a range of bytes, and the cursor after it. The range begins and ends on boundaries.
     ///
     /// # Errors
     ///
@@ -326,7 +324,7 @@ impl LineBuffer {
         Ok(())
     }
 
-    /// Puts a text in place of a range, and the cursor behind it, without telling of it.
+    /// Puts a text in place of a range, and the cursor after it, without recording it.
     pub(crate) fn put(&mut self, from: usize, to: usize, text: &str) -> Result<(), OutOfMemory>
         requires { IsSpan self.old.text from to }
         ensures line { OnOk result (self.new ≡ replaced_in self.old from to text.now) }
@@ -340,8 +338,8 @@ impl LineBuffer {
         Ok(())
     }
 
-    /// Inserts the text at the cursor, which goes behind it, tells of it, and returns whether the
-    /// cursor was at the text's end.
+    /// Inserts the text at the cursor, which then stands after it, records it, and returns whether
+    /// the cursor was at the text's end.
     pub(super) fn insert_told(
         &mut self,
         text: &str,
@@ -358,8 +356,7 @@ impl LineBuffer {
         Ok(at_end)
     }
 
-    /// Inserts the text at the cursor, which goes behind it, and returns whether it was at the
-    /// text's end.
+    /// Inserts the text at the cursor, which then stands after it, and returns whether it was at the text's end.
     pub(super) fn insert_text(&mut self, text: &str) -> Result<bool, OutOfMemory>
         ensures answer { IfOk result (λ at_end. at_end ≡ is_at_end self.old) }
         ensures line { OnOk result (self.new ≡ inserted_at_cursor self.old text.now) }
@@ -382,8 +379,8 @@ pub(super) fn repeated(alloc: Global, text: &str, n: RepeatCount) -> Result<Stri
     Ok(text.repeat(alloc, n as usize)?)
 }
 
-/// Returns whether a text is plain in which `came` stands for a part that went, given whether it was
-/// plain before, and that part.
+/// Returns whether a text is plain in which `came` replaced a part, given whether it was plain
+/// before, and whether that part was.
 fn is_plain_after(was_plain: bool, went_plain: bool, came: &str, text: &str) -> bool
     ensures { result ≡ (list_all is_plain came.now
         && (was_plain || (not went_plain && list_all is_plain text.now))) }

@@ -19,8 +19,8 @@ impl LineBuffer {
     /// `dedent` takes up to `amount` white-space characters away at its front. A line's newline is
     /// a character of it, and stays. The range is that of a movement by words, by lines up or down,
     /// or over the buffer; for another, or where the range is empty or there is none, it is the
-    /// cursor's line. The cursor stays with its character, or goes to the line's start where that
-    /// went. Returns true.
+    /// cursor's line. The cursor stays with its character, or moves to the line's start where that
+    /// character was removed. Returns true.
     ///
     /// # Errors
     ///
@@ -90,7 +90,7 @@ impl LineBuffer {
         }
     }
 
-    /// Indents or dedents the lines from one place to another, and tells of each.
+    /// Indents or dedents the lines from one place to another, and records each.
     fn shift_lines(
         &mut self,
         start: usize,
@@ -117,8 +117,7 @@ impl LineBuffer {
         }
     }
 
-    /// Indents or dedents the line that begins at `start`, tells of it, and returns where it ends
-    /// then.
+    /// Indents or dedents the line that begins at `start`, records it, and returns where it ends then.
     fn shift_line(
         &mut self,
         start: usize,
@@ -138,8 +137,7 @@ impl LineBuffer {
         }
     }
 
-    /// Puts spaces before the line that begins at `start`, tells of it, and returns where it ends
-    /// then.
+    /// Puts spaces before the line that begins at `start`, records it, and returns where it ends then.
     fn indent_line(
         &mut self,
         start: usize,
@@ -166,7 +164,7 @@ impl LineBuffer {
     }
 
     /// Takes up to `amount` white-space characters away at the front of the line that begins at
-    /// `start`, tells of it, and returns where the line ends then.
+    /// `start`, records it, and returns where the line ends then.
     fn dedent_line(
         &mut self,
         start: usize,
@@ -192,7 +190,7 @@ impl LineBuffer {
     }
 }
 
-/// Returns the spaces that come before each line.
+/// Returns the spaces that are put before each line.
 fn spaces_before(alloc: Global, amount: usize, dedent: bool) -> Result<String, OutOfMemory>
     ensures { IfOk result (λ spaces. string_bytes spaces
         ≡ (if dedent then [] else replicate amount 32)) }

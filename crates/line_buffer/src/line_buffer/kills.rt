@@ -18,10 +18,10 @@ use crate::undo::Changeset;
 
 impl LineBuffer {
     /// Takes the range of the movement out of the line, and the cursor to where it began. Where the
-    /// range of a line's end or of a whole line is empty, the cluster after the cursor goes, and
-    /// where that of a line's beginning is, the one before. Returns the place in bytes, the text,
-    /// and on which side of the cursor the movement led; `None` where nothing goes. All but single
-    /// clusters are kept in the kill ring.
+    /// range of a line's end or of a whole line is empty, the cluster after the cursor is removed,
+    /// and where that of a line's beginning is, the one before. Returns the place in bytes, the text,
+    /// and on which side of the cursor the movement led; `None` where nothing is removed. All but
+    /// single clusters are kept in the kill ring.
     ///
     /// # Errors
     ///
@@ -120,7 +120,7 @@ impl LineBuffer {
         self.delete_range(from, to, changes)
     }
 
-    /// Takes `n` clusters after the cursor away, or as many as there are, and returns their text;
+    /// Takes away `n` clusters after the cursor, or as many as there are, and returns their text;
     /// `None` for `n` = 0 and at the text's end.
     ///
     /// # Errors
@@ -184,7 +184,7 @@ impl LineBuffer {
         }
     }
 
-    /// Takes a range away, tells of it, and returns its text.
+    /// Takes away a range, records it, and returns its text.
     fn take_range(
         &mut self,
         from: usize,
@@ -203,7 +203,7 @@ impl LineBuffer {
         Ok(Some(text))
     }
 
-    /// Takes a range away, and tells of it.
+    /// Takes away a range, and records it.
     pub(super) fn delete_range(
         &mut self,
         from: usize,

@@ -49,7 +49,7 @@ impl LineBuffer {
         place
     }
 
-    /// Returns the place behind the newline of the line that begins at `start`, or the text's end.
+    /// Returns the place after the newline of the line that begins at `start`, or the text's end.
     pub(super) fn line_stop(&self, start: usize) -> usize
         requires { IsCharBoundary self.now.text start }
         ensures offset { IsOffset result self.now.text (line_stop self.now.text start) }
@@ -87,7 +87,7 @@ impl LineBuffer {
     /// Moves the cursor to the line `n` above, one for `n` = 0, or to the first: to the greatest
     /// place between clusters whose column is not past the cursor's, or else to the line's start.
     /// Returns whether the cursor's line is not the first; if it is, the cursor stays. Columns are
-    /// those of the layout's mode, and the first line begins behind its prompt.
+    /// those of the layout's mode, and the first line begins after its prompt.
     pub fn move_to_line_up(&mut self, n: RepeatCount, layout: &Layout) -> bool
         ensures { MovesCursor result self.old self.new (up_by layout.now self.old n) }
     {
@@ -102,7 +102,7 @@ impl LineBuffer {
     /// Moves the cursor to the line `n` below, one for `n` = 0, or to the last: to the greatest
     /// place between clusters whose column is not past the cursor's, or else to the line's start.
     /// Returns whether the cursor's line is not the last; if it is, the cursor stays. Columns are
-    /// those of the layout's mode, and the first line begins behind its prompt.
+    /// those of the layout's mode, and the first line begins after its prompt.
     pub fn move_to_line_down(&mut self, n: RepeatCount, layout: &Layout) -> bool
         ensures { MovesCursor result self.old self.new (down_by layout.now self.old n) }
     {

@@ -54,8 +54,8 @@ impl LineBuffer {
     }
 
     /// Moves the cursor to the `n`-th place that the search leads to, or to the last where there
-    /// are fewer. A search on begins behind the cluster after the cursor. Returns whether there is
-    /// such a place; if not, and for `n` = 0, the cursor stays.
+    /// are fewer. A search forward begins after the cluster at the cursor. Returns whether there
+    /// is such a place; if not, and for `n` = 0, the cursor stays.
     pub fn move_to(&mut self, search: CharSearch, n: RepeatCount) -> bool
         ensures { MovesCursor result self.old self.new (search_place search self.old n) }
     {
@@ -98,7 +98,7 @@ impl LineBuffer {
         }
     }
 
-    /// Returns the place of the `n`-th `c` behind the cluster after the cursor.
+    /// Returns the place of the `n`-th `c` after the cluster at the cursor.
     fn next_char_pos(&self, c: char, n: RepeatCount) -> Option<usize>
         ensures place { result ≡ found_on c self.now n }
         ensures on { IfSome result (λ place. self.now.cursor ≤ place) }

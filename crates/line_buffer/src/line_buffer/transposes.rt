@@ -16,7 +16,7 @@ use std::alloc::Global;
 
 impl LineBuffer {
     /// Exchanges the cluster before the cursor with the one at it, at the text's end the last two,
-    /// and puts the cursor behind both. Returns false, and changes nothing, at the text's start and
+    /// and puts the cursor after both. Returns false, and changes nothing, at the text's start and
     /// where the text has fewer than two clusters.
     ///
     /// # Errors
@@ -53,7 +53,7 @@ impl LineBuffer {
         Ok(true)
     }
 
-    /// Exchanges two parts of the text, tells of one replace, and puts the cursor behind both.
+    /// Exchanges two parts of the text, records one replace, and puts the cursor after both.
     fn exchange(
         &mut self,
         from1: usize,
@@ -77,8 +77,8 @@ impl LineBuffer {
     }
 
     /// Exchanges words: the one that ends at the end of the `n`-th word from the cursor, and the
-    /// `n`-th before it, with the cursor behind both. Returns false where these are not two words;
-    /// then the cursor goes behind the first.
+    /// `n`-th before it, with the cursor after both. Returns false where these are not two words;
+    /// then the cursor alone moves: to after the first.
     ///
     /// # Errors
     ///
@@ -106,7 +106,7 @@ impl LineBuffer {
         Ok(true)
     }
 
-    /// Returns the end of the `n`-th word on from a place, or that place. The cursor goes there.
+    /// Returns the end of the `n`-th word on from a place, or that place. The cursor moves there.
     fn word_end_from(&mut self, place: usize, n: RepeatCount) -> usize
         requires { IsCharBoundary self.old.text place }
         ensures end { IsOffset result self.old.text (word_end_from self.old place n) }
@@ -121,8 +121,7 @@ impl LineBuffer {
         end
     }
 
-    /// Returns the start of the `n`-th word back from a place, or that place. The cursor goes
-    /// there.
+    /// Returns the start of the `n`-th word back from a place, or that place. The cursor moves there.
     fn word_start_from(&mut self, place: usize, n: RepeatCount) -> usize
         requires { IsCharBoundary self.old.text place }
         ensures start { IsOffset result self.old.text (word_start_from self.old place n) }

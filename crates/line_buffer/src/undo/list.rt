@@ -12,7 +12,7 @@ use crate::movement::RepeatCount;
 use std::alloc::Global;
 use std::marker::Model;
 
-/// The least room, in bytes, of a text that came in, so that a word typed after it needs no other.
+/// The least room, in bytes, of a text that was inserted, so that a word typed after it needs no other.
 const TYPED_ROOM: usize = 24;
 
 #[derive(Debug, Drop)]
@@ -37,8 +37,8 @@ pub(crate) enum Change {
 impl Change {
     ghost use Rattle.line_buffer.specs.KeptChanges.{entry_of};
 
-    /// Takes in the character that came in at `place`, where this is an insert that ends there, and
-    /// returns whether it did.
+    /// Takes in the character that was inserted at `place`, where this is an insert that ends
+    /// there, and returns whether it did.
     fn join_insert(&mut self, place: usize, c: char) -> Result<bool, OutOfMemory>
         ensures { Joins result (entry_of self.old) (entry_of self.new)
             (with_joined_insert place (encode_utf8 c)) (inserted place (encode_utf8 c)) }
@@ -55,8 +55,8 @@ impl Change {
         }
     }
 
-    /// Takes in the text that went from `place`, where this is a delete at that place or one at
-    /// which the text ended, and returns whether it did.
+    /// Takes in the text that was removed from `place`, where this is a delete at that place or one
+    /// at which the text ended, and returns whether it did.
     fn join_delete(&mut self, place: usize, text: &str) -> Result<bool, OutOfMemory>
         ensures { Joins result (entry_of self.old) (entry_of self.new)
             (with_joined_delete place text.now) (deleted place text.now) }
@@ -81,7 +81,7 @@ impl Change {
         }
     }
 
-    /// Takes in the text that came for another at `place`, where this is a replace whose new text
+    /// Takes in the text that replaced another at `place`, where this is a replace whose new text
     /// ends there, and returns whether it did.
     fn join_replace(&mut self, place: usize, old: &str, new: &str) -> Result<bool, OutOfMemory>
         ensures { Joins result (entry_of self.old) (entry_of self.new)
@@ -273,8 +273,8 @@ impl ChangeList {
         Ok(undone)
     }
 
-    /// Takes the newest entry away and reverses in the line what it tells. Returns what it was, or
-    /// `None` where there is none.
+    /// Takes the newest entry away and reverses in the line what it records. Returns what it was,
+    /// or `None` where there is none.
     fn take_newest(&mut self, line: &mut LineBuffer) -> Result<Option<Taken>, OutOfMemory>
         requires { Tells self.old.entries line.old.text }
         ensures taken { IfOk result (λ taken. taken ≡ newest_kind self.old.entries) }
@@ -305,7 +305,7 @@ impl ChangeList {
         }
     }
 
-    /// Returns a copy of the text that came in last.
+    /// Returns a copy of the text that was inserted last.
     pub(crate) fn last_insert(&self) -> Result<Option<String>, OutOfMemory>
         ensures { IfOk result (λ r. option_map string_bytes r ≡ last_insert_of self.now.entries) }
     {
@@ -315,7 +315,7 @@ impl ChangeList {
         }
     }
 
-    /// Returns the text that came in last by these changes.
+    /// Returns the text that was inserted last by these changes.
     fn inserted_text(changes: &[Change]) -> Option<&str>
         ensures { option_copied result ≡ last_insert_of (entries_of changes.now) }
     {
@@ -394,7 +394,7 @@ impl ChangeList {
         Ok(())
     }
 
-    /// Tells that `text` came in at `place`.
+    /// Records that `text` was inserted at `place`.
     pub(crate) fn insert_str(&mut self, place: usize, text: &str) -> Result<(), OutOfMemory>
         ensures { Adds result self.old self.new (with_insert place text.now) }
     {
@@ -404,7 +404,7 @@ impl ChangeList {
         self.add_insert(place, text)
     }
 
-    /// Tells that the character came in at `place`.
+    /// Records that the character was inserted at `place`.
     pub(crate) fn insert_char(&mut self, place: usize, c: char) -> Result<(), OutOfMemory>
         ensures { Adds result self.old self.new (with_typed place c 1) }
     {
@@ -424,8 +424,7 @@ impl ChangeList {
         self.add(Change::Insert { place, text: came })
     }
 
-    /// Tells that the alphanumeric character came in at `place`: it joins a newest insert that ends
-    /// there.
+    /// Records that the alphanumeric character was inserted at `place`: it joins a newest insert that ends there.
     fn insert_joined(&mut self, place: usize, c: char) -> Result<(), OutOfMemory>
         ensures { Adds result self.old self.new (with_joined_insert place (encode_utf8 c)) }
     {
@@ -438,7 +437,7 @@ impl ChangeList {
         self.add_insert(place, c.encode_utf8(&mut bytes))
     }
 
-    /// Tells that `text` went from `place`.
+    /// Records that `text` was removed from `place`.
     pub(crate) fn delete(&mut self, place: usize, text: &str) -> Result<(), OutOfMemory>
         ensures { Adds result self.old self.new (with_delete place text.now) }
     {
@@ -451,7 +450,7 @@ impl ChangeList {
         self.add_delete(place, text)
     }
 
-    /// Tells that `text` went from `place`, and keeps it where it joins no other.
+    /// Records that `text` was removed from `place`, and keeps it where it joins no other.
     pub(crate) fn delete_text(&mut self, place: usize, text: String) -> Result<(), OutOfMemory>
         ensures { Adds result self.old self.new (with_delete place (string_bytes text)) }
     {
@@ -471,8 +470,8 @@ impl ChangeList {
         })
     }
 
-    /// Tells that one alphanumeric cluster went from `place`: it joins a newest delete at that
-    /// place, or one at which it ended.
+    /// Records that one alphanumeric cluster was removed from `place`: it joins a newest delete at
+    /// that place, or one at which it ended.
     fn delete_joined(&mut self, place: usize, text: &str) -> Result<(), OutOfMemory>
         ensures { Adds result self.old self.new (with_joined_delete place text.now) }
     {
@@ -484,7 +483,7 @@ impl ChangeList {
         self.add_delete(place, text)
     }
 
-    /// Tells that `new` came for `old` at `place`.
+    /// Records that `new` replaced `old` at `place`.
     pub(crate) fn replace(&mut self, place: usize, old: &str, new: &str) -> Result<(), OutOfMemory>
         ensures { Adds result self.old self.new (with_replace place old.now new.now) }
     {

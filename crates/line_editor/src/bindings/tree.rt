@@ -1,4 +1,4 @@
-//! A map from sequences of keys, kept as a tree.
+//! A map from key sequences to values, kept as a tree.
 ghost use Rattle.std.specs.Prelude.{◌≡◌, ◌<◌, ◌≤◌, ◌+◌, ◌^◌, ◌∷◌, ◌++◌, [], IfNone, IfOk, IfSome, OnErr, OnOk, Option, None, Some, get_or, length, map, option_map, set, take};
 ghost use Rattle.std.specs.List.{list_any, starts_with};
 ghost use Rattle.line_config.specs.Error.{MemoryOnly};
@@ -32,7 +32,7 @@ impl<V> Node<V> {
     }
 }
 
-// A map from sequences of keys to values. Sequences that begin with the same keys share the nodes of those keys. Nodes name each
+// A map from key sequences to values. Sequences that begin with the same keys share the nodes of those keys. Nodes name each
 // other by number, and number 0 is the root, where the empty sequence ends.
 #[derive(Drop)]
 pub(crate) struct KeyTree<V> {
@@ -67,7 +67,7 @@ impl<V: Drop> KeyTree<V> {
         }
     }
 
-    // Gives a sequence a value. Returns the value that it had, if it had one. Where memory runs out, the tree is as it was.
+    // Sets the value of a sequence. Returns the value that it had, if it had one. Where memory runs out, the tree is as it was.
     pub(crate) fn insert(&mut self, keys: &[KeyEvent], value: V) -> Result<Option<V>>
         ensures puts { OnOk result (Puts self.old self.new keys.now value) }
         ensures old { IfOk result (λ old. old ≡ value_of self.old keys.now) }

@@ -1,4 +1,4 @@
-//! Candidates for a part of the line, and how one comes into it. Nothing here is drawn.
+//! Candidates for a part of the line, and how one is put into it. Nothing here is drawn.
 ghost use Rattle.std.specs.Prelude.{◌≡◌, false, map, IfOk, OnErr, OnOk};
 ghost use Rattle.line_buffer.specs.Changes.{no_changes};
 ghost use Rattle.line_config.specs.Error.{FaultsOnly, MemoryOnly};

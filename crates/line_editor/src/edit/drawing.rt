@@ -33,7 +33,7 @@ impl<'out, 'prompt, W: Renderer, H: Helper, P: Prompt, S: History> State<
         self.parties.highlighter(self.view.colors_enabled())
     }
 
-    /// Draws the line again behind its own prompt. `All` draws it in full, with the hint that is there. `Min` keeps the layout
+    /// Draws the line again after its own prompt. `All` draws it in full, with the hint that is there. `Min` keeps the layout
     /// of what is drawn and draws by it, with nothing cleared before and with the hint where the layout has one: it is for a
     /// screen that lost what it showed.
     ///
@@ -78,10 +78,10 @@ impl<'out, 'prompt, W: Renderer, H: Helper, P: Prompt, S: History> State<
         )
     }
 
-    /// Gives the screen another number of columns and of rows, measures the prompt anew, and draws the line in full behind it,
-    /// with the hint that is there; a message or another prompt that is shown goes. The line, its changes, the hint and the
-    /// history index stay. The rows that were drawn before are cleared; a terminal that wraps lines anew by itself may keep some
-    /// of them above.
+    /// Gives the screen another number of columns and of rows, measures the prompt anew, and draws the line in full after it,
+    /// with the hint that is there; a message or another prompt that is shown disappears. The line, its changes, the hint and
+    /// the history index stay. The rows that were drawn before are cleared; a terminal that wraps lines anew by itself may keep
+    /// some of them above.
     ///
     /// # Errors
     /// Those of the renderer. Columns and rows are the new ones then, and the kept layout is the old one: another full redraw
@@ -102,7 +102,7 @@ impl<'out, 'prompt, W: Renderer, H: Helper, P: Prompt, S: History> State<
     }
 
     /// Clears the screen. The kept cursor and end are then in the first column of the first row, and what the screen shows is
-    /// not said: `refresh_line` is to follow.
+    /// not specified: `refresh_line` is to follow.
     ///
     /// # Errors
     /// Those of the renderer. Then the kept layout stays.
@@ -117,7 +117,7 @@ impl<'out, 'prompt, W: Renderer, H: Helper, P: Prompt, S: History> State<
     }
 
     /// Takes the terminal's cursor to the first column, below what is there. The kept layout stays, and what the screen shows
-    /// is not said.
+    /// is not specified.
     ///
     /// # Errors
     /// Those of the renderer.
@@ -130,8 +130,8 @@ impl<'out, 'prompt, W: Renderer, H: Helper, P: Prompt, S: History> State<
     }
 
     /// Writes a text by itself below what is shown, from the first column on. The kept layout stays, and what the screen shows
-    /// is not said: `refresh_line` is to follow, which draws the line below a text that ends a row. Behind another one, an empty
-    /// text is to be written before.
+    /// is not specified: `refresh_line` is to follow, which draws the line below a text that ends a row. After any other text,
+    /// write an empty text first.
     ///
     /// # Errors
     /// Those of the renderer.

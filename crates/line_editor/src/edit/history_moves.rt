@@ -127,11 +127,11 @@ impl<'out, 'prompt, W: Renderer, H: Helper, P: Prompt, S: History> State<
         self.parties.set_history_index(index.min(end));
     }
 
-    /// Shows the line of the history before this one where `prev` is true, and else the one behind it: behind the last one
+    /// Shows the line of the history before this one where `prev` is true, and else the one after it: after the last one
     /// stands the line that is being written. At the history's ends, and in an empty history, nothing happens.
     ///
     /// # Errors
-    /// Those of the parties and of the renderer, and that memory ran out.
+    /// Those of the helper, the history and the renderer, and that memory ran out.
     pub fn edit_history_next(&mut self, prev: bool) -> Result<()>
         ensures { let e = ⟦<Self as EditorState>⟧ in
             let w = e.environment self.old in let d = e.draft self.old in
@@ -151,7 +151,7 @@ impl<'out, 'prompt, W: Renderer, H: Helper, P: Prompt, S: History> State<
     /// Nothing happens where that line is shown already, and in an empty history.
     ///
     /// # Errors
-    /// Those of the parties and of the renderer, and that memory ran out.
+    /// Those of the helper, the history and the renderer, and that memory ran out.
     pub fn edit_history(&mut self, first: bool) -> Result<()>
         ensures { let e = ⟦<Self as EditorState>⟧ in
             let w = e.environment self.old in let d = e.draft self.old in
@@ -167,12 +167,12 @@ impl<'out, 'prompt, W: Renderer, H: Helper, P: Prompt, S: History> State<
         self.show_end()
     }
 
-    /// Goes one line back in the history, or on, and from there to the nearest line that begins with the text before the
-    /// cursor. That line is shown, with the cursor behind that text. Where there is none the index has moved, and there
-    /// is a beep. At the history's ends there is only a beep.
+    /// Moves one line back in the history, or on, and from there to the nearest line that begins with the text before the cursor.
+    /// That line is shown, with the cursor after that text. Where there is none the index has moved, and there is a beep. At the
+    /// history's ends there is only a beep.
     ///
     /// # Errors
-    /// Those of the parties and of the renderer, and that memory ran out.
+    /// Those of the helper, the history and the renderer, and that memory ran out.
     pub fn edit_history_search(&mut self, dir: SearchDirection) -> Result<()>
         ensures { let e = ⟦<Self as EditorState>⟧ in
             let w = e.environment self.old in let d = e.draft self.old in
@@ -209,7 +209,7 @@ impl<'out, 'prompt, W: Renderer, H: Helper, P: Prompt, S: History> State<
         self.leave_for(index - 1)
     }
 
-    // Shows the line behind this one, if there is one: behind the history's last stands the one that is being written.
+    // Shows the line after this one, if there is one: after the history's last stands the one that is being written.
     #[tactic(auto, using(crate::proofs::HistoryMoveLemmas::way_stays, crate::proofs::HistoryMoveLemmas::way_goes, crate::proofs::HistoryMoveLemmas::way_goes_once))]
     fn show_next(&mut self) -> Result<()>
         ensures { DoesCommand ⟦<Self as EditorState>⟧ result self.old self.new

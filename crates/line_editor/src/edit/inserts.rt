@@ -26,12 +26,12 @@ impl<'out, 'prompt, W: Renderer, H: Helper, P: Prompt, S: History> State<
     P,
     S,
 > {
-    /// Inserts `n` copies of a character at the cursor, which goes behind them, and asks for the hint. Where the line is
-    /// printable ASCII and newlines, with no hint, no text behind it and no highlighting, before and after, one printable
-    /// ASCII character at its end is drawn alone, if a column is left behind it. Else the line is drawn again.
+    /// Inserts `n` copies of a character at the cursor, which then stands after them, and asks for the hint. Where the line
+    /// is printable ASCII and newlines, with no hint, no text after it and no highlighting, before and after, one printable
+    /// ASCII character at its end is drawn alone, if a column is left after it. Else the line is drawn again.
     ///
     /// # Errors
-    /// Those of the parties and of the renderer, and that memory ran out.
+    /// Those of the helper, the history and the renderer, and that memory ran out.
     pub fn edit_insert(&mut self, c: char, n: RepeatCount) -> Result<()>
         ensures { DoesCommand ⟦<Self as EditorState>⟧ result self.old self.new
             (commands.self_insert n c) }
@@ -44,7 +44,7 @@ impl<'out, 'prompt, W: Renderer, H: Helper, P: Prompt, S: History> State<
         self.show_typed(c)
     }
 
-    // Returns whether there is one copy of a character, and the line takes it plainly.
+    // Returns whether there is one copy of a character, and it can be drawn plainly.
     fn takes_chars(&self, c: char, n: RepeatCount) -> bool
         ensures { let e = ⟦<Self as EditorState>⟧ in
             result ≡ ((n == 1) && takes_char (e.display self.now) (e.draft self.now) c) }
@@ -56,7 +56,7 @@ impl<'out, 'prompt, W: Renderer, H: Helper, P: Prompt, S: History> State<
             && self.is_bare()
     }
 
-    // Returns whether the line is printable ASCII and newlines, with no hint and no text drawn behind it.
+    // Returns whether the line is printable ASCII and newlines, with no hint and no text drawn after it.
     pub(crate) fn is_bare(&self) -> bool
         ensures { let e = ⟦<Self as EditorState>⟧ in
             result ≡ is_bare (e.display self.now) (e.draft self.now) }
@@ -67,7 +67,7 @@ impl<'out, 'prompt, W: Renderer, H: Helper, P: Prompt, S: History> State<
     /// Inserts a text at the cursor, which stays before it. The empty text changes nothing.
     ///
     /// # Errors
-    /// Those of the parties and of the renderer, and that memory ran out.
+    /// Those of the helper, the history and the renderer, and that memory ran out.
     pub fn edit_insert_text(&mut self, text: &str) -> Result<()>
         ensures { let e = ⟦<Self as EditorState>⟧ in
             Does e result self.old self.new
@@ -85,7 +85,7 @@ impl<'out, 'prompt, W: Renderer, H: Helper, P: Prompt, S: History> State<
     /// on the last of them. At the text's end, and for `n` = 0, the line stays. Open groups of changes end in any case.
     ///
     /// # Errors
-    /// Those of the parties and of the renderer, and that memory ran out.
+    /// Those of the helper, the history and the renderer, and that memory ran out.
     pub fn edit_replace_char(&mut self, c: char, n: RepeatCount) -> Result<()>
         ensures { DoesCommand ⟦<Self as EditorState>⟧ result self.old self.new
             (commands.replace_char n c) }
@@ -94,10 +94,11 @@ impl<'out, 'prompt, W: Renderer, H: Helper, P: Prompt, S: History> State<
         self.show_edit(replaced)
     }
 
-    /// Puts a character in place of the cluster at the cursor, which goes behind it. At the text's end nothing happens.
+    /// Puts a character in place of the cluster at the cursor, which then stands after it. At the text's end nothing
+    /// happens.
     ///
     /// # Errors
-    /// Those of the parties and of the renderer, and that memory ran out.
+    /// Those of the helper, the history and the renderer, and that memory ran out.
     pub fn edit_overwrite_char(&mut self, c: char) -> Result<()>
         ensures { DoesCommand ⟦<Self as EditorState>⟧ result self.old self.new
             (commands.overwrite c) }
@@ -106,12 +107,12 @@ impl<'out, 'prompt, W: Renderer, H: Helper, P: Prompt, S: History> State<
         self.show_edit(replaced)
     }
 
-    /// Puts `n` copies of a text before the cluster at the cursor, or behind it, and the cursor behind them; in Vi's command
-    /// mode the cursor then goes one cluster back. With the empty text only the cursor moves: for `After`, behind the
+    /// Puts `n` copies of a text before the cluster at the cursor, or after it, and the cursor after them; in Vi's command
+    /// mode the cursor then goes one cluster back. With the empty text only the cursor moves: for `After`, after the
     /// cluster.
     ///
     /// # Errors
-    /// Those of the parties and of the renderer, and that memory ran out.
+    /// Those of the helper, the history and the renderer, and that memory ran out.
     pub fn edit_yank(
         &mut self,
         input_state: &InputState<'_>,
@@ -133,7 +134,7 @@ impl<'out, 'prompt, W: Renderer, H: Helper, P: Prompt, S: History> State<
     /// they would cut a character, the line stays. Open groups of changes end in any case.
     ///
     /// # Errors
-    /// Those of the parties and of the renderer, and that memory ran out.
+    /// Those of the helper, the history and the renderer, and that memory ran out.
     pub fn edit_yank_pop(&mut self, yank_size: usize, text: &str) -> Result<()>
         ensures { let e = ⟦<Self as EditorState>⟧ in
             EditsThenDraws e result self.old self.new

@@ -1,4 +1,4 @@
-//! A line that is kept while nothing is lent to it: what a program with a loop of its own has between two reads.
+//! A line that is kept while nothing is lent to it: what a program with a loop of its own holds between two reads.
 ghost use Rattle.std.specs.Prelude.{◌≡◌, ◌≤◌, length, option_map};
 ghost use Rattle.line_editor.specs.Editor.{Begins};
 ghost use Rattle.line_parts.specs.Helped.{environment_by, sure_by};
@@ -68,8 +68,8 @@ impl<'out, 'prompt, W: Renderer, H: Helper, P: Prompt, S: History> State<
     P,
     S,
 > {
-    /// Ends the state. Returns the line, from which `resume` goes on, and the renderer and the helper that were lent. Nothing is
-    /// drawn and nothing changes.
+    /// Ends the state. Returns the line, which `resume` takes up again, and the renderer and the helper that were lent. Nothing
+    /// is drawn and nothing changes.
     pub fn release(self) -> (KeptLine<H>, &'out mut W, Option<&'out mut H>)
         ensures draft { result.0.draft ≡ ⟦<Self as EditorState>⟧.draft self.entry }
         ensures display { let d = ⟦<Self as EditorState>⟧.display self.entry in d ≡ display_on
@@ -108,7 +108,7 @@ impl<'out, 'prompt, W: Renderer, H: Helper, P: Prompt, S: History> State<
         (kept, out, helper)
     }
 
-    /// Returns the state of a line that was kept, on the renderer and behind the prompt that it was drawn with. Nothing is
+    /// Returns the edit state of a line that was kept, on the renderer and after the prompt that it was drawn with. Nothing is
     /// drawn and nothing changes. The history has at least as many lines as the line's history index says.
     pub fn resume(
         alloc: Global,

@@ -1,4 +1,4 @@
-//! What takes text out of the line, and what the kill ring gives back.
+//! What takes text out of the line, and what is yanked from the kill ring.
 ghost use Rattle.line_keys.specs.Command as commands;
 ghost use Rattle.std.specs.Prelude.{◌≡◌, ◌≤◌, ◌-◌, ◌==◌, ◌&&◌, true, length, option_map, IsCharBoundary};
 ghost use Rattle.line_buffer.specs.KillRing.{yanked_text};
@@ -30,14 +30,15 @@ impl<'out, 'prompt, W: Renderer, H: Helper, P: Prompt, S: History> State<
     S,
 > {
     /// Kills the text of a movement and keeps it in `kill_ring` as `LineBuffer::kill` does, and asks for the hint. Where the
-    /// line is printable ASCII and newlines, with no hint, no text behind it and no highlighting, before and after, printable
+    /// line is printable ASCII and newlines, with no hint, no text after it and no highlighting, before and after, printable
     /// ASCII that is killed at its end is cleared from its row, if kept cursor and end are on one row and go back no further
     /// than its first column. Else the line is drawn again. Where there is nothing to kill, nothing happens.
     ///
     /// # Errors
-    /// Those of the parties and of the renderer, and that memory ran out. After one of input or output `kill_ring` is as the
-    /// kill leaves it, and where that changes it, so are the line, its cursor and its changes. Where memory ran out the line
-    /// may be any, without changes, and `kill_ring` may be the one from before, with a kill as its last action or not.
+    /// Those of the helper, the history and the renderer, and that memory ran out. After one of input or output `kill_ring`
+    /// is as the kill leaves it, and where that changes it, so are the line, its cursor and its changes. Where memory ran out
+    /// the line may be any, without changes, and `kill_ring` may be the one from before, with a kill as its last action or
+    /// not.
     pub fn edit_kill(&mut self, movement: &Movement, kill_ring: &mut KillRing) -> Result<()>
         ensures does { DoesKilling ⟦<Self as EditorState>⟧ result self.old kill_ring.old
             self.new kill_ring.new (commands.kill movement.now) }
@@ -55,7 +56,7 @@ impl<'out, 'prompt, W: Renderer, H: Helper, P: Prompt, S: History> State<
         self.show_killed(len - from)
     }
 
-    // Returns whether a range ends the text, and the line gives it plainly.
+    // Returns whether a range ends the text, and can be cleared plainly.
     fn gives_range(&self, from: usize, to: usize) -> bool
         requires { IsCharBoundary (⟦<Self as EditorState>⟧.draft self.now).line.text from }
         ensures answer { let e = ⟦<Self as EditorState>⟧ in let d = e.draft self.now in
@@ -152,7 +153,7 @@ impl<'out, 'prompt, W: Renderer, H: Helper, P: Prompt, S: History> State<
         Ok(())
     }
 
-    // Takes the text from the bracket at the cursor to its match away, if it has one, and draws the line again.
+    // Takes away the text from the bracket at the cursor to its match, if it has one, and draws the line again.
     fn remove_to_bracket(&mut self) -> Result<()>
         ensures { let e = ⟦<Self as EditorState>⟧ in let d = e.draft self.old in
             EditsThenDraws e result self.old self.new

@@ -30,9 +30,9 @@ impl<'out, 'prompt, W: Renderer, H: Helper, P: Prompt, S: History> State<
     P,
     S,
 > {
-    /// Takes the drawn cursor to where the line's cursor is. Nothing is drawn where the kept cursor is there already. Where
+    /// Moves the screen cursor to where the line's cursor is. Nothing is drawn where the kept cursor is there already. Where
     /// `highlight_char` says that the line is highlighted, or said so the time before, the line is drawn in full, with nothing
-    /// behind it. `kind` is what `highlight_char` is told.
+    /// after it. `kind` is what `highlight_char` is told.
     ///
     /// # Errors
     /// Those of the renderer.
@@ -43,7 +43,7 @@ impl<'out, 'prompt, W: Renderer, H: Helper, P: Prompt, S: History> State<
         self.put_cursor(position, kind)
     }
 
-    // Takes the drawn cursor to a position: alone, or with the line in full where it is highlighted.
+    // Moves the screen cursor to a position: alone, or with the line in full where it is highlighted.
     fn put_cursor(&mut self, position: Position, kind: CmdKind) -> Result<()>
         ensures { PutsCursorAt ⟦<Self as EditorState>⟧ result self.old self.new kind position }
     {
@@ -56,7 +56,7 @@ impl<'out, 'prompt, W: Renderer, H: Helper, P: Prompt, S: History> State<
         self.view.move_cursor(position)
     }
 
-    /// Moves the cursor `n` clusters back, or as many as there are. The drawn cursor goes along.
+    /// Moves the cursor `n` clusters back, or as many as there are. The screen cursor moves along.
     ///
     /// # Errors
     /// Those of the renderer.
@@ -67,7 +67,7 @@ impl<'out, 'prompt, W: Renderer, H: Helper, P: Prompt, S: History> State<
         self.follow(&Movement::BackwardChar(n), CmdKind::MoveCursor)
     }
 
-    /// Moves the cursor `n` clusters on, or as many as there are. The drawn cursor goes along.
+    /// Moves the cursor `n` clusters on, or as many as there are. The screen cursor moves along.
     ///
     /// # Errors
     /// Those of the renderer.
@@ -78,7 +78,7 @@ impl<'out, 'prompt, W: Renderer, H: Helper, P: Prompt, S: History> State<
         self.follow(&Movement::ForwardChar(n), CmdKind::MoveCursor)
     }
 
-    /// Moves the cursor to the start of its line. The drawn cursor goes along.
+    /// Moves the cursor to the start of its line. The screen cursor moves along.
     ///
     /// # Errors
     /// Those of the renderer.
@@ -89,7 +89,7 @@ impl<'out, 'prompt, W: Renderer, H: Helper, P: Prompt, S: History> State<
         self.follow(&Movement::BeginningOfLine, CmdKind::MoveCursor)
     }
 
-    /// Moves the cursor to the end of its line. The drawn cursor goes along.
+    /// Moves the cursor to the end of its line. The screen cursor moves along.
     ///
     /// # Errors
     /// Those of the renderer.
@@ -100,7 +100,7 @@ impl<'out, 'prompt, W: Renderer, H: Helper, P: Prompt, S: History> State<
         self.follow(&Movement::EndOfLine, CmdKind::MoveCursor)
     }
 
-    /// Moves the cursor to the start of the text. The drawn cursor goes along.
+    /// Moves the cursor to the start of the text. The screen cursor moves along.
     ///
     /// # Errors
     /// Those of the renderer.
@@ -111,7 +111,7 @@ impl<'out, 'prompt, W: Renderer, H: Helper, P: Prompt, S: History> State<
         self.follow(&Movement::BeginningOfBuffer, CmdKind::MoveCursor)
     }
 
-    /// Moves the cursor to the end of the text. The drawn cursor goes along; `kind` says why.
+    /// Moves the cursor to the end of the text. The screen cursor moves along; `kind` says why.
     ///
     /// # Errors
     /// Those of the renderer.
@@ -122,7 +122,7 @@ impl<'out, 'prompt, W: Renderer, H: Helper, P: Prompt, S: History> State<
         self.follow(&Movement::EndOfBuffer, kind)
     }
 
-    /// Moves the cursor back to the start of the `n`-th word before it. The drawn cursor goes along.
+    /// Moves the cursor back to the start of the `n`-th word before it. The screen cursor moves along.
     ///
     /// # Errors
     /// Those of the renderer.
@@ -134,8 +134,8 @@ impl<'out, 'prompt, W: Renderer, H: Helper, P: Prompt, S: History> State<
         self.follow(&Movement::BackwardWord(n, word_def), CmdKind::MoveCursor)
     }
 
-    /// Moves the cursor on by `n` words: to the start of one, to before its end or to after it, as `at` says. The drawn
-    /// cursor goes along.
+    /// Moves the cursor on by `n` words: to the start of one, to before its end or to after it, as `at` says. The screen
+    /// cursor moves along.
     ///
     /// # Errors
     /// Those of the renderer.
@@ -147,8 +147,8 @@ impl<'out, 'prompt, W: Renderer, H: Helper, P: Prompt, S: History> State<
         self.follow(&Movement::ForwardWord(n, at, word_def), CmdKind::MoveCursor)
     }
 
-    /// Moves the cursor to the `n`-th place that the search leads to, or to the last where there are fewer. The drawn
-    /// cursor goes along.
+    /// Moves the cursor to the `n`-th place that the search leads to, or to the last where there are fewer. The screen cursor
+    /// moves along.
     ///
     /// # Errors
     /// Those of the renderer.
@@ -159,7 +159,7 @@ impl<'out, 'prompt, W: Renderer, H: Helper, P: Prompt, S: History> State<
         self.follow(&Movement::ViCharSearch(n, cs), CmdKind::MoveCursor)
     }
 
-    /// Moves the cursor `n` lines up, one for `n` = 0, to the column where it stands. The drawn cursor goes along. Returns
+    /// Moves the cursor `n` lines up, one for `n` = 0, to the column where it stands. The screen cursor moves along. Returns
     /// whether there is such a line: on the first line nothing moves and nothing is drawn.
     ///
     /// # Errors
@@ -181,7 +181,7 @@ impl<'out, 'prompt, W: Renderer, H: Helper, P: Prompt, S: History> State<
         Ok(true)
     }
 
-    /// Moves the cursor `n` lines down, one for `n` = 0, to the column where it stands. The drawn cursor goes along. Returns
+    /// Moves the cursor `n` lines down, one for `n` = 0, to the column where it stands. The screen cursor moves along. Returns
     /// whether there is such a line: on the last line nothing moves and nothing is drawn.
     ///
     /// # Errors
@@ -203,7 +203,7 @@ impl<'out, 'prompt, W: Renderer, H: Helper, P: Prompt, S: History> State<
         Ok(true)
     }
 
-    // Moves the cursor by a movement. To the first character of a line that is no white space it goes in two moves.
+    // Moves the cursor by a movement. To the first character of a line that is no white space it takes two moves.
     pub(crate) fn move_by(&mut self, movement: &Movement) -> Result<()>
         ensures { let e = ⟦<Self as EditorState>⟧ in let d = e.draft self.old in
             let drawing = move_drawn d.line movement.now in
@@ -248,7 +248,7 @@ impl<'out, 'prompt, W: Renderer, H: Helper, P: Prompt, S: History> State<
         self.edit_history_next(true)
     }
 
-    // Moves the cursor `n` lines down, or from the last line to the line of the history behind this one.
+    // Moves the cursor `n` lines down, or from the last line to the line of the history after this one.
     pub(crate) fn down_or_next(&mut self, n: RepeatCount) -> Result<()>
         ensures { DoesCommand ⟦<Self as EditorState>⟧ result self.old self.new
             (commands.line_down_or_next_history n) }
@@ -259,7 +259,7 @@ impl<'out, 'prompt, W: Renderer, H: Helper, P: Prompt, S: History> State<
         self.edit_history_next(false)
     }
 
-    // Moves the cursor by a movement, and the drawn cursor with it.
+    // Moves the cursor by a movement, and the screen cursor with it.
     fn follow(&mut self, movement: &Movement, kind: CmdKind) -> Result<()>
         ensures { let e = ⟦<Self as EditorState>⟧ in
             MovesTo e result self.old self.new kind
@@ -273,7 +273,7 @@ impl<'out, 'prompt, W: Renderer, H: Helper, P: Prompt, S: History> State<
         self.put_cursor(position, kind)
     }
 
-    /// Takes the drawn cursor to where what is shown ends, a hint or message behind the line included.
+    /// Moves the screen cursor to where what is shown ends, a hint or message after the line included.
     ///
     /// # Errors
     /// Those of the renderer.

@@ -34,8 +34,8 @@ impl<'out, 'prompt, W: Renderer, H: Helper, P: Prompt, S: History> State<
     ///
     /// # Errors
     /// `Eof` where the items ended inside a phrase or before one; then a phrase that was cut short can be read again with
-    /// more items behind it. Another error is one of input or output, or that memory ran out. After an error the line, its
-    /// cursor, the history index and what is remembered of the keys stand as they were, and no item past the phrase that was
+    /// more items after it. Another error is one of input or output, or that memory ran out. After an error the line, its
+    /// cursor, the history index and what is remembered of the keys stay as they were, and no item past the phrase that was
     /// begun is read.
     pub fn next_cmd(
         &mut self,

@@ -1,4 +1,4 @@
-//! Verdicts on the line, and the hint taken away.
+//! How the line is validated, and the hint taken away.
 ghost use Rattle.std.specs.Prelude.{◌≡◌, ◌||◌, if◌then◌else◌, is_some, IfOk, OnOk};
 ghost use Rattle.line_buffer.specs.Changes.{adds_end};
 ghost use Rattle.line_buffer.specs.Line.{ends_in_white_space};
@@ -27,8 +27,8 @@ impl<'out, 'prompt, W: Renderer, H: Helper, P: Prompt, S: History> State<
     P,
     S,
 > {
-    /// Asks the helper for its verdict on the line, inside a group of changes, and draws the line with the verdict's
-    /// message where there is something to show or to take away. Returns the verdict; without a helper every line is valid.
+    /// Asks the helper to validate the line, inside a group of changes, and draws the line with the message of the validation
+    /// result where there is something to show or to take away. Returns the result; without a helper every line is valid.
     ///
     /// # Errors
     /// Those of the validator and of the renderer, and that memory ran out. The groups of changes are then as before, or have
@@ -52,7 +52,8 @@ impl<'out, 'prompt, W: Renderer, H: Helper, P: Prompt, S: History> State<
         Ok(verdict)
     }
 
-    // Asks the helper for its verdict, inside a group of changes. Returns it, and whether closing the group added a change.
+    // Asks the helper for a validation result, inside a group of changes. Returns it, and whether closing the group added a
+    // change.
     #[tactic(auto, using(crate::proofs::DrawnLemmas::line_stays, crate::proofs::DrawnLemmas::no_hint_stays))]
     fn ask_verdict(&mut self) -> Result<(ValidationResult, bool)>
         ensures verdict { let e = ⟦<Self as EditorState>⟧ in IfOk result (λ r.
@@ -72,7 +73,7 @@ impl<'out, 'prompt, W: Renderer, H: Helper, P: Prompt, S: History> State<
     }
 
     #[tactic(auto, using(crate::proofs::DrawnLemmas::message_trails, crate::proofs::DrawnLemmas::message_behind, crate::proofs::DrawnLemmas::line_stays, crate::proofs::DrawnLemmas::no_hint_stays))]
-    // Draws the line with a verdict's message, where there is something to show or to take away.
+    // Draws the line with the message of a validation result, where there is something to show or to take away.
     fn show_verdict(&mut self, verdict: &ValidationResult, corrected: bool) -> Result<()>
         requires { let e = ⟦<Self as EditorState>⟧ in verdict_of verdict.now
             ≡ verdict_on (e.environment self.old) (e.draft self.old).line.text }

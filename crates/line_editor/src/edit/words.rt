@@ -22,11 +22,12 @@ impl<'out, 'prompt, W: Renderer, H: Helper, P: Prompt, S: History> State<
     P,
     S,
 > {
-    /// Exchanges the cluster before the cursor and the one at it, or the last two at the text's end. The cursor goes behind
-    /// both. At the text's start, and with fewer than two clusters, the line stays. Open groups of changes end in any case.
+    /// Exchanges the cluster before the cursor and the one at it, or the last two at the text's end. The cursor then stands
+    /// after both. At the text's start, and with fewer than two clusters, the line stays. Open groups of changes end in any
+    /// case.
     ///
     /// # Errors
-    /// Those of the parties and of the renderer, and that memory ran out.
+    /// Those of the helper, the history and the renderer, and that memory ran out.
     pub fn edit_transpose_chars(&mut self) -> Result<()>
         ensures { DoesCommand ⟦<Self as EditorState>⟧ result self.old self.new
             commands.transpose_chars }
@@ -35,11 +36,11 @@ impl<'out, 'prompt, W: Renderer, H: Helper, P: Prompt, S: History> State<
         self.show_edit(exchanged)
     }
 
-    /// Exchanges the word that ends `n` words on from the cursor with the `n`-th word before it. The cursor goes behind
-    /// both. Where these are not two words, the cursor alone moves: behind the first.
+    /// Exchanges the word that ends `n` words on from the cursor with the `n`-th word before it. The cursor then stands
+    /// after both. Where these are not two words, the cursor alone moves: after the first.
     ///
     /// # Errors
-    /// Those of the parties and of the renderer, and that memory ran out.
+    /// Those of the helper, the history and the renderer, and that memory ran out.
     pub fn edit_transpose_words(&mut self, n: RepeatCount) -> Result<()>
         ensures { DoesCommand ⟦<Self as EditorState>⟧ result self.old self.new
             (commands.transpose_words n) }
@@ -48,11 +49,11 @@ impl<'out, 'prompt, W: Renderer, H: Helper, P: Prompt, S: History> State<
         self.show_edit(exchanged)
     }
 
-    /// Changes the case of the next word, and puts the cursor behind it. Without a word the line stays. Open groups of
+    /// Changes the case of the next word, and puts the cursor after it. Without a word the line stays. Open groups of
     /// changes end in any case.
     ///
     /// # Errors
-    /// Those of the parties and of the renderer, and that memory ran out.
+    /// Those of the helper, the history and the renderer, and that memory ran out.
     pub fn edit_word(&mut self, action: WordAction) -> Result<()>
         ensures { let e = ⟦<Self as EditorState>⟧ in
             Does e result self.old self.new
@@ -67,7 +68,7 @@ impl<'out, 'prompt, W: Renderer, H: Helper, P: Prompt, S: History> State<
     /// characters from its front.
     ///
     /// # Errors
-    /// Those of the parties and of the renderer, and that memory ran out.
+    /// Those of the helper, the history and the renderer, and that memory ran out.
     pub fn edit_indent(&mut self, mvt: &Movement, amount: u8, dedent: bool) -> Result<()>
         ensures { let e = ⟦<Self as EditorState>⟧ in Does e result self.old self.new
             (lines_shifted (e.environment self.old) dedent amount mvt.now (e.draft self.old))

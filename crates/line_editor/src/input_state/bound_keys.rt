@@ -1,4 +1,4 @@
-//! The commands that bindings give: those of the program, and those of the reader.
+//! The commands that keys are bound to: by the program, and by the reader.
 ghost use Rattle.std.specs.Prelude.{◌≡◌, Option, Some, false, option_map, IfOk};
 ghost use Rattle.line_config.specs.Error.{FaultsOnly, IoOnlyIf};
 ghost use Rattle.line_editor.specs.Binding.{all_sure, handled};
@@ -22,8 +22,8 @@ use line_keys::refresher::{InputMode, Refresher};
 use std::alloc::Global;
 
 impl InputState<'_> {
-    /// Returns the command that the program's bindings give a key of a mode under the count that was typed, done again where it
-    /// can be.
+    /// Returns the command that the program's bindings have for a key of a mode under the count that was typed, done again
+    /// where it can be.
     #[inline(always)]
     pub(crate) fn custom_binding<W: Refresher>(
         &self,
@@ -47,7 +47,7 @@ impl InputState<'_> {
         }
     }
 
-    // Returns the command that the handler of a key gives it, done again where it can be.
+    // Returns the command that the handler of a key answers, done again where it can be.
     #[inline(never)]
     fn bound<W: Refresher>(
         &self,
@@ -106,7 +106,7 @@ impl InputState<'_> {
     }
 }
 
-// Returns what a handler answers to an event under a count.
+// Returns what a handler answers to an input event under a count.
 fn handle(
     alloc: Global,
     handler: &Box<dyn ConditionalEventHandler>,
@@ -128,7 +128,7 @@ fn handle(
     handler.handle(alloc, event, count.n, count.positive, context)
 }
 
-/// Returns the command that the reader itself gives the key; `EndOfFile` counts on an empty line alone.
+/// Returns the command that the reader itself has for the key; `EndOfFile` counts on an empty line alone.
 #[inline(always)]
 pub(crate) fn own_command<R: RawReader, W: Refresher>(
     rdr: &R,

@@ -38,7 +38,7 @@ impl Model for KeptInput {
 }
 
 impl KeptInput {
-    /// Returns what is remembered before the first key, in the configured style; the Vi style begins in insert mode.
+    /// Returns what is remembered before the first key, in the configured edit mode; Vi begins in insert mode.
     pub fn new(config: &Config) -> KeptInput
         ensures { result ≡ first_input config.now.edit_mode }
     {
@@ -52,7 +52,7 @@ impl KeptInput {
 }
 
 impl<'b> InputState<'b> {
-    /// Returns what is remembered, from which `resume` goes on.
+    /// Returns what is remembered, which `resume` takes up again.
     pub fn release(self) -> KeptInput
         ensures { result ≡ input_of self.entry }
     {

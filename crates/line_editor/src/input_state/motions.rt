@@ -41,7 +41,7 @@ impl InputState<'_> {
         self.read_motion_from(rdr, wrt, operator, n, first)
     }
 
-    // Reads the rest of a motion that began with a key: its count, if it begins one, and what belongs to the key behind it.
+    // Reads the rest of a motion that began with a key: its count, if it begins one, and what belongs to the key after it.
     fn read_motion_from<R: RawReader, W: Refresher>(
         &self,
         rdr: &mut R,
@@ -96,7 +96,7 @@ impl InputState<'_> {
     }
 }
 
-// Returns the motion of a key at once behind an operator: the operator's own key is the whole line.
+// Returns the motion of a key at once after an operator: the operator's own key is the whole line.
 fn motion_at_once(operator: Operator, first: KeyEvent, n: RepeatCount) -> Motion
     ensures { motion_value result ≡ motion_behind operator n [] first }
 {

@@ -1,4 +1,4 @@
-//! Phrases: an optional count, a key and what belongs to it, and in Vi such a one of command mode behind Alt.
+//! Phrases: an optional count, a key and what belongs to it; in Vi also a phrase of command mode after Alt.
 ghost use Rattle.line_editor.specs.Reads.{ReadsKeyed, ReadsPhrase, ReadsSpelled};
 ghost use Rattle.std.specs.Prelude.{◌≡◌, true, None, Option, Some, OnOk};
 ghost use Rattle.line_config.specs.Error.{MemoryOnly};
@@ -56,7 +56,7 @@ impl InputState<'_> {
         }
     }
 
-    // Reads the rest of a phrase of command mode behind a key with Alt, which stands for a plain key there. The groups of
+    // Reads the rest of a phrase of command mode after a key with Alt, which stands for a plain key there. The groups of
     // changes end first, unless a binding or the reader has a command for the key.
     #[inline(never)]
     fn read_alt<R: RawReader, W: Refresher>(
@@ -83,7 +83,7 @@ impl InputState<'_> {
     }
 
     // Reads the rest of a phrase of a mode that began with a key: its count, if it begins one, and what belongs to the key
-    // behind it.
+    // after it.
     #[inline(always)]
     fn read_spelled<R: RawReader, W: Refresher>(
         &self,
@@ -123,7 +123,7 @@ impl InputState<'_> {
 
     // Reads what belongs to a key of a mode, under the count that was typed.
     //
-    // The way of a key: `State::cmd_from` hands the state in as `wrt`; a plain character that is typed does not come here. The program's bindings are asked first, then the
+    // The way of a key: `State::cmd_from` hands the state in as `wrt`; a plain character that is typed does not get here. The program's bindings are asked first, then the
     // reader's own, and then the tables of `line_keys`. A table gives a meaning, which says what else is to be read, and
     // `read_tail` reads it. The command goes back through `State::next_cmd` to `execute`, which finds the edit that it names.
     #[inline(always)]
@@ -194,7 +194,7 @@ impl InputState<'_> {
         }
     }
 
-    // Returns what a phrase of command mode is read as behind Alt: its command goes through the rule of this mode, too.
+    // Returns what a phrase of command mode is read as after Alt: its command goes through the rule of this mode, too.
     fn behind_alt(&self, read: Read) -> Read
         ensures command { command_of result.command ≡ command_of read.command }
         ensures input { let i = input_of self.now in let within = read_input read i in

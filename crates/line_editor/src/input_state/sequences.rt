@@ -1,4 +1,4 @@
-//! Bound sequences of keys.
+//! Bound key sequences.
 ghost use Rattle.line_editor.specs.Reads.{ReadsSequence, sequences_here};
 ghost use Rattle.std.specs.Prelude.{◌≡◌, Option, false, option_map, IfOk, OnErr};
 ghost use Rattle.line_config.specs.Error.{FaultsOnly, IoOnlyIf};
@@ -24,12 +24,13 @@ use line_keys::refresher::{InputMode, Refresher};
 pub(crate) enum Sequence {
     /// Keys that have a command.
     Command(Cmd),
-    /// Keys that have none, of which the second one is given, if there was one.
+    /// Keys that have none; with the second of them, if there was one.
     InVain(Option<KeyEvent>),
 }
 
 impl InputState<'_> {
-    /// Reads the keys of a bound sequence that begins with a key, up to one that has a command or behind which none goes on.
+    /// Reads the keys of a bound sequence that begins with a key, up to one that completes a command, or after which no
+    /// bound sequence goes on.
     pub(crate) fn custom_seq_binding<R: RawReader, W: Refresher>(
         &self,
         rdr: &mut R,
@@ -65,7 +66,7 @@ impl InputState<'_> {
         }
     }
 
-    // Returns the command of a bound sequence, if it is bound and has one.
+    // Returns the command of a key sequence, if it is bound and has one.
     fn sequence_command<W: Refresher>(
         &self,
         wrt: &W,

@@ -1,4 +1,4 @@
-//! The table of keys of both styles.
+//! The table of keys of both edit modes.
 ghost use Rattle.std.specs.Prelude.{◌≡◌, ◌==◌, if◌then◌else◌, true, length, option_map};
 ghost use Rattle.line_keys.specs.Command.{accept_or_insert_line, command_of, unknown, yank};
 ghost use Rattle.line_keys.specs.CommonTable.{common_ctrl_rows, common_row, deletes};
@@ -16,7 +16,7 @@ use crate::tables::{Entry, Meaning, command, staying};
 use line_buffer::{Movement, Word};
 use line_config::EditMode;
 
-/// Returns what a key stands for in the table of both styles.
+/// Returns what a key stands for in the table of both edit modes.
 pub fn common_entry<W: Refresher>(
     mode: EditMode,
     key: KeyEvent,
@@ -43,7 +43,7 @@ pub fn common_entry<W: Refresher>(
     }
 }
 
-// Returns what is meant by a character with Ctrl in the table of both styles.
+// Returns what is meant by a character with Ctrl in the table of both edit modes.
 fn common_ctrl<W: Refresher>(
     mode: EditMode,
     c: char,

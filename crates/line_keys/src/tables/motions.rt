@@ -1,4 +1,4 @@
-//! What is read behind the first key of a command of Vi: the motion of an operator, or the character of a replacement.
+//! What is read after the first key of a command of Vi: the motion of an operator, or the character of a replacement.
 ghost use Rattle.std.specs.Prelude.{◌≡◌};
 ghost use Rattle.line_keys.specs.Command.{command_of};
 ghost use Rattle.line_keys.specs.Motion.{bracket_motion, char_motions, is_own_key, motion_at, motion_of, multiplied, operated, operated_to_bracket, own_char, replaced_by, word_place};
@@ -10,7 +10,7 @@ use crate::tables::{Motion, Operator, SearchKind};
 use line_buffer::{At, Movement, RepeatCount, Word};
 
 impl Operator {
-    /// Returns whether a key is the operator's own, its plain character. Behind the operator it stands for the whole line.
+    /// Returns whether a key is the operator's own, its plain character. After the operator it stands for the whole line.
     pub fn is_own_key(self, key: KeyEvent) -> bool
         ensures { result ≡ is_own_key self key }
     {
@@ -59,7 +59,7 @@ impl Operator {
         }
     }
 
-    // Returns the motion of %: behind < and > it is none.
+    // Returns the motion of %: after < and > it is none.
     fn bracket_motion(self) -> Motion
         ensures { motion_value result ≡ bracket_motion self }
     {
@@ -69,7 +69,7 @@ impl Operator {
         }
     }
 
-    // Returns where the operator goes behind w and W: to the end of a word, or to the start of the next.
+    // Returns where the operator leads after w and W: to the end of a word, or to the start of the next.
     fn word_place(self) -> At
         ensures { result ≡ word_place self }
     {
@@ -80,7 +80,7 @@ impl Operator {
     }
 }
 
-/// Returns the motion of a key behind an operator, with its count. The operator's own key is no motion here.
+/// Returns the motion of a key after an operator, with its count. The operator's own key is no motion here.
 pub fn motion_of_key(operator: Operator, key: KeyEvent, n: RepeatCount) -> Motion
     ensures { motion_value result ≡ motion_of operator key n }
 {
@@ -93,7 +93,7 @@ pub fn motion_of_key(operator: Operator, key: KeyEvent, n: RepeatCount) -> Motio
     }
 }
 
-// Returns the motion of a plain character behind an operator, with its count.
+// Returns the motion of a plain character after an operator, with its count.
 fn char_motion(operator: Operator, c: char, n: RepeatCount) -> Motion
     ensures { motion_value result ≡ motion_at char_motions c operator n }
 {

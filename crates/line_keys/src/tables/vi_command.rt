@@ -142,7 +142,7 @@ fn vi_change<W: Refresher>(c: char, typed: Option<Count>, _wrt: &W) -> Option<En
     }
 }
 
-// Returns what a plain character stands for that goes by lines, or through the history.
+// Returns what a plain character stands for that moves by lines, or through the history.
 fn vi_line<W: Refresher>(c: char, typed: Option<Count>, _wrt: &W) -> Option<Entry>
     ensures { option_map entry_value result
         ≡ option_map (λ r. r.entry typed) (row_at vi_line_rows c (W.draft _wrt.now)) }

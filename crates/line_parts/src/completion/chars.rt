@@ -3,7 +3,7 @@ ghost use Rattle.std.specs.Prelude.{◌≡◌, ◌++◌, [], IfSome, MatchOption
 ghost use Rattle.std.specs.Char.{encode_utf8};
 ghost use Rattle.std.specs.Str.{IsUtf8};
 
-// Returns the first character of a text, and what stands behind it.
+// Returns the first character of a text, and what stands after it.
 pub(crate) fn split_first(text: &str) -> Option<(char, &str)>
     ensures first { MatchOption result (text.now ≡ [])
         (λ split. text.now ≡ encode_utf8 split.0 ++ split.1.now) }

@@ -28,7 +28,7 @@ pub enum Quote {
     None,
 }
 
-// Puts a character behind a text, with the escape character before it where it breaks words.
+// Puts a character after a text, with the escape character before it where it breaks words.
 fn push_escaped(text: &mut String, esc_char: char, c: char, breaks: bool) -> Result<()>
     ensures text { OnOk result (string_bytes text.new ≡ string_bytes text.old
         ++ encode_utf8_all (if breaks then esc_char ∷ c ∷ [] else c ∷ [])) }
@@ -98,7 +98,7 @@ fn next_kept(rest: &mut Chars<'_>, esc_char: char) -> Option<char>
     Some(c)
 }
 
-// Returns the text without its escape characters, each of which keeps the character behind it.
+// Returns the text without its escape characters, each of which keeps the character after it.
 fn unescape_chars(alloc: Global, input: &str, esc_char: char) -> Result<String>
     ensures text { IfOk result
         (λ text. string_bytes text ≡ on_chars (unescaped (Some esc_char)) input.now) }
@@ -112,7 +112,7 @@ fn unescape_chars(alloc: Global, input: &str, esc_char: char) -> Result<String>
     Ok(text)
 }
 
-/// Returns the text without its escape characters; the character behind each of them stays. Without
+/// Returns the text without its escape characters; the character after each of them stays. Without
 /// an escape character that is the text itself.
 ///
 /// # Errors
@@ -175,7 +175,7 @@ fn last_word<F: Fn(char) -> bool>(text: &str, esc_char: Option<char>, is_break_c
 
 /// Returns the word that ends at the cursor, which is at byte `pos`, and the byte offset where it
 /// begins. Going back from the cursor, a character that `is_break_char` answers true for is passed
-/// together with the escape character right before it; the word begins behind the first one that has
+/// together with the escape character right before it; the word begins after the first one that has
 /// none, or else at the start of the line.
 pub fn extract_word<F: Fn(char) -> bool>(
     line: &str,

@@ -49,7 +49,7 @@ pub trait Lister {
         ensures faults { FaultsOnly result };
 }
 
-/// Completes the names of files and folders, which a lister gives.
+/// Completes the names of files and folders, which a lister returns.
 #[derive(Drop)]
 pub struct FilenameCompleter<L> {
     lister: L,
@@ -67,8 +67,8 @@ impl<L: Lister> FilenameCompleter<L> {
 
     /// Returns the byte offset where the path begins that ends at the cursor, at byte `pos` of `line`, and its candidates:
     /// the names in its folder that start with the path's last part, in the order of their bytes. A path in open quotes
-    /// begins behind the quote. A candidate puts in the folder's text and the name, escaped as these quotes ask for it, and a
-    /// `/` behind the name of a folder.
+    /// begins after the quote. A candidate inserts the folder's text and the name, escaped as these quotes ask for it, and a
+    /// `/` after the name of a folder.
     ///
     /// # Errors
     /// `Io`, only where the lister is not sure, and `Memory`.
@@ -91,7 +91,7 @@ impl<L: Lister> FilenameCompleter<L> {
         Ok((start, pairs))
     }
 
-    /// Returns the same with the candidates in the order in which the lister gave the names.
+    /// Returns the same with the candidates in the order in which the lister returned the names.
     ///
     /// # Errors
     /// `Io`, only where the lister is not sure, and `Memory`.
@@ -157,11 +157,10 @@ impl<L: Lister> Completer for FilenameCompleter<L> {
     }
 
     /// Replaces what stands from `start` to the cursor by the text of the elected candidate. The
-    /// cursor then stands behind that text.
+    /// cursor then stands after that text.
     ///
     /// # Errors
-    /// `Memory`, where an allocation fails. The changes then tell of the line still, or there are
-    /// none.
+    /// `Memory`, where an allocation fails. The changes then still record the line, or there are none.
     fn update(
         &self,
         line: &mut LineBuffer,

@@ -80,7 +80,7 @@ pub(crate) fn path_before(alloc: Global, text: &str) -> Result<(usize, CowStr<'_
     }
 }
 
-// Returns a path up to its last `/`, and the name behind it.
+// Returns a path up to its last `/`, and the name after it.
 pub(crate) fn split_path(path: &str) -> (&str, &str)
     ensures folder { let cs = chars path.now in
         result.0.now ≡ encode_utf8_all (take (name_start cs) cs) }

@@ -7,7 +7,7 @@ ghost use Rattle.line_parts.specs.Prefix.{BeginWithNone, BeginWithOne, IsCommonS
 use crate::completion::Candidate;
 use crate::completion::chars::split_first;
 
-// Returns what stands behind the first character of two texts, where that is the same.
+// Returns what stands after the first character of two texts, where that is the same.
 fn strip_same<'a, 'b>(one: &'a str, other: &'b str) -> Option<(&'a str, &'b str)>
     ensures same { MatchOption result (BeginWithNone one.now other.now)
         (λ rests. BeginWithOne one.now other.now rests.0.now rests.1.now) }

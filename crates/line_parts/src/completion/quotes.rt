@@ -7,7 +7,7 @@ ghost use Rattle.line_parts.specs.declared.completion.escapes.Quote.TheVariants 
 use crate::completion::chars::split_first;
 use crate::completion::escapes::Quote;
 
-// Returns what stands behind the double quote that closes, in a text that stands in double quotes.
+// Returns what stands after the double quote that closes, in a text that stands in double quotes.
 fn behind_double(text: &str) -> Option<&str>
     ensures closed { MatchOption result (NeverCloses quote.Double double (chars text.now))
         (λ rest. ClosesBefore quote.Double double (chars text.now) (chars rest.now)) }
@@ -24,7 +24,7 @@ fn behind_double(text: &str) -> Option<&str>
     None
 }
 
-// Returns what stands behind the single quote that closes, in a text that stands in single quotes.
+// Returns what stands after the single quote that closes, in a text that stands in single quotes.
 fn behind_single(text: &str) -> Option<&str>
     ensures closed { MatchOption result (NeverCloses quote.Single single (chars text.now))
         (λ rest. ClosesBefore quote.Single single (chars text.now) (chars rest.now)) }
@@ -40,7 +40,7 @@ fn behind_single(text: &str) -> Option<&str>
     None
 }
 
-// Returns what stands behind the first piece of a text: a character, an escaped one, or what stands in quotes with these.
+// Returns what stands after the first piece of a text: a character, an escaped one, or what stands in quotes with these.
 fn behind_piece(first: char, more: &str) -> Option<&str>
     ensures closed { MatchOption result (IsUnpaired (first ∷ chars more.now))
         (λ rest. BeginsClosed (first ∷ chars more.now) (chars rest.now)) }
@@ -54,7 +54,7 @@ fn behind_piece(first: char, more: &str) -> Option<&str>
     }
 }
 
-// Returns the quote that stands open at the end of a text, and what stands behind it.
+// Returns the quote that stands open at the end of a text, and what stands after it.
 pub(crate) fn find_unclosed_quote(text: &str) -> Option<(Quote, &str)>
     ensures open { MatchOption result
         ((open_quote quote.Double (chars text.now) ≡ None)

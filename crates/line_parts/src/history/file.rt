@@ -12,8 +12,8 @@ use std::alloc::Global;
 use std::collections::vec_deque::Iter;
 use std::marker::Model;
 
-/// A history that can be saved and loaded. It counts its new lines, those that came since the last save
-/// or load that succeeded.
+/// A history that can be saved and loaded. It counts its new lines, those that were added since the
+/// last save or load that succeeded.
 #[derive(Drop)]
 pub struct FileHistory {
     mem: MemHistory,

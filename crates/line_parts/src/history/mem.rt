@@ -112,7 +112,7 @@ impl MemHistory {
         }
     }
 
-    // Puts a line behind the others, and drops the oldest where there is one too many.
+    // Puts a line after the others, and drops the oldest where there is one too many.
     #[tactic(auto, using(crate::proofs::HistoryLemmas::pushed, crate::proofs::HistoryLemmas::pushed_past))]
     fn insert(&mut self, line: String) -> Result<()>
         requires { 0 < self.old.rules.max_len }

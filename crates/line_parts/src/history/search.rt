@@ -17,7 +17,7 @@ pub(crate) enum Place {
 }
 
 impl Place {
-    // Returns the byte offset that a search for `term` gives in `line`, if it finds it there.
+    // Returns the byte offset that a search for `term` finds in `line`, if it finds one.
     fn find(self, term: &str, line: &str) -> Option<usize>
         ensures { result ≡ place_of self term.now line.now }
     {

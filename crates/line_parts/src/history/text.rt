@@ -87,8 +87,7 @@ fn write_out<T: Write>(text: &mut Vec<u8>, out: &mut T) -> Result<()>
 }
 
 impl FileHistory {
-    // Writes the lines from an index on behind a text that waits to be written, and leaves the last
-    // of them waiting.
+    // Writes the lines from an index on after a text that waits to be written, and leaves the last of them waiting.
     #[tactic(auto, using(crate::proofs::SaveLemmas::written_none, crate::proofs::SaveLemmas::written_more, crate::proofs::SaveLemmas::written_out, crate::proofs::SaveLemmas::written_all))]
     fn write_lines<T: Write>(
         &self,
@@ -134,9 +133,9 @@ impl FileHistory {
         Ok(())
     }
 
-    /// Writes the header line `#V2` and all lines to `out`, with a line feed behind each, and flushes it. In a line a
+    /// Writes the header line `#V2` and all lines to `out`, with a line feed after each, and flushes it. In a line a
     /// backslash is written as `\\`, and a newline as `\n`. With `append` only the new lines are written, those that
-    /// came since the last save or load that succeeded, and no header. After that no line counts as new.
+    /// were added since the last save or load that succeeded, and no header. After that no line counts as new.
     ///
     /// A line that ends in a carriage return is loaded without it: `save_v3_to` keeps it.
     ///
@@ -153,7 +152,7 @@ impl FileHistory {
     /// Writes what `save_to` does, with the header line `#V3` and a carriage return as `\r`, so that each line is loaded
     /// as it was.
     ///
-    /// A text keeps one form: what is appended behind `#V2` is read with the escapes of `#V2`, and the other way round.
+    /// A text keeps one form: what is appended after `#V2` is read with the escapes of `#V2`, and the other way round.
     ///
     /// # Errors
     /// `Io`, where the writer fails, and `Memory`. The history and its new lines then stay as they were, and `out` may
@@ -227,7 +226,7 @@ impl FileHistory {
         Ok(None)
     }
 
-    // Reads the lines behind the first one and adds them. Returns whether all were taken.
+    // Reads the lines after the first one and adds them. Returns whether all were taken.
     #[tactic(auto, using(crate::proofs::LoadLemmas::loading_none, crate::proofs::LoadLemmas::loading_more, crate::proofs::LoadLemmas::loading_ended, crate::proofs::LoadLemmas::loading_beginning, crate::proofs::LoadLemmas::loading_some))]
     fn load_rest<B: BufRead>(&mut self, reader: &mut B, headed: Option<Escapes>) -> Loaded<bool>
         ensures all { AddsWhole result headed (B.remaining reader.old) self.old self.new }
@@ -277,7 +276,7 @@ impl FileHistory {
     /// # Errors
     /// `Io`, where the reader fails, by its own error; where what a line says is not UTF-8, of kind
     /// `InvalidData`; and where there are more lines than a `u64` can count, of kind `FileTooLarge`.
-    /// `Memory`, also where the reader tells of the want of it. The lines before the fault are then
+    /// `Memory`, also where the reader reports the want of it. The lines before the fault are then
     /// there, and count as new.
     #[tactic(auto, using(crate::proofs::LoadLemmas::nothing_read, crate::proofs::LoadLemmas::adds_some_none, crate::proofs::LoadLemmas::reader_known))]
     pub fn load_from<T: Read + Drop>(&mut self, reader: T) -> Result<bool>

@@ -25,7 +25,7 @@ impl EditedLine {
         true
     }
 
-    /// Returns the range from the lower of the bracket at the cursor and the one that matches it to behind the higher, in bytes.
+    /// Returns the range of the bracket at the cursor, the one that matches it and what stands between the two, in bytes.
     /// `None` where no bracket stands at the cursor, or it has no match.
     pub fn bracket_range(&self) -> Option<(usize, usize)>
         ensures { IsRangeIfAny result self.now.line (bracket_range self.now.line) }
@@ -38,7 +38,10 @@ impl EditedLine {
         Some((at, pos + 1))
     }
 
-    /// Replaces that range by the empty text, and the cursor goes to its start. Returns whether there is such a range.
+    /// Replaces that range by the empty text, and puts the cursor at its start. Returns whether there is such a range.
+    ///
+    /// # Errors
+    /// `OutOfMemory` alone. The line may then be any text with its cursor on a boundary, and there are no changes to undo.
     pub fn remove_to_bracket(&mut self) -> Result<bool, OutOfMemory>
         ensures { let range = bracket_range self.old.line in Finds result self.old self.new
             (with_nothing_for range self.old) (is_some range) }

@@ -1,4 +1,4 @@
-//! Candidates that come into the line.
+//! Candidates that are put into the line.
 ghost use Rattle.std.specs.Prelude.{IsCharBoundary, ◌≡◌, ◌≤◌, ◌⊎◌, false, OnErr, OnOk};
 ghost use Rattle.line_buffer.specs.Changes.{no_changes};
 ghost use Rattle.line_config.specs.Error.{FaultsOnly, IoOnlyIf};
@@ -14,7 +14,7 @@ impl EditedLine {
     /// completer does by itself.
     ///
     /// # Errors
-    /// `Io`, only where the completer is not sure, and `Memory`. The changes then tell of the line still, or there are none.
+    /// `Io`, only where the completer is not sure, and `Memory`. The changes then still record the line, or there are none.
     pub fn elect<C: Completer>(&mut self, completer: &C, start: usize, elected: &str) -> Result<()>
         requires before { start ≤ self.old.line.cursor }
         requires boundary { IsCharBoundary self.old.line.text start }

@@ -1,4 +1,4 @@
-//! Texts that come into the line.
+//! Texts that are put into the line.
 ghost use Rattle.std.specs.Prelude.{◌≡◌, ◌==◌, not, false, length, IfOk, IsCharBoundary};
 ghost use Rattle.line_buffer.specs.Yank.{can_pop, line_yank_popped, with_yank_pop};
 ghost use Rattle.line_state.specs.Edited.{EditsTo, Finds, KeepsFirst, Reports, edited_to, in_one_group, pops_text, with_popped, with_text, with_update_to, with_yanked, yanked_at, at_anchor, stepped_back};
@@ -10,6 +10,9 @@ use line_keys::cmd::Anchor;
 #[tactic(auto, using(crate::proofs::EditedLemmas::kept, crate::proofs::EditedLemmas::first_kept, crate::proofs::EditedLemmas::first_stays, crate::proofs::EditedLemmas::first_moved, crate::proofs::EditedLemmas::moved_text))]
 impl EditedLine {
     /// Inserts a text at the cursor, which stays before it.
+    ///
+    /// # Errors
+    /// `OutOfMemory` alone. The line may then be any text with its cursor on a boundary, and there are no changes to undo.
     pub fn insert_text(&mut self, text: &str) -> Result<(), OutOfMemory>
         ensures { EditsTo result self.old self.new (with_text text.now self.old) }
     {
@@ -17,7 +20,10 @@ impl EditedLine {
             .insert_str(self.line.pos(), text, &mut self.changes)
     }
 
-    /// Inserts `n` copies of a text at the cursor, which goes behind them. Returns whether there was a text.
+    /// Inserts `n` copies of a text at the cursor, which then stands after them. Returns whether there was a text.
+    ///
+    /// # Errors
+    /// `OutOfMemory` alone. The line may then be any text with its cursor on a boundary, and there are no changes to undo.
     pub fn yank(&mut self, text: &str, n: RepeatCount) -> Result<bool, OutOfMemory>
         ensures { Reports result self.old self.new (with_yanked text.now n self.old)
             (not (length text.now == 0)) }
@@ -26,9 +32,12 @@ impl EditedLine {
         Ok(yanked.is_some())
     }
 
-    /// Puts `n` copies of a text before the cluster at the cursor, or behind it, and the cursor behind them, or with `step_back`
-    /// one cluster before that. Of the empty text the cursor moves alone: behind the cluster for `After`. Returns whether
+    /// Puts `n` copies of a text before the cluster at the cursor, or after it, and the cursor after them, or with `step_back`
+    /// one cluster before that. With the empty text only the cursor moves: for `After`, to after the cluster. Returns whether
     /// there was a text.
+    ///
+    /// # Errors
+    /// `OutOfMemory` alone. The line may then be any text with its cursor on a boundary, and there are no changes to undo.
     pub fn yank_at(
         &mut self,
         anchor: Anchor,
@@ -50,7 +59,7 @@ impl EditedLine {
         Ok(true)
     }
 
-    // Moves the cursor to where a text is put: before the cluster at it, or behind that.
+    // Moves the cursor to where a text is put: before the cluster at it, or after that.
     fn go_to(&mut self, anchor: Anchor)
         ensures line { self.new ≡ at_anchor anchor self.old }
         ensures text { self.new.line.text ≡ self.old.line.text }
@@ -74,8 +83,11 @@ impl EditedLine {
         }
     }
 
-    /// Puts a text in the place of `size` bytes before the cursor, in one group of changes, with the cursor behind it.
-    /// Returns whether a text went or came: none goes where the bytes pass the start of the text, or cut a character.
+    /// Puts a text in the place of `size` bytes before the cursor, in one group of changes, with the cursor after it.
+    /// Returns whether a text was removed or inserted: none is where fewer bytes stand there, or they would cut a character.
+    ///
+    /// # Errors
+    /// `OutOfMemory` alone. The line may then be any text with its cursor on a boundary, and there are no changes to undo.
     pub fn yank_pop(&mut self, size: usize, text: &str) -> Result<bool, OutOfMemory>
         ensures reports { Finds result self.old self.new (with_popped size text.now self.old)
             (pops_text self.old.line size text.now) }
@@ -89,7 +101,7 @@ impl EditedLine {
         Ok(popped)
     }
 
-    // Returns whether `size` bytes can go from before the cursor, and these or the text are not empty.
+    // Returns whether `size` bytes can be removed before the cursor, and these or the text are not empty.
     fn pops_text(&self, size: usize, text: &str) -> bool
         ensures { result ≡ pops_text self.now.line size text.now }
     {
@@ -107,7 +119,7 @@ impl EditedLine {
         size <= end && self.line.as_str().is_char_boundary(end - size)
     }
 
-    // Puts a text in the place of `size` bytes before the cursor, if they can go.
+    // Puts a text in the place of `size` bytes before the cursor, if they can be removed.
     fn pop(&mut self, size: usize, text: &str) -> Result<(), OutOfMemory>
         ensures { EditsTo result self.old self.new
             (edited_to (line_yank_popped self.old.line size text.now)
@@ -118,6 +130,9 @@ impl EditedLine {
     }
 
     /// Puts a text in the place of the whole line, and the cursor at byte `pos` of it.
+    ///
+    /// # Errors
+    /// `OutOfMemory` alone. The line may then be any text with its cursor on a boundary, and there are no changes to undo.
     pub fn update(&mut self, text: &str, pos: usize) -> Result<(), OutOfMemory>
         requires { IsCharBoundary text.now pos }
         ensures { EditsTo result self.old self.new (with_update_to text.now pos self.old) }
@@ -126,6 +141,9 @@ impl EditedLine {
     }
 
     /// Puts a text in the place of the whole line, in one group of changes, and the cursor at byte `pos` of it.
+    ///
+    /// # Errors
+    /// `OutOfMemory` alone. The line may then be any text with its cursor on a boundary, and there are no changes to undo.
     pub fn update_in_group(&mut self, text: &str, pos: usize) -> Result<(), OutOfMemory>
         requires { IsCharBoundary text.now pos }
         ensures { EditsTo result self.old self.new

@@ -72,7 +72,7 @@ impl<'out, 'prompt, W: Renderer, P: Prompt> View<'out, 'prompt, W, P> {
         (kept, out, prompt)
     }
 
-    /// Returns the view of a drawn line of which this was kept, on the renderer and behind the prompt that it was drawn with.
+    /// Returns the view of a drawn line of which this was kept, on the renderer and after the prompt that it was drawn with.
     /// Nothing is drawn.
     pub fn resume(kept: KeptView, out: &'out mut W, prompt: &'prompt P) -> Self
         requires { IsLeftOn kept (W.surface out.old) (W.screen out.old) (P.raw_text prompt.now) }

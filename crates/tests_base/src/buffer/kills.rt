@@ -177,7 +177,7 @@ fn by_movements(rt: HostRuntime) {
     }
 }
 
-/// A movement in a word of 6,000 bytes, with the cursor behind its second character; where what goes by it begins, and
+/// A movement in a word of 6,000 bytes, with the cursor after its second character; where what goes by it begins, and
 /// how many characters that is.
 const LARGE: &[(Movement, usize, usize)] = &[
     (WholeBuffer, 0, 3_000),

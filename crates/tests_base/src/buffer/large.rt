@@ -8,7 +8,7 @@ use super::edits::Wanted::*;
 use line_buffer::Movement::WholeBuffer;
 use line_buffer::WordAction::Uppercase;
 
-/// A word of 6,000 bytes, with the cursor behind its second character.
+/// A word of 6,000 bytes, with the cursor after its second character.
 pub(super) const WORD: Edit = Written('é', 3_000, 4);
 
 /// Lines, each of a newline alone, with the cursor at the start.

@@ -14,7 +14,7 @@ use line_buffer::{Changeset, KillRing, LineBuffer, OutOfMemory};
 use std::alloc::Global;
 use std::process::Abort;
 
-/// The cursor stands behind its first two characters.
+/// The cursor stands after its first two characters.
 const TEXT: &str = "aé b日";
 
 /// The list is empty with no open group, and the cursor stands on a boundary.

@@ -17,7 +17,7 @@ enum Act {
     Much(Mode),
     /// So many kills of a text, each for itself.
     Apart(usize, &'static str),
-    /// Kills that join: a text, a dash behind it and a plus before both.
+    /// Kills that join: a text, a dash after it and a plus before both.
     Joined(&'static str),
     Reset,
     /// A yank gives this text.

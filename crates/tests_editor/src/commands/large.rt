@@ -13,7 +13,7 @@ use tests_stand_ins::recorder::Recorder;
 use tests_steps::calls::Editor;
 
 /// How many lines the history holds: each is `line` and a number of four digits, the first 1000. What is done once, what
-/// so many times, and what once behind it; and the length of the line, the cursor and the place that are left.
+/// so many times, and what once after it; and the length of the line, the cursor and the place that are left.
 type Case = (
     u64,
     &'static str,

@@ -33,7 +33,7 @@ use With::*;
 /// That, the line with a bar at its cursor, commands and calls, and the line that they leave with ample memory.
 type Case = (With, &'static str, &'static str, &'static str);
 
-/// The text before the bar, and the text behind it.
+/// The text before the bar, and the text after it.
 fn halves<'l>(rt: &impl Abort, marked: &'l str) -> (&'l str, &'l str) {
     match marked.split_once('|') {
         Some(found) => found,
@@ -95,7 +95,7 @@ fn begins(alloc: Global, state: &mut Editor<'_, '_>, before: &str, behind: &str)
     starts(state, &input, before, behind)
 }
 
-/// The line before and behind its cursor, which is on a boundary.
+/// The line before and after its cursor, which is on a boundary.
 fn at<'l>(rt: &impl Abort, state: &'l Editor<'_, '_>) -> (&'l str, &'l str) {
     let (line, pos) = (state.line(), state.pos());
     assert!(rt; line.is_char_boundary(pos), "{pos} in {line:?}");
@@ -261,7 +261,7 @@ fn of_steps(rt: HostRuntime) -> std::result::Result<(), Fail> {
     Ok(())
 }
 
-/// A state of a line to begin with, its cursor behind so many bytes.
+/// An edit state to begin with, its cursor after so many bytes.
 fn is_made(rt: &impl Abort, alloc: Global, text: &str, cursor: usize) -> Result<()> {
     assert!(rt; text.is_char_boundary(cursor));
     let wanted = (&text[..cursor], &text[cursor..]);

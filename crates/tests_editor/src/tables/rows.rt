@@ -1,4 +1,4 @@
-//! The rows of the tables of Emacs and of both styles.
+//! The rows of the tables of Emacs and of both edit modes.
 
 use super::Line;
 use super::Way::{self, Alone, Listed, Search, Second};
@@ -234,7 +234,7 @@ const INSIDE: &[Row] = &[
     ),
     (Alone, K::Char('Y'), M::ALT, "YankPop", "YankPop"),
     (Alone, K::Char('y'), M::ALT, "YankPop", "YankPop"),
-    // Both styles.
+    // Both edit modes.
     (
         Alone,
         K::Home,
@@ -321,7 +321,7 @@ const INSIDE: &[Row] = &[
     ),
     (Alone, K::Char('Y'), M::CTRL, "Yank(#, Before)", "Unknown"),
     (Alone, K::UnknownEscSeq, M::NONE, "Noop", "Noop"),
-    // Behind Ctrl-X.
+    // After Ctrl-X.
     (Second, K::Char('G'), M::CTRL, "Abort", "Abort"),
     (Second, K::Esc, M::NONE, "Abort", "Abort"),
     (Second, K::Char('U'), M::CTRL, "Undo(#)", "Undo(#)"),
@@ -423,5 +423,5 @@ const MOVES: &[Row] = &[(
     "Move(BackwardChar(#))",
 )];
 
-/// Where a hint is shown behind the cursor.
+/// Where a hint is shown after the cursor.
 const TAKES: &[Row] = &[(Alone, K::Right, M::NONE, "CompleteHint", "CompleteHint")];

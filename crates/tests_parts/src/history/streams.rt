@@ -51,7 +51,7 @@ impl Stream {
         }
     }
 
-    /// The error where it fails behind so many bytes, or is interrupted.
+    /// The error where it fails after so many bytes, or is interrupted.
     fn broken(&mut self, done: usize) -> io::Result<()> {
         let (kind, text, how) = self.manner;
         if matches!(how, Interrupted) && !self.interrupted {
@@ -191,7 +191,7 @@ type Load = (
     &'static str,
 );
 
-/// A load leaves the lines that came before the place where its reader fails: in an empty history, or behind a settled line
+/// A load leaves the lines that came before the place where its reader fails: in an empty history, or after a settled line
 /// where it fails once.
 fn reads(rt: &impl Abort, alloc: Global, load: &Load, place: usize, manner: &Manner) {
     let (text, _, _, wanted, lines, appended) = *load;
@@ -218,7 +218,7 @@ const PLAIN: &str = "a\r\nb";
 const LOADS: &[Load] = &[
     ("", 0, 0, None, "", ""),
     ("", WHOLE, WHOLE, Some(false), "", ""),
-    // two lines behind a header, an empty one, and a last one without a line feed
+    // two lines after a header, an empty one, and a last one without a line feed
     (HEADED, 0, 6, None, "", ""),
     (HEADED, 7, 10, None, "ab|", "ab\n"),
     (HEADED, 11, 12, None, "ab|cd|", "ab\ncd\n"),
@@ -341,7 +341,7 @@ const SAVES: &[Save<'static>] = &[
     ("x|", "", V3, true, "", ""),
 ];
 
-/// The writer fails at each byte, at the flush behind the last one, and not at all.
+/// The writer fails at each byte, at the flush after the last one, and not at all.
 #[test]
 fn that_are_written(rt: HostRuntime) {
     for case in SAVES {

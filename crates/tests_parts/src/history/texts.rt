@@ -200,7 +200,7 @@ pub(super) const HEADERS: &[Step] = &[
     Gives("test\\n \\abc \\123"),
 ];
 
-/// What is read behind the header, line by line.
+/// What is read after the header, line by line.
 pub(super) const READ: &[Step] = &[
     // escapes
     Load("#V2\na\\nb\\\\c\n", true),
@@ -300,7 +300,7 @@ pub(super) const READ: &[Step] = &[
     Load("y\n", false),
     Append(""),
     Gives("y"),
-    // bytes that are not UTF-8, in a first line, in one between others, in the last, and behind an escape
+    // bytes that are not UTF-8, in a first line, in one between others, in the last, and after an escape
     LoadBytes(b"\xff\na\n"),
     Append(""),
     Gives(""),

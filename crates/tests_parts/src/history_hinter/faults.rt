@@ -9,7 +9,7 @@ use std::process::Abort;
 use tests_parties::fault::{FAULTS, Fault};
 use tests_parties::shelf::{Call, Failing, Shelf};
 
-/// The lines of a history and the index in it; which look-up fails: the one of this number, which is then the first behind
+/// The lines of a history and the index in it; which look-up fails: the one of this number, which is then the first after
 /// the hint, and those that are named; the line and the hint; and whether the fault comes instead.
 type Case = (
     (&'static str, usize),

@@ -1,4 +1,4 @@
-//! Errors of a helper or a history, handed on by the parties that an editor asks.
+//! Errors of a helper or a history, handed on by `Parties`, which an editor asks.
 
 use crate::holds;
 use crate::ready::{broken_history, is_hint, said};
@@ -10,14 +10,14 @@ use std::process::Abort;
 use tests_parties::advisor::{Advisor, Verdict};
 use tests_parties::fault::{FAULTS, Fault};
 
-/// The right answer of the parties: a hint, if there is one, or the name and message of a verdict.
+/// The right answer: a hint, if there is one, or the name and message of a validation result.
 #[derive(Clone, Copy)]
 pub(crate) enum Answer {
     Hint(Option<&'static str>),
     Verdict(&'static str, &'static str),
 }
 
-/// Whether the parties answer so for a line with the cursor at its end.
+/// Whether a line with the cursor at its end is answered so.
 fn answers<H: Helper, S: History>(
     parties: &Parties<'_, H, S>,
     alloc: Global,
@@ -54,12 +54,12 @@ pub(super) fn asks_nothing(
     hint.expect(rt, "no fault") && verdict.expect(rt, "no fault")
 }
 
-/// The hint and the verdict of a helper, the number of its answer that fails, the right answer, and whether the fault
-/// comes instead.
+/// The hint and the validation result of a helper, the number of its answer that fails, the right answer, and whether
+/// there is the fault instead.
 type Case = ((Option<&'static str>, Verdict), u64, Answer, bool);
 
-/// Whether the answer comes, or the fault where it is to, and then the answer. The helper asks no history, so it does not
-/// matter that this one fails.
+/// Whether there is the answer, or the fault where it is wanted, and then the answer. The helper asks no history, so it
+/// does not matter that this one fails.
 pub(crate) fn helped(
     rt: &impl Abort,
     alloc: Global,
@@ -91,7 +91,7 @@ const CASES: &[Case] = &[
     (NO, 0, Answer::Verdict("invalid", "no"), false),
     (NO, 1, Answer::Verdict("invalid", "no"), true),
     (NO, 2, Answer::Verdict("invalid", "no"), false),
-    // Each verdict is an answer, and so are a hint that displays nothing and none.
+    // Each validation result is an answer, and so are a hint that displays nothing and none.
     ((None, (false, false, None)), 0, Answer::Hint(None), false),
     (
         (None, (false, false, None)),

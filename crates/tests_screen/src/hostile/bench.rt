@@ -20,7 +20,7 @@ use std::process::Abort;
 use tests_parties::guide::Guide;
 use tests_parties::shelf::Shelf;
 
-/// The style of Emacs, and two modes of Vi.
+/// Emacs, and two input modes of Vi.
 #[derive(Clone, Copy, Debug)]
 pub(crate) enum Mode {
     Emacs,
@@ -30,7 +30,7 @@ pub(crate) enum Mode {
 
 pub(crate) const MODES: &[Mode] = &[Mode::Emacs, Mode::Insert, Mode::Command];
 
-/// All kinds of keys, and the characters that stand for something in a style.
+/// All kinds of keys, and the characters that stand for something in an edit mode.
 pub(crate) const CODES: &[K] = &[
     K::UnknownEscSeq,
     K::Backspace,
@@ -135,7 +135,7 @@ pub(crate) fn items(rt: &impl Abort, alloc: Global, text: &str) -> Vec<Item> {
 }
 
 /// What keys are bound to. A move goes to the line's beginning, a text that is put again is the one that came in last, and a yanked
-/// one comes behind the cursor.
+/// one is put after the cursor.
 #[derive(Clone, Copy)]
 pub(crate) enum To {
     Moves,
@@ -160,7 +160,7 @@ pub(crate) struct Desk {
     pub(crate) entries: &'static [&'static str],
 }
 
-/// An empty line in the style of Emacs, on a screen of 80 columns, with nothing else.
+/// An empty line in Emacs mode, on a screen of 80 columns, with nothing else.
 pub(crate) const PLAIN: Desk = Desk {
     mode: Mode::Emacs,
     columns: 80,
@@ -174,7 +174,7 @@ pub(crate) const PLAIN: Desk = Desk {
 };
 
 impl Desk {
-    /// The settings of its style.
+    /// The settings of its edit mode.
     pub(crate) fn config(&self) -> Config {
         let style = match self.mode {
             Mode::Emacs => EditMode::Emacs,
@@ -249,7 +249,7 @@ pub(crate) enum Work<'w> {
     Executes(&'w [Cmd]),
 }
 
-/// What is left: the line with a bar at its cursor, the place in the history, what a yank would give, where the cursor is drawn,
+/// What is left: the line with a bar at its cursor, the history index, what a yank would give, where the cursor is drawn,
 /// how often all was drawn, how it ended, how many items were handed over, whether the line is drawn as in a full redraw, and what
 /// was amiss on the way, if anything was.
 #[derive(Drop)]
@@ -286,7 +286,7 @@ pub(crate) fn ended(outcome: &Result<()>) -> &'static str {
 /// An editor of which a call may fail.
 pub(crate) type Editor<'out, 'prompt, W> = State<'out, 'prompt, W, Guide, &'static str, Shelf>;
 
-/// What an editor shows: its line and the cursor, the place in the history, whether there is a hint and what it completes the line
+/// What an editor shows: its line and the cursor, the history index, whether there is a hint and what it completes the line
 /// with, and the kept layout.
 #[derive(Clone, Copy, PartialEq)]
 pub(crate) struct Look<'s> {
@@ -483,7 +483,7 @@ impl Bench<'_, '_, '_> {
         end
     }
 
-    /// What is amiss behind a turn that began with so many redraws and so many items unread.
+    /// What is amiss after a turn that began with so many redraws and so many items unread.
     fn sees(&self, before: (u64, usize)) -> &'static str {
         let read = before.1.saturating_sub(self.keys.len()) as u64;
         let (look, screen) = looks(&self.state);
@@ -519,7 +519,7 @@ impl Bench<'_, '_, '_> {
         execute(command, &mut self.state, input, kills, &self.config).expect(rt, "no fault")
     }
 
-    /// Whether the layout is a full redraw's with what stands behind the line, and the screen shows the line behind the prompt,
+    /// Whether the layout is a full redraw's with what stands after the line, and the screen shows the line after the prompt,
     /// with its cursor there.
     fn is_drawn(&self, rt: &impl Abort) -> bool {
         let (look, screen) = looks(&self.state);
@@ -539,7 +539,7 @@ impl Bench<'_, '_, '_> {
         shows_so && is_placed && is_laid && look.end == end && look.has_info == has_info
     }
 
-    /// What is left behind this end. Then all is taken back. What proceeded was looked at last.
+    /// What is left after this end. Then all is taken back. What proceeded was looked at last.
     fn leaves(&mut self, rt: &impl Abort, end: &'static str) -> Left {
         if (self.keys.failures() > 0) != (end == "fails") {
             self.amiss = "a failure of the reader";

@@ -1,5 +1,5 @@
 //! Each command with a count of its own, with the counts 0, 1 and 65535, on an empty line and at the start, in the middle and at
-//! the end of two texts, in both styles and in Vi's command mode.
+//! the end of two texts, in both edit modes and in Vi's command mode.
 
 use super::bench::{Desk, MODES, Mode, PLAIN};
 use super::tasks::{LONG, behind, leaves, spliced};
@@ -8,7 +8,7 @@ use line_keys::cmd::{Anchor, Cmd};
 use std::alloc::Global;
 use std::process::Abort;
 
-/// A command with a count. An undo comes behind two characters that are typed.
+/// A command with a count. An undo follows two characters that are typed.
 #[derive(Clone, Copy)]
 enum Op {
     Types,
@@ -42,7 +42,7 @@ type Swap = Option<((usize, usize), (usize, usize))>;
 /// A text, a cursor in it, and for each count the words that change places and the cursor then.
 type Place = (&'static str, usize, [(Swap, usize); 3]);
 
-/// The greatest count takes the first word of the text, and the last one with what is behind it.
+/// The greatest count takes the first word of the text, and the last one with what is after it.
 const OUTERMOST: Swap = Some(((0, 2), (296, 300)));
 
 const PLACES: &[Place] = &[
@@ -74,7 +74,7 @@ const PLACES: &[Place] = &[
 /// What was killed before.
 const KILLED: &str = "é";
 
-/// The command, behind two dashes where they are to be taken back.
+/// The command, after two dashes where they are to be taken back.
 fn commands(rt: &impl Abort, alloc: Global, op: Op, n: RepeatCount) -> Vec<Cmd> {
     let command = match op {
         Op::Types => Cmd::SelfInsert(n, '-'),
@@ -133,7 +133,7 @@ fn wanted(
     with(rt, alloc, (text, start), copy, n, mode)
 }
 
-/// So many copies of a text come in, with the cursor behind them.
+/// So many copies of a text come in, with the cursor after them.
 fn with(
     rt: &impl Abort,
     alloc: Global,

@@ -1,5 +1,5 @@
 //! Lists of keys that are cut at every place: what is left is what the last whole phrase leaves; and where the keys of the
-//! phrase that was cut are read again with the rest behind them, what the whole list leaves.
+//! phrase that was cut are read again with the rest after them, what the whole list leaves.
 
 use super::bench::{Desk, Item, Left, Mode, PLAIN, To, Way, Work, items, left_by};
 use crate::holds;
@@ -7,7 +7,7 @@ use line_buffer::Unit;
 use std::alloc::Global;
 use std::process::Abort;
 
-/// The keys of a phrase; how often they have drawn the line behind each of them but the last; the line with a bar at its
+/// The keys of a phrase; how often they have drawn the line after each of them but the last; the line with a bar at its
 /// cursor that the phrase leaves; and what a yank would give then.
 type Phrase = (
     &'static str,
@@ -16,8 +16,8 @@ type Phrase = (
     Option<&'static str>,
 );
 
-/// The style with what is bound, what is typed first, each key of it a phrase, the phrases behind it, how a run on all ends, where
-/// the cursor is drawn then, and how often all is drawn.
+/// The edit mode with what is bound, what is typed first, each key of it a phrase, the phrases after it, how a run on all ends,
+/// where the cursor is drawn then, and how often all is drawn.
 #[derive(Clone, Copy)]
 struct Row {
     desk: Desk,
@@ -117,7 +117,7 @@ const IN_VAIN: Row = Row {
     ..SEQUENCE
 };
 
-/// Between the x and the Esc behind it a group of changes is open.
+/// Between the x and the Esc after it a group of changes is open.
 const DOT: Row = Row {
     desk: VI,
     typed: "foo bar",
@@ -162,7 +162,7 @@ const BEHIND_ALT: Row = Row {
     redraws: 4,
 };
 
-/// How many keys the last whole phrase ends behind, how often the keys behind it have drawn the line, the line with a bar at its
+/// How many keys the last whole phrase ends after, how often the keys after it have drawn the line, the line with a bar at its
 /// cursor, and what a yank would give.
 type Stage<'r> = (usize, u64, &'r str, Option<&'static str>);
 
@@ -198,7 +198,7 @@ fn seen(left: &Left) -> Seen<'_> {
 }
 
 /// Runs on the first keys: the input ends, unless they are all; and what is left is what the last whole phrase leaves. Then these
-/// are read by turns, and with the rest behind them those of the phrase that was cut once more: what is left is what all leave, but
+/// are read by turns, and with the rest after them those of the phrase that was cut once more: what is left is what all leave, but
 /// that a count that was cut is drawn once more.
 fn cuts(rt: &impl Abort, alloc: Global, row: &Row, keys: &[Item], at: usize) {
     let typed = row.typed.get(..at).unwrap_or(row.typed);

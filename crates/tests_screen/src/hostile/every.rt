@@ -1,4 +1,4 @@
-//! Every key, with each set of modifiers, in both styles: alone, behind a count, behind each operator, and as a second key.
+//! Every key, with each set of modifiers, in both edit modes: alone, after a count, after each operator, and as second key.
 
 use super::bench::Mode::{self, Emacs, Insert};
 use super::bench::{CODES, Desk, Item, PLAIN, SETS, Way, Work, items, left_by};
@@ -6,7 +6,7 @@ use line_keys::keys::{KeyCode as K, KeyEvent, Modifiers as M};
 use std::alloc::Global;
 use std::process::Abort;
 
-/// The style, what is typed before the key, and whether the key is executed as one of its own.
+/// The edit mode, what is typed before the key, and whether the key is executed as one of its own.
 const BEFORE: &[(Mode, &str, bool)] = &[
     (Emacs, "b", true),
     (Emacs, "b⌥3", true),
@@ -46,7 +46,7 @@ const BEFORE: &[(Mode, &str, bool)] = &[
     (Insert, "ab\u{1b}Rd", true),
 ];
 
-/// How a key of its own has to end: three submit or interrupt in both styles, and one submits in that of Vi alone.
+/// How a key of its own has to end: three submit or interrupt in both edit modes, and one submits in Vi alone.
 fn end_of(mode: Mode, key: KeyEvent) -> &'static str {
     match (key, mode) {
         (KeyEvent(K::Enter, M::NONE), _) | (KeyEvent(K::Char('J'), M::CTRL), _) => "submits",
@@ -70,7 +70,7 @@ fn ends(rt: &impl Abort, alloc: Global, mode: Mode, before: &str, key: KeyEvent,
     assert!(rt; ends_so && is_same, "{mode:?} {before:?}, then {key:?}");
 }
 
-/// Types each key behind what is typed before it.
+/// Types each key after what is typed before it.
 #[test]
 fn ends_as_it_must(rt: HostRuntime) {
     for (mode, before, alone) in BEFORE {

@@ -1,5 +1,5 @@
-//! Each call of each party fails once, and each run answers that party's own error. The history stays, and once the party
-//! fails no more, what is left is drawn as an editor that is made of it draws it.
+//! Each call of those who are asked fails once, and each run answers the error of the one that failed. The history stays, and
+//! once nothing fails, what is left is drawn as an editor that is made of it draws it.
 
 use super::bench::{self, Desk, Look, Mode, PLAIN, ended, keys, looks, marked};
 use super::handler::Handler;
@@ -48,13 +48,13 @@ impl Party {
     }
 }
 
-/// A run: the desk with the style, the history's lines and whether there are hints, and what is typed; how it ends where nothing
-/// fails; the line that is left then with a bar at its cursor, the place in the history, where the cursor is drawn, and how often
-/// all was drawn; and how many calls each party gets.
+/// A run: the desk with the edit mode, the history's lines and whether there are hints, and what is typed; how it ends where
+/// nothing fails; the line that is left then with a bar at its cursor, the history index, where the cursor is drawn, and how
+/// often all was drawn; and how many calls each of those who are asked gets.
 ///
-/// The reader is asked for each key, and once more where the input ends. The screen draws all, or writes a character or moves
-/// the cursor. The helper is asked for a hint where the text changes or all is drawn, and for a verdict by Enter. The handler of
-/// each key is asked for no key of a count, and for no further key behind an operator or of a sequence.
+/// The reader is asked for each key, and once more where the input ends. The screen draws all, or writes a character or moves the
+/// cursor. The helper is asked for a hint where the text changes or all is drawn, and for a validation result by Enter. The
+/// handler of each key is asked for no key of a count, and for no further key after an operator or of a sequence.
 #[derive(Clone, Copy)]
 struct Scene {
     desk: Desk,
@@ -153,7 +153,7 @@ const TAKEN_HINT: Scene = Scene {
     ],
 };
 
-/// The screen is asked for a drawing of each typed character, since a hint stands behind it; for the two moves; and for what goes
+/// The screen is asked for a drawing of each typed character, since a hint stands after it; for the two moves; and for what goes
 /// and comes back.
 const TO_THE_MATCH: Scene = Scene {
     desk: Desk {
@@ -195,7 +195,7 @@ struct Take<'s> {
 }
 
 impl Take<'_> {
-    /// Which call of this party fails.
+    /// Which of its calls fails.
     fn failing(&self, party: Party) -> u64 {
         if self.party == party { self.call } else { 0 }
     }
@@ -208,7 +208,7 @@ impl Take<'_> {
         self.binds(alloc, bindings, Party::OfEachKey, Event::Any)
     }
 
-    /// Binds an event to the handler that is this party.
+    /// Binds an input event to the handler that is this one.
     fn binds(
         &self,
         alloc: Global,
@@ -252,7 +252,7 @@ fn runs(alloc: Global, take: Take<'_>, state: &mut Editor<'_, '_>) -> Result<Res
     Ok(run(state, &mut input, &mut typist, &mut kills, &config))
 }
 
-/// The run ended as it is to end: by the fault of the party that failed, or as it does where nothing fails.
+/// The run ended as it is to end: by the fault of the one that failed, or as it does where nothing fails.
 fn ends(
     rt: &impl Abort,
     alloc: Global,
@@ -324,7 +324,7 @@ fn shows_alike(rt: &impl Abort, one: (Look<'_>, &Recorder), other: (Look<'_>, &R
         && handed_last(rt, screen.log()) == handed_last(rt, second.log())
 }
 
-/// What a screen was handed last, before and behind the old layout. A line of its log can miss its end, where memory ran out.
+/// What a screen was handed last, before and after the old layout. A line of its log can miss its end, where memory ran out.
 fn handed_last<'l>(rt: &impl Abort, log: &'l str) -> (&'l str, &'l str) {
     let (_, last) = log.rsplit_once("draw ").expect(rt, "a drawing");
     let (before, rest) = last.split_once(" old ").expect(rt, "an old layout");
@@ -340,7 +340,7 @@ const SCENES: &[Scene] = &[
     TO_THE_MATCH,
 ];
 
-/// Fails each call of each party in turn, and the one behind its last, which never comes.
+/// Fails each call of those who are asked in turn, and the one after the last of each, which is never made.
 #[test]
 fn after_each_fault(rt: HostRuntime) {
     for scene in SCENES {

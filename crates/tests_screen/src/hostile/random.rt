@@ -1,4 +1,4 @@
-//! Lists of keys and pasted texts that are made from a number, in both styles, with bindings, hints and brackets, on narrow and
+//! Lists of keys and pasted texts that are made from a number, in both edit modes, with bindings, hints and brackets, on narrow and
 //! wide screens. What is promised of each turn is looked at on the desk; a run leaves what turns leave, and so do items that come
 //! one by one; and where all is taken back the text is that of the start.
 
@@ -114,11 +114,11 @@ const OTHERS: &[K] = &[
     K::F(5),
 ];
 
-/// A key: often one of a table of the style, at times any one. The mark before a pasted text comes without one then.
+/// A key: often one of a table of the edit mode, at times any one. The mark before a pasted text then stands without one.
 fn key(dice: &mut Dice, mode: Mode) -> KeyEvent {
     match dice.below(16) {
         0..=4 => KeyEvent(K::Char(dice.pick(TYPED, 'a')), M::NONE),
-        // a key of the style's own table
+        // a key of the edit mode's own table
         5..=9 if matches!(mode, Mode::Insert) => KeyEvent(K::Char(dice.pick(OF_VI, 'w')), M::NONE),
         5..=9 if dice.below(3) == 0 => KeyEvent(K::Char(dice.pick(WITH_ALT, 'b')), M::ALT),
         5..=9 => KeyEvent(K::Char(dice.pick(WITH_CTRL, 'A')), M::CTRL),

@@ -1,5 +1,5 @@
 //! Each movement, with the counts 0, 1 and 65535, in each command that takes one, at the start, in the middle and at the end of
-//! a text and on an empty line, in both styles and in Vi's command mode.
+//! a text and on an empty line, in both edit modes and in Vi's command mode.
 
 use super::bench::{Desk, MODES, Mode, PLAIN};
 use super::tasks::{LONG, behind, leaves, spliced};

@@ -32,7 +32,7 @@ pub(crate) fn spliced(
     format!(in alloc; "{before}{by}{behind}").expect(rt, "no fault")
 }
 
-/// Where the cursor is behind a text that was yanked there: in Vi's command mode one character back.
+/// Where the cursor is after a text that was yanked there: in Vi's command mode one character back.
 pub(crate) fn behind(mode: Mode, text: &str, end: usize) -> usize {
     match (mode, text.chars().next_back()) {
         (Mode::Command, Some(last)) => end.saturating_sub(last.len_utf8()),

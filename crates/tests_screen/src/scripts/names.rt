@@ -65,7 +65,7 @@ const NAMES: &[Named] = &[
     ("C-S-Left", Some(KeyEvent(K::Left, M::CTRL_SHIFT))),
     ("M-S-F5", Some(KeyEvent(K::F(5), M::ALT_SHIFT))),
     ("C-M-S-Up", Some(KeyEvent(K::Up, M::CTRL_ALT_SHIFT))),
-    // a letter of a modifier behind which nothing follows
+    // a letter of a modifier after which nothing follows
     ("C--", Some(KeyEvent(K::Char('-'), M::CTRL))),
     ("S--", Some(KeyEvent(K::Char('-'), M::SHIFT))),
     ("C-C", Some(KeyEvent(K::Char('C'), M::CTRL))),
