@@ -1,9 +1,12 @@
 //! What comes of bytes that are typed.
 
 use crate::holds;
+use crate::parties::NOBODY;
 use crate::sessions::{ADD, ADD_VI, Case, bindings, comes_true};
+use crate::terminal::Counted;
 use line_buffer::GraphemeClusterMode;
 use line_config::{Config, ReadlineError};
+use line_editor::Bindings;
 use line_parts::MemHistory;
 use line_session::editor::Editor;
 
@@ -104,4 +107,31 @@ fn reads_lines_of_an_input(rt: HostRuntime) {
     }
     let has_ended = lines == LINES.len() && session.line().is_none();
     holds(&rt, has_ended, "the end", lines);
+}
+
+/// Whether a session that is fed these bytes writes this text.
+fn writes(session: &mut Drawing, bytes: &[u8], bindings: &Bindings, text: &str) -> bool {
+    session.feed(bytes, bindings).is_ok() && session.out().has(text)
+}
+
+type Drawing = Editor<Counted, (), MemHistory>;
+
+#[test]
+fn draws_anew_on_another_output(rt: HostRuntime) {
+    let bindings = bindings(rt.alloc()).expect(&rt, "bindings");
+    let config = Config::new(GraphemeClusterMode::Unicode);
+    let history = MemHistory::new(rt.alloc());
+    let out = Counted::failing(rt.alloc(), NOBODY).expect(&rt, "room");
+    let mut session: Drawing = Editor::new(rt.alloc(), config, out, 20, (), history);
+    let has_begun = session.begin(&"> ", &bindings).is_ok();
+    let is_whole = has_begun && writes(&mut session, b"ab", &bindings, "> ");
+    holds(&rt, is_whole, "the first output", 0);
+    let emptied = Counted::failing(rt.alloc(), NOBODY).expect(&rt, "room");
+    session.exchange_out(emptied);
+    let is_part = writes(&mut session, b"c", &bindings, "c") && !session.out().has("> ");
+    holds(&rt, is_part, "an output that was emptied", 1);
+    let other = Counted::failing(rt.alloc(), NOBODY).expect(&rt, "room");
+    session.replace_out(other);
+    let is_anew = writes(&mut session, b"", &bindings, "> abc");
+    holds(&rt, is_anew, "another output", 2);
 }
