@@ -99,7 +99,7 @@ abbrev pub KeepsReady : List ℕ → Type 0
 KeepsReady bytes = (columns : ℕ) (t : Terminal) → IsReady t → IsReady (sent columns t bytes)
 
 module _ {P H : Type 0} (p : prompts.Ghosts P) (h : highlighters.Ghosts H) where
-  -- so do those of each call, whatever was measured and by whatever layout
+  -- so do all bytes that a call writes, whatever was measured and by whatever layout
   pub record TerminalsStayReady : Type 0 where
     pub moves : (old new : Position) → IsPlace old → IsPlace new → KeepsReady (move_bytes old new)
     pub texts : (measure : Measure) (text : List ℕ) (origin end : Position) → IsUtf8 text → KeepsReady (cleaned text ++ wrap_ending measure text origin end)

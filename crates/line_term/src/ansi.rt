@@ -55,7 +55,7 @@ pub struct Ansi<O: Write + Drop, R: RawReader> {
     redraws: u64,
     failures: u64,
     ghost text_is_plain: { plain ≡ list_all is_plain (string_bytes shown.text) },
-    // Whether what is kept of the screen is known to be shown is asked of `whole` and `end`, and not of its `known`.
+    // Where it is known, by `whole` and `end`, that the terminal shows what is kept of the screen, the bytes that were written show it.
     ghost told: { TellsKnown O.contents shown.columns whole end out (record {
       position = shown.place;
       prompt = string_bytes shown.prompt;

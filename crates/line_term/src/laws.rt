@@ -79,12 +79,13 @@ pub fn redraws_show<P: Prompt, H: Highlighter>()
     ensures { RedrawsShow P.Prompt H.Highlighter }
 {}
 
-/// What each call writes leaves a terminal ready for the next one, where it was ready before.
+/// All that a call writes which does not fail leaves a terminal ready for the next one, where it was ready before.
 pub fn terminals_stay_ready<P: Prompt, H: Highlighter>()
     ensures { TerminalsStayReady P.Prompt H.Highlighter }
 {}
 
-/// A text that is put down shows each cluster where the clusters before it are measured to end, and nothing after its own end.
+/// A text that is put down shows each cluster that has columns where the clusters before it are measured to end, and leaves the
+/// cells before its start and from its end on as they were.
 pub fn texts_are_shown()
     ensures { TextsAreShown }
 {}

@@ -127,11 +127,19 @@ fn draws_anew_on_another_output(rt: HostRuntime) {
     let is_whole = has_begun && writes(&mut session, b"ab", &bindings, "> ");
     holds(&rt, is_whole, "the first output", 0);
     let emptied = Counted::failing(rt.alloc(), NOBODY).expect(&rt, "room");
-    session.exchange_out(emptied);
+    let before = session.exchange_out(emptied);
     let is_part = writes(&mut session, b"c", &bindings, "c") && !session.out().has("> ");
-    holds(&rt, is_part, "an output that was emptied", 1);
+    holds(
+        &rt,
+        before.has("> ") && is_part,
+        "an output that was emptied",
+        1,
+    );
     let other = Counted::failing(rt.alloc(), NOBODY).expect(&rt, "room");
-    session.replace_out(other);
+    let before = session.replace_out(other);
     let is_anew = writes(&mut session, b"", &bindings, "> abc");
-    holds(&rt, is_anew, "another output", 2);
+    holds(&rt, before.has("c") && is_anew, "another output", 2);
+    let last = Counted::failing(rt.alloc(), NOBODY).expect(&rt, "room");
+    let is_left = session.abandon().is_ok() && session.replace_out(last).has("> abc");
+    holds(&rt, is_left, "another output between two lines", 3);
 }
