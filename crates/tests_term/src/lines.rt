@@ -5,10 +5,11 @@ use crate::parties::NOBODY;
 use crate::sessions::{ADD, ADD_VI, Case, bindings, comes_true};
 use crate::terminal::Counted;
 use line_buffer::GraphemeClusterMode;
-use line_config::{Config, ReadlineError};
+use line_config::{Config, ReadlineError, Result};
 use line_editor::Bindings;
 use line_parts::MemHistory;
 use line_session::editor::Editor;
+use std::alloc::Global;
 
 const CASES: &[Case] = &[
     // keys and commands of both edit modes
@@ -22,6 +23,14 @@ const CASES: &[Case] = &[
     (ADD, "old", "»¦\x10", "old|", ""),
     (ADD, "old", "»¦ab\x1b3x\r", "⏎abxxx", ""),
     (ADD, "old", "»¦ab\x18\x15", "|", ""),
+    // what comes after a line begins below it
+    (
+        ADD,
+        "old",
+        "»¦abcdefghijklmnopqrst\x01\r",
+        "⏎abcdefghijklmnopqrst",
+        "\x1b[1B\r\n",
+    ),
     // the program is suspended, and goes on with what was typed after that key
     (ADD, "old", "»¦ab\x02\x1a", "‖a|b", ""),
     (ADD, "old", "»¦ab\x1a¦c", "abc|", ""),
@@ -142,4 +151,26 @@ fn draws_anew_on_another_output(rt: HostRuntime) {
     let last = Counted::failing(rt.alloc(), NOBODY).expect(&rt, "room");
     let is_left = session.abandon().is_ok() && session.replace_out(last).has("> abc");
     holds(&rt, is_left, "another output between two lines", 3);
+}
+
+/// Begins a line and resizes, on an output whose write fails, if it is the one of this number. Returns how many writes there were, and
+/// whether neither call failed.
+fn resized(alloc: Global, bindings: &Bindings, failing: usize) -> Result<(usize, bool)> {
+    let out = Counted::failing(alloc, ("output", failing))?;
+    let config = Config::new(GraphemeClusterMode::Unicode);
+    let mut session: Drawing = Editor::new(alloc, config, out, 20, (), MemHistory::new(alloc));
+    let has_begun = session.begin(&"> ", bindings).is_ok();
+    let is_resized = session.resize(10, 5).is_ok();
+    Ok((session.out().writes(), has_begun && is_resized))
+}
+
+#[test]
+fn hands_on_the_failures_of_a_resize(rt: HostRuntime) {
+    let bindings = bindings(rt.alloc()).expect(&rt, "bindings");
+    let (writes, is_well) = resized(rt.alloc(), &bindings, 0).expect(&rt, "room");
+    holds(&rt, is_well, "no write that fails", writes);
+    for failing in 1..=writes {
+        let (_, is_well) = resized(rt.alloc(), &bindings, failing).expect(&rt, "room");
+        holds(&rt, !is_well, "a write that fails", failing);
+    }
 }

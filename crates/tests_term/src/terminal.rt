@@ -38,6 +38,11 @@ impl Counted {
         })
     }
 
+    /// How often it was asked to write.
+    pub(crate) fn writes(&self) -> usize {
+        self.writes
+    }
+
     /// Whether it was asked to write this text, among others.
     pub(crate) fn has(&self, text: &str) -> bool {
         str::from_utf8(self.bytes.as_slice()).is_ok_and(|written| written.contains(text))
