@@ -11,14 +11,21 @@ use line_parts::MemHistory;
 use line_session::editor::Editor;
 use std::alloc::Global;
 
+/// Asks a terminal to show what follows all at once.
+const HELD: &str = "\x1b[?2026h";
+/// Asks it to mark pasted texts.
+const PASTE_MARKED: &str = "\x1b[?2004h";
+/// Asks it to mark them no more.
+const PASTE_TYPED: &str = "\x1b[?2004l";
+
 const CASES: &[Case] = &[
     // keys and commands of both edit modes
-    (ADD, "old", "»¦abc\r", "⏎abc", ""),
-    (ADD, "old", "»¦\r", "⏎", ""),
-    (ADD, "old", "»¦ab\x02c", "ac|b", ""),
+    (ADD, "old", "»¦abc\r", "⏎abc", PASTE_TYPED),
+    (ADD, "old", "»¦\r", "⏎", HELD),
+    (ADD, "old", "»¦ab\x02c", "ac|b", PASTE_MARKED),
     (ADD, "old", "»¦é日\x02x", "éx|日", ""),
-    (ADD, "old", "»¦\x04", "■", ""),
-    (ADD, "old", "»¦a\x03", "×", ""),
+    (ADD, "old", "»¦\x04", "■", PASTE_TYPED),
+    (ADD, "old", "»¦a\x03", "×", PASTE_TYPED),
     (ADD, "old", "»¦a\x1b[Db\r", "⏎ba", ""),
     (ADD, "old", "»¦\x10", "old|", ""),
     (ADD, "old", "»¦ab\x1b3x\r", "⏎abxxx", ""),
