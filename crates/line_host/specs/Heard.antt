@@ -32,7 +32,8 @@ module _ {H : Type 0} (answers : H → List (List ℕ) → Environment) where
   -- what became of it, by bindings
   abbrev pub HearsBy : Bound → Heard → Sitting H → Sitting H → Result Fed ReadlineError → Type 0
   HearsBy bound (heard.Line line) old new told =
-      IfOk told (λ fed. CameBegun answers bound line.prompt.0.now line.initial.0.now line.initial.1.now old new fed × Keeps answers old new)
+      IfOk told (λ fed. CameBegun answers bound line.prompt.0.now line.initial.0.now line.initial.1.now old new fed
+      × Keeps answers (record old { prompt = line.prompt.0.now }) new)
   HearsBy bound other old new told = (begun : BegunLine) → old.line ≡ Some begun
       → IfOk told (λ fed. Came answers bound (with_turn (turn_of other old.decoder) old) begun new fed
       × Keeps answers (with_turn (turn_of other old.decoder) old) new)

@@ -13,7 +13,7 @@ use Rattle.line_parts.specs.HistoryText.{to_save}
 use Rattle.line_parts.specs.declared.escaped_line.Escapes.TheVariants.{V3}
 use Rattle.line_editor.specs.Event.{Chord}
 use Rattle.line_session.specs.Filed.{Files, LoadsText}
-use Rattle.line_session.specs.Sitting.{BegunLine, Came, CameBegun, Keeps, LosesNothing, Sitting, suspends, text_of, with_turn, written_so_far}
+use Rattle.line_session.specs.Sitting.{BegunLine, Came, CameBegun, Keeps, LosesNothing, Sitting, drawn_anew, suspends, text_of, with_turn, written_so_far}
 use Rattle.line_session.specs.declared.editor.Fed.{Fed}
 use Rattle.line_session.specs.declared.editor.Fed.TheVariants as fed
 use Rattle.line_editor.specs.BoundCommands.{AreBound, BoundCommands}
@@ -54,9 +54,10 @@ module _ {H : Type 0} where
   abbrev pub line_of : Hosted H → Option (List ℕ)
   line_of session = option_or (text_of session.editor) session.submitted
 
-  -- the line is dropped, which this status reports; or there was a fault, and nothing changes
+  -- the line is dropped, which this status reports; or there was a fault, and the line is drawn anew at the next call
   abbrev pub Drops : Status → Hosted H → Hosted H → Status → Type 0
-  Drops told old new came = ((came ≡ told) × (new ≡ with_editor (record old.editor { line = None }) old)) ⊎ (IsFault came × (new ≡ old))
+  Drops told old new came = ((came ≡ told) × (new ≡ with_editor (record old.editor { line = None }) old))
+      ⊎ (IsFault came × (new ≡ with_editor (drawn_anew old.editor) old))
 
   -- the line that goes on is dropped, if one does
   pub record Abandons (old new : Hosted H) (came : Status) : Type 0 where
@@ -123,7 +124,7 @@ module _ {H : Type 0} where
     -- what became of a line that began after a prompt, with these texts before and after the cursor
     abbrev pub Begins : BoundCommands → List ℕ → List ℕ → List ℕ → Sitting H → Sitting H → Fed → Type 0
     Begins commands prompt left right old new fed = (bound : Bound) × AreBound commands bound
-        × CameBegun answers bound prompt left right old new fed × Keeps answers old new
+        × CameBegun answers bound prompt left right old new fed × Keeps answers (record old { prompt = prompt }) new
 
     -- a line began after a prompt, unless a text is none. After a fault the lines of the history are there
     pub record BeginsLine (prompt styled left right : List ℕ) (old new : Hosted H) (came : Status) : Type 0 where

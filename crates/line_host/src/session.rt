@@ -182,7 +182,7 @@ impl Session {
 
     /// Drops the line that goes on. Keys that were typed ahead are kept for the next one.
     ///
-    /// Returns `Done`; `NoLine`, where no line goes on; or `NoMemory` or `Failed`: the line goes on then.
+    /// Returns `Done`; `NoLine`, where no line goes on; or `NoMemory` or `Failed`: the line goes on then, and is drawn at the next call.
     pub fn abandon(&mut self) -> Status
         ensures { Abandons self.old self.new result }
     {
@@ -192,7 +192,7 @@ impl Session {
         self.end(Status::Done)
     }
 
-    /// Drops the line that goes on, if one does. Returns this status, or a fault: the line goes on then.
+    /// Drops the line that goes on, if one does. Returns this status, or a fault: the line goes on then, and is drawn at the next call.
     fn end(&mut self, told: Status) -> Status
         ensures { Drops told self.old self.new result }
     {
