@@ -416,7 +416,7 @@ int comvizga_append_history(const char *path);
 /* Sets the words that Tab completes, in place of those before. No newline stands in them. */
 int comvizga_set_completions(const char *const *words, size_t count);
 
-/* Binds a key to a command, as comvizga_bind does: comvizga_bind_key("C-x C-u", "undo"). C-z is bound to "suspend" at
+/* Binds a key to a command, as comvizga_bind does: comvizga_bind_key("F5", "undo"). C-z is bound to "suspend" at
  * first. */
 int comvizga_bind_key(const char *keys, const char *command);
 
