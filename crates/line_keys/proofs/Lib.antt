@@ -2,3 +2,4 @@ pub mod CountLemmas
 pub mod KeyLemmas
 pub mod RedoLemmas
 pub mod SetLemmas
+pub mod TableLemmas
