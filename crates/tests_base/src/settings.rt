@@ -2,6 +2,7 @@
 
 mod copies;
 
+use self::copies::{Change, changed};
 use crate::holds;
 use crate::values::debug_text;
 use line_buffer::{GraphemeClusterMode, OutOfMemory};
@@ -19,8 +20,11 @@ enum Made {
     New,
     Builder,
     Clone,
+    /// By the builder's own calls.
     Built,
     BuiltAndCloned,
+    /// By two of the builder's own calls, one after the other.
+    By(Change, Change),
     SetConfig,
     SetBuilder,
 }
@@ -47,30 +51,27 @@ fn set_all<C: Configurer>(rt: &impl Abort, holder: &mut C) {
     holder.set_enable_signals(true);
 }
 
-/// Each setting but the synchronized output away from its default, by the builder's own calls.
-fn built(rt: &impl Abort) -> Builder {
-    Config::builder(GraphemeClusterMode::Unicode)
-        .max_history_size(7)
-        .expect(rt, "no fault")
-        .history_ignore_dups(false)
-        .expect(rt, "no fault")
-        .history_ignore_space(true)
-        .completion_type(CompletionType::List)
-        .completion_prompt_limit(9)
-        .completion_show_all_if_ambiguous(true)
-        .edit_mode(EditMode::Vi)
-        .keyseq_timeout(Some(11))
-        .auto_add_history(true)
-        .bell_style(BellStyle::None)
-        .color_mode(ColorMode::Forced)
-        .grapheme_cluster_mode(GraphemeClusterMode::NoZwj)
-        .behavior(Behavior::PreferTerm)
-        .tab_stop(4)
-        .indent_size(3)
-        .check_cursor_position(true)
-        .bracketed_paste(false)
-        .enable_signals(true)
-}
+/// Each setting but the synchronized output away from its default.
+const CHANGES: &[Change] = &[
+    Change::MaxHistorySize,
+    Change::HistoryDuplicates,
+    Change::HistoryIgnoreSpace,
+    Change::CompletionType,
+    Change::CompletionPromptLimit,
+    Change::CompletionShowAll,
+    Change::EditMode(EditMode::Vi),
+    Change::KeyseqTimeout(11),
+    Change::AutoAddHistory,
+    Change::BellStyle,
+    Change::ColorMode(ColorMode::Forced),
+    Change::Clusters,
+    Change::Behavior,
+    Change::TabStop,
+    Change::IndentSize,
+    Change::CheckCursorPosition,
+    Change::BracketedPaste,
+    Change::Signals,
+];
 
 fn config_by(rt: &impl Abort, how: &Made) -> Config {
     match how {
@@ -79,8 +80,20 @@ fn config_by(rt: &impl Abort, how: &Made) -> Config {
         Made::Clone => Config::new(GraphemeClusterMode::WcWidth)
             .clone()
             .expect(rt, "no fault"),
-        Made::Built => built(rt).build(),
-        Made::BuiltAndCloned => built(rt).clone().expect(rt, "no fault").build(),
+        Made::Built | Made::BuiltAndCloned => {
+            let mut builder = Config::builder(GraphemeClusterMode::Unicode);
+            for change in CHANGES {
+                builder = changed(rt, builder, change);
+            }
+            match how {
+                Made::Built => builder.build(),
+                _ => builder.clone().expect(rt, "no fault").build(),
+            }
+        }
+        Made::By(first, second) => {
+            let builder = Config::builder(GraphemeClusterMode::Unicode);
+            changed(rt, changed(rt, builder, first), second).build()
+        }
         Made::SetConfig => {
             let mut config = Config::new(GraphemeClusterMode::Unicode);
             set_all(rt, &mut config);
@@ -191,62 +204,123 @@ const SET: Settings = (
     (4, 3),
 );
 
-const HOLDERS: &[(Made, Settings)] = &[
-    (Made::New, DEFAULTS),
-    (Made::Builder, DEFAULTS),
-    (Made::Clone, DEFAULTS),
-    (Made::Built, BUILT),
-    (Made::BuiltAndCloned, BUILT),
-    (Made::SetConfig, SET),
-    (Made::SetBuilder, SET),
+/// How a configuration is made, the value of `NO_COLOR`, the colors that are shown then, the timeout, and every setting
+/// with no such value, where they are written down.
+type Holder = (
+    Made,
+    Option<&'static str>,
+    ColorMode,
+    Option<u16>,
+    Option<Settings>,
+);
+
+const HOLDERS: &[Holder] = &[
+    (Made::New, None, ColorMode::Enabled, None, Some(DEFAULTS)),
+    (
+        Made::Builder,
+        None,
+        ColorMode::Enabled,
+        None,
+        Some(DEFAULTS),
+    ),
+    (Made::Clone, None, ColorMode::Enabled, None, Some(DEFAULTS)),
+    (Made::Built, None, ColorMode::Forced, Some(11), Some(BUILT)),
+    (
+        Made::BuiltAndCloned,
+        None,
+        ColorMode::Forced,
+        Some(11),
+        Some(BUILT),
+    ),
+    (
+        Made::SetConfig,
+        None,
+        ColorMode::Forced,
+        Some(11),
+        Some(SET),
+    ),
+    (
+        Made::SetBuilder,
+        None,
+        ColorMode::Forced,
+        Some(11),
+        Some(SET),
+    ),
+    // colors
+    (
+        Made::By(Change::ColorMode(ColorMode::Enabled), Change::Nothing),
+        Some("1"),
+        ColorMode::Disabled,
+        None,
+        None,
+    ),
+    (
+        Made::By(Change::ColorMode(ColorMode::Enabled), Change::Nothing),
+        Some(""),
+        ColorMode::Enabled,
+        None,
+        None,
+    ),
+    (
+        Made::By(Change::ColorMode(ColorMode::Enabled), Change::Nothing),
+        None,
+        ColorMode::Enabled,
+        None,
+        None,
+    ),
+    (
+        Made::By(Change::ColorMode(ColorMode::Forced), Change::Nothing),
+        Some("1"),
+        ColorMode::Forced,
+        None,
+        None,
+    ),
+    (
+        Made::By(Change::ColorMode(ColorMode::Disabled), Change::Nothing),
+        None,
+        ColorMode::Disabled,
+        None,
+        None,
+    ),
+    // the edit mode sets the timeout
+    (
+        Made::By(Change::KeyseqTimeout(7), Change::EditMode(EditMode::Vi)),
+        None,
+        ColorMode::Enabled,
+        Some(500),
+        None,
+    ),
+    (
+        Made::By(Change::EditMode(EditMode::Vi), Change::KeyseqTimeout(7)),
+        None,
+        ColorMode::Enabled,
+        Some(7),
+        None,
+    ),
+    (
+        Made::By(
+            Change::EditMode(EditMode::Vi),
+            Change::EditMode(EditMode::Emacs),
+        ),
+        None,
+        ColorMode::Enabled,
+        None,
+        None,
+    ),
 ];
 
 #[test]
 fn are_read_back(rt: HostRuntime) {
-    for (index, (how, wanted)) in HOLDERS.iter().enumerate() {
+    for (index, (how, value, shown, timeout, wanted)) in HOLDERS.iter().enumerate() {
         let config = config_by(&rt, how);
         let again = config == config_by(&rt, how);
-        holds(&rt, again && settings(&config) == *wanted, "row", index);
+        let read = (config.color_mode(*value), config.keyseq_timeout()) == (*shown, *timeout);
+        let all = match wanted {
+            Some(wanted) => settings(&config) == *wanted,
+            None => true,
+        };
+        holds(&rt, again && read && all, "row", index);
     }
-    let audible = BellStyle::default() == BellStyle::Audible;
-    assert!(&rt; audible && Behavior::default() == Behavior::Stdio);
-}
-
-/// What is set, the value of `NO_COLOR`, and what is shown.
-const COLORS: &[(ColorMode, Option<&str>, ColorMode)] = &[
-    (ColorMode::Enabled, Some("1"), ColorMode::Disabled),
-    (ColorMode::Enabled, Some(""), ColorMode::Enabled),
-    (ColorMode::Enabled, None, ColorMode::Enabled),
-    (ColorMode::Forced, Some("1"), ColorMode::Forced),
-    (ColorMode::Disabled, None, ColorMode::Disabled),
-];
-
-#[test]
-fn colors_and_timeouts(rt: HostRuntime) {
-    for (index, (set, value, shown)) in COLORS.iter().enumerate() {
-        let found = Config::builder(GraphemeClusterMode::Unicode)
-            .color_mode(*set)
-            .build()
-            .color_mode(*value);
-        holds(&rt, found == *shown, "color", index);
-    }
-    // the edit mode sets the timeout
-    let before = Config::builder(GraphemeClusterMode::Unicode)
-        .keyseq_timeout(Some(7))
-        .edit_mode(EditMode::Vi)
-        .build()
-        .keyseq_timeout();
-    let behind = Config::builder(GraphemeClusterMode::Unicode)
-        .edit_mode(EditMode::Vi)
-        .keyseq_timeout(Some(7))
-        .build()
-        .keyseq_timeout();
-    let back = Config::builder(GraphemeClusterMode::Unicode)
-        .edit_mode(EditMode::Vi)
-        .edit_mode(EditMode::Emacs)
-        .build()
-        .keyseq_timeout();
-    assert!(&rt; before == Some(500) && behind == Some(7) && back == None);
 }
 
 /// Where an error comes from.
@@ -314,31 +388,32 @@ const ERRORS: &[Error] = &[
     (Cause::OutOfMemory, Some("out of memory"), None, None),
 ];
 
-#[test]
-fn errors_by_their_cause(rt: HostRuntime) {
-    for (index, row) in ERRORS.iter().enumerate() {
-        let (text, name, kind) = (row.1, row.2, row.3);
-        let error = error_of(&row.0);
-        let shown = error.to_string(rt.alloc()).expect(&rt, "no fault");
-        let is_told = shown.as_str() == text.unwrap_or(shown.as_str());
-        let named = debug_text(&rt, rt.alloc(), &error);
-        let is_named = named.as_str() == name.unwrap_or(named.as_str());
-        let is_kind = match error {
-            ReadlineError::Io(cause) => kind == Some(cause.kind()),
-            _ => kind.is_none(),
-        };
-        holds(&rt, is_told && is_named && is_kind, "row", index);
-    }
-    let shown = OutOfMemory.to_string(rt.alloc()).expect(&rt, "no fault");
-    assert!(&rt; shown.as_str() == "out of memory");
+/// The error is told so.
+fn is_told(rt: &impl Abort, alloc: Global, error: &ReadlineError, row: &Error) -> bool {
+    let (_, text, name, kind) = row;
+    let shown = error.to_string(alloc).expect(rt, "no fault");
+    let named = debug_text(rt, alloc, error);
+    let found = match error {
+        ReadlineError::Io(cause) => Some(cause.kind()),
+        _ => None,
+    };
+    let is_shown = shown.as_str() == text.unwrap_or(shown.as_str());
+    is_shown && named.as_str() == name.unwrap_or(named.as_str()) && found == *kind
 }
 
 fn forms_are<P: Prompt>(prompt: &P, raw: &str, styled: &str) -> bool {
     prompt.raw() == raw && prompt.styled() == styled
 }
 
+/// Errors are told by their cause; of a prompt the raw form comes first.
 #[test]
-fn the_raw_prompt_comes_first(rt: HostRuntime) {
+fn errors_and_prompts(rt: HostRuntime) {
+    for (index, row) in ERRORS.iter().enumerate() {
+        let error = error_of(&row.0);
+        holds(&rt, is_told(&rt, rt.alloc(), &error, row), "row", index);
+    }
+    let shown = OutOfMemory.to_string(rt.alloc()).expect(&rt, "no fault");
+    assert!(&rt; shown.as_str() == "out of memory");
     let plain = forms_are(&"> ", "> ", "> ") && forms_are(&("> ", "styled"), "> ", "styled");
     let raw = String::from_str(rt.alloc(), "> ").expect(&rt, "no fault");
     let owned = forms_are(&raw, "> ", "> ");

@@ -127,7 +127,7 @@ const POSITIONS: &[(Position, &str)] = &[
     ),
 ];
 
-/// No two of a list are equal: what the line buffer has, and the settings.
+/// No two of a list are equal: what the line buffer has, and the settings. Positions are in order, by each comparison.
 #[test]
 fn no_two_are_equal(rt: HostRuntime) {
     let alloc = rt.alloc();
@@ -146,11 +146,6 @@ fn no_two_are_equal(rt: HostRuntime) {
     are_distinct(&rt, alloc, STYLES);
     are_distinct(&rt, alloc, COLORS);
     are_distinct(&rt, alloc, BEHAVIORS);
-}
-
-/// Positions are in order, by each comparison.
-#[test]
-fn positions_are_in_order(rt: HostRuntime) {
     for (index, (one, name)) in POSITIONS.iter().enumerate() {
         let mut ordered = true;
         for (place, (other, _)) in POSITIONS.iter().enumerate() {
@@ -163,8 +158,9 @@ fn positions_are_in_order(rt: HostRuntime) {
     // the defaults are looked at without a comparison of the type too
     let origin = Position::default();
     let is_first = origin.row == 0 && origin.col == 0 && origin == Position { row: 0, col: 0 };
-    let audible = matches!(BellStyle::default(), BellStyle::Audible);
-    assert!(&rt; is_first && audible && matches!(Behavior::default(), Behavior::Stdio));
+    let (bell, behavior) = (BellStyle::default(), Behavior::default());
+    assert!(&rt; is_first && matches!(bell, BellStyle::Audible) && bell == BellStyle::Audible);
+    assert!(&rt; matches!(behavior, Behavior::Stdio) && behavior == Behavior::Stdio);
 }
 
 /// Movements, and how each is shown.

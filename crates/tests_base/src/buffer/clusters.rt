@@ -18,6 +18,8 @@ enum Asked {
     Printable(bool, bool),
     /// Its width by clusters, by characters and by pieces between joiners.
     Widths(Unit, Unit, Unit),
+    /// Of a character, and no text: its columns if it is known to join no other, and whether it is printable ASCII.
+    Lone(char, Option<usize>, bool),
 }
 
 const TEXTS: &[(&str, Asked)] = &[
@@ -62,29 +64,25 @@ const TEXTS: &[(&str, Asked)] = &[
     ("a\u{200d}b", Widths(2, 2, 2)),
     ("🇩🇪", Widths(2, 2, 2)),
     ("❤\u{fe0f}", Widths(2, 1, 2)),
-];
-
-/// A character, its columns if it is known to join no other, and whether it is printable ASCII.
-const CHARACTERS: &[(char, Option<usize>, bool)] = &[
-    (' ', Some(1), true),
-    ('~', Some(1), true),
-    ('é', Some(1), false),
-    ('ß', Some(1), false),
-    ('Я', Some(1), false),
-    ('世', Some(2), false),
-    ('か', Some(2), false),
-    ('。', Some(2), false),
-    ('👍', Some(2), false),
-    ('\n', None, false),
-    ('\t', None, false),
-    ('\u{7f}', None, false),
-    ('\u{ad}', None, false),
-    ('\u{301}', None, false),
-    ('\u{200d}', None, false),
-    ('क', None, false),
-    ('가', None, false),
-    ('\u{1f1e6}', None, false),
-    ('\u{1f3fb}', None, false),
+    ("", Lone(' ', Some(1), true)),
+    ("", Lone('~', Some(1), true)),
+    ("", Lone('é', Some(1), false)),
+    ("", Lone('ß', Some(1), false)),
+    ("", Lone('Я', Some(1), false)),
+    ("", Lone('世', Some(2), false)),
+    ("", Lone('か', Some(2), false)),
+    ("", Lone('。', Some(2), false)),
+    ("", Lone('👍', Some(2), false)),
+    ("", Lone('\n', None, false)),
+    ("", Lone('\t', None, false)),
+    ("", Lone('\u{7f}', None, false)),
+    ("", Lone('\u{ad}', None, false)),
+    ("", Lone('\u{301}', None, false)),
+    ("", Lone('\u{200d}', None, false)),
+    ("", Lone('क', None, false)),
+    ("", Lone('가', None, false)),
+    ("", Lone('\u{1f1e6}', None, false)),
+    ("", Lone('\u{1f3fb}', None, false)),
 ];
 
 #[test]
@@ -102,15 +100,10 @@ fn of_texts(rt: HostRuntime) {
                     && NoZwj.width(text) == *pieces
                     && Layout::new(NoZwj).width(text) == *pieces
             }
+            Lone(c, width, printable) => {
+                lone_width(*c) == *width && is_printable(*c) == *printable
+            }
         };
         holds(&rt, found, text, index);
-    }
-}
-
-#[test]
-fn of_characters(rt: HostRuntime) {
-    for (c, width, printable) in CHARACTERS {
-        let found = lone_width(*c) == *width && is_printable(*c) == *printable;
-        assert!(&rt; found, "{c:?}");
     }
 }

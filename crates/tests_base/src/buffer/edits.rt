@@ -6,10 +6,14 @@ use self::Call::*;
 use self::Edit::*;
 use self::Line::*;
 use self::Wanted::*;
-use super::{FAMILY, indents, large, line_at, text_of, undo};
+use super::kills::{Gone, is_killed};
+use super::texts::{Given, is_given};
+use super::{FAMILY, indents, kills, large, line_at, text_of, texts, undo};
 use crate::holds;
 use line_buffer::WordAction::*;
-use line_buffer::{Changeset, LineBuffer, Movement, OutOfMemory, RepeatCount, WordAction};
+use line_buffer::{
+    Changeset, KillRing, LineBuffer, Movement, OutOfMemory, RepeatCount, WordAction,
+};
 use std::alloc::Global;
 use std::process::Abort;
 
@@ -22,7 +26,7 @@ pub(super) enum Call {
     Replace(usize, usize),
 }
 
-/// A call that changes the text, its groups of changes, or takes changes back.
+/// A call on a line, its changes or its kill ring.
 pub(super) enum Edit {
     Insert(char, RepeatCount),
     /// So many of a character, and the cursor is then set to a place.
@@ -43,6 +47,16 @@ pub(super) enum Edit {
     /// A group with a character typed in it.
     Group,
     Undo(RepeatCount),
+    /// A kill, and what goes by it.
+    Kill(Movement, Option<Gone>),
+    /// A cut, and what the ring then gives.
+    Cut(Movement, Option<&'static str>),
+    /// The text of a movement is this one.
+    Copy(Movement, Option<Given>),
+    /// This text is deleted.
+    Deleted(RepeatCount, Option<Given>),
+    /// This text came in last.
+    LastInsert(Option<Given>),
 }
 
 /// Makes a call that is handed this text. Its answer, where it has one.
@@ -77,12 +91,13 @@ fn handed(
     Ok(None)
 }
 
-/// Makes the call. Its answer, where it has one.
+/// Makes the call. Its answer, where it has one, or whether it gives what is wanted.
 pub(super) fn edited(
     rt: &impl Abort,
     alloc: Global,
     line: &mut LineBuffer,
     changes: &mut Changeset,
+    ring: &mut KillRing,
     step: &Edit,
 ) -> Result<Option<bool>, OutOfMemory>
     requires { Tells changes.old.entries line.old.text }
@@ -99,7 +114,11 @@ pub(super) fn edited(
         Dedent(mvt, amount) => line.indent(mvt, *amount, true, changes),
         End => return Ok(Some(changes.end()?)),
         Undo(n) => changes.undo(line, *n),
-        _ => return composed(rt, alloc, line, changes, step),
+        Copy(mvt, wanted) => Ok(is_given(line.copy(mvt)?.as_deref(), *wanted)),
+        Deleted(n, wanted) => Ok(is_given(line.delete(*n, changes)?.as_deref(), *wanted)),
+        LastInsert(wanted) => Ok(is_given(changes.last_insert()?.as_deref(), *wanted)),
+        Kill(mvt, gone) => Ok(is_killed(&line.kill(mvt, changes, ring)?, ring, gone)),
+        _ => return composed(rt, alloc, line, changes, ring, step),
     };
     Ok(Some(answer?))
 }
@@ -110,6 +129,7 @@ fn composed(
     alloc: Global,
     line: &mut LineBuffer,
     changes: &mut Changeset,
+    ring: &mut KillRing,
     step: &Edit,
 ) -> Result<Option<bool>, OutOfMemory>
     requires { Tells changes.old.entries line.old.text }
@@ -135,6 +155,10 @@ fn composed(
             let _ = line.insert('a', 1, changes)?;
             return Ok(Some(changes.end()?));
         }
+        Cut(mvt, kept) => {
+            line.cut(mvt, changes, ring)?;
+            return Ok(Some(ring.yank() == *kept));
+        }
         _ => return Ok(None),
     };
     assert!(rt; line.as_str().is_char_boundary(place));
@@ -146,6 +170,8 @@ fn composed(
 pub(super) enum Line {
     /// A new one, with this text and the cursor there.
     On(&'static str, usize),
+    /// A new one, with so many times this text and the cursor there.
+    Of(&'static str, usize, usize),
     /// The one that the row before left.
     Then,
     /// A new one that is empty; the call is made so many times.
@@ -161,38 +187,54 @@ pub(super) enum Wanted {
     Long(Option<bool>, usize, usize, usize),
     /// The answer and the text.
     Back(bool, &'static str),
+    /// The text of a call that answers nothing.
+    Left(&'static str),
+    /// The answer is yes.
+    Yes,
+    /// There is no memory for the call.
+    Never,
 }
 
 /// A call on a line, and what it leaves.
 pub(super) type Row = (Line, Edit, Wanted);
 
-fn leaves(rt: &impl Abort, alloc: Global, line: &mut LineBuffer, changes: &mut Changeset, row: &Row)
+fn leaves(
+    rt: &impl Abort,
+    alloc: Global,
+    line: &mut LineBuffer,
+    changes: &mut Changeset,
+    ring: &mut KillRing,
+    row: &Row,
+)
     requires { Tells changes.old.entries line.old.text }
     ensures { Tells changes.new.entries line.new.text }
 {
     let (start, step, wanted) = row;
-    let times = match start {
-        Then => 1,
-        On(text, pos) => {
-            *line = line_at(rt, alloc, text, *pos);
-            *changes = Changeset::new(alloc);
-            1
-        }
-        Often(times) => {
-            *line = LineBuffer::new(alloc);
-            *changes = Changeset::new(alloc);
-            *times
-        }
-    };
+    let mut times = 1;
+    if !matches!(start, Then) {
+        *line = match start {
+            On(text, pos) => line_at(rt, alloc, text, *pos),
+            Of(text, count, pos) => {
+                let text = text_of(rt, alloc, text, *count);
+                line_at(rt, alloc, text.as_str(), *pos)
+            }
+            _ => LineBuffer::new(alloc),
+        };
+        *changes = Changeset::new(alloc);
+        *ring = KillRing::new(alloc, 2);
+    }
+    if let Often(count) = start {
+        times = *count;
+    }
     let mut answer = None;
     for _time in 0..times {
-        answer = edited(rt, alloc, line, changes, step).expect(rt, "no fault");
+        answer = edited(rt, alloc, line, changes, ring, step).expect(rt, "no fault");
     }
     is_left(rt, line, changes, answer, wanted);
 }
 
 /// The last answer, the line and its changes are those that are wanted.
-fn is_left(
+pub(super) fn is_left(
     rt: &impl Abort,
     line: &LineBuffer,
     changes: &Changeset,
@@ -209,25 +251,31 @@ fn is_left(
             (answer, text.len(), place, entries) == (last, len, cursor, count)
         }
         Back(last, left) => text == left && answer == Some(last),
+        Left(left) => text == left && answer == None,
+        Yes => answer == Some(true),
+        Never => false,
     };
     holds(rt, found, text, place);
 }
 
 /// Each row of a table leaves what it wants, one after another.
-fn are_left(rt: &impl Abort, alloc: Global, table: &[Row]) {
-    let mut line = LineBuffer::new(alloc);
-    let mut changes = Changeset::new(alloc);
-    for row in table {
-        leaves(rt, alloc, &mut line, &mut changes, row);
-    }
-}
-
 #[test]
 fn leave_a_line_and_its_changes(rt: HostRuntime) {
-    are_left(&rt, rt.alloc(), ROWS);
-    are_left(&rt, rt.alloc(), undo::ROWS);
-    are_left(&rt, rt.alloc(), indents::ROWS);
-    are_left(&rt, rt.alloc(), large::ROWS);
+    let mut line = LineBuffer::new(rt.alloc());
+    let mut changes = Changeset::new(rt.alloc());
+    let mut ring = KillRing::new(rt.alloc(), 2);
+    for table in [
+        ROWS,
+        undo::ROWS,
+        indents::ROWS,
+        kills::ROWS,
+        texts::ROWS,
+        large::ROWS,
+    ] {
+        for row in table {
+            leaves(&rt, rt.alloc(), &mut line, &mut changes, &mut ring, row);
+        }
+    }
 }
 
 const WORDS: &str = "foo bar baz";

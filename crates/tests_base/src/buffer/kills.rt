@@ -1,201 +1,355 @@
-//! Kills by movements.
-ghost use Rattle.line_buffer.specs.Undo.{Tells};
+//! Kills by movements. Where there is a second row, all of the first is taken back; a third is a cut, which leaves the line
+//! and the ring as a kill does.
 
-use super::{FAMILY, line_at, text_of};
-use crate::holds;
+use super::FAMILY;
+use super::edits::Edit::*;
+use super::edits::Line::*;
+use super::edits::Row;
+use super::edits::Wanted::*;
+use super::texts::is_given;
 use line_buffer::Direction::{self, *};
-use line_buffer::Movement::{self, *};
-use line_buffer::{Changeset, CharSearch as Search, KillRing, LineBuffer};
-use std::alloc::Global;
-use std::process::Abort;
+use line_buffer::Movement::*;
+use line_buffer::{CharSearch as Search, KillRing};
 
-/// Where what text went on which side.
-type Gone<'a> = Option<(usize, &'a str, Direction)>;
+/// Where what text went, so many times, on which side, and whether the ring holds it then. What goes by characters is not
+/// put into the ring.
+pub(super) type Gone = (usize, &'static str, usize, Direction, bool);
 
-/// A kill by the movement gives what went, leaves the text, the cursor and the ring so, and can be taken back.
-fn kills(
-    rt: &impl Abort,
-    alloc: Global,
-    mvt: &Movement,
-    gone: &Gone,
-    (text, pos, after): (&str, usize, &str),
-    left: (usize, Option<&str>),
+/// What a kill gives is what went, and the ring gives it where it holds it.
+pub(super) fn is_killed(
+    killed: &Option<(usize, String, Direction)>,
+    ring: &mut KillRing,
+    gone: &Option<Gone>,
 ) -> bool {
-    let mut line = line_at(rt, alloc, text, pos);
-    let mut changes = Changeset::new(alloc);
-    let mut ring = KillRing::new(alloc, 2);
-    let killed = line
-        .kill(mvt, &mut changes, &mut ring)
-        .expect(rt, "no fault");
-    let gave = is_killed(killed, gone);
-    let kept = is_left(&line, &mut ring, after, left);
-    let count = changes.len();
-    let undone = changes.undo(&mut line, 1).expect(rt, "no fault");
-    let counts = count == gone.is_some() as usize && undone == gone.is_some();
-    gave && kept && counts && line.as_str() == text
-}
-
-/// What a kill gives is what went.
-fn is_killed(killed: Option<(usize, String, Direction)>, gone: &Gone) -> bool {
     match (killed, gone) {
-        (Some((place, text, side)), Some((at, went, from))) => {
-            place == *at && text.as_str() == *went && side == *from
+        (Some((place, text, side)), Some((at, part, times, from, held))) => {
+            let kept = if *held { Some((*part, *times)) } else { None };
+            let went = is_given(Some(text.as_str()), Some((*part, *times)));
+            went && place == at && side == from && is_given(ring.yank(), kept)
         }
-        (None, None) => true,
+        (None, None) => ring.yank() == None,
         _ => false,
     }
 }
 
-/// The text, the cursor and what the ring holds last are those that are wanted.
-fn is_left(
-    line: &LineBuffer,
-    ring: &mut KillRing,
-    after: &str,
-    (cursor, kept): (usize, Option<&str>),
-) -> bool {
-    line.as_str() == after && line.pos() == cursor && ring.yank() == kept
-}
-
-/// A cut leaves the line and the ring as a kill does.
-fn cuts(
-    rt: &impl Abort,
-    alloc: Global,
-    mvt: &Movement,
-    (text, pos, after): (&str, usize, &str),
-    left: (usize, Option<&str>),
-) -> bool {
-    let mut ring = KillRing::new(alloc, 2);
-    let mut line = line_at(rt, alloc, text, pos);
-    line.cut(mvt, &mut Changeset::new(alloc), &mut ring)
-        .expect(rt, "no fault");
-    is_left(&line, &mut ring, after, left)
-}
-
-/// A text, the cursor, a movement; the text afterwards, and where what text went on which side.
-type Case = (
-    &'static str,
-    usize,
-    Movement,
-    &'static str,
-    Option<(usize, &'static str, Direction)>,
-);
-
-const KILLS: &[Case] = &[
-    ("abc", 1, ForwardChar(1), "ac", Some((1, "b", Forward))),
-    ("abc", 1, ForwardChar(9), "a", Some((1, "bc", Forward))),
-    ("abc", 1, BackwardChar(1), "bc", Some((0, "a", Backward))),
-    ("abc", 1, BackwardChar(0), "abc", None),
-    ("abc", 3, ForwardChar(1), "abc", None),
+pub(super) const ROWS: &[Row] = &[
     (
-        FAMILY,
-        19,
-        BackwardChar(1),
-        "ab",
-        Some((1, "👨\u{200d}👩\u{200d}👧", Backward)),
+        On("abc", 1),
+        Kill(ForwardChar(1), Some((1, "b", 1, Forward, false))),
+        Is(Some(true), "ac", 1, 1),
     ),
-    ("ab\ncd", 4, WholeLine, "ab\n", Some((3, "cd", Forward))),
-    ("ab\n\ncd", 3, WholeLine, "ab\ncd", Some((3, "\n", Forward))),
-    ("ab\ncd", 1, EndOfLine, "a\ncd", Some((1, "b", Forward))),
-    ("ab\ncd", 2, EndOfLine, "abcd", Some((2, "\n", Forward))),
-    ("ab", 2, EndOfLine, "ab", None),
+    (Then, Undo(1), Back(true, "abc")),
     (
-        "ab\ncd",
-        4,
-        BeginningOfLine,
-        "ab\nd",
-        Some((3, "c", Backward)),
+        On("abc", 1),
+        Cut(ForwardChar(1), None),
+        Is(Some(true), "ac", 1, 1),
     ),
     (
-        "ab\ncd",
-        3,
-        BeginningOfLine,
-        "abcd",
-        Some((2, "\n", Backward)),
+        On("abc", 1),
+        Kill(ForwardChar(9), Some((1, "bc", 1, Forward, false))),
+        Is(Some(true), "a", 1, 1),
     ),
-    ("ab", 0, BeginningOfLine, "ab", None),
-    ("ab\ncd", 4, WholeBuffer, "", Some((0, "ab\ncd", Forward))),
+    (Then, Undo(1), Back(true, "abc")),
     (
-        "ab\ncd",
-        4,
-        BeginningOfBuffer,
-        "d",
-        Some((0, "ab\nc", Backward)),
-    ),
-    ("ab\ncd", 4, EndOfBuffer, "ab\nc", Some((4, "d", Forward))),
-    ("ab\ncd", 5, EndOfBuffer, "ab\ncd", None),
-    ("ab", 1, ViFirstPrint, "ab", None),
-    (
-        "axbxcx",
-        0,
-        ViCharSearch(2, Search::Forward('x')),
-        "cx",
-        Some((0, "axbx", Forward)),
+        On("abc", 1),
+        Cut(ForwardChar(9), None),
+        Is(Some(true), "a", 1, 1),
     ),
     (
-        "axbxcx",
-        0,
-        ViCharSearch(2, Search::ForwardBefore('x')),
-        "xcx",
-        Some((0, "axb", Forward)),
+        On("abc", 1),
+        Kill(BackwardChar(1), Some((0, "a", 1, Backward, false))),
+        Is(Some(true), "bc", 0, 1),
+    ),
+    (Then, Undo(1), Back(true, "abc")),
+    (
+        On("abc", 1),
+        Cut(BackwardChar(1), None),
+        Is(Some(true), "bc", 0, 1),
     ),
     (
-        "axbxcx",
-        4,
-        ViCharSearch(1, Search::Backward('x')),
-        "axbcx",
-        Some((3, "x", Backward)),
+        On("abc", 1),
+        Kill(BackwardChar(0), None),
+        Is(Some(true), "abc", 1, 0),
+    ),
+    (Then, Undo(1), Back(false, "abc")),
+    (
+        On("abc", 1),
+        Cut(BackwardChar(0), None),
+        Is(Some(true), "abc", 1, 0),
     ),
     (
-        "axbxcx",
-        4,
-        ViCharSearch(2, Search::BackwardAfter('x')),
-        "axcx",
-        Some((2, "bx", Backward)),
+        On("abc", 3),
+        Kill(ForwardChar(1), None),
+        Is(Some(true), "abc", 3, 0),
+    ),
+    (Then, Undo(1), Back(false, "abc")),
+    (
+        On("abc", 3),
+        Cut(ForwardChar(1), None),
+        Is(Some(true), "abc", 3, 0),
     ),
     (
-        "axbxcx",
-        4,
-        ViCharSearch(1, Search::BackwardAfter('x')),
-        "axbxcx",
-        None,
+        On(FAMILY, 19),
+        Kill(
+            BackwardChar(1),
+            Some((1, "👨\u{200d}👩\u{200d}👧", 1, Backward, false)),
+        ),
+        Is(Some(true), "ab", 1, 1),
     ),
-    ("axb", 1, ViCharSearch(1, Search::Forward('x')), "axb", None),
+    (Then, Undo(1), Back(true, FAMILY)),
+    (
+        On(FAMILY, 19),
+        Cut(BackwardChar(1), None),
+        Is(Some(true), "ab", 1, 1),
+    ),
+    (
+        On("ab\ncd", 4),
+        Kill(WholeLine, Some((3, "cd", 1, Forward, true))),
+        Is(Some(true), "ab\n", 3, 1),
+    ),
+    (Then, Undo(1), Back(true, "ab\ncd")),
+    (
+        On("ab\ncd", 4),
+        Cut(WholeLine, Some("cd")),
+        Is(Some(true), "ab\n", 3, 1),
+    ),
+    (
+        On("ab\n\ncd", 3),
+        Kill(WholeLine, Some((3, "\n", 1, Forward, true))),
+        Is(Some(true), "ab\ncd", 3, 1),
+    ),
+    (Then, Undo(1), Back(true, "ab\n\ncd")),
+    (
+        On("ab\n\ncd", 3),
+        Cut(WholeLine, Some("\n")),
+        Is(Some(true), "ab\ncd", 3, 1),
+    ),
+    (
+        On("ab\ncd", 1),
+        Kill(EndOfLine, Some((1, "b", 1, Forward, true))),
+        Is(Some(true), "a\ncd", 1, 1),
+    ),
+    (Then, Undo(1), Back(true, "ab\ncd")),
+    (
+        On("ab\ncd", 1),
+        Cut(EndOfLine, Some("b")),
+        Is(Some(true), "a\ncd", 1, 1),
+    ),
+    (
+        On("ab\ncd", 2),
+        Kill(EndOfLine, Some((2, "\n", 1, Forward, true))),
+        Is(Some(true), "abcd", 2, 1),
+    ),
+    (Then, Undo(1), Back(true, "ab\ncd")),
+    (
+        On("ab\ncd", 2),
+        Cut(EndOfLine, Some("\n")),
+        Is(Some(true), "abcd", 2, 1),
+    ),
+    (
+        On("ab", 2),
+        Kill(EndOfLine, None),
+        Is(Some(true), "ab", 2, 0),
+    ),
+    (Then, Undo(1), Back(false, "ab")),
+    (
+        On("ab", 2),
+        Cut(EndOfLine, None),
+        Is(Some(true), "ab", 2, 0),
+    ),
+    (
+        On("ab\ncd", 4),
+        Kill(BeginningOfLine, Some((3, "c", 1, Backward, true))),
+        Is(Some(true), "ab\nd", 3, 1),
+    ),
+    (Then, Undo(1), Back(true, "ab\ncd")),
+    (
+        On("ab\ncd", 4),
+        Cut(BeginningOfLine, Some("c")),
+        Is(Some(true), "ab\nd", 3, 1),
+    ),
+    (
+        On("ab\ncd", 3),
+        Kill(BeginningOfLine, Some((2, "\n", 1, Backward, true))),
+        Is(Some(true), "abcd", 2, 1),
+    ),
+    (Then, Undo(1), Back(true, "ab\ncd")),
+    (
+        On("ab\ncd", 3),
+        Cut(BeginningOfLine, Some("\n")),
+        Is(Some(true), "abcd", 2, 1),
+    ),
+    (
+        On("ab", 0),
+        Kill(BeginningOfLine, None),
+        Is(Some(true), "ab", 0, 0),
+    ),
+    (Then, Undo(1), Back(false, "ab")),
+    (
+        On("ab", 0),
+        Cut(BeginningOfLine, None),
+        Is(Some(true), "ab", 0, 0),
+    ),
+    (
+        On("ab\ncd", 4),
+        Kill(WholeBuffer, Some((0, "ab\ncd", 1, Forward, true))),
+        Is(Some(true), "", 0, 1),
+    ),
+    (Then, Undo(1), Back(true, "ab\ncd")),
+    (
+        On("ab\ncd", 4),
+        Cut(WholeBuffer, Some("ab\ncd")),
+        Is(Some(true), "", 0, 1),
+    ),
+    (
+        On("ab\ncd", 4),
+        Kill(BeginningOfBuffer, Some((0, "ab\nc", 1, Backward, true))),
+        Is(Some(true), "d", 0, 1),
+    ),
+    (Then, Undo(1), Back(true, "ab\ncd")),
+    (
+        On("ab\ncd", 4),
+        Cut(BeginningOfBuffer, Some("ab\nc")),
+        Is(Some(true), "d", 0, 1),
+    ),
+    (
+        On("ab\ncd", 4),
+        Kill(EndOfBuffer, Some((4, "d", 1, Forward, true))),
+        Is(Some(true), "ab\nc", 4, 1),
+    ),
+    (Then, Undo(1), Back(true, "ab\ncd")),
+    (
+        On("ab\ncd", 4),
+        Cut(EndOfBuffer, Some("d")),
+        Is(Some(true), "ab\nc", 4, 1),
+    ),
+    (
+        On("ab\ncd", 5),
+        Kill(EndOfBuffer, None),
+        Is(Some(true), "ab\ncd", 5, 0),
+    ),
+    (Then, Undo(1), Back(false, "ab\ncd")),
+    (
+        On("ab\ncd", 5),
+        Cut(EndOfBuffer, None),
+        Is(Some(true), "ab\ncd", 5, 0),
+    ),
+    (
+        On("ab", 1),
+        Kill(ViFirstPrint, None),
+        Is(Some(true), "ab", 1, 0),
+    ),
+    (Then, Undo(1), Back(false, "ab")),
+    (
+        On("ab", 1),
+        Cut(ViFirstPrint, None),
+        Is(Some(true), "ab", 1, 0),
+    ),
+    (
+        On("axbxcx", 0),
+        Kill(
+            ViCharSearch(2, Search::Forward('x')),
+            Some((0, "axbx", 1, Forward, true)),
+        ),
+        Is(Some(true), "cx", 0, 1),
+    ),
+    (Then, Undo(1), Back(true, "axbxcx")),
+    (
+        On("axbxcx", 0),
+        Cut(ViCharSearch(2, Search::Forward('x')), Some("axbx")),
+        Is(Some(true), "cx", 0, 1),
+    ),
+    (
+        On("axbxcx", 0),
+        Kill(
+            ViCharSearch(2, Search::ForwardBefore('x')),
+            Some((0, "axb", 1, Forward, true)),
+        ),
+        Is(Some(true), "xcx", 0, 1),
+    ),
+    (Then, Undo(1), Back(true, "axbxcx")),
+    (
+        On("axbxcx", 0),
+        Cut(ViCharSearch(2, Search::ForwardBefore('x')), Some("axb")),
+        Is(Some(true), "xcx", 0, 1),
+    ),
+    (
+        On("axbxcx", 4),
+        Kill(
+            ViCharSearch(1, Search::Backward('x')),
+            Some((3, "x", 1, Backward, true)),
+        ),
+        Is(Some(true), "axbcx", 3, 1),
+    ),
+    (Then, Undo(1), Back(true, "axbxcx")),
+    (
+        On("axbxcx", 4),
+        Cut(ViCharSearch(1, Search::Backward('x')), Some("x")),
+        Is(Some(true), "axbcx", 3, 1),
+    ),
+    (
+        On("axbxcx", 4),
+        Kill(
+            ViCharSearch(2, Search::BackwardAfter('x')),
+            Some((2, "bx", 1, Backward, true)),
+        ),
+        Is(Some(true), "axcx", 2, 1),
+    ),
+    (Then, Undo(1), Back(true, "axbxcx")),
+    (
+        On("axbxcx", 4),
+        Cut(ViCharSearch(2, Search::BackwardAfter('x')), Some("bx")),
+        Is(Some(true), "axcx", 2, 1),
+    ),
+    (
+        On("axbxcx", 4),
+        Kill(ViCharSearch(1, Search::BackwardAfter('x')), None),
+        Is(Some(true), "axbxcx", 4, 0),
+    ),
+    (Then, Undo(1), Back(false, "axbxcx")),
+    (
+        On("axbxcx", 4),
+        Cut(ViCharSearch(1, Search::BackwardAfter('x')), None),
+        Is(Some(true), "axbxcx", 4, 0),
+    ),
+    (
+        On("axb", 1),
+        Kill(ViCharSearch(1, Search::Forward('x')), None),
+        Is(Some(true), "axb", 1, 0),
+    ),
+    (Then, Undo(1), Back(false, "axb")),
+    (
+        On("axb", 1),
+        Cut(ViCharSearch(1, Search::Forward('x')), None),
+        Is(Some(true), "axb", 1, 0),
+    ),
+    // in a word of 6,000 bytes, with the cursor after its second character
+    (
+        Of("é", 3_000, 4),
+        Kill(WholeBuffer, Some((0, "é", 3_000, Forward, true))),
+        Is(Some(true), "", 0, 1),
+    ),
+    (Then, Undo(1), Yes),
+    (Then, Copy(WholeBuffer, Some(("é", 3_000))), Yes),
+    (
+        Of("é", 3_000, 4),
+        Kill(EndOfLine, Some((4, "é", 2_998, Forward, true))),
+        Is(Some(true), "éé", 4, 1),
+    ),
+    (Then, Undo(1), Yes),
+    (Then, Copy(WholeBuffer, Some(("é", 3_000))), Yes),
+    (
+        Of("é", 3_000, 4),
+        Kill(WholeLine, Some((0, "é", 3_000, Forward, true))),
+        Is(Some(true), "", 0, 1),
+    ),
+    (Then, Undo(1), Yes),
+    (Then, Copy(WholeBuffer, Some(("é", 3_000))), Yes),
+    (
+        Of("é", 3_000, 4),
+        Kill(EndOfBuffer, Some((4, "é", 2_998, Forward, true))),
+        Is(Some(true), "éé", 4, 1),
+    ),
+    (Then, Undo(1), Yes),
+    (Then, Copy(WholeBuffer, Some(("é", 3_000))), Yes),
 ];
-
-/// What goes by characters is not put into the ring.
-#[test]
-fn by_movements(rt: HostRuntime) {
-    for (index, (text, pos, mvt, after, gone)) in KILLS.iter().enumerate() {
-        let left = match (mvt, gone) {
-            (_, None) => (*pos, None),
-            (ForwardChar(_) | BackwardChar(_), Some((place, _, _))) => (*place, None),
-            (_, Some((place, text, _))) => (*place, Some(*text)),
-        };
-        let killed = kills(&rt, rt.alloc(), mvt, gone, (text, *pos, after), left);
-        let cut = cuts(&rt, rt.alloc(), mvt, (text, *pos, after), left);
-        holds(&rt, killed && cut, text, index);
-    }
-}
-
-/// A movement in a word of 6,000 bytes, with the cursor after its second character; where what goes by it begins, and
-/// how many characters that is.
-const LARGE: &[(Movement, usize, usize)] = &[
-    (WholeBuffer, 0, 3_000),
-    (EndOfLine, 4, 2_998),
-    (WholeLine, 0, 3_000),
-    (EndOfBuffer, 4, 2_998),
-];
-
-#[test]
-fn of_large_texts(rt: HostRuntime) {
-    let word = text_of(&rt, rt.alloc(), "é", 3_000);
-    for (index, (mvt, place, count)) in LARGE.iter().enumerate() {
-        let after = text_of(&rt, rt.alloc(), "é", place / 2);
-        let gone = text_of(&rt, rt.alloc(), "é", *count);
-        let went = Some((*place, gone.as_str(), Forward));
-        let texts = (word.as_str(), 4, after.as_str());
-        let left = (*place, Some(gone.as_str()));
-        let killed = kills(&rt, rt.alloc(), mvt, &went, texts, left);
-        holds(&rt, killed, "kill", index);
-    }
-}

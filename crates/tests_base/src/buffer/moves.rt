@@ -1,7 +1,7 @@
 //! Moves of the cursor.
 
 use self::Move::*;
-use super::{FAMILY, line_at, text_of};
+use super::{FAMILY, line_at};
 use crate::holds;
 use line_buffer::At::{self, *};
 use line_buffer::Word::{self, *};
@@ -20,9 +20,12 @@ enum Move {
     ToChar(Search, RepeatCount),
     LineUp(RepeatCount),
     LineDown(RepeatCount),
+    /// No move: the places one cluster on and back, whether the cursor is at the end, and whether only white space stands
+    /// from it on.
+    Stands(Option<usize>, Option<usize>, bool, bool),
 }
 
-/// Makes the call, on a screen whose prompt takes two columns.
+/// Makes the call, on a screen whose prompt takes two columns. Whether the cursor finds a place, or stands so.
 fn moved(line: &mut LineBuffer, step: &Move) -> bool {
     let mut layout = Layout::new(GraphemeClusterMode::Unicode);
     layout.prompt_size.col = 2;
@@ -38,6 +41,10 @@ fn moved(line: &mut LineBuffer, step: &Move) -> bool {
         ToChar(search, n) => line.move_to(*search, *n),
         LineUp(n) => line.move_to_line_up(*n, &layout),
         LineDown(n) => line.move_to_line_down(*n, &layout),
+        Stands(next, prev, at_end, white) => {
+            (line.next_pos(1), line.prev_pos(1)) == (*next, *prev)
+                && (line.is_cursor_at_end(), line.is_end_of_input()) == (*at_end, *white)
+        }
     }
 }
 
@@ -286,6 +293,24 @@ const MOVES: &[Case] = &[
     (SCRIPTS, 38, PrevWord(Emacs, 2), Some(5)),
     (SCRIPTS, 38, PrevWord(Big, 3), Some(0)),
     ("a->b_c", 6, PrevWord(Vi, 2), Some(1)),
+    // of the line alone
+    ("", 0, Stands(None, None, true, true), Some(0)),
+    ("a", 0, Stands(Some(1), None, false, false), Some(0)),
+    ("a", 1, Stands(None, Some(0), true, true), Some(1)),
+    ("a \t\n", 1, Stands(Some(2), Some(0), false, true), Some(1)),
+    (
+        "a\u{a0}\u{3000}",
+        1,
+        Stands(Some(3), Some(0), false, true),
+        Some(1),
+    ),
+    (
+        "a\u{200b}",
+        1,
+        Stands(Some(4), Some(0), false, false),
+        Some(1),
+    ),
+    (" a ", 0, Stands(Some(1), None, false, false), Some(0)),
 ];
 
 #[test]
@@ -294,47 +319,7 @@ fn of_the_cursor(rt: HostRuntime) {
         let mut line = line_at(&rt, rt.alloc(), text, *pos);
         let found = moved(&mut line, step) == place.is_some();
         let stands = line.pos() == place.unwrap_or(*pos);
-        holds(&rt, found && stands, text, index);
+        let whole = line.is_empty() == text.is_empty() && line.len() == text.len();
+        holds(&rt, found && stands && whole, text, index);
     }
-}
-
-/// A text, the cursor; the places one cluster on and back, whether the cursor is at the end, and whether only white
-/// space stands from it on.
-type Asked = (
-    &'static str,
-    usize,
-    Option<usize>,
-    Option<usize>,
-    bool,
-    bool,
-);
-
-const ASKED: &[Asked] = &[
-    ("", 0, None, None, true, true),
-    ("a", 0, Some(1), None, false, false),
-    ("a", 1, None, Some(0), true, true),
-    ("a \t\n", 1, Some(2), Some(0), false, true),
-    ("a\u{a0}\u{3000}", 1, Some(3), Some(0), false, true),
-    ("a\u{200b}", 1, Some(4), Some(0), false, false),
-    (" a ", 0, Some(1), None, false, false),
-];
-
-#[test]
-fn of_the_line(rt: HostRuntime) {
-    for row in ASKED {
-        let (text, pos, next, prev, at_end, white) = *row;
-        let line = line_at(&rt, rt.alloc(), text, pos);
-        let found = line.next_pos(1) == next
-            && line.prev_pos(1) == prev
-            && line.is_cursor_at_end() == at_end
-            && line.is_end_of_input() == white
-            && line.is_empty() == text.is_empty()
-            && line.len() == text.len();
-        holds(&rt, found, text, pos);
-    }
-    // a large text
-    let text = text_of(&rt, rt.alloc(), "日", 5_000);
-    let line = line_at(&rt, rt.alloc(), text.as_str(), 3);
-    let found = line.pos() == 3 && line.as_str() == text.as_str();
-    holds(&rt, found, "large", line.pos());
 }

@@ -15,10 +15,8 @@ enum Act {
     Kill(&'static str, Mode),
     /// A kill of 80,000 bytes.
     Much(Mode),
-    /// So many kills of a text, each for itself.
-    Apart(usize, &'static str),
-    /// Kills that join: a text, a dash after it and a plus before both.
-    Joined(&'static str),
+    /// A kill for itself.
+    Apart(&'static str),
     Reset,
     /// A yank gives this text.
     Yank(&'static str),
@@ -26,8 +24,6 @@ enum Act {
     YankLength(usize),
     /// A yank-pop gives this text, with the length of the one before it.
     Pop(usize, &'static str),
-    /// So many yank-pops give the text of one byte, with the length of one like it.
-    Pops(usize),
     /// A yank-pop gives nothing.
     NoPop,
 }
@@ -41,157 +37,172 @@ fn acted(rt: &impl Abort, alloc: Global, ring: &mut KillRing, act: &Act) -> bool
             let text = text_of(rt, alloc, "日 ", 20_000);
             ring.kill(text.as_str(), *mode).expect(rt, "no fault");
         }
-        Apart(count, text) => {
-            for _ in 0..*count {
-                ring.kill(text, Append).expect(rt, "no fault");
-                ring.reset();
-            }
-        }
-        Joined(text) => {
+        Apart(text) => {
             ring.kill(text, Append).expect(rt, "no fault");
-            ring.kill("-", Append).expect(rt, "no fault");
-            ring.kill("+", Prepend).expect(rt, "no fault");
             ring.reset();
         }
         Reset => ring.reset(),
-        _ => return gives(ring, act),
+        Yank(text) => return ring.yank() == Some(*text),
+        YankLength(len) => return matches!(ring.yank(), Some(text) if text.len() == *len),
+        Pop(len, text) => return ring.yank_pop() == Some((*len, *text)),
+        NoPop => return ring.yank_pop() == None,
     }
     true
 }
 
-/// A call that gives a text gives the one that is wanted.
-fn gives(ring: &mut KillRing, act: &Act) -> bool {
-    match act {
-        Yank(text) => ring.yank() == Some(*text),
-        YankLength(len) => matches!(ring.yank(), Some(text) if text.len() == *len),
-        Pop(len, text) => ring.yank_pop() == Some((*len, *text)),
-        Pops(count) => {
-            for _ in 0..*count {
-                if ring.yank_pop() != Some((1, "x")) {
-                    return false;
-                }
-            }
-            true
-        }
-        NoPop => ring.yank_pop() == None,
-        _ => true,
-    }
-}
-
-const ACTS: &[Act] = &[
-    Ring(3),
-    NoPop,
+/// How often a call is made, and the call.
+const ACTS: &[(usize, Act)] = &[
+    (1, Ring(3)),
+    (1, NoPop),
     // kills past the size
-    Ring(0),
-    Joined("a"),
-    Joined("b"),
-    Joined("c"),
-    NoPop,
-    Ring(1),
-    Joined("a"),
-    Joined("b"),
-    Joined("c"),
-    NoPop,
-    Yank("+c-"),
-    Pop(3, "+c-"),
-    Ring(2),
-    Joined("a"),
-    Joined("b"),
-    Joined("c"),
-    NoPop,
-    Yank("+c-"),
-    Pop(3, "+b-"),
-    Pop(3, "+c-"),
-    Ring(60),
-    Joined("a"),
-    Joined("b"),
-    Joined("c"),
-    NoPop,
-    Yank("+c-"),
-    Pop(3, "+b-"),
-    Pop(3, "+a-"),
-    Pop(3, "+c-"),
+    (1, Ring(0)),
+    (1, Kill("a", Append)),
+    (1, Kill("-", Append)),
+    (1, Kill("+", Prepend)),
+    (1, Reset),
+    (1, Kill("b", Append)),
+    (1, Kill("-", Append)),
+    (1, Kill("+", Prepend)),
+    (1, Reset),
+    (1, Kill("c", Append)),
+    (1, Kill("-", Append)),
+    (1, Kill("+", Prepend)),
+    (1, Reset),
+    (1, NoPop),
+    (1, Ring(1)),
+    (1, Kill("a", Append)),
+    (1, Kill("-", Append)),
+    (1, Kill("+", Prepend)),
+    (1, Reset),
+    (1, Kill("b", Append)),
+    (1, Kill("-", Append)),
+    (1, Kill("+", Prepend)),
+    (1, Reset),
+    (1, Kill("c", Append)),
+    (1, Kill("-", Append)),
+    (1, Kill("+", Prepend)),
+    (1, Reset),
+    (1, NoPop),
+    (1, Yank("+c-")),
+    (1, Pop(3, "+c-")),
+    (1, Ring(2)),
+    (1, Kill("a", Append)),
+    (1, Kill("-", Append)),
+    (1, Kill("+", Prepend)),
+    (1, Reset),
+    (1, Kill("b", Append)),
+    (1, Kill("-", Append)),
+    (1, Kill("+", Prepend)),
+    (1, Reset),
+    (1, Kill("c", Append)),
+    (1, Kill("-", Append)),
+    (1, Kill("+", Prepend)),
+    (1, Reset),
+    (1, NoPop),
+    (1, Yank("+c-")),
+    (1, Pop(3, "+b-")),
+    (1, Pop(3, "+c-")),
+    (1, Ring(60)),
+    (1, Kill("a", Append)),
+    (1, Kill("-", Append)),
+    (1, Kill("+", Prepend)),
+    (1, Reset),
+    (1, Kill("b", Append)),
+    (1, Kill("-", Append)),
+    (1, Kill("+", Prepend)),
+    (1, Reset),
+    (1, Kill("c", Append)),
+    (1, Kill("-", Append)),
+    (1, Kill("+", Prepend)),
+    (1, Reset),
+    (1, NoPop),
+    (1, Yank("+c-")),
+    (1, Pop(3, "+b-")),
+    (1, Pop(3, "+a-")),
+    (1, Pop(3, "+c-")),
     // texts of three lengths
-    Ring(3),
-    Apart(1, "a"),
-    Apart(1, "bc"),
-    Apart(1, "def"),
-    NoPop,
-    Yank("def"),
-    Pop(3, "bc"),
-    Pop(2, "a"),
-    Pop(1, "def"),
+    (1, Ring(3)),
+    (1, Apart("a")),
+    (1, Apart("bc")),
+    (1, Apart("def")),
+    (1, NoPop),
+    (1, Yank("def")),
+    (1, Pop(3, "bc")),
+    (1, Pop(2, "a")),
+    (1, Pop(1, "def")),
     // a kill after yanks
-    Ring(3),
-    Apart(1, "a"),
-    Apart(1, "bc"),
-    Apart(1, "def"),
-    Yank("def"),
-    Pop(3, "bc"),
-    Pop(2, "a"),
-    Pop(1, "def"),
-    Kill("g", Prepend),
-    NoPop,
-    Yank("g"),
-    Pop(1, "def"),
-    Pop(3, "bc"),
-    Pop(2, "g"),
+    (1, Ring(3)),
+    (1, Apart("a")),
+    (1, Apart("bc")),
+    (1, Apart("def")),
+    (1, Yank("def")),
+    (1, Pop(3, "bc")),
+    (1, Pop(2, "a")),
+    (1, Pop(1, "def")),
+    (1, Kill("g", Prepend)),
+    (1, NoPop),
+    (1, Yank("g")),
+    (1, Pop(1, "def")),
+    (1, Pop(3, "bc")),
+    (1, Pop(2, "g")),
     // a full ring, of 59 kills, and of as many as its size, one more and two more
-    Ring(60),
-    Apart(58, "x"),
-    Kill("yz", Append),
-    Yank("yz"),
-    Pop(2, "x"),
-    Pops(57),
-    Pop(1, "yz"),
-    Ring(60),
-    Apart(59, "x"),
-    Kill("yz", Append),
-    Yank("yz"),
-    Pop(2, "x"),
-    Pops(58),
-    Pop(1, "yz"),
-    Ring(60),
-    Apart(60, "x"),
-    Kill("yz", Append),
-    Yank("yz"),
-    Pop(2, "x"),
-    Pops(58),
-    Pop(1, "yz"),
-    Ring(60),
-    Apart(61, "x"),
-    Kill("yz", Append),
-    Yank("yz"),
-    Pop(2, "x"),
-    Pops(58),
-    Pop(1, "yz"),
-    Ring(3_000),
-    Apart(3_000, "x"),
-    Kill("yz", Append),
-    Yank("yz"),
-    Pop(2, "x"),
-    Pops(2_998),
-    Pop(1, "yz"),
+    (1, Ring(60)),
+    (58, Apart("x")),
+    (1, Kill("yz", Append)),
+    (1, Yank("yz")),
+    (1, Pop(2, "x")),
+    (57, Pop(1, "x")),
+    (1, Pop(1, "yz")),
+    (1, Ring(60)),
+    (59, Apart("x")),
+    (1, Kill("yz", Append)),
+    (1, Yank("yz")),
+    (1, Pop(2, "x")),
+    (58, Pop(1, "x")),
+    (1, Pop(1, "yz")),
+    (1, Ring(60)),
+    (60, Apart("x")),
+    (1, Kill("yz", Append)),
+    (1, Yank("yz")),
+    (1, Pop(2, "x")),
+    (58, Pop(1, "x")),
+    (1, Pop(1, "yz")),
+    (1, Ring(60)),
+    (61, Apart("x")),
+    (1, Kill("yz", Append)),
+    (1, Yank("yz")),
+    (1, Pop(2, "x")),
+    (58, Pop(1, "x")),
+    (1, Pop(1, "yz")),
+    (1, Ring(3_000)),
+    (3_000, Apart("x")),
+    (1, Kill("yz", Append)),
+    (1, Yank("yz")),
+    (1, Pop(2, "x")),
+    (2_998, Pop(1, "x")),
+    (1, Pop(1, "yz")),
     // three kills of 80,000 bytes each, one after another or each for itself
-    Ring(2),
-    Much(Append),
-    Much(Append),
-    Much(Prepend),
-    YankLength(240_000),
-    Ring(2),
-    Much(Append),
-    Reset,
-    Much(Append),
-    Reset,
-    Much(Prepend),
-    Reset,
-    YankLength(80_000),
+    (1, Ring(2)),
+    (1, Much(Append)),
+    (1, Much(Append)),
+    (1, Much(Prepend)),
+    (1, YankLength(240_000)),
+    (1, Ring(2)),
+    (1, Much(Append)),
+    (1, Reset),
+    (1, Much(Append)),
+    (1, Reset),
+    (1, Much(Prepend)),
+    (1, Reset),
+    (1, YankLength(80_000)),
 ];
 
 #[test]
 fn yanks_turn_the_ring_back(rt: HostRuntime) {
     let mut ring = KillRing::new(rt.alloc(), 0);
-    for (index, act) in ACTS.iter().enumerate() {
-        holds(&rt, acted(&rt, rt.alloc(), &mut ring, act), "row", index);
+    for (index, (times, act)) in ACTS.iter().enumerate() {
+        for _ in 0..*times {
+            holds(&rt, acted(&rt, rt.alloc(), &mut ring, act), "row", index);
+        }
     }
 }

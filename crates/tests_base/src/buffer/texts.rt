@@ -1,123 +1,81 @@
 //! Texts that are taken from the line, copied, or come in last.
 
-use self::Taking::*;
 use super::edits::Call::Replace;
-use super::edits::Edit::{self, Indent, Text};
-use super::edits::edited;
+use super::edits::Edit::*;
+use super::edits::Line::*;
+use super::edits::Row;
+use super::edits::Wanted::*;
 use super::large::WORD;
-use super::{line_at, text_of};
-use crate::holds;
 use line_buffer::At::*;
-use line_buffer::Movement::{self, *};
+use line_buffer::Direction::Forward;
+use line_buffer::Movement::*;
 use line_buffer::Word::*;
-use line_buffer::{Changeset, KillRing, LineBuffer, OutOfMemory, RepeatCount};
-use std::alloc::Global;
-use std::process::Abort;
 
-/// A call that gives a text.
-pub(super) enum Taking {
-    Copy(Movement),
-    Delete(RepeatCount),
-    Kill(Movement),
-    LastInsert,
-}
+/// A text that a call gives, so many times.
+pub(super) type Given = (&'static str, usize);
 
-/// Makes the call.
-pub(super) fn taken(
-    alloc: Global,
-    line: &mut LineBuffer,
-    changes: &mut Changeset,
-    step: &Taking,
-) -> Result<Option<String>, OutOfMemory> {
-    match step {
-        Copy(mvt) => line.copy(mvt),
-        Delete(n) => line.delete(*n, changes),
-        Kill(mvt) => match line.kill(mvt, changes, &mut KillRing::new(alloc, 1))? {
-            Some((_, text, _)) => Ok(Some(text)),
-            None => Ok(None),
-        },
-        LastInsert => changes.last_insert(),
+/// The text is what a call is to give.
+pub(super) fn is_given(found: Option<&str>, wanted: Option<Given>) -> bool {
+    let (Some(text), Some((part, times))) = (found, wanted) else {
+        return found.is_none() && wanted.is_none();
+    };
+    let mut rest = text;
+    for _ in 0..times {
+        match rest.strip_prefix(part) {
+            Some(behind) => rest = behind,
+            None => return false,
+        }
     }
-}
-
-/// A text, the cursor, an edit, a call, and what it gives: a text, so many times.
-type Case = (
-    &'static str,
-    usize,
-    Option<Edit>,
-    Taking,
-    Option<(&'static str, usize)>,
-);
-
-/// The call gives what is wanted.
-fn takes(rt: &impl Abort, alloc: Global, case: &Case) -> bool {
-    let (text, pos, edit, step, wanted) = case;
-    let mut line = line_at(rt, alloc, text, *pos);
-    let mut changes = Changeset::new(alloc);
-    if let Some(edit) = edit {
-        let _ = edited(rt, alloc, &mut line, &mut changes, edit).expect(rt, "no fault");
-    }
-    let given = taken(alloc, &mut line, &mut changes, step).expect(rt, "no fault");
-    match wanted {
-        Some((part, times)) => is_text(&given, text_of(rt, alloc, part, *times).as_str()),
-        None => given.is_none(),
-    }
-}
-
-/// It is this text.
-pub(super) fn is_text(found: &Option<String>, wanted: &str) -> bool {
-    match found {
-        Some(text) => text.as_str() == wanted,
-        None => false,
-    }
+    rest.is_empty()
 }
 
 const LINES: &str = "abc\nde\nf日hij";
 
-const TAKINGS: &[Case] = &[
-    (LINES, 5, None, Copy(LineUp(1)), Some(("abc\nde\n", 1))),
-    (LINES, 5, None, Copy(LineUp(0)), Some(("de\n", 1))),
-    (LINES, 5, None, Copy(LineDown(0)), Some(("de\n", 1))),
-    (LINES, 5, None, Copy(LineDown(7)), Some(("de\nf日hij", 1))),
-    (LINES, 5, None, Copy(BackwardWord(1, Emacs)), Some(("d", 1))),
+pub(super) const ROWS: &[Row] = &[
+    (On(LINES, 5), Copy(LineUp(1), Some(("abc\nde\n", 1))), Yes),
+    (On(LINES, 5), Copy(LineUp(0), Some(("de\n", 1))), Yes),
+    (On(LINES, 5), Copy(LineDown(0), Some(("de\n", 1))), Yes),
+    (On(LINES, 5), Copy(LineDown(7), Some(("de\nf日hij", 1))), Yes),
     (
-        LINES,
-        5,
-        None,
-        Copy(ForwardWord(1, Start, Vi)),
-        Some(("e\n", 1)),
-    ),
-    (LINES, 5, None, Copy(ForwardChar(0)), None),
-    ("éz", 2, None, Delete(1), Some(("z", 1))),
-    ("éz", 3, None, Delete(1), None),
-    ("éz", 0, None, Kill(WholeLine), Some(("éz", 1))),
-    (
-        "é",
-        2,
-        Some(Text(Replace(0, 2), "uvw")),
-        LastInsert,
-        Some(("uvw", 1)),
+        On(LINES, 5),
+        Copy(BackwardWord(1, Emacs), Some(("d", 1))),
+        Yes,
     ),
     (
-        "a\n\n b",
-        4,
-        Some(Indent(WholeBuffer, 2)),
-        LastInsert,
-        Some(("  ", 1)),
+        On(LINES, 5),
+        Copy(ForwardWord(1, Start, Vi), Some(("e\n", 1))),
+        Yes,
     ),
-    ("", 0, None, LastInsert, None),
+    (On(LINES, 5), Copy(ForwardChar(0), None), Yes),
+    (On("éz", 2), Deleted(1, Some(("z", 1))), Yes),
+    (On("éz", 3), Deleted(1, None), Yes),
+    (
+        On("éz", 0),
+        Kill(WholeLine, Some((0, "éz", 1, Forward, true))),
+        Yes,
+    ),
+    (On("é", 2), Text(Replace(0, 2), "uvw"), Any),
+    (Then, LastInsert(Some(("uvw", 1))), Yes),
+    (On("a\n\n b", 4), Indent(WholeBuffer, 2), Any),
+    (Then, LastInsert(Some(("  ", 1))), Yes),
+    (On("", 0), LastInsert(None), Yes),
     // of a word of 6,000 bytes
-    ("", 0, Some(WORD), Copy(WholeBuffer), Some(("é", 3_000))),
-    ("", 0, Some(WORD), Copy(EndOfLine), Some(("é", 2_998))),
-    ("", 0, Some(WORD), Copy(WholeLine), Some(("é", 3_000))),
-    ("", 0, Some(WORD), Copy(EndOfBuffer), Some(("é", 2_998))),
-    ("", 0, Some(WORD), LastInsert, Some(("é", 3_000))),
-    ("", 0, Some(WORD), Delete(2_500), Some(("é", 2_500))),
+    (On("", 0), WORD, Any),
+    (Then, Copy(WholeBuffer, Some(("é", 3_000))), Yes),
+    (On("", 0), WORD, Any),
+    (Then, Copy(EndOfLine, Some(("é", 2_998))), Yes),
+    (On("", 0), WORD, Any),
+    (Then, Copy(WholeLine, Some(("é", 3_000))), Yes),
+    (On("", 0), WORD, Any),
+    (Then, Copy(EndOfBuffer, Some(("é", 2_998))), Yes),
+    (On("", 0), WORD, Any),
+    (Then, LastInsert(Some(("é", 3_000))), Yes),
+    (On("", 0), WORD, Any),
+    (Then, Deleted(2_500, Some(("é", 2_500))), Yes),
+    // of a line that is made of 15,000 bytes
+    (
+        Of("日", 5_000, 3),
+        Copy(WholeBuffer, Some(("日", 5_000))),
+        Long(Some(true), 15_000, 3, 0),
+    ),
 ];
-
-#[test]
-fn are_given(rt: HostRuntime) {
-    for (index, case) in TAKINGS.iter().enumerate() {
-        holds(&rt, takes(&rt, rt.alloc(), case), "row", index);
-    }
-}

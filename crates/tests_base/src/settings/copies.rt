@@ -9,8 +9,8 @@ use line_config::{
 };
 use std::process::Abort;
 
-/// The one setting that is not the default.
-enum Changed {
+/// A call of a builder that sets one thing to what is not the default.
+pub(super) enum Change {
     Nothing,
     MaxHistorySize,
     HistoryDuplicates,
@@ -18,12 +18,14 @@ enum Changed {
     CompletionType,
     CompletionPromptLimit,
     CompletionShowAll,
-    KeyseqTimeout,
-    EditMode,
+    KeyseqTimeout(u16),
+    EditMode(EditMode),
     AutoAddHistory,
     BellStyle,
-    ColorMode,
-    GraphemeClusterMode,
+    ColorMode(ColorMode),
+    Clusters,
+    /// A new builder with this setting.
+    NewByClusters,
     Behavior,
     TabStop,
     IndentSize,
@@ -33,62 +35,70 @@ enum Changed {
     Signals,
 }
 
-const ALL: &[Changed] = &[
-    Changed::Nothing,
-    Changed::MaxHistorySize,
-    Changed::HistoryDuplicates,
-    Changed::HistoryIgnoreSpace,
-    Changed::CompletionType,
-    Changed::CompletionPromptLimit,
-    Changed::CompletionShowAll,
-    Changed::KeyseqTimeout,
-    Changed::EditMode,
-    Changed::AutoAddHistory,
-    Changed::BellStyle,
-    Changed::ColorMode,
-    Changed::GraphemeClusterMode,
-    Changed::Behavior,
-    Changed::TabStop,
-    Changed::IndentSize,
-    Changed::CheckCursorPosition,
-    Changed::BracketedPaste,
-    Changed::SynchronizedOutput,
-    Changed::Signals,
+/// No two of these give the same configuration.
+const CHANGES: &[Change] = &[
+    Change::Nothing,
+    Change::MaxHistorySize,
+    Change::HistoryDuplicates,
+    Change::HistoryIgnoreSpace,
+    Change::CompletionType,
+    Change::CompletionPromptLimit,
+    Change::CompletionShowAll,
+    Change::KeyseqTimeout(500),
+    Change::EditMode(EditMode::Vi),
+    Change::AutoAddHistory,
+    Change::BellStyle,
+    Change::ColorMode(ColorMode::Forced),
+    Change::NewByClusters,
+    Change::Behavior,
+    Change::TabStop,
+    Change::IndentSize,
+    Change::CheckCursorPosition,
+    Change::BracketedPaste,
+    Change::SynchronizedOutput,
+    Change::Signals,
 ];
 
-fn built(rt: &impl Abort, changed: &Changed) -> Builder {
-    let mut builder = Config::builder(GraphemeClusterMode::Unicode);
-    match changed {
-        Changed::Nothing => builder,
-        Changed::MaxHistorySize => builder.max_history_size(7).expect(rt, "no fault"),
-        Changed::HistoryDuplicates => builder.history_ignore_dups(false).expect(rt, "no fault"),
-        Changed::HistoryIgnoreSpace => builder.history_ignore_space(true),
-        Changed::CompletionType => builder.completion_type(CompletionType::List),
-        Changed::CompletionPromptLimit => builder.completion_prompt_limit(9),
-        Changed::CompletionShowAll => builder.completion_show_all_if_ambiguous(true),
-        Changed::KeyseqTimeout => builder.keyseq_timeout(Some(500)),
-        Changed::EditMode => builder.edit_mode(EditMode::Vi),
-        Changed::AutoAddHistory => builder.auto_add_history(true),
-        Changed::BellStyle => builder.bell_style(BellStyle::None),
-        Changed::ColorMode => builder.color_mode(ColorMode::Forced),
-        Changed::GraphemeClusterMode => Config::builder(GraphemeClusterMode::NoZwj),
-        Changed::Behavior => builder.behavior(Behavior::PreferTerm),
-        Changed::TabStop => builder.tab_stop(4),
-        Changed::IndentSize => builder.indent_size(3),
-        Changed::CheckCursorPosition => builder.check_cursor_position(true),
-        Changed::BracketedPaste => builder.bracketed_paste(false),
-        Changed::SynchronizedOutput => {
+/// The builder after the call.
+pub(super) fn changed(rt: &impl Abort, builder: Builder, change: &Change) -> Builder {
+    let mut builder = builder;
+    match change {
+        Change::Nothing => builder,
+        Change::MaxHistorySize => builder.max_history_size(7).expect(rt, "no fault"),
+        Change::HistoryDuplicates => builder.history_ignore_dups(false).expect(rt, "no fault"),
+        Change::HistoryIgnoreSpace => builder.history_ignore_space(true),
+        Change::CompletionType => builder.completion_type(CompletionType::List),
+        Change::CompletionPromptLimit => builder.completion_prompt_limit(9),
+        Change::CompletionShowAll => builder.completion_show_all_if_ambiguous(true),
+        Change::KeyseqTimeout(milliseconds) => builder.keyseq_timeout(Some(*milliseconds)),
+        Change::EditMode(mode) => builder.edit_mode(*mode),
+        Change::AutoAddHistory => builder.auto_add_history(true),
+        Change::BellStyle => builder.bell_style(BellStyle::None),
+        Change::ColorMode(mode) => builder.color_mode(*mode),
+        Change::Clusters => builder.grapheme_cluster_mode(GraphemeClusterMode::NoZwj),
+        Change::NewByClusters => Config::builder(GraphemeClusterMode::NoZwj),
+        Change::Behavior => builder.behavior(Behavior::PreferTerm),
+        Change::TabStop => builder.tab_stop(4),
+        Change::IndentSize => builder.indent_size(3),
+        Change::CheckCursorPosition => builder.check_cursor_position(true),
+        Change::BracketedPaste => builder.bracketed_paste(false),
+        Change::SynchronizedOutput => {
             builder.enable_synchronized_output(false);
             builder
         }
-        Changed::Signals => builder.enable_signals(true),
+        Change::Signals => builder.enable_signals(true),
     }
 }
 
+/// A builder after one call.
+fn built(rt: &impl Abort, change: &Change) -> Builder {
+    changed(rt, Config::builder(GraphemeClusterMode::Unicode), change)
+}
+
 /// The clone of a configuration, and that of a builder, has what was set, and leaves its source as it was.
-fn copies(rt: &impl Abort, changed: &Changed) -> bool {
-    let wanted = settings(&built(rt, changed).build());
-    let builder = built(rt, changed);
+fn copies(rt: &impl Abort, change: &Change) -> bool {
+    let wanted = settings(&built(rt, change).build());
+    let builder = built(rt, change);
     let copy = builder.clone().expect(rt, "no fault").build();
     let config = builder.build();
     let clone = config.clone().expect(rt, "no fault");
@@ -98,9 +108,9 @@ fn copies(rt: &impl Abort, changed: &Changed) -> bool {
 
 #[test]
 fn no_two_are_equal(rt: HostRuntime) {
-    for (index, one) in ALL.iter().enumerate() {
+    for (index, one) in CHANGES.iter().enumerate() {
         let mut apart = copies(&rt, one);
-        for (place, other) in ALL.iter().enumerate() {
+        for (place, other) in CHANGES.iter().enumerate() {
             let (first, second) = (built(&rt, one).build(), built(&rt, other).build());
             let same = index == place;
             let found = (settings(&first) == settings(&second)) == same;

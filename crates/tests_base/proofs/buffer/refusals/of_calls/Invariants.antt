@@ -1,6 +1,6 @@
 use Rattle.line_buffer.specs.Undo.{Tells}
-use Rattle.tests_base.proofs.buffer.edits.are_left.Given as goal
+use Rattle.tests_base.proofs.buffer.refusals.of_calls.Given as goal
 
 -- the changes tell of the line
 abbrev pub invariant-loop-row : goal.invariant-loop-row
-invariant-loop-row g l = Tells l.changes.entries l.line.text
+invariant-loop-row l = Tells l.changes.entries l.line.text

@@ -1,0 +1,9 @@
+use Rattle.line_buffer.specs.Undo.{Tells}
+use Rattle.tests_base.proofs.buffer.edits.leave_a_line_and_its_changes.Given as goal
+
+-- the changes tell of the line
+abbrev pub invariant-loop-table : goal.invariant-loop-table
+invariant-loop-table l = Tells l.changes.entries l.line.text
+
+abbrev pub invariant-loop-row : goal.invariant-loop-row
+invariant-loop-row l = Tells l.changes.entries l.line.text
