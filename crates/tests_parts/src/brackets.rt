@@ -1,7 +1,6 @@
 //! Brackets: their validation results, and what the highlighter remembers, forgets and shows.
 
 use crate::ready::{Asked, Case, is_text};
-use line_config::ReadlineError;
 use line_parts::{CmdKind, Highlighter, MatchingBracketHighlighter};
 use std::alloc::Global;
 use std::process::Abort;
@@ -245,19 +244,3 @@ pub(super) const CASES: &[Case<'_>] = &[
         Asked::MatchAfter(CmdKind::ForcedRefresh, "(())", "(())"),
     ),
 ];
-
-/// Run with any one allocation refused, this passes: a line that is shown is the right one, and the bracket is
-/// remembered.
-#[test]
-fn of_a_refused_line(rt: HostRuntime) {
-    let mut highlighter = MatchingBracketHighlighter::new();
-    assert!(rt; highlighter.highlight_char("日(é)", 3, CmdKind::MoveCursor));
-    for _ in 0..3 {
-        let shown = highlighter.highlight(rt.alloc(), "日(é)", 3);
-        let right = match is_text(shown, "日(é\x1b[1;34m)\x1b[0m") {
-            Ok(right) => right,
-            Err(error) => matches!(error, ReadlineError::Memory),
-        };
-        assert!(rt; right);
-    }
-}

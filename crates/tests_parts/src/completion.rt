@@ -3,44 +3,52 @@
 mod faults;
 
 use crate::ready::{Asked, Case};
-pub(super) use faults::{Which, holds};
+pub(super) use faults::Which;
 use line_config::Result;
-use line_parts::{Candidate, Pair, Quote, escape, longest_common_prefix, unescape};
+use line_parts::{Candidate, Pair, Quote, escape, extract_word, longest_common_prefix, unescape};
 use std::alloc::Global;
 use std::borrow::CowStr;
 use std::process::Abort;
+use tests_parties::fault::{CUT, GONE, USUAL};
 
 /// Whether words break at a character in these tests.
-pub(super) fn breaks(c: char) -> bool {
+fn breaks(c: char) -> bool {
     matches!(c, ' ' | '\\' | '"' | '\'' | 'é')
 }
 
-/// Whether the text with its escapes is this one.
-pub(super) fn escapes(
+/// Whether the answer about words, escapes and what candidates have in common is the right one.
+pub(super) fn is_right(
+    rt: &impl Abort,
     alloc: Global,
     text: &str,
-    esc_char: Option<char>,
-    quote: Quote,
-    wanted: &str,
+    asked: Asked<'_>,
 ) -> Result<bool> {
-    let text = String::from_str(alloc, text)?;
-    let escaped = escape(text, esc_char, breaks, quote)?;
-    Ok(escaped.as_str() == wanted)
-}
-
-/// Whether the text without its escapes is this one, and is borrowed where it is to be.
-pub(super) fn unescapes(
-    alloc: Global,
-    text: &str,
-    esc_char: Option<char>,
-    (wanted, same): (&str, bool),
-) -> Result<bool> {
-    let unescaped = unescape(alloc, text, esc_char)?;
-    Ok(unescaped.as_str() == wanted && matches!(unescaped, CowStr::Borrowed(_)) == same)
+    match asked {
+        Asked::Word(pos, esc_char, start, word) => Ok(
+            text.is_char_boundary(pos)
+                && extract_word(text, pos, esc_char, breaks) == (start, word),
+        ),
+        Asked::Escaped(esc_char, quote, wanted) => {
+            let text = String::from_str(alloc, text)?;
+            Ok(escape(text, esc_char, breaks, quote)?.as_str() == wanted)
+        }
+        Asked::Unescaped(esc_char, wanted, same) => {
+            let found = unescape(alloc, text, esc_char)?;
+            Ok(found.as_str() == wanted && matches!(found, CowStr::Borrowed(_)) == same)
+        }
+        Asked::Alike(count, wanted) => Ok(begin_alike(rt, alloc, text, count, wanted)),
+        Asked::Paired(replacement, other, common) => {
+            are_paired(alloc, (text, replacement), other, common)
+        }
+        Asked::Elected(which, pos, elected, wanted) => {
+            Ok(faults::elects(rt, alloc, which, (text, pos, elected, wanted)))
+        }
+        _ => Ok(false),
+    }
 }
 
 /// Whether the first of the texts between the strokes, so many of them, begin so in common: it is borrowed from the first.
-pub(super) fn begin_alike(
+fn begin_alike(
     rt: &impl Abort,
     alloc: Global,
     texts: &str,
@@ -54,27 +62,27 @@ pub(super) fn begin_alike(
     longest_common_prefix(candidates.as_slice()) == wanted
 }
 
-fn pair_of(alloc: Global, display: &str, replacement: &str) -> Result<Pair> {
-    Ok(Pair {
-        display: String::from_str(alloc, display)?,
-        replacement: String::from_str(alloc, replacement)?,
-    })
-}
-
 /// Whether the copy of a pair is that pair, and its replacement begins with that of another pair as it is to.
-pub(super) fn are_paired(
+fn are_paired(
     alloc: Global,
     (display, replacement): (&str, &str),
     other: &str,
     common: &str,
 ) -> Result<bool> {
-    let first = pair_of(alloc, display, replacement)?;
-    let is_copied = {
-        let copy = first.clone()?;
-        (copy.display(), copy.replacement()) == (display, replacement)
+    let mut pairs = Vec::new(alloc);
+    for (display, replacement) in [(display, replacement), ("other", other)] {
+        let display = String::from_str(alloc, display)?;
+        let replacement = String::from_str(alloc, replacement)?;
+        pairs.push(Pair {
+            display,
+            replacement,
+        })?;
+    }
+    let Some(first) = pairs.first() else {
+        return Ok(false);
     };
-    let second = pair_of(alloc, "other", other)?;
-    let pairs = vec![in alloc; first, second]?;
+    let copy = first.clone()?;
+    let is_copied = (copy.display(), copy.replacement()) == (display, replacement);
     Ok(is_copied && longest_common_prefix(pairs.as_slice()) == Some(common))
 }
 
@@ -165,4 +173,146 @@ pub(super) const CASES: &[Case<'_>] = &[
     ("日|日", Asked::Alike(2, Some("日"))),
     // Pairs complete by their replacements.
     ("one", Asked::Paired("ab", "ac", "a")),
+    // A completer offers nothing, and puts an elected text into the line, or fails at one of the two.
+    (
+        "us -l",
+        Asked::Elected(Which::Unit, 2, "usr", ("us -l", 2, 0)),
+    ),
+    (
+        "us -l",
+        Asked::Elected(Which::Plain, 2, "usr", ("usr -l", 3, 1)),
+    ),
+    (
+        "us -l",
+        Asked::Elected(Which::Stubborn(None, None), 2, "usr", ("usr -l", 3, 1)),
+    ),
+    (
+        "us -l",
+        Asked::Elected(
+            Which::Stubborn(Some(USUAL), None),
+            2,
+            "usr",
+            ("usr -l", 3, 1),
+        ),
+    ),
+    (
+        "us -l",
+        Asked::Elected(
+            Which::Stubborn(None, Some(USUAL)),
+            2,
+            "usr",
+            ("us -l", 2, 0),
+        ),
+    ),
+    (
+        "us -l",
+        Asked::Elected(
+            Which::Stubborn(Some(USUAL), Some(USUAL)),
+            2,
+            "usr",
+            ("us -l", 2, 0),
+        ),
+    ),
+    (
+        "us -l",
+        Asked::Elected(
+            Which::Stubborn(Some(GONE), None),
+            2,
+            "usr",
+            ("usr -l", 3, 1),
+        ),
+    ),
+    (
+        "us -l",
+        Asked::Elected(Which::Stubborn(None, Some(GONE)), 2, "usr", ("us -l", 2, 0)),
+    ),
+    (
+        "us -l",
+        Asked::Elected(
+            Which::Stubborn(Some(GONE), Some(GONE)),
+            2,
+            "usr",
+            ("us -l", 2, 0),
+        ),
+    ),
+    (
+        "us -l",
+        Asked::Elected(Which::Stubborn(Some(CUT), None), 2, "usr", ("usr -l", 3, 1)),
+    ),
+    (
+        "us -l",
+        Asked::Elected(Which::Stubborn(None, Some(CUT)), 2, "usr", ("us -l", 2, 0)),
+    ),
+    (
+        "us -l",
+        Asked::Elected(
+            Which::Stubborn(Some(CUT), Some(CUT)),
+            2,
+            "usr",
+            ("us -l", 2, 0),
+        ),
+    ),
+    (
+        "ls u",
+        Asked::Elected(Which::Unit, 4, "usr", ("ls u", 4, 0)),
+    ),
+    (
+        "ls u",
+        Asked::Elected(Which::Plain, 4, "usr", ("usr", 3, 1)),
+    ),
+    (
+        "ls u",
+        Asked::Elected(Which::Stubborn(None, None), 4, "usr", ("usr", 3, 1)),
+    ),
+    (
+        "ls u",
+        Asked::Elected(Which::Stubborn(Some(USUAL), None), 4, "usr", ("usr", 3, 1)),
+    ),
+    (
+        "ls u",
+        Asked::Elected(Which::Stubborn(None, Some(USUAL)), 4, "usr", ("ls u", 4, 0)),
+    ),
+    (
+        "ls u",
+        Asked::Elected(
+            Which::Stubborn(Some(USUAL), Some(USUAL)),
+            4,
+            "usr",
+            ("ls u", 4, 0),
+        ),
+    ),
+    (
+        "ls u",
+        Asked::Elected(Which::Stubborn(Some(GONE), None), 4, "usr", ("usr", 3, 1)),
+    ),
+    (
+        "ls u",
+        Asked::Elected(Which::Stubborn(None, Some(GONE)), 4, "usr", ("ls u", 4, 0)),
+    ),
+    (
+        "ls u",
+        Asked::Elected(
+            Which::Stubborn(Some(GONE), Some(GONE)),
+            4,
+            "usr",
+            ("ls u", 4, 0),
+        ),
+    ),
+    (
+        "ls u",
+        Asked::Elected(Which::Stubborn(Some(CUT), None), 4, "usr", ("usr", 3, 1)),
+    ),
+    (
+        "ls u",
+        Asked::Elected(Which::Stubborn(None, Some(CUT)), 4, "usr", ("ls u", 4, 0)),
+    ),
+    (
+        "ls u",
+        Asked::Elected(
+            Which::Stubborn(Some(CUT), Some(CUT)),
+            4,
+            "usr",
+            ("ls u", 4, 0),
+        ),
+    ),
 ];

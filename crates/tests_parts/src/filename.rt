@@ -18,7 +18,7 @@ use tests_parties::fault::{Fault, GONE};
 
 /// Which calls of a lister fail.
 #[derive(Clone, Copy)]
-enum Broken {
+pub(super) enum Broken {
     /// The one of this number, from 1 on; none where that is 0.
     Call(u64),
     /// Those for this folder.
@@ -104,7 +104,7 @@ fn folder_of(
 
 /// By which call names are asked for.
 #[derive(Clone, Copy)]
-enum Way {
+pub(super) enum Way {
     Sorted,
     Unsorted,
     ByTrait,
@@ -134,7 +134,7 @@ fn found(
 
 /// Where the path begins, and what completes it: an arrow stands between what is shown and what is put in, and a comma
 /// between candidates.
-type Offered<'t> = (usize, &'t str);
+pub(super) type Offered<'t> = (usize, &'t str);
 
 /// Whether this was found.
 fn is_offered(found: &(usize, Vec<Pair>), wanted: Offered<'_>) -> bool {
@@ -147,25 +147,40 @@ fn is_offered(found: &(usize, Vec<Pair>), wanted: Offered<'_>) -> bool {
     right && offers.next().is_none()
 }
 
-/// Whether the names of a folder complete a line so, in their order or in that of the lister.
+/// By whom names are asked for in their order.
+pub(super) const IN_ORDER: &[Way] = &[Sorted, ByTrait, Boxed];
+
+/// By whom they are asked for in that of the lister.
+pub(super) const AS_LISTED: &[Way] = &[Unsorted];
+
+/// A line, its cursor, the folder that is asked for, its names, and what is found.
+pub(super) type Completed<'t> = (&'t str, usize, (&'t str, &'t str), Offered<'t>);
+
+/// Whether the names of a folder complete a line so, or the fault comes where it is to.
 pub(super) fn completes(
     alloc: Global,
-    sorted: bool,
-    (line, pos): (&str, usize),
-    folder: (&str, &str),
-    wanted: Offered<'_>,
+    ways: &[Way],
+    case: Completed<'_>,
+    broken: Broken,
+    fault: Fault,
 ) -> Result<bool> {
+    let (line, pos, folder, wanted) = case;
     if !line.is_char_boundary(pos) {
         return Ok(false);
     }
-    let ways: &[Way] = if sorted {
-        &[Sorted, ByTrait, Boxed]
-    } else {
-        &[Unsorted]
-    };
     for way in ways {
-        let lister = folder_of(alloc, folder, Broken::Call(0), GONE)?;
-        if !is_offered(&found(alloc, *way, lister, line, pos)?, wanted) {
+        let outcome = found(
+            alloc,
+            *way,
+            folder_of(alloc, folder, broken, fault)?,
+            line,
+            pos,
+        );
+        let right = match broken {
+            Broken::Call(1) | Broken::At(_) => fault.is_answer(alloc, &outcome)?,
+            _ => is_offered(&outcome?, wanted),
+        };
+        if !right {
             return Ok(false);
         }
     }
@@ -365,22 +380,15 @@ pub(super) const CASES: &[Case<'_>] = &[
     ),
 ];
 
-/// Folders with the names of numbers, from the last of so many to 0.
-fn numbered(rt: &impl Abort, alloc: Global, count: usize) -> Folder {
-    let mut folder = folder_of(alloc, ("", ""), Broken::Call(0), GONE).expect(rt, "no fault");
-    folder.entries.clear();
-    for number in (0..count).rev() {
-        let name = format!(in alloc; "n {number}").expect(rt, "no fault");
-        let entry = Entry { name, folder: true };
-        folder.entries.push(entry).expect(rt, "no fault");
-    }
-    folder
-}
-
 /// Of the numbers below 3,000 there are 1,111 that begin with 1: 1, 10, 100, 1000 and so on. In their order the last is 999.
 #[test]
 fn of_many_names(rt: HostRuntime) {
     let alloc = rt.alloc();
+    let mut names = String::new(alloc);
+    for number in (0..3_000).rev() {
+        let name = format!(in alloc; "n {number}/,").expect(&rt, "no fault");
+        names.push_str(name.as_str()).expect(&rt, "no fault");
+    }
     for (line, way, count, last) in [
         ("", Sorted, 3_000, Some(("n 999", "n\\ 999/"))),
         ("", Unsorted, 3_000, None),
@@ -390,7 +398,8 @@ fn of_many_names(rt: HostRuntime) {
         ("x", Unsorted, 0, None),
     ] {
         assert!(rt; line.is_char_boundary(line.len()));
-        let folder = numbered(&rt, alloc, 3_000);
+        let names = names.as_str().trim_end_matches(',');
+        let folder = folder_of(alloc, ("", names), Broken::Call(0), GONE).expect(&rt, "no fault");
         let (_, pairs) = found(alloc, way, folder, line, line.len()).expect(&rt, "no fault");
         let shown = match pairs.last() {
             Some(pair) => (pair.display.as_str(), pair.replacement.as_str()),

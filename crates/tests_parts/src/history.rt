@@ -10,7 +10,7 @@ mod texts;
 use crate::holds;
 use Lines::*;
 use line_config::{ReadlineError, Result};
-use line_parts::{Escapes, FileHistory, History, SearchDirection};
+use line_parts::{Escapes, FileHistory, History, MemHistory, SearchDirection};
 use std::alloc::Global;
 use std::borrow::CowStr;
 use std::io::{ErrorKind, Write};
@@ -205,4 +205,18 @@ fn keeps(
 ) -> bool {
     gives(rt, history, lines);
     is_saved(rt, alloc, history, escapes, true, appended)
+}
+
+/// Histories take, keep and save the lines that they are to, and find them.
+#[test]
+fn take_keep_and_find_lines(rt: HostRuntime) {
+    let alloc = rt.alloc();
+    lists::are_kept(&rt, alloc, lists::LISTS, true);
+    for table in [texts::SAVED, texts::HEADERS, texts::READ] {
+        lists::are_kept(&rt, alloc, table, false);
+    }
+    for case in searches::SEARCHES {
+        searches::finds(&rt, alloc, &mut MemHistory::new(alloc), case);
+        searches::finds(&rt, alloc, &mut FileHistory::new(alloc), case);
+    }
 }

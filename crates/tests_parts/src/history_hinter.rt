@@ -3,17 +3,10 @@
 mod faults;
 
 use crate::ready::{Asked, Case, is_hint};
+pub(super) use faults::{FAULTY, asks};
 use line_config::Result;
 use line_parts::{Context, Hinter, History, HistoryHinter, MemHistory};
 use std::alloc::Global;
-
-/// Adds the lines between the strokes.
-fn fill<S: History>(history: &mut S, lines: &str) -> Result<()> {
-    for line in lines.split('|') {
-        let _ = history.add(line)?;
-    }
-    Ok(())
-}
 
 /// A line, the cursor, and the hint, if there is one.
 type Hinted<'t> = (&'t str, usize, Option<&'t str>);
@@ -39,7 +32,9 @@ fn hints_from<S: History>(
 /// Whether the line has this hint by the lines between the strokes.
 pub(super) fn hints(alloc: Global, lines: &str, index: usize, hinted: Hinted<'_>) -> Result<bool> {
     let mut history = MemHistory::new(alloc);
-    fill(&mut history, lines)?;
+    for line in lines.split('|') {
+        let _ = history.add(line)?;
+    }
     hints_from(alloc, &HistoryHinter::new(), &history, index, hinted)
 }
 

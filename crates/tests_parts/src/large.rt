@@ -1,6 +1,5 @@
 //! Texts of some thousand bytes: each call of the ready helpers answers them.
 
-use crate::history::built;
 use crate::ready::{Asked, are_right};
 use crate::{completion, holds, parties};
 use line_parts::Quote;
@@ -10,8 +9,7 @@ use tests_parties::advisor::Verdict;
 use tests_parties::fault::GONE;
 
 /// What is asked about a long text; where the answer is a text, that stands beside it.
-#[derive(Clone, Copy)]
-enum Long {
+pub(super) enum Long {
     /// The name of the validation result for its brackets, and its message.
     Verdict(&'static str, &'static str),
     /// How it is shown: with the cursor there, a bracket is remembered.
@@ -40,11 +38,11 @@ enum Long {
 const YES: (Option<&str>, Verdict) = (Some("!"), (true, true, None));
 
 /// Each answer about a text is the right one.
-fn answers(rt: &impl Abort, alloc: Global, long: Long, text: &str, wanted: &str) {
-    let asked = match long {
+pub(super) fn answers(rt: &impl Abort, alloc: Global, long: &Long, text: &str, wanted: &str) {
+    let asked = match *long {
         Long::Verdict(name, message) => Asked::Verdict(name, message),
         Long::Match(pos) => {
-            are_right(rt, alloc, &[(text, Asked::Remembered(pos, true))]);
+            are_right(rt, alloc, &[(text, Asked::Remembered(pos, true))], false);
             Asked::Match(pos, wanted)
         }
         // the escapes can be left out again; without an escape character both texts stay
@@ -57,24 +55,32 @@ fn answers(rt: &impl Abort, alloc: Global, long: Long, text: &str, wanted: &str)
                 (wanted, Asked::Escaped(None, quote, wanted)),
                 (wanted, Asked::Unescaped(None, wanted, true)),
             ];
-            return are_right(rt, alloc, &table);
+            return are_right(rt, alloc, &table, false);
         }
         Long::Word(pos, start) => Asked::Word(pos, Some('\\'), start, wanted),
         Long::Alike => {
             let words = format!(in alloc; "{text}a|{text}b").expect(rt, "no fault");
-            return are_right(rt, alloc, &[(words.as_str(), Asked::Alike(2, Some(text)))]);
+            return are_right(
+                rt,
+                alloc,
+                &[(words.as_str(), Asked::Alike(2, Some(text)))],
+                false,
+            );
         }
         Long::Hint(pos) => {
             let line = text.get(..pos).expect(rt, "a line");
             let rest = text.get(pos..).expect(rt, "its rest");
-            return are_right(rt, alloc, &[(line, Asked::Hint(text, 1, pos, Some(rest)))]);
+            return are_right(
+                rt,
+                alloc,
+                &[(line, Asked::Hint(text, 1, pos, Some(rest)))],
+                false,
+            );
         }
         Long::Plain => Asked::Plain,
         Long::Paired => Asked::Paired(wanted, wanted, wanted),
         Long::Put(pos, end) => {
-            let put = (text, pos, wanted, (wanted, end, 1));
-            let found = completion::holds(rt, alloc, completion::Which::Plain, put);
-            return holds(rt, found, "put", pos);
+            Asked::Elected(completion::Which::Plain, pos, wanted, (wanted, end, 1))
         }
         Long::Helped => {
             let hint = (YES, 0, parties::Answer::Hint(Some("!")), false);
@@ -86,19 +92,19 @@ fn answers(rt: &impl Abort, alloc: Global, long: Long, text: &str, wanted: &str)
         Long::Path => {
             let offers = format!(in alloc; "{wanted} → {text}{wanted}").expect(rt, "no fault");
             let asked = Asked::Path(text.len(), text, wanted, 0, offers.as_str());
-            return are_right(rt, alloc, &[(text, asked)]);
+            return are_right(rt, alloc, &[(text, asked)], false);
         }
     };
-    are_right(rt, alloc, &[(text, asked)]);
+    are_right(rt, alloc, &[(text, asked)], false);
 }
 
 /// What is asked, the text, and the answer that is a text, as they are built of pieces.
-type Case = (Long, &'static str, &'static str);
+pub(super) type Case = (Long, &'static str, &'static str);
 
 /// No text.
 const NOTHING: &str = "0*";
 
-const CASES: &[Case] = &[
+pub(super) const CASES: &[Case] = &[
     (Long::Verdict("valid", ""), "3000*ab", NOTHING),
     (Long::Verdict("valid", ""), "3000*(+3000*)", NOTHING),
     (Long::Verdict("valid", ""), "1000*([{}])", NOTHING),
@@ -143,12 +149,3 @@ const CASES: &[Case] = &[
     (Long::Path, "400*a+1*/", "400*b"),
     (Long::Path, "3000*a+1*/", "3000*b"),
 ];
-
-#[test]
-fn each_answer_is_right(rt: HostRuntime) {
-    for (long, text, wanted) in CASES {
-        let text = built(&rt, rt.alloc(), text);
-        let wanted = built(&rt, rt.alloc(), wanted);
-        answers(&rt, rt.alloc(), *long, text.as_str(), wanted.as_str());
-    }
-}

@@ -3,12 +3,14 @@
 mod faults;
 
 use crate::ready::{Asked, Case, is_hint, is_text, says};
+use crate::{history_hinter, holds};
 pub(super) use faults::{Answer, helped};
 use line_config::CompletionType;
 use line_parts::{Candidate, CmdKind, Context, Helper, Highlighter, Hint, History, MemHistory};
 use std::alloc::Global;
 use std::process::Abort;
 use tests_parties::advisor::Advisor;
+use tests_parties::fault::FAULTS;
 
 /// Whether a candidate and a hint stand for this text.
 fn stands<T: Candidate + Hint>(value: &T, text: &str) -> bool {
@@ -16,32 +18,20 @@ fn stands<T: Candidate + Hint>(value: &T, text: &str) -> bool {
     shown == (text, text) && value.replacement() == text && value.completion() == Some(text)
 }
 
-/// Whether a line, a prompt, a hint and a candidate are shown as they stand.
-fn shows_as_it_stands<H: Highlighter>(
-    rt: &impl Abort,
-    highlighter: &mut H,
-    alloc: Global,
-    text: &str,
-) -> bool {
-    let line = is_text(highlighter.highlight(alloc, text, 0), text);
-    let line = line.expect(rt, "no fault");
-    let prompt = is_text(highlighter.highlight_prompt(alloc, text, true), text);
-    let prompt = prompt.expect(rt, "no fault");
-    let hint = is_text(highlighter.highlight_hint(alloc, text), text);
-    let hint = hint.expect(rt, "no fault");
-    let candidate = highlighter.highlight_candidate(alloc, text, CompletionType::List);
-    let candidate = is_text(candidate, text).expect(rt, "no fault");
-    line && prompt && hint && candidate && !highlighter.highlight_char(text, 0, CmdKind::Other)
-}
-
 /// Whether a text stands for itself, and the unit and no helper at all leave it as it is.
 pub(super) fn stays(rt: &impl Abort, alloc: Global, text: &str) -> bool {
     let owned = String::from_str(alloc, text).expect(rt, "no fault");
+    let unit = &mut ();
+    let candidate = unit.highlight_candidate(alloc, text, CompletionType::List);
     stands(&text, text)
         && stands(&owned, text)
-        && shows_as_it_stands(rt, &mut (), alloc, text)
+        && is_text(candidate, text).expect(rt, "no fault")
+        && is_text(unit.highlight(alloc, text, 0), text).expect(rt, "no fault")
+        && is_text(unit.highlight_prompt(alloc, text, true), text).expect(rt, "no fault")
+        && is_text(unit.highlight_hint(alloc, text), text).expect(rt, "no fault")
+        && !unit.highlight_char(text, 0, CmdKind::Other)
         && faults::asks_nothing(rt, alloc, None, text)
-        && faults::asks_nothing(rt, alloc, Some(&mut ()), text)
+        && faults::asks_nothing(rt, alloc, Some(unit), text)
 }
 
 pub(super) const CASES: &[Case<'_>] = &[
@@ -70,6 +60,7 @@ fn answers<H: Helper>(rt: &impl Abort, alloc: Global, helper: &mut H, wanted: An
     is_empty && is_lit == lit && is_hint(&hint, text) && is_said
 }
 
+/// A helper keeps its answers, and so does the unit. Each answer, and each error of a helper or a history, is handed on.
 #[test]
 fn a_helper_keeps_its_answers(rt: HostRuntime) {
     let alloc = rt.alloc();
@@ -81,4 +72,14 @@ fn a_helper_keeps_its_answers(rt: HostRuntime) {
         assert!(rt; answers(&rt, alloc, &mut advisor, wanted));
     }
     assert!(rt; advisor.kinds() == (moved, moved, None, None));
+    for fault in FAULTS {
+        for (row, case) in faults::CASES.iter().enumerate() {
+            let found = helped(&rt, alloc, case, "ab", *fault);
+            holds(&rt, found, fault.text, row);
+        }
+        for (row, case) in history_hinter::FAULTY.iter().enumerate() {
+            let found = history_hinter::asks(&rt, alloc, case, *fault);
+            holds(&rt, found, fault.text, row);
+        }
+    }
 }

@@ -1,11 +1,12 @@
 //! The ready helpers: a case is a text, what is asked about it, and the right answer.
 
-use crate::completion::breaks;
-use crate::{brackets, completion, filename, history_hinter, holds, parties};
+use crate::filename::{AS_LISTED, Broken, IN_ORDER};
+use crate::history::built;
+use crate::{brackets, completion, filename, history_hinter, holds, large, parties};
 use line_config::{ReadlineError, Result};
 use line_parts::{
-    CmdKind, Hint, MatchingBracketValidator, Quote, ValidationContext, ValidationResult, Validator,
-    extract_word,
+    CmdKind, Highlighter, Hint, MatchingBracketHighlighter, MatchingBracketValidator, Quote,
+    ValidationContext, ValidationResult, Validator,
 };
 use std::alloc::Global;
 use std::borrow::CowStr;
@@ -37,6 +38,9 @@ pub(super) enum Asked<'t> {
     Unescaped(Option<char>, &'t str, bool),
     /// What the first of the texts in it begin with in common, so many of them; a stroke stands between two.
     Alike(usize, Option<&'t str>),
+    /// By a completer, with a cursor: a text that is elected to stand at its start, and the line, its cursor and how many
+    /// changes there are then.
+    Elected(completion::Which, usize, &'t str, (&'t str, usize, usize)),
     /// Shown in a pair for a replacement, which has something in common with that of another pair.
     Paired(&'t str, &'t str, &'t str),
     /// The hint, by lines with a stroke between two, the index in that history, and the cursor.
@@ -115,54 +119,50 @@ fn is_right(rt: &impl Abort, alloc: Global, text: &str, asked: Asked<'_>) -> Res
             let told = (text, 0, Some((kind, line)));
             Ok(brackets::shows(rt, alloc, told, text, shown))
         }
-        Asked::Word(pos, esc_char, start, word) => Ok(
-            text.is_char_boundary(pos)
-                && extract_word(text, pos, esc_char, breaks) == (start, word),
-        ),
-        Asked::Escaped(esc_char, quote, wanted) => {
-            completion::escapes(alloc, text, esc_char, quote, wanted)
-        }
-        Asked::Unescaped(esc_char, wanted, same) => {
-            completion::unescapes(alloc, text, esc_char, (wanted, same))
-        }
-        Asked::Alike(count, wanted) => {
-            Ok(completion::begin_alike(rt, alloc, text, count, wanted))
-        }
-        Asked::Paired(replacement, other, common) => {
-            completion::are_paired(alloc, (text, replacement), other, common)
-        }
         Asked::Hint(lines, index, pos, wanted) => {
             history_hinter::hints(alloc, lines, index, (text, pos, wanted))
         }
         Asked::Plain => Ok(parties::stays(rt, alloc, text)),
-        Asked::Path(pos, path, names, start, offers)
-        | Asked::Listed(pos, path, names, start, offers) => {
-            let sorted = matches!(asked, Asked::Path(..));
-            filename::completes(alloc, sorted, (text, pos), (path, names), (start, offers))
+        Asked::Path(pos, path, names, start, offers) => {
+            let case = (text, pos, (path, names), (start, offers));
+            filename::completes(alloc, IN_ORDER, case, Broken::Call(0), GONE)
         }
+        Asked::Listed(pos, path, names, start, offers) => {
+            let case = (text, pos, (path, names), (start, offers));
+            filename::completes(alloc, AS_LISTED, case, Broken::Call(0), GONE)
+        }
+        _ => completion::is_right(rt, alloc, text, asked),
     }
 }
 
-/// Each answer of the table is the right one.
-pub(super) fn are_right(rt: &impl Abort, alloc: Global, table: &[Case<'_>]) {
+/// Each answer of the table is the right one; or none, where an allocation may be refused.
+pub(super) fn are_right(rt: &impl Abort, alloc: Global, table: &[Case<'_>], may_be_refused: bool) {
     for (row, (text, asked)) in table.iter().enumerate() {
-        let right = is_right(rt, alloc, text, *asked).expect(rt, "no fault");
+        let right = match is_right(rt, alloc, text, *asked) {
+            Ok(right) => right,
+            Err(error) => may_be_refused && matches!(error, ReadlineError::Memory),
+        };
         holds(rt, right, text, row);
     }
 }
 
 #[test]
-fn texts_and_parties(rt: HostRuntime) {
-    are_right(&rt, rt.alloc(), brackets::AT_FAULT);
-    are_right(&rt, rt.alloc(), brackets::CASES);
-    are_right(&rt, rt.alloc(), parties::CASES);
-    are_right(&rt, rt.alloc(), completion::CASES);
-    are_right(&rt, rt.alloc(), history_hinter::CASES);
-}
-
-#[test]
-fn names_of_files(rt: HostRuntime) {
-    are_right(&rt, rt.alloc(), filename::CASES);
+fn answers_are_right(rt: HostRuntime) {
+    for table in [
+        brackets::AT_FAULT,
+        brackets::CASES,
+        parties::CASES,
+        completion::CASES,
+        history_hinter::CASES,
+        filename::CASES,
+    ] {
+        are_right(&rt, rt.alloc(), table, false);
+    }
+    for (long, text, wanted) in large::CASES {
+        let text = built(&rt, rt.alloc(), text);
+        let wanted = built(&rt, rt.alloc(), wanted);
+        large::answers(&rt, rt.alloc(), long, text.as_str(), wanted.as_str());
+    }
 }
 
 /// A text that grows more than once when it is escaped, and that text in quotes of both kinds.
@@ -205,16 +205,20 @@ const REFUSED: &[Case<'_>] = &[
     ),
 ];
 
-/// Run with any one allocation refused, this passes: every answer is the right one.
+/// Run with any one allocation refused, this passes: every answer is the right one, and the bracket is remembered.
 #[test]
 fn a_refused_allocation_has_no_answer(rt: HostRuntime) {
     for table in [brackets::AT_FAULT, REFUSED] {
-        for (row, (text, asked)) in table.iter().enumerate() {
-            let right = match is_right(&rt, rt.alloc(), text, *asked) {
-                Ok(right) => right,
-                Err(error) => matches!(error, ReadlineError::Memory),
-            };
-            holds(&rt, right, text, row);
-        }
+        are_right(&rt, rt.alloc(), table, true);
+    }
+    let mut highlighter = MatchingBracketHighlighter::new();
+    assert!(rt; highlighter.highlight_char("日(é)", 3, CmdKind::MoveCursor));
+    for _ in 0..3 {
+        let shown = highlighter.highlight(rt.alloc(), "日(é)", 3);
+        let right = match is_text(shown, "日(é\x1b[1;34m)\x1b[0m") {
+            Ok(right) => right,
+            Err(error) => matches!(error, ReadlineError::Memory),
+        };
+        assert!(rt; right);
     }
 }

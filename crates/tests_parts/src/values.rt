@@ -35,15 +35,6 @@ const QUOTES: &[Quote] = &[Quote::Double, Quote::Single, Quote::None];
 
 const ESCAPES: &[Escapes] = &[Escapes::V2, Escapes::V3];
 
-#[test]
-fn debug_names_each(rt: HostRuntime) {
-    let alloc = rt.alloc();
-    are_told_apart(&rt, alloc, KINDS, &["MoveCursor", "Other", "ForcedRefresh"]);
-    are_told_apart(&rt, alloc, DIRECTIONS, &["Forward", "Reverse"]);
-    are_told_apart(&rt, alloc, QUOTES, &["Double", "Single", "None"]);
-    are_told_apart(&rt, alloc, ESCAPES, &["V2", "V3"]);
-}
-
 /// A line, its index, and the place in it.
 type Found = (&'static str, usize, usize);
 
@@ -70,10 +61,14 @@ const RESULTS: &[Found] = &[
     ("ab", 1, 1),
 ];
 
-/// A result equals one of the same values alone, also where one of them owns its line; so does its copy.
+/// `Debug` names each. A result equals one of the same values alone, also where one of them owns its line; so does its copy.
 #[test]
-fn no_two_results_are_equal(rt: HostRuntime) {
+fn no_two_are_equal(rt: HostRuntime) {
     let alloc = rt.alloc();
+    are_told_apart(&rt, alloc, KINDS, &["MoveCursor", "Other", "ForcedRefresh"]);
+    are_told_apart(&rt, alloc, DIRECTIONS, &["Forward", "Reverse"]);
+    are_told_apart(&rt, alloc, QUOTES, &["Double", "Single", "None"]);
+    are_told_apart(&rt, alloc, ESCAPES, &["V2", "V3"]);
     for (index, one) in RESULTS.iter().enumerate() {
         let mut apart = true;
         for (place, other) in RESULTS.iter().enumerate() {

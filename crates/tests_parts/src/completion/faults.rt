@@ -8,7 +8,7 @@ use line_config::Result;
 use line_parts::{Completer, Context, History};
 use std::alloc::Global;
 use std::process::Abort;
-use tests_parties::fault::{FAULTS, Fault};
+use tests_parties::fault::Fault;
 
 /// Offers nothing, and puts an elected text into the line.
 #[derive(Drop)]
@@ -74,32 +74,12 @@ fn is_outcome<T>(
     }
 }
 
-/// Whether a completer offers nothing, beside a history of which each call fails, or fails itself where it is to.
-fn offers_nothing<C: Completer>(
-    rt: &impl Abort,
-    alloc: Global,
-    completer: &C,
-    (line, pos): (&str, usize),
-    fault: Option<Fault>,
-) -> bool {
-    if !line.is_char_boundary(pos) {
-        return false;
-    }
-    let history = broken_history(alloc);
-    let outcome = completer.complete(alloc, line, pos, &Context::new(&history));
-    let nothing = match &outcome {
-        Ok((start, candidates)) => *start == 0 && candidates.is_empty(),
-        Err(_) => true,
-    };
-    nothing && is_outcome(rt, alloc, &outcome, fault)
-}
-
 /// A line and its cursor, a text that is elected to stand at its start, and the line, its cursor and how many changes
 /// there are then.
-pub(crate) type Put<'t> = (&'t str, usize, &'t str, (&'t str, usize, usize));
+type Put<'t> = (&'t str, usize, &'t str, (&'t str, usize, usize));
 
-/// Whether the line is completed and then takes the text, or each of the two fails by its fault, if it has one. An update
-/// that fails leaves the line as it was.
+/// Whether the line is completed, beside a history of which each call fails, and then takes the text, or each of the two
+/// fails by its fault, if it has one. An update that fails leaves the line as it was.
 fn asks<C: Completer>(
     rt: &impl Abort,
     alloc: Global,
@@ -107,28 +87,22 @@ fn asks<C: Completer>(
     put: Put<'_>,
     faults: (Option<Fault>, Option<Fault>),
 ) -> bool {
-    updates(rt, alloc, completer, put, faults.1)
-        && offers_nothing(rt, alloc, completer, (put.0, put.1), faults.0)
-        && offers_nothing(rt, alloc, completer, ("ls u", 4), faults.0)
-}
-
-/// Whether the line takes the text, or the update fails by its fault, if it has one, and leaves the line as it was.
-fn updates<C: Completer>(
-    rt: &impl Abort,
-    alloc: Global,
-    completer: &C,
-    put: Put<'_>,
-    fault: Option<Fault>,
-) -> bool {
     let (text, pos, elected, wanted) = put;
     if !text.is_char_boundary(0) || !text.is_char_boundary(pos) {
         return false;
     }
+    let history = broken_history(alloc);
+    let outcome = completer.complete(alloc, text, pos, &Context::new(&history));
+    let nothing = match &outcome {
+        Ok((start, candidates)) => *start == 0 && candidates.is_empty(),
+        Err(_) => true,
+    };
+    let offers = is_outcome(rt, alloc, &outcome, faults.0);
     let mut line = LineBuffer::init(alloc, text, pos).expect(rt, "no fault");
     let mut changes = Changeset::new(alloc);
     let outcome = completer.update(&mut line, 0, elected, &mut changes);
     let is_so = (line.as_str(), line.pos(), changes.len()) == wanted;
-    is_so && is_outcome(rt, alloc, &outcome, fault)
+    nothing && offers && is_so && is_outcome(rt, alloc, &outcome, faults.1)
 }
 
 /// A completer.
@@ -156,7 +130,7 @@ fn asks_boxed<C: Completer + Drop>(
 }
 
 /// Whether this completer does so.
-pub(crate) fn holds(rt: &impl Abort, alloc: Global, which: Which, put: Put<'_>) -> bool {
+pub(super) fn elects(rt: &impl Abort, alloc: Global, which: Which, put: Put<'_>) -> bool {
     let sure = (None, None);
     match which {
         Which::Unit => asks_boxed(rt, alloc, (), put, sure),
@@ -165,26 +139,6 @@ pub(crate) fn holds(rt: &impl Abort, alloc: Global, which: Which, put: Put<'_>) 
             let stubborn = Stubborn { completes, updates };
             let boxed = Box::new(alloc, stubborn).expect(rt, "no fault");
             asks_boxed(rt, alloc, boxed, put, (completes, updates))
-        }
-    }
-}
-
-#[test]
-fn of_a_completer_in_a_box(rt: HostRuntime) {
-    let put = ("us -l", 2, "usr", ("usr -l", 3, 1));
-    let unput = ("us -l", 2, "usr", ("us -l", 2, 0));
-    for fault in FAULTS {
-        let fault = Some(*fault);
-        for (which, put) in [
-            (Which::Unit, unput),
-            (Which::Plain, put),
-            (Which::Stubborn(None, None), put),
-            (Which::Stubborn(fault, None), put),
-            (Which::Stubborn(None, fault), unput),
-            (Which::Stubborn(fault, fault), unput),
-        ] {
-            let found = holds(&rt, rt.alloc(), which, put);
-            crate::holds(&rt, found, put.3.0, put.3.1);
         }
     }
 }

@@ -1,7 +1,6 @@
 //! Which lines a history takes and keeps.
 
 use super::Lines::Numbered;
-use super::texts::{HEADERS, READ, SAVED};
 use super::{Lines, added, answer_of, fills, gives, is_saved, lines_of};
 use crate::holds;
 use Escapes::{V2, V3};
@@ -83,55 +82,40 @@ fn file_stepped(rt: &impl Abort, alloc: Global, history: &mut FileHistory, step:
     assert!(rt; is_saved(rt, alloc, history, escapes, append, text));
 }
 
-fn config_of(rt: &impl Abort, max_len: usize, ignore_dups: bool, ignore_space: bool) -> Config {
-    let mut config = Config::new(GraphemeClusterMode::Unicode);
-    config.set_max_history_size(max_len).expect(rt, "no fault");
-    config
-        .set_history_ignore_dups(ignore_dups)
-        .expect(rt, "no fault");
-    config.set_history_ignore_space(ignore_space);
-    config
-}
-
-/// Whether these lines come from the front of the one, and from the back of the other.
-fn come(mut entries: Iter<'_, String>, mut behind: Iter<'_, String>, lines: &str) -> bool {
+/// Whether these lines come from the front, from the back, and from both ends at once.
+fn come(
+    mut front: Iter<'_, String>,
+    mut back: Iter<'_, String>,
+    mut both: Iter<'_, String>,
+    lines: &str,
+) -> bool {
+    let mut wanted = lines.split_terminator('|');
     let mut right = true;
     for (first, last) in lines
         .split_terminator('|')
         .zip(lines.rsplit_terminator('|'))
     {
-        let comes = matches!(entries.next(), Some(entry) if entry.as_str() == first);
-        let comes_back = matches!(behind.next_back(), Some(entry) if entry.as_str() == last);
+        let comes = matches!(front.next(), Some(entry) if entry.as_str() == first);
+        let comes_back = matches!(back.next_back(), Some(entry) if entry.as_str() == last);
         right = right && comes && comes_back;
-    }
-    right && entries.next().is_none() && behind.next_back().is_none()
-}
-
-/// Whether they come from both ends at once.
-fn come_from_both(mut entries: Iter<'_, String>, lines: &str) -> bool {
-    let mut wanted = lines.split_terminator('|');
-    while let Some(line) = wanted.next() {
-        let first = matches!(entries.next(), Some(entry) if entry.as_str() == line);
-        let last = match wanted.next_back() {
-            Some(line) => matches!(entries.next_back(), Some(entry) if entry.as_str() == line),
-            None => true,
-        };
-        if !first || !last {
-            return false;
+        if let Some(line) = wanted.next() {
+            right = right && matches!(both.next(), Some(entry) if entry.as_str() == line);
+        }
+        if let Some(line) = wanted.next_back() {
+            right = right && matches!(both.next_back(), Some(entry) if entry.as_str() == line);
         }
     }
-    entries.next().is_none()
+    right && front.next().is_none() && back.next_back().is_none() && both.next().is_none()
 }
 
 fn mem_gives(rt: &impl Abort, history: &MemHistory, lines: &str) {
     gives(rt, history, lines);
-    let each = come(history.into_iter(), history.into_iter(), lines);
-    holds(
-        rt,
-        each && come_from_both(history.into_iter(), lines),
-        lines,
-        0,
+    let entries = (
+        history.into_iter(),
+        history.into_iter(),
+        history.into_iter(),
     );
+    holds(rt, come(entries.0, entries.1, entries.2, lines), lines, 0);
     for (index, line) in history.into_iter().enumerate() {
         assert!(rt; index < history.len());
         holds(rt, history.entry(index) == line.as_str(), lines, index);
@@ -140,15 +124,15 @@ fn mem_gives(rt: &impl Abort, history: &MemHistory, lines: &str) {
 
 fn file_gives(rt: &impl Abort, history: &FileHistory, lines: &str) {
     gives(rt, history, lines);
-    let each = come(history.iter(), history.into_iter(), lines);
-    holds(rt, each && come_from_both(history.iter(), lines), lines, 0);
+    let entries = (history.iter(), history.into_iter(), history.iter());
+    holds(rt, come(entries.0, entries.1, entries.2, lines), lines, 0);
     for (index, line) in history.iter().enumerate() {
         assert!(rt; index < history.len());
         holds(rt, history.entry(index) == line.as_str(), lines, index);
     }
 }
 
-const LISTS: &[Step] = &[
+pub(super) const LISTS: &[Step] = &[
     Gives(""),
     Add("a", true),
     Add("a", false),
@@ -270,46 +254,35 @@ const LISTS: &[Step] = &[
     Gives(""),
 ];
 
-#[test]
-fn in_memory_alone(rt: HostRuntime) {
-    let mut history = MemHistory::new(rt.alloc());
-    for step in LISTS {
-        match step {
-            With(max_len, dups, space) => {
-                let config = config_of(&rt, *max_len, *dups, *space);
-                history = MemHistory::with_config(rt.alloc(), &config);
-            }
-            Gives(lines) => {
-                mem_gives(&rt, &history, lines);
-                history = MemHistory::new(rt.alloc());
-            }
-            _ => stepped(&rt, rt.alloc(), &mut history, step),
-        }
-    }
-}
-
-/// Each call of the table is answered so by a history that can be saved, and leaves these lines.
-fn are_kept(rt: &impl Abort, alloc: Global, table: &[Step]) {
+/// Each call of the table is answered so by a history that can be saved, and leaves these lines; and by one in memory
+/// alone, where it has all the calls.
+pub(super) fn are_kept(rt: &impl Abort, alloc: Global, table: &[Step], in_memory: bool) {
     let mut history: DefaultHistory = FileHistory::new(alloc);
+    let mut other = MemHistory::new(alloc);
     for step in table {
         match step {
             With(max_len, dups, space) => {
-                let config = config_of(rt, *max_len, *dups, *space);
+                let mut config = Config::new(GraphemeClusterMode::Unicode);
+                config.set_max_history_size(*max_len).expect(rt, "no fault");
+                config.set_history_ignore_dups(*dups).expect(rt, "no fault");
+                config.set_history_ignore_space(*space);
                 history = FileHistory::with_config(alloc, &config);
+                other = MemHistory::with_config(alloc, &config);
             }
             Gives(lines) => {
                 file_gives(rt, &history, lines);
                 history = FileHistory::new(alloc);
+                if in_memory {
+                    mem_gives(rt, &other, lines);
+                    other = MemHistory::new(alloc);
+                }
             }
-            _ => file_stepped(rt, alloc, &mut history, step),
+            _ => {
+                file_stepped(rt, alloc, &mut history, step);
+                if in_memory {
+                    stepped(rt, alloc, &mut other, step);
+                }
+            }
         }
     }
-}
-
-#[test]
-fn that_can_be_saved(rt: HostRuntime) {
-    are_kept(&rt, rt.alloc(), LISTS);
-    are_kept(&rt, rt.alloc(), SAVED);
-    are_kept(&rt, rt.alloc(), HEADERS);
-    are_kept(&rt, rt.alloc(), READ);
 }

@@ -38,15 +38,6 @@ fn adds<H: History>(rt: &impl Abort, alloc: Global, history: &mut H, owned: bool
     }
 }
 
-#[test]
-fn of_lines(rt: HostRuntime) {
-    let alloc = rt.alloc();
-    for (owned, full) in [(false, false), (true, false), (false, true)] {
-        adds(&rt, alloc, &mut MemHistory::new(alloc), owned, full);
-        adds(&rt, alloc, &mut FileHistory::new(alloc), owned, full);
-    }
-}
-
 /// How four lines are written.
 struct Written {
     escapes: Escapes,
@@ -131,29 +122,16 @@ fn saves(rt: &impl Abort, alloc: Global, written: &Written, append: bool) {
     let _ = keeps(rt, alloc, &mut history, FOUR, written.escapes, left);
 }
 
-#[test]
-fn of_texts(rt: HostRuntime) {
-    for written in WRITTEN {
-        reads(&rt, rt.alloc(), written);
-        for append in [false, true] {
-            saves(&rt, rt.alloc(), written, append);
-        }
-    }
-}
-
 /// The line before the fault is there, and is new; none may be where memory ran out.
-#[test]
-fn of_a_text_that_breaks_off(rt: HostRuntime) {
-    let mut history = FileHistory::new(rt.alloc());
-    let outcome = history.load_from(Stream::new(rt.alloc(), "#V2\na\nb", 7, &BROKEN));
-    if matches!(&outcome, Err(ReadlineError::Memory)) {
-        if history.is_empty() {
-            return;
-        }
-    } else {
-        assert!(rt; answer_of(&rt, rt.alloc(), outcome, BROKEN.0, BROKEN.1).is_none());
+fn breaks_off(rt: &impl Abort, alloc: Global) {
+    let mut history = FileHistory::new(alloc);
+    let outcome = history.load_from(Stream::new(alloc, "#V2\na\nb", 7, &BROKEN));
+    if !matches!(&outcome, Err(ReadlineError::Memory)) {
+        assert!(rt; answer_of(rt, alloc, outcome, BROKEN.0, BROKEN.1).is_none());
+    } else if history.is_empty() {
+        return;
     }
-    let _ = keeps(&rt, rt.alloc(), &mut history, "a", V2, "a\n");
+    let _ = keeps(rt, alloc, &mut history, "a", V2, "a\n");
 }
 
 /// A line of so many characters that a result owns is copied. Returns 1 where an allocation was refused, and else 0.
@@ -179,12 +157,24 @@ fn copies(rt: &impl Abort, alloc: Global, count: usize) -> usize {
     refused
 }
 
-/// Each length stands twice, so that one of them is copied.
+/// Of results each length stands twice, so that one of them is copied.
 #[test]
-fn of_a_copied_result(rt: HostRuntime) {
+fn of_each_call(rt: HostRuntime) {
+    let alloc = rt.alloc();
+    for (owned, full) in [(false, false), (true, false), (false, true)] {
+        adds(&rt, alloc, &mut MemHistory::new(alloc), owned, full);
+        adds(&rt, alloc, &mut FileHistory::new(alloc), owned, full);
+    }
+    for written in WRITTEN {
+        reads(&rt, alloc, written);
+        for append in [false, true] {
+            saves(&rt, alloc, written, append);
+        }
+    }
+    breaks_off(&rt, alloc);
     let mut refused: usize = 0;
     for count in [0, 1, 400, 5_000, 0, 1, 400, 5_000] {
-        refused = refused.saturating_add(copies(&rt, rt.alloc(), count));
+        refused = refused.saturating_add(copies(&rt, alloc, count));
     }
     assert!(rt; refused <= 1);
 }

@@ -53,18 +53,6 @@ fn come_back(rt: &impl Abort, alloc: Global, trip: &Trip) {
     gives(rt, &copy, lines.as_str());
 }
 
-/// Each line of up to three of the characters, alone. Without an escape for it, the carriage return at its end is lost.
-#[test]
-fn of_short_lines(rt: HostRuntime) {
-    for number in 1..400 {
-        let line = Short(number, number.saturating_add(1));
-        for (escapes, loaded) in [(V2, Cut(number)), (V3, line)] {
-            let trip = (escapes, Some(line), None, 100, None, loaded, NONE);
-            come_back(&rt, rt.alloc(), &trip);
-        }
-    }
-}
-
 const NONE: Lines = These("");
 
 /// Ten lines of 1,000 bytes each, and one of 20,000.
@@ -237,9 +225,18 @@ const TRIPS: &[Trip] = &[
     ),
 ];
 
+/// The lines of each text come back; and each line of up to three of the characters, alone. Without an escape for it, the
+/// carriage return at its end is lost.
 #[test]
-fn of_lines_in_one_text(rt: HostRuntime) {
+fn come_back_from_their_text(rt: HostRuntime) {
     for trip in TRIPS {
         come_back(&rt, rt.alloc(), trip);
+    }
+    for number in 1..400 {
+        let line = Short(number, number.saturating_add(1));
+        for (escapes, loaded) in [(V2, Cut(number)), (V3, line)] {
+            let trip = (escapes, Some(line), None, 100, None, loaded, NONE);
+            come_back(&rt, rt.alloc(), &trip);
+        }
     }
 }

@@ -5,14 +5,14 @@ use super::{Lines, fills, gives, has, lines_of};
 use crate::holds;
 use Place::{Anywhere, Start};
 use SearchDirection::{Forward, Reverse};
-use line_parts::{FileHistory, History, MemHistory, SearchDirection, SearchResult};
+use line_parts::{History, SearchDirection, SearchResult};
 use std::alloc::Global;
 use std::borrow::CowStr;
 use std::process::Abort;
 
 /// Where a term has to stand: anywhere in a line, or at its start.
 #[derive(Clone, Copy)]
-enum Place {
+pub(super) enum Place {
     Anywhere,
     Start,
 }
@@ -39,7 +39,7 @@ fn is_at<H: History>(
 
 /// Lines, where a term has to stand, the term and how often it is repeated, the direction, the indices at which a search
 /// begins, and what is found from each of them.
-type Case = (
+pub(super) type Case = (
     Lines,
     Place,
     &'static str,
@@ -50,7 +50,7 @@ type Case = (
 );
 
 /// A history that is filled with the lines gives them, and they are found.
-fn finds<H: History>(rt: &impl Abort, alloc: Global, history: &mut H, case: &Case) {
+pub(super) fn finds<H: History>(rt: &impl Abort, alloc: Global, history: &mut H, case: &Case) {
     let (lines, place, term, count, dir, starts, wanted) = *case;
     history.set_max_len(10_000).expect(rt, "no fault");
     let lines = lines_of(rt, alloc, lines);
@@ -94,7 +94,7 @@ const MIDDLE: &[usize] = &[2_500];
 
 const LAST: &[usize] = &[4_999];
 
-const SEARCHES: &[Case] = &[
+pub(super) const SEARCHES: &[Case] = &[
     (
         FIVE,
         Anywhere,
@@ -270,11 +270,3 @@ const SEARCHES: &[Case] = &[
     (LONG, Anywhere, "é", 3_000, Reverse, SECOND, "1:0"),
     (LONG, Start, "é", 3_000, Forward, FIRST, "1:6000"),
 ];
-
-#[test]
-fn find_the_nearest_line(rt: HostRuntime) {
-    for case in SEARCHES {
-        finds(&rt, rt.alloc(), &mut MemHistory::new(rt.alloc()), case);
-        finds(&rt, rt.alloc(), &mut FileHistory::new(rt.alloc()), case);
-    }
-}

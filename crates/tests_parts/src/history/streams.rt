@@ -246,47 +246,22 @@ const LOADS: &[Load] = &[
     (PLAIN, WHOLE, WHOLE, Some(false), "a|b|", ""),
 ];
 
-#[test]
-fn that_are_read(rt: HostRuntime) {
-    for load in LOADS {
-        for place in load.1..=load.2 {
-            for manner in MANNERS {
-                reads(&rt, rt.alloc(), load, place, manner);
-            }
-        }
-    }
-}
-
 /// The settled lines and the new ones, the escapes, whether the new ones are appended, what is written, and what is
 /// appended of the new ones.
 type Save<'a> = (&'a str, &'a str, Escapes, bool, &'a str, &'a str);
 
-/// Whether a save writes all. It answers the fault of its writer, which took all before the place where it fails.
-fn is_whole(
-    rt: &impl Abort,
-    alloc: Global,
-    history: &mut FileHistory,
-    case: &Save<'_>,
-    place: usize,
-    manner: &Manner,
-) -> bool {
-    let (_, _, escapes, append, whole, _) = *case;
+/// A save answers the fault of its writer, which took all before the place where it fails. After a save that fails all
+/// lines are there, and the new ones are new.
+fn writes(rt: &impl Abort, alloc: Global, case: &Save<'_>, place: usize, manner: &Manner) {
+    let (settled, new, escapes, append, whole, appended) = *case;
     let (kind, text, _) = *manner;
+    let mut history = history_of(rt, alloc, settled, new);
     let mut out = Stream::new(alloc, "", place, manner);
-    let outcome = save(history, escapes, &mut out, append);
+    let outcome = save(&mut history, escapes, &mut out, append);
     let done = answer_of(rt, alloc, outcome, kind, text).is_some();
     let taken = whole.as_bytes().get(..place.min(whole.len()));
     let is_taken = taken == Some(out.taken.as_slice());
-    let is_so = is_taken && done == (place > whole.len());
-    holds(rt, is_so, whole, place);
-    done
-}
-
-/// After a save that fails all lines are there, and the new ones are new.
-fn writes(rt: &impl Abort, alloc: Global, case: &Save<'_>, place: usize, manner: &Manner) {
-    let (settled, new, escapes, _, _, appended) = *case;
-    let mut history = history_of(rt, alloc, settled, new);
-    let done = is_whole(rt, alloc, &mut history, case, place, manner);
+    holds(rt, is_taken && done == (place > whole.len()), whole, place);
     let lines = format!(in alloc; "{settled}{new}").expect(rt, "no fault");
     let left = if done { "" } else { appended };
     assert!(rt; keeps(rt, alloc, &mut history, lines.as_str(), escapes, left));
@@ -341,18 +316,6 @@ const SAVES: &[Save<'static>] = &[
     ("x|", "", V3, true, "", ""),
 ];
 
-/// The writer fails at each byte, at the flush after the last one, and not at all.
-#[test]
-fn that_are_written(rt: HostRuntime) {
-    for case in SAVES {
-        for place in 0..case.4.len().saturating_add(2) {
-            for manner in MANNERS {
-                writes(&rt, rt.alloc(), case, place, manner);
-            }
-        }
-    }
-}
-
 /// Two lines of 9,000 bytes.
 const MUCH: Lines = Pieces("9000*a+1*|+9000*b+1*|");
 
@@ -373,13 +336,24 @@ fn writes_much(rt: &impl Abort, alloc: Global, escapes: Escapes, append: bool, p
     writes(rt, alloc, &case, place, &GONE);
 }
 
+/// The reader fails at each byte, and not at all; the writer at each byte, at the flush after the last one, and not at all.
 #[test]
-fn that_are_written_at_length(rt: HostRuntime) {
-    for place in [0, 1, 8_191, 8_192, 8_193, 9_001, 9_500, 18_001, WHOLE] {
-        for escapes in [V2, V3] {
-            for append in [false, true] {
-                writes_much(&rt, rt.alloc(), escapes, append, place);
+fn that_fail(rt: HostRuntime) {
+    for manner in MANNERS {
+        for load in LOADS {
+            for place in load.1..=load.2 {
+                reads(&rt, rt.alloc(), load, place, manner);
             }
+        }
+        for case in SAVES {
+            for place in 0..case.4.len().saturating_add(2) {
+                writes(&rt, rt.alloc(), case, place, manner);
+            }
+        }
+    }
+    for place in [0, 1, 8_191, 8_192, 8_193, 9_001, 9_500, 18_001, WHOLE] {
+        for (escapes, append) in [(V2, false), (V2, true), (V3, false), (V3, true)] {
+            writes_much(&rt, rt.alloc(), escapes, append, place);
         }
     }
 }

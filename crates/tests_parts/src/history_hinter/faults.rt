@@ -1,17 +1,16 @@
 //! A history that fails in one look-up: the error is handed on, and no other look-up is made, also none whose answer is
 //! dropped.
 
-use super::{Hinted, LINES, fill, hints_from};
-use crate::holds;
+use super::{Hinted, LINES, hints_from};
 use line_parts::{History, HistoryHinter, SearchDirection};
 use std::alloc::Global;
 use std::process::Abort;
-use tests_parties::fault::{FAULTS, Fault};
+use tests_parties::fault::Fault;
 use tests_parties::shelf::{Call, Failing, Shelf};
 
 /// The lines of a history and the index in it; which look-up fails: the one of this number, which is then the first after
 /// the hint, and those that are named; the line and the hint; and whether the fault comes instead.
-type Case = (
+pub(crate) type Case = (
     (&'static str, usize),
     (u64, Option<Failing>),
     Hinted<'static>,
@@ -19,10 +18,12 @@ type Case = (
 );
 
 /// Whether the hint comes, or the fault where it is to.
-fn asks(rt: &impl Abort, alloc: Global, case: &Case, fault: Fault) -> bool {
+pub(crate) fn asks(rt: &impl Abort, alloc: Global, case: &Case, fault: Fault) -> bool {
     let ((lines, index), (number, failing), hinted, faulty) = *case;
     let mut history = Shelf::new(alloc, number);
-    fill(&mut history, lines).expect(rt, "no fault");
+    for line in lines.split('|') {
+        let _ = history.add(line).expect(rt, "no fault");
+    }
     if let Some(failing) = failing {
         history.fail_in(failing, fault);
     }
@@ -36,7 +37,7 @@ fn asks(rt: &impl Abort, alloc: Global, case: &Case, fault: Fault) -> bool {
     fails_next && right.expect(rt, "no fault")
 }
 
-const CASES: &[Case] = &[
+pub(crate) const FAULTY: &[Case] = &[
     // Going back from an index, the history is asked: by this look-up,
     (
         (LINES, 4),
@@ -170,13 +171,3 @@ const CASES: &[Case] = &[
     (("", 0), (0, Some(Failing::All)), ("", 0, None), false),
     (("", 0), (0, Some(Failing::All)), ("a", 0, None), false),
 ];
-
-#[test]
-fn of_one_look_up(rt: HostRuntime) {
-    for (row, case) in CASES.iter().enumerate() {
-        for fault in FAULTS {
-            let found = asks(&rt, rt.alloc(), case, *fault);
-            holds(&rt, found, fault.text, row);
-        }
-    }
-}

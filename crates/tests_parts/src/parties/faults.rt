@@ -1,6 +1,5 @@
 //! Errors of a helper or a history, handed on by `Parties`, which an editor asks.
 
-use crate::holds;
 use crate::ready::{broken_history, is_hint, said};
 use line_buffer::LineBuffer;
 use line_config::Result;
@@ -8,7 +7,7 @@ use line_parts::{Context, Helper, History, Parties};
 use std::alloc::Global;
 use std::process::Abort;
 use tests_parties::advisor::{Advisor, Verdict};
-use tests_parties::fault::{FAULTS, Fault};
+use tests_parties::fault::Fault;
 
 /// The right answer: a hint, if there is one, or the name and message of a validation result.
 #[derive(Clone, Copy)]
@@ -56,7 +55,7 @@ pub(super) fn asks_nothing(
 
 /// The hint and the validation result of a helper, the number of its answer that fails, the right answer, and whether
 /// there is the fault instead.
-type Case = ((Option<&'static str>, Verdict), u64, Answer, bool);
+pub(super) type Case = ((Option<&'static str>, Verdict), u64, Answer, bool);
 
 /// Whether there is the answer, or the fault where it is wanted, and then the answer. The helper asks no history, so it
 /// does not matter that this one fails.
@@ -83,7 +82,7 @@ pub(crate) fn helped(
 /// A hint, and a line that is invalid.
 const NO: (Option<&str>, Verdict) = (Some("!"), (true, false, Some("no")));
 
-const CASES: &[Case] = &[
+pub(super) const CASES: &[Case] = &[
     // An answer is asked for once, so a second one that fails does not matter.
     (NO, 0, Answer::Hint(Some("!")), false),
     (NO, 1, Answer::Hint(Some("!")), true),
@@ -193,13 +192,3 @@ const CASES: &[Case] = &[
         false,
     ),
 ];
-
-#[test]
-fn of_a_helper(rt: HostRuntime) {
-    for (row, case) in CASES.iter().enumerate() {
-        for fault in FAULTS {
-            let found = helped(&rt, rt.alloc(), case, "ab", *fault);
-            holds(&rt, found, fault.text, row);
-        }
-    }
-}
