@@ -1,4 +1,5 @@
-//! What bytes come to, whole and in pieces.
+//! What bytes come to, whole and in pieces. Bytes are written as texts: a character is the byte of its number, `…` a
+//! pause, and `■` the end of the input.
 
 use line_keys::keys::{KeyCode, KeyEvent, Modifiers};
 use line_keys::raw_reader::RawReader;
@@ -7,89 +8,87 @@ use line_script::key_named;
 use line_term::Decoder;
 use std::alloc::Global;
 
+const PAUSE: char = '…';
+
+const END: char = '■';
+
+/// A place that cuts bytes at each place.
+pub const EACH: usize = usize::MAX;
+
+/// Names of keys, with blanks between them; one that begins so is a pasted text.
+const TEXT: char = '“';
+
 const PASTE_START: KeyEvent = KeyEvent(KeyCode::BracketedPasteStart, Modifiers::NONE);
 
-/// What is wanted of some bytes.
-#[derive(Clone, Copy)]
-pub enum Wanted<'a> {
-    /// The keys of these names, with blanks between them.
-    Keys(&'a str),
-    /// The same keys with Alt.
-    WithAlt(&'a str),
-    /// A pasted text, and nothing else.
-    Pasted(&'a str),
+/// What a pasted text may have before its end, the bytes in front of those of a row, and the modifiers that the keys of
+/// its names have besides.
+pub type Way = (usize, &'static str, Modifiers);
+
+/// Feeds bytes, cut at a place. Returns whether no call fails, and nothing is left waiting behind a pause.
+pub fn feeds(
+    alloc: Global,
+    decoder: &mut Decoder,
+    keys: &mut KeyQueue,
+    bytes: &str,
+    cut: usize,
+) -> bool {
+    let mut piece = Vec::new(alloc);
+    let mut is_well = true;
+    for (place, c) in bytes.chars().enumerate() {
+        if place == cut || cut == EACH || c == PAUSE || c == END {
+            is_well = is_well && decoder.feed(&piece, keys).is_ok();
+            piece.clear();
+        }
+        is_well = is_well
+            && match c {
+                PAUSE => decoder.flush(keys).is_ok() && !decoder.is_waiting(),
+                END => decoder.finish(keys).is_ok(),
+                c => piece.push(u8::try_from(u32::from(c)).unwrap_or(0)).is_ok(),
+            };
+    }
+    is_well && decoder.feed(&piece, keys).is_ok()
 }
 
-/// Whether bytes in two pieces, and then a pause, come to what is wanted.
-pub fn come_to(alloc: Global, first: &[u8], others: &[u8], wanted: Wanted<'_>) -> bool {
-    let mut decoder = Decoder::new(alloc);
-    let mut keys = KeyQueue::new(alloc);
-    decoder.feed(first, &mut keys).is_ok()
-        && decoder.feed(others, &mut keys).is_ok()
-        && decoder.flush(&mut keys).is_ok()
-        && !decoder.is_waiting()
-        && are(&mut keys, wanted)
-}
-
-/// Whether bytes, a pause, others and a pause come to what is wanted.
-pub fn come_over_a_pause(alloc: Global, first: &[u8], others: &[u8], wanted: Wanted<'_>) -> bool {
-    let mut decoder = Decoder::new(alloc);
-    let mut keys = KeyQueue::new(alloc);
-    decoder.feed(first, &mut keys).is_ok()
-        && decoder.flush(&mut keys).is_ok()
-        && !decoder.is_waiting()
-        && decoder.feed(others, &mut keys).is_ok()
-        && decoder.flush(&mut keys).is_ok()
-        && are(&mut keys, wanted)
-}
-
-/// Whether bytes come to what is wanted, cut at each place. The answer is the first place where they do not.
-pub fn first_wrong(alloc: Global, bytes: &[u8], wanted: Wanted<'_>) -> Option<usize> {
-    for place in 0..=bytes.len() {
-        if !come_to(alloc, &bytes[..place], &bytes[place..], wanted) {
-            return Some(place);
+/// The first place where bytes, cut there and followed by a pause, do not come to these names and nothing else.
+pub fn first_wrong(alloc: Global, way: Way, bytes: &str, names: &str) -> Option<usize> {
+    let (bound, front, modifiers) = way;
+    for cut in 0..=bytes.len() {
+        let mut decoder = Decoder::new(alloc);
+        let mut keys = KeyQueue::new(alloc);
+        decoder.set_paste_bound(bound);
+        let is_fed = feeds(alloc, &mut decoder, &mut keys, front, 0)
+            && feeds(alloc, &mut decoder, &mut keys, bytes, cut)
+            && feeds(alloc, &mut decoder, &mut keys, "…", 0);
+        if !is_fed || !are(&mut keys, names, modifiers) {
+            return Some(cut);
         }
     }
     None
 }
 
-/// Whether a queue has what is wanted, and nothing else.
-fn are(keys: &mut KeyQueue, wanted: Wanted<'_>) -> bool {
-    match wanted {
-        Wanted::Keys(names) => are_named(keys, names, Modifiers::NONE),
-        Wanted::WithAlt(names) => are_named(keys, names, Modifiers::ALT),
-        Wanted::Pasted(text) => is_pasted(keys, text) && keys.is_empty(),
-    }
-}
-
-/// Whether a queue has the keys of these names with these modifiers, and nothing else.
-fn are_named(keys: &mut KeyQueue, names: &str, modifiers: Modifiers) -> bool {
+/// Whether a queue has the keys of these names with these modifiers and the pasted texts, and nothing else.
+fn are(keys: &mut KeyQueue, names: &str, modifiers: Modifiers) -> bool {
     for name in names.split(' ') {
-        if !name.is_empty() && !is_named(keys, name, modifiers) {
+        if !name.is_empty() && !is_next(keys, name, modifiers) {
             return false;
         }
     }
     keys.is_empty()
 }
 
-/// Whether the next item is the key of this name with these modifiers.
-fn is_named(keys: &mut KeyQueue, name: &str, modifiers: Modifiers) -> bool {
-    let Some(KeyEvent(code, named)) = key_named(name) else {
+/// Whether the next item is the key of this name with these modifiers, or the pasted text.
+fn is_next(keys: &mut KeyQueue, name: &str, modifiers: Modifiers) -> bool {
+    let Ok(key) = keys.next_key(false) else {
         return false;
     };
-    match keys.next_key(false) {
-        Ok(key) => key == KeyEvent(code, named | modifiers),
-        Err(_) => false,
+    if let Some(text) = name.strip_prefix(TEXT) {
+        return match keys.read_pasted_text() {
+            Ok(pasted) => key == PASTE_START && pasted.as_str() == text,
+            Err(_) => false,
+        };
     }
-}
-
-/// Whether the next items are a pasted text.
-pub fn is_pasted(keys: &mut KeyQueue, text: &str) -> bool {
-    if !matches!(keys.next_key(false), Ok(key) if key == PASTE_START) {
-        return false;
-    }
-    match keys.read_pasted_text() {
-        Ok(pasted) => pasted.as_str() == text,
-        Err(_) => false,
+    match key_named(name) {
+        Some(KeyEvent(code, named)) => key == KeyEvent(code, named | modifiers),
+        None => false,
     }
 }

@@ -1,8 +1,8 @@
 //! What comes of completions, by the bytes that are typed, whole and in pieces.
 
-use crate::sessions::{ASK, Case, LIST, LIST_AT_ONCE, MANY, ROUND, ROUND_VI, comes_true};
+use crate::sessions::{ASK, Case, LIST, LIST_AT_ONCE, MANY, ROUND, ROUND_VI};
 
-const CASES: &[Case] = &[
+pub(crate) const CASES: &[Case] = &[
     // round by way of the line from before, and back
     (ROUND, "ab ac", "»¦x a\t", "x ab|", ""),
     (ROUND, "ab ac", "»¦x a\t\t", "x ac|", ""),
@@ -103,10 +103,3 @@ const CASES: &[Case] = &[
     // a list ends where the size changes
     (LIST, MANY, "»¦a\t\t¦↔12¦z", "az|", "--More--\r\n"),
 ];
-
-#[test]
-fn completes_in_whatever_pieces(rt: HostRuntime) {
-    for case in CASES {
-        comes_true(&rt, rt.alloc(), case);
-    }
-}

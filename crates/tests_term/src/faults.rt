@@ -1,7 +1,7 @@
 //! What is left where one of those who are asked fails, at each of its calls, and where memory runs out: commands are read on.
 
 use crate::holds;
-use crate::parties::{Failing, NOBODY, fault};
+use crate::parties::{Failing, NOBODY};
 use crate::sessions::{
     ASK, ASK_AT_ONCE, CURSOR, LINES, LIST, LIST_AT_ONCE, MANY, ROUND, ROUND_VI, SEARCH, SEARCH_VI,
     Session, bindings, marked, new_session,
@@ -13,6 +13,7 @@ use line_parts::history::SearchDirection;
 use line_session::editor::Fed;
 use std::alloc::Global;
 use std::process::Abort;
+use tests_parties::fault::GONE;
 
 /// Who fails in turn, what is tried, the words or the lines of the history, what is typed, the line from before a completion or a
 /// search, and after which text of a list the line is drawn on a new row.
@@ -97,22 +98,6 @@ fn has_lines<S: History>(one: &S, other: &S) -> Result<bool> {
     Ok(has)
 }
 
-/// Whether the line is this one.
-fn stands(session: &Session, line: &str) -> bool {
-    match session.line() {
-        Some(text) => text == line,
-        None => false,
-    }
-}
-
-/// Whether the line is the one of another session.
-fn stands_as(session: &Session, other: &Session) -> bool {
-    match other.line() {
-        Some(line) => stands(session, line),
-        None => false,
-    }
-}
-
 /// What is wrong about what a failure left: a session with the error of the one that fails or of refused memory, after a key;
 /// and one in which nothing failed, with its line from before that key. Of what was typed nothing is lost but that key: one that was
 /// not taken is taken at the next call. Nothing is wrong where this is empty.
@@ -127,14 +112,17 @@ fn wrong(
     bindings: &Bindings,
 ) -> Result<&'static str> {
     let is_memory = failing == NOBODY && matches!(outcome, Err(ReadlineError::Memory));
-    if !is_memory && !fault(failing.0).is_answer(alloc, outcome)? {
+    if !is_memory && !GONE.is_answer(alloc, outcome)? {
         return Ok("another error");
     }
-    if session.line().is_none() && stands(twin, "") && (is_memory || failing == ("output", 1)) {
+    let can_be_none = is_memory || failing == ("output", 1);
+    if session.line().is_none() && twin.line() == Some("") && can_be_none {
         return Ok("");
     }
     for _ in 0..2 {
-        if !(stands(session, before) || stands(session, start) || stands_as(session, twin)) {
+        let line = session.line();
+        let is_one = line == Some(before) || line == Some(*start) || line == twin.line();
+        if line.is_none() || !is_one {
             return Ok("another line, or none");
         }
         session.flush(bindings)?;
@@ -145,10 +133,10 @@ fn wrong(
     if !types_on(alloc, session, bindings)? {
         return Ok("no command is read");
     }
-    if !session.out().goes_on_below(list) {
-        return Ok("the row of a list");
-    }
-    Ok("")
+    Ok(match session.out().written().rsplit_once(*list) {
+        Some((_, behind)) if !list.is_empty() && !behind.starts_with("\r\n") => "the row of a list",
+        _ => "",
+    })
 }
 
 /// A session in which one of those who are asked fails, and its twin, in which nothing fails.
@@ -164,13 +152,6 @@ impl Drop for Twins {
             twin: _,
         } = self;
     }
-}
-
-/// The two sessions of a case.
-fn new_twins(alloc: Global, case: &Case, failing: Failing) -> Result<Twins> {
-    let session = new_session(alloc, case.1, case.2, failing)?;
-    let twin = new_session(alloc, case.1, case.2, NOBODY)?;
-    Ok(Twins { session, twin })
 }
 
 /// Types what a case says into two sessions, key by key. Returns None where nothing failed, and else what is wrong then.
@@ -204,8 +185,10 @@ fn typed(
 
 /// Does what a case says with one that fails. Returns None where nothing failed, and else what is wrong then.
 fn failed(alloc: Global, case: &Case, failing: Failing) -> Result<Option<&'static str>> {
+    let session = new_session(alloc, case.1, case.2, failing)?;
+    let twin = new_session(alloc, case.1, case.2, NOBODY)?;
+    let mut twins = Twins { session, twin };
     let bindings = bindings(alloc)?;
-    let mut twins = new_twins(alloc, case, failing)?;
     let Twins { session, twin } = &mut twins;
     typed(alloc, case, failing, session, twin, &bindings)
 }

@@ -1,15 +1,13 @@
 //! What comes of bytes that are typed.
 
-use crate::holds;
 use crate::parties::NOBODY;
 use crate::sessions::{ADD, ADD_VI, Case, bindings, comes_true};
 use crate::terminal::Counted;
+use crate::{completions, holds, searches};
 use line_buffer::GraphemeClusterMode;
-use line_config::{Config, ReadlineError, Result};
-use line_editor::Bindings;
+use line_config::{Config, ReadlineError};
 use line_parts::MemHistory;
 use line_session::editor::Editor;
-use std::alloc::Global;
 
 /// Asks a terminal to show what follows all at once.
 const HELD: &str = "\x1b[?2026h";
@@ -92,8 +90,10 @@ const CASES: &[Case] = &[
 
 #[test]
 fn gives_the_line_in_whatever_pieces(rt: HostRuntime) {
-    for case in CASES {
-        comes_true(&rt, rt.alloc(), case);
+    for cases in [CASES, completions::CASES, searches::CASES] {
+        for case in cases {
+            comes_true(&rt, rt.alloc(), case);
+        }
     }
 }
 
@@ -125,11 +125,6 @@ fn reads_lines_of_an_input(rt: HostRuntime) {
     holds(&rt, has_ended, "the end", lines);
 }
 
-/// Whether a session that is fed these bytes writes this text.
-fn writes(session: &mut Drawing, bytes: &[u8], bindings: &Bindings, text: &str) -> bool {
-    session.feed(bytes, bindings).is_ok() && session.out().has(text)
-}
-
 type Drawing = Editor<Counted, (), MemHistory>;
 
 #[test]
@@ -140,44 +135,44 @@ fn draws_anew_on_another_output(rt: HostRuntime) {
     let out = Counted::failing(rt.alloc(), NOBODY).expect(&rt, "room");
     let mut session: Drawing = Editor::new(rt.alloc(), config, out, 20, (), history);
     let has_begun = session.begin(&"> ", &bindings).is_ok();
-    let is_whole = has_begun && writes(&mut session, b"ab", &bindings, "> ");
+    let is_fed = has_begun && session.feed(b"ab", &bindings).is_ok();
+    let is_whole = is_fed && session.out().written().contains("> ");
     holds(&rt, is_whole, "the first output", 0);
     let emptied = Counted::failing(rt.alloc(), NOBODY).expect(&rt, "room");
     let before = session.exchange_out(emptied);
-    let is_part = writes(&mut session, b"c", &bindings, "c") && !session.out().has("> ");
-    holds(
-        &rt,
-        before.has("> ") && is_part,
-        "an output that was emptied",
-        1,
-    );
+    let is_fed = session.feed(b"c", &bindings).is_ok() && before.written().contains("> ");
+    let written = session.out().written();
+    let is_part = is_fed && written.contains("c") && !written.contains("> ");
+    holds(&rt, is_part, "an output that was emptied", 1);
     let other = Counted::failing(rt.alloc(), NOBODY).expect(&rt, "room");
     let before = session.replace_out(other);
-    let is_anew = writes(&mut session, b"", &bindings, "> abc");
-    holds(&rt, before.has("c") && is_anew, "another output", 2);
+    let is_fed = session.feed(b"", &bindings).is_ok() && before.written().contains("c");
+    let is_anew = is_fed && session.out().written().contains("> abc");
+    holds(&rt, is_anew, "another output", 2);
     let last = Counted::failing(rt.alloc(), NOBODY).expect(&rt, "room");
-    let is_left = session.abandon().is_ok() && session.replace_out(last).has("> abc");
+    let has_left = session.abandon().is_ok();
+    let is_left = has_left && session.replace_out(last).written().contains("> abc");
     holds(&rt, is_left, "another output between two lines", 3);
 }
 
-/// Begins a line and resizes, on an output whose write fails, if it is the one of this number. Returns how many writes there were, and
-/// whether neither call failed.
-fn resized(alloc: Global, bindings: &Bindings, failing: usize) -> Result<(usize, bool)> {
-    let out = Counted::failing(alloc, ("output", failing))?;
-    let config = Config::new(GraphemeClusterMode::Unicode);
-    let mut session: Drawing = Editor::new(alloc, config, out, 20, (), MemHistory::new(alloc));
-    let has_begun = session.begin(&"> ", bindings).is_ok();
-    let is_resized = session.resize(10, 5).is_ok();
-    Ok((session.out().writes(), has_begun && is_resized))
-}
-
+/// A line is begun and resized, where the write of each number fails, and none at first. How many there are is seen
+/// then.
 #[test]
 fn hands_on_the_failures_of_a_resize(rt: HostRuntime) {
     let bindings = bindings(rt.alloc()).expect(&rt, "bindings");
-    let (writes, is_well) = resized(rt.alloc(), &bindings, 0).expect(&rt, "room");
-    holds(&rt, is_well, "no write that fails", writes);
-    for failing in 1..=writes {
-        let (_, is_well) = resized(rt.alloc(), &bindings, failing).expect(&rt, "room");
-        holds(&rt, !is_well, "a write that fails", failing);
+    let mut writes = 0;
+    for failing in 0..100 {
+        let out = Counted::failing(rt.alloc(), ("output", failing)).expect(&rt, "room");
+        let config = Config::new(GraphemeClusterMode::Unicode);
+        let history = MemHistory::new(rt.alloc());
+        let mut session: Drawing = Editor::new(rt.alloc(), config, out, 20, (), history);
+        let has_begun = session.begin(&"> ", &bindings).is_ok();
+        let is_well = session.resize(10, 5).is_ok() && has_begun;
+        if failing == 0 {
+            writes = session.out().writes;
+        }
+        let fails = 0 < failing && failing <= writes;
+        holds(&rt, is_well != fails, "a write that fails", failing);
     }
+    holds(&rt, writes > 0, "some writes", writes);
 }

@@ -1,7 +1,5 @@
 //! Those whom a session asks, of whose calls one can fail.
 ghost use Rattle.std.specs.Prelude.{◌≡◌, None, Some, false, map, string_bytes};
-ghost use Rattle.line_config.specs.Error.{FaultsOnly};
-ghost use Rattle.line_parts.specs.Colored.{IsShownAs};
 ghost use Rattle.line_parts.specs.Verdict.{valid};
 
 use line_buffer::{Changeset, LineBuffer};
@@ -14,29 +12,14 @@ use line_session::parts::SteadyHighlighter;
 use line_session::words::Words;
 use std::alloc::Global;
 use std::borrow::CowStr;
-use std::io::ErrorKind;
 use tests_parties::countdown::Countdown;
-use tests_parties::fault::Fault;
+use tests_parties::fault::GONE;
 
-/// Who fails, by an error of this name, and at which of its calls, from 1 on; at none where that is 0.
+/// Who fails, and at which of its calls, from 1 on; at none where that is 0.
 pub(crate) type Failing = (&'static str, usize);
 
 /// Nobody fails.
 pub(crate) const NOBODY: Failing = ("", 0);
-
-/// The fault of the one of this name.
-pub(crate) fn fault(name: &'static str) -> Fault {
-    Fault {
-        kind: ErrorKind::PermissionDenied,
-        text: name,
-    }
-}
-
-/// The calls of the one of this name, one of which fails if it is the one that does.
-pub(crate) fn calls(name: &str, failing: Failing) -> Countdown {
-    let (fails, call) = failing;
-    Countdown::with(if fails == name { call as u64 } else { 0 }, fault(fails))
-}
 
 /// A part of a helper: a completer of words, a hinter that knows nothing, a highlighter without colors, or a validator that takes
 /// each line. One of its calls can fail.
@@ -47,23 +30,20 @@ pub(crate) struct Party {
 }
 
 impl Party {
-    /// A part of this name without words.
-    pub(crate) fn new(alloc: Global, name: &str, failing: Failing) -> Party {
-        Party {
+    /// A part of this name with the words of a text, one of whose calls fails if it is the one that does.
+    pub(crate) fn new(alloc: Global, name: &str, words: &str, failing: Failing) -> Result<Party> {
+        let (fails, call) = failing;
+        let failing = if fails == name { call as u64 } else { 0 };
+        let mut party = Party {
             words: Words {
                 words: Vec::new(alloc),
             },
-            calls: calls(name, failing),
+            calls: Countdown::with(failing, GONE),
+        };
+        for word in words.split(' ') {
+            party.words.words.push(String::from_str(alloc, word)?)?;
         }
-    }
-
-    /// A text as it stands.
-    fn shown<'t>(&self, text: &'t str) -> Result<CowStr<'t>>
-        ensures text { IsShownAs result text.now None }
-        ensures faults { FaultsOnly result }
-    {
-        self.calls.call()?;
-        Ok(CowStr::Borrowed(text))
+        Ok(party)
     }
 }
 
@@ -125,7 +105,8 @@ impl Highlighter for Party {
     ghost lights = { λ _ _ _ _. false };
 
     fn highlight<'l>(&self, _alloc: Global, line: &'l str, _pos: usize) -> Result<CowStr<'l>> {
-        self.shown(line)
+        self.calls.call()?;
+        Ok(CowStr::Borrowed(line))
     }
 
     fn highlight_prompt<'b, 's: 'b, 'p: 'b>(
@@ -134,11 +115,13 @@ impl Highlighter for Party {
         prompt: &'p str,
         _default: bool,
     ) -> Result<CowStr<'b>> {
-        self.shown(prompt)
+        self.calls.call()?;
+        Ok(CowStr::Borrowed(prompt))
     }
 
     fn highlight_hint<'h>(&self, _alloc: Global, hint: &'h str) -> Result<CowStr<'h>> {
-        self.shown(hint)
+        self.calls.call()?;
+        Ok(CowStr::Borrowed(hint))
     }
 
     fn highlight_char(&mut self, _line: &str, _pos: usize, _kind: CmdKind) -> bool {

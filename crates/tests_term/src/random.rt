@@ -1,6 +1,7 @@
 //! Bytes that are made from a number: in one piece they come to what they come to one by one, and no character is typed that is not
 //! in them as text.
 
+use crate::by_bytes::{EACH, feeds};
 use crate::holds;
 use line_keys::raw_reader::RawReader;
 use line_screen::KeyQueue;
@@ -25,48 +26,82 @@ impl Dice {
 }
 
 /// What bytes are put together of.
-const PARTS: &[&[u8]] = &[
-    b"\x1b",
-    b"\x1b[",
-    b"\x1bO",
-    b"\x1b]",
-    b"\x1bP",
-    b"\x1b\\",
-    b"\x1b[200~",
-    b"\x1b[201~",
-    b"\x1b[M",
-    b"[",
-    b"1",
-    b"27",
-    b";",
-    b":",
-    b"?",
-    b"$",
-    b"~",
-    b"u",
-    b"A",
-    b"\x07",
-    b"\x18",
-    b"\r",
-    b"\n",
-    b"\t",
-    b"\x7f",
-    b"q",
-    b"\xc3",
-    b"\xa9",
-    b"\xc3\xa9",
-    b"\xe6\x97",
-    b"\xf0\x9f\x98\x80",
-    b"\xff",
+const PARTS: &[&str] = &[
+    "\x1b",
+    "\x1b[",
+    "\x1bO",
+    "\x1b]",
+    "\x1bP",
+    "\x1b\\",
+    "\x1b[200~",
+    "\x1b[201~",
+    "\x1b[M",
+    "[",
+    "1",
+    "27",
+    ";",
+    ":",
+    "?",
+    "$",
+    "~",
+    "u",
+    "A",
+    "\x07",
+    "\x18",
+    "\r",
+    "\n",
+    "\t",
+    "\x7f",
+    "q",
+    "\u{c3}",
+    "\u{a9}",
+    "\u{c3}\u{a9}",
+    "\u{e6}\u{97}",
+    "\u{f0}\u{9f}\u{98}\u{80}",
+    "\u{ff}",
+];
+
+/// What sequences are put together of, beside what begins and ends them.
+const INSIDE: &[&str] = &[
+    "0",
+    "1",
+    "9",
+    ";",
+    ":",
+    "<",
+    "?",
+    " ",
+    "!",
+    "\x01",
+    "\r",
+    "\x7f",
+    "\u{c3}\u{a9}",
+];
+
+/// The number that the first bytes are made from, what begins them, how many parts they have less than, the parts, what
+/// ends them, and whether they stand for something.
+type Making = (
+    usize,
+    &'static str,
+    usize,
+    &'static [&'static str],
+    &'static str,
+    bool,
+);
+
+const MADE: &[Making] = &[
+    (20, "", 24, PARTS, "■", true),
+    (21, "\x1b]0", 12, INSIDE, "\x1b\\■", false),
 ];
 
 /// Makes bytes of parts.
-fn made(alloc: Global, dice: &mut Dice) -> Option<Vec<u8>> {
-    let mut bytes = Vec::new(alloc);
-    for _ in 0..dice.below(24) {
-        let part = PARTS.get(dice.below(PARTS.len()))?;
-        bytes.extend_from_slice(part).ok()?;
+fn made(alloc: Global, dice: &mut Dice, making: &Making) -> Option<String> {
+    let (_, start, limit, parts, end, _) = making;
+    let mut bytes = String::from_str(alloc, start).ok()?;
+    for _ in 0..dice.below(*limit) {
+        bytes.push_str(parts.get(dice.below(parts.len()))?).ok()?;
     }
+    bytes.push_str(end).ok()?;
     Some(bytes)
 }
 
@@ -87,73 +122,27 @@ fn are_same(first: &mut KeyQueue, second: &mut KeyQueue) -> bool {
     first.is_empty() && second.is_empty()
 }
 
-/// Whether bytes come to the same in one piece and one by one.
-fn come_to_the_same(alloc: Global, bytes: &[u8]) -> bool {
+/// Whether bytes come to the same in one piece and one by one, and to nothing where they are not to stand for
+/// something.
+fn come_to_the_same(alloc: Global, bytes: &str, can_stand: bool) -> bool {
     let (mut whole, mut single) = (Decoder::new(alloc), Decoder::new(alloc));
     let (mut of_whole, mut of_single) = (KeyQueue::new(alloc), KeyQueue::new(alloc));
-    if whole.feed(bytes, &mut of_whole).is_err() || whole.finish(&mut of_whole).is_err() {
-        return false;
-    }
-    for byte in bytes {
-        if single.feed(&[*byte], &mut of_single).is_err() {
-            return false;
-        }
-    }
-    single.finish(&mut of_single).is_ok() && are_same(&mut of_whole, &mut of_single)
-}
-
-/// Whether bytes stand for nothing.
-fn types_nothing(alloc: Global, bytes: &[u8]) -> bool {
-    let mut decoder = Decoder::new(alloc);
-    let mut keys = KeyQueue::new(alloc);
-    if decoder.feed(bytes, &mut keys).is_err() || decoder.finish(&mut keys).is_err() {
-        return false;
-    }
-    keys.is_empty()
+    feeds(alloc, &mut whole, &mut of_whole, bytes, 0)
+        && feeds(alloc, &mut single, &mut of_single, bytes, EACH)
+        && (can_stand || of_whole.is_empty())
+        && are_same(&mut of_whole, &mut of_single)
 }
 
 #[test]
 fn come_to_the_same_in_any_pieces(rt: HostRuntime) {
-    let mut dice = Dice { last: 20 };
-    for number in 0..2000 {
-        let Some(bytes) = made(rt.alloc(), &mut dice) else {
-            holds(&rt, false, "bytes", number);
-            return;
-        };
-        let is_so = come_to_the_same(rt.alloc(), &bytes);
-        holds(&rt, is_so, "in any pieces", number);
-    }
-}
-
-/// What sequences are put together of, beside what begins and ends them.
-const INSIDE: &[&[u8]] = &[
-    b"0",
-    b"1",
-    b"9",
-    b";",
-    b":",
-    b"<",
-    b"?",
-    b" ",
-    b"!",
-    b"\x01",
-    b"\r",
-    b"\x7f",
-    b"\xc3\xa9",
-];
-
-#[test]
-fn type_nothing_in_sequences(rt: HostRuntime) {
-    let mut dice = Dice { last: 21 };
-    for number in 0..2000 {
-        let mut bytes = Vec::new(rt.alloc());
-        let mut is_made = bytes.extend_from_slice(b"\x1b]0").is_ok();
-        for _ in 0..dice.below(12) {
-            let part = INSIDE.get(dice.below(INSIDE.len())).unwrap_or(&INSIDE[0]);
-            is_made = is_made && bytes.extend_from_slice(part).is_ok();
+    for making in MADE {
+        let mut dice = Dice { last: making.0 };
+        for number in 0..2000 {
+            let is_so = match made(rt.alloc(), &mut dice, making) {
+                Some(bytes) => come_to_the_same(rt.alloc(), &bytes, making.5),
+                None => false,
+            };
+            holds(&rt, is_so, making.4, number);
         }
-        is_made = is_made && bytes.extend_from_slice(b"\x1b\\").is_ok();
-        let is_so = is_made && types_nothing(rt.alloc(), &bytes);
-        holds(&rt, is_so, "inside", number);
     }
 }

@@ -1,8 +1,8 @@
 //! What comes of searches through a history, by the bytes that are typed, whole and in pieces.
 
-use crate::sessions::{Case, LINES, SEARCH, SEARCH_VI, comes_true};
+use crate::sessions::{Case, LINES, SEARCH, SEARCH_VI};
 
-const CASES: &[Case] = &[
+pub(crate) const CASES: &[Case] = &[
     // the newest line that contains the term, with the cursor at it, and older and newer ones
     (
         SEARCH,
@@ -117,10 +117,3 @@ const CASES: &[Case] = &[
     (SEARCH_VI, LINES, "»¦abc\x12o¦\x1b¦…¦u", "abc|", ""),
     (SEARCH_VI, LINES, "»¦abc¦\x1b¦…¦\x12o\r", "⏎gamma one", ""),
 ];
-
-#[test]
-fn searches_in_whatever_pieces(rt: HostRuntime) {
-    for case in CASES {
-        comes_true(&rt, rt.alloc(), case);
-    }
-}

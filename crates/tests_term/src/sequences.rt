@@ -1,16 +1,20 @@
 //! The sequences that terminals send, by what they come to: those of the keys that terminfo has for each terminal, and those of other
-//! protocols; each whole, cut at each place, and after an Esc.
+//! protocols; each whole, cut at each place, and the keys after an Esc. Texts, too.
 
-use crate::by_bytes::{Wanted, come_over_a_pause, come_to, first_wrong};
+use crate::by_bytes::{Way, first_wrong};
 use crate::holds;
+use crate::texts::{PASTED, TYPED};
+use line_keys::keys::Modifiers;
 use line_screen::KeyQueue;
 use line_term::Decoder;
+use line_term::decoder::PASTE_BOUND;
 use line_term::sequence::Size;
-use std::alloc::Global;
-use std::process::Abort;
+
+/// Bytes, and the names of what they come to.
+pub(crate) type Rows = &'static [(&'static str, &'static str)];
 
 /// Bytes, and the key that they are.
-const KEYS: &[(&str, &str)] = &[
+const KEYS: Rows = &[
     // xterm
     ("\x1bOA", "Up"),
     ("\x1bOB", "Down"),
@@ -162,7 +166,7 @@ const KEYS: &[(&str, &str)] = &[
 ];
 
 /// The keys of characters with modifiers, and of Ctrl and Alt with characters.
-const CHARS: &[(&str, &str)] = &[
+const CHARS: Rows = &[
     // as xterm sends other keys with modifiers
     ("\x1b[27;5;97~", "C-A"),
     ("\x1b[27;2;13~", "S-Enter"),
@@ -200,217 +204,177 @@ const CHARS: &[(&str, &str)] = &[
 ];
 
 /// Bytes of no sequence, and their keys.
-const PLAIN: &[(&[u8], &str)] = &[
-    (b"", ""),
-    (b"\x01", "C-A"),
-    (b"\x08", "Backspace"),
-    (b"\x7f", "Backspace"),
-    (b"\t", "Tab"),
-    (b"\r", "Enter"),
-    (b"\n", "C-J"),
-    (b"\x1b", "Esc"),
-    (b"\x1b\x1b", "Esc Esc"),
-    (b"\x1b\x1b\x1b", "Esc Esc Esc"),
-    (b"\x1bx", "M-x"),
-    (b"\x1b\x1bx", "M-x"),
-    (b"\x1b\xc3\xa9", "M-\u{e9}"),
-    (b"\x1b\x7f", "M-Backspace"),
-    (b"\x1b\r", "M-Enter"),
-    (b"\x1b\t", "M-Tab"),
-    (b"\x1b\x01", "C-M-A"),
+const PLAIN: Rows = &[
+    ("", ""),
+    ("\x01", "C-A"),
+    ("\x08", "Backspace"),
+    ("\x7f", "Backspace"),
+    ("\t", "Tab"),
+    ("\r", "Enter"),
+    ("\n", "C-J"),
+    ("\x1b", "Esc"),
+    ("\x1b\x1b", "Esc Esc"),
+    ("\x1b\x1b\x1b", "Esc Esc Esc"),
+    ("\x1bx", "M-x"),
+    ("\x1b\x1bx", "M-x"),
+    ("\x1b\u{c3}\u{a9}", "M-\u{e9}"),
+    ("\x1b\x7f", "M-Backspace"),
+    ("\x1b\r", "M-Enter"),
+    ("\x1b\t", "M-Tab"),
+    ("\x1b\x01", "C-M-A"),
     // what a sequence begins by is a key too, where nothing follows
-    (b"\x1b[", "M-["),
-    (b"\x1bO", "M-O"),
-    (b"\x1bP", "M-P"),
-    (b"\x1b]", "M-]"),
-    (b"\x1b_", "M-_"),
-    (b"\x1bX", "M-X"),
-    (b"\x1b^", "M-^"),
+    ("\x1b[", "M-["),
+    ("\x1bO", "M-O"),
+    ("\x1bP", "M-P"),
+    ("\x1b]", "M-]"),
+    ("\x1b_", "M-_"),
+    ("\x1bX", "M-X"),
+    ("\x1b^", "M-^"),
     // two sequences, one after the other
-    (b"\x1b[A\x1b[B", "Up Down"),
-    (b"a\x1b[3~b", "a Delete b"),
+    ("\x1b[A\x1b[B", "Up Down"),
+    ("a\x1b[3~b", "a Delete b"),
 ];
 
 /// Reports and unknown sequences, and the keys that they come to.
-const OTHERS: &[(&[u8], &str)] = &[
+const OTHERS: Rows = &[
     // the mouse: as X10 reports it, with numbers, and marked
-    (b"\x1b[M !!x", "x"),
-    (b"\x1b[M abc", "c"),
-    (b"\x1b[32;10;20Mx", "x"),
-    (b"\x1b[<0;10;20Mx", "x"),
-    (b"\x1b[<0;10;20mx", "x"),
+    ("\x1b[M !!x", "x"),
+    ("\x1b[M abc", "c"),
+    ("\x1b[32;10;20Mx", "x"),
+    ("\x1b[<0;10;20Mx", "x"),
+    ("\x1b[<0;10;20mx", "x"),
     // the focus, the cursor's place, the terminal's name and state
-    (b"\x1b[Ix\x1b[Oy", "x y"),
-    (b"\x1b[12;40Rx", "x"),
-    (b"\x1b[2;5Rx", "x"),
-    (b"\x1b[?1;2cx", "x"),
-    (b"\x1b[>0;276;0cx", "x"),
-    (b"\x1b[0nx", "x"),
-    (b"\x1b[?2026;2$yx", "x"),
-    (b"\x1b[8;24;80tx", "x"),
-    (b"\x1b[4;600;800tx", "x"),
+    ("\x1b[Ix\x1b[Oy", "x y"),
+    ("\x1b[12;40Rx", "x"),
+    ("\x1b[2;5Rx", "x"),
+    ("\x1b[?1;2cx", "x"),
+    ("\x1b[>0;276;0cx", "x"),
+    ("\x1b[0nx", "x"),
+    ("\x1b[?2026;2$yx", "x"),
+    ("\x1b[8;24;80tx", "x"),
+    ("\x1b[4;600;800tx", "x"),
     // an Esc in front of what is no key is a key of its own
-    (b"\x1b\x1b[Ix", "Esc x"),
-    (b"\x1b\x1b[M !!x", "Esc x"),
-    (b"\x1b\x1b]11;a\x07x", "Esc x"),
-    (b"\x1b\x1b[8;24;80tx", "Esc x"),
-    (b"\x1b\x1b[12;40Rx", "Esc x"),
-    (b"\x1b\x1b[1;\x18x", "Esc x"),
-    (b"\x1b\x1b[\x1ax", "Esc x"),
-    (b"\x1b\x1b\x1b[Ix", "Esc Esc x"),
+    ("\x1b\x1b[Ix", "Esc x"),
+    ("\x1b\x1b[M !!x", "Esc x"),
+    ("\x1b\x1b]11;a\x07x", "Esc x"),
+    ("\x1b\x1b[8;24;80tx", "Esc x"),
+    ("\x1b\x1b[12;40Rx", "Esc x"),
+    ("\x1b\x1b[1;\x18x", "Esc x"),
+    ("\x1b\x1b[\x1ax", "Esc x"),
+    ("\x1b\x1b\x1b[Ix", "Esc Esc x"),
     // texts, to their end by BEL, by ESC and a backslash, or cancelled
-    (b"\x1b]11;rgb:0/0/0\x07x", "x"),
-    (b"\x1b]11;rgb:0/0/0\x1b\\x", "x"),
-    (b"\x1bP>|tmux 3.3a\x1b\\x", "x"),
-    (b"\x1b_Gi=31;OK\x1b\\x", "x"),
-    (b"\x1b]l;rm -rf\r\nls\x07x", "x"),
-    (b"\x1b]0;\xc3\xa9\xff\x18x", "x"),
-    (b"\x1b]0;a\x1b[Ax", "Up x"),
+    ("\x1b]11;rgb:0/0/0\x07x", "x"),
+    ("\x1b]11;rgb:0/0/0\x1b\\x", "x"),
+    ("\x1bP>|tmux 3.3a\x1b\\x", "x"),
+    ("\x1b_Gi=31;OK\x1b\\x", "x"),
+    ("\x1b]l;rm -rf\r\nls\x07x", "x"),
+    ("\x1b]0;\u{c3}\u{a9}\u{ff}\x18x", "x"),
+    ("\x1b]0;a\x1b[Ax", "Up x"),
     // what opens a text is a key with Alt where no text follows
-    (b"\x1bPdd", "M-P d d"),
-    (b"\x1b]x\r", "M-] x Enter"),
-    (b"\x1b_q\x03", "M-_ q C-C"),
-    (b"\x1b]\x1b[A", "M-] Up"),
-    (b"\x1bP\x1b\x1b[A", "M-P M-Up"),
+    ("\x1bPdd", "M-P d d"),
+    ("\x1b]x\r", "M-] x Enter"),
+    ("\x1b_q\x03", "M-_ q C-C"),
+    ("\x1b]\x1b[A", "M-] Up"),
+    ("\x1bP\x1b\x1b[A", "M-P M-Up"),
     // sequences that no key has
-    (b"\x1b[Kx", "Unknown x"),
-    (b"\x1b[99~x", "Unknown x"),
-    (b"\x1b[1;2;3;4Ax", "S-Up x"),
-    (b"\x1bOyx", "Unknown x"),
-    (b"\x1b[[Fx", "Unknown x"),
-    (b"\x1b[55296;5ux", "Unknown x"),
-    (b"\x1b[1114112ux", "Unknown x"),
-    (b"\x1b[99999999999999999999ux", "Unknown x"),
-    (b"\x1b[ux", "Unknown x"),
-    (b"\x1b[57414ux", "Unknown x"),
-    (b"\x1b[57388;5ux", "Unknown x"),
-    (b"\x1b[97:65;5ux", "x"),
+    ("\x1b[Kx", "Unknown x"),
+    ("\x1b[99~x", "Unknown x"),
+    ("\x1b[1;2;3;4Ax", "S-Up x"),
+    ("\x1bOyx", "Unknown x"),
+    ("\x1b[[Fx", "Unknown x"),
+    ("\x1b[55296;5ux", "Unknown x"),
+    ("\x1b[1114112ux", "Unknown x"),
+    ("\x1b[99999999999999999999ux", "Unknown x"),
+    ("\x1b[ux", "Unknown x"),
+    ("\x1b[57414ux", "Unknown x"),
+    ("\x1b[57388;5ux", "Unknown x"),
+    ("\x1b[97:65;5ux", "x"),
     // sequences that are cut off, cancelled, or end by what none has
-    (b"\x1b[1\x1b[B", "Unknown Down"),
-    (b"\x1b[\x1b[B", "M-[ Down"),
-    (b"\x1b[0\x1b[B", "Unknown Down"),
-    (b"\x1b[0Mx", "x"),
-    (b"\x1b[1;\x18x", "x"),
-    (b"\x1b[1;\x1ax", "x"),
-    (b"\x1b[1;\rx", "Unknown x"),
-    (b"\x1b[1\xc3\xa9x", "Unknown x"),
-    (b"\x1b[1\x7fx", "Unknown x"),
-    (b"\x1b[1;5", ""),
-    (b"\x1b[200~", ""),
-    (b"\x1b[201~x", "x"),
+    ("\x1b[1\x1b[B", "Unknown Down"),
+    ("\x1b[\x1b[B", "M-[ Down"),
+    ("\x1b[0\x1b[B", "Unknown Down"),
+    ("\x1b[0Mx", "x"),
+    ("\x1b[1;\x18x", "x"),
+    ("\x1b[1;\x1ax", "x"),
+    ("\x1b[1;\rx", "Unknown x"),
+    ("\x1b[1\u{c3}\u{a9}x", "Unknown x"),
+    ("\x1b[1\x7fx", "Unknown x"),
+    ("\x1b[1;5", ""),
+    ("\x1b[200~", ""),
+    ("\x1b[201~x", "x"),
     // an empty pasted text is none
-    (b"\x1b[200~\x1b[201~x", "x"),
-    (b"\x1b[200~\x1b\x01\x1b[201~x", "x"),
+    ("\x1b[200~\x1b[201~x", "x"),
+    ("\x1b[200~\x1b\x01\x1b[201~x", "x"),
 ];
 
-/// Whether bytes come to the keys of these names, each row cut at each place.
-fn come_to_names(rt: &impl Abort, alloc: Global, bytes: &[u8], names: &str) {
-    let wrong = first_wrong(alloc, bytes, Wanted::Keys(names));
-    holds(rt, wrong.is_none(), names, wrong.unwrap_or(0));
-}
-
-#[test]
-fn are_keys(rt: HostRuntime) {
-    for (bytes, name) in KEYS {
-        come_to_names(&rt, rt.alloc(), bytes.as_bytes(), name);
-    }
-}
-
-#[test]
-fn are_keys_of_characters(rt: HostRuntime) {
-    for (bytes, name) in CHARS {
-        come_to_names(&rt, rt.alloc(), bytes.as_bytes(), name);
-    }
-}
-
-#[test]
-fn have_alt_behind_an_escape(rt: HostRuntime) {
-    for (bytes, name) in KEYS {
-        let is_so = come_to(rt.alloc(), b"\x1b", bytes.as_bytes(), Wanted::WithAlt(name));
-        holds(&rt, is_so, name, 0);
-    }
-}
-
-#[test]
-fn are_plain_keys(rt: HostRuntime) {
-    for (bytes, names) in PLAIN {
-        come_to_names(&rt, rt.alloc(), bytes, names);
-    }
-}
-
-#[test]
-fn of_others(rt: HostRuntime) {
-    for (bytes, names) in OTHERS {
-        come_to_names(&rt, rt.alloc(), bytes, names);
-    }
-}
-
-/// Bytes before a pause, bytes after it, and the keys that they come to.
-const PAUSED: &[(&[u8], &[u8], &str)] = &[
-    (b"\x1b", b"[A", "Esc [ A"),
-    (b"\x1b\x1b", b"x", "Esc Esc x"),
-    (b"\x1b[", b"A", "M-[ A"),
-    (b"\x1b\x1b[", b"A", "M-[ A"),
-    (b"\x1b\x1b]", b"A", "Esc M-] A"),
-    (b"\x1b]", b"0", "M-] 0"),
+/// Bytes with a pause between them, and the keys that they come to.
+const PAUSED: Rows = &[
+    ("\x1b…[A", "Esc [ A"),
+    ("\x1b\x1b…x", "Esc Esc x"),
+    ("\x1b[…A", "M-[ A"),
+    ("\x1b\x1b[…A", "M-[ A"),
+    ("\x1b\x1b]…A", "Esc M-] A"),
+    ("\x1b]…0", "M-] 0"),
     // more than the beginning of a sequence, a report, a control string
-    (b"\x1b[1;5", b"A", "C-Up"),
-    (b"\x1b[M ", b"abx", "x"),
-    (b"\x1b[M", b"abcx", "x"),
-    (b"\x1b]0;a", b"b\x07x", "x"),
-    (b"\x1b]0;a\x1b", b"\\x", "x"),
+    ("\x1b[1;5…A", "C-Up"),
+    ("\x1b[M …abx", "x"),
+    ("\x1b[M…abcx", "x"),
+    ("\x1b]0;a…b\x07x", "x"),
+    ("\x1b]0;a\x1b…\\x", "x"),
     // a character is cut off
-    (b"\xe6\x97", b"\xa5x", "\u{fffd} \u{fffd} x"),
+    ("\u{e6}\u{97}…\u{a5}x", "\u{fffd} \u{fffd} x"),
+];
+
+/// As the bytes are, and with an Esc in front, which is Alt.
+const PLAINLY: Way = (PASTE_BOUND, "", Modifiers::NONE);
+
+const WITH_ALT: Way = (PASTE_BOUND, "\x1b", Modifiers::ALT);
+
+const TABLES: &[(Way, Rows)] = &[
+    (PLAINLY, KEYS),
+    (WITH_ALT, KEYS),
+    (PLAINLY, CHARS),
+    (PLAINLY, PLAIN),
+    (PLAINLY, OTHERS),
+    (PLAINLY, PAUSED),
+    (PLAINLY, TYPED),
+    (PLAINLY, PASTED),
 ];
 
 #[test]
-fn go_on_over_a_pause(rt: HostRuntime) {
-    for (first, others, names) in PAUSED {
-        let is_so = come_over_a_pause(rt.alloc(), first, others, Wanted::Keys(names));
-        holds(&rt, is_so, names, 0);
+fn come_to_their_names(rt: HostRuntime) {
+    for (way, rows) in TABLES {
+        for (bytes, names) in *rows {
+            let wrong = first_wrong(rt.alloc(), *way, bytes, names);
+            holds(&rt, wrong.is_none(), names, wrong.unwrap_or(0));
+        }
     }
 }
 
-/// Bytes, and the size that they report.
-const SIZES: &[(&str, Option<Size>)] = &[
-    ("", None),
-    (
-        "\x1b[8;24;80t",
-        Some(Size {
-            rows: 24,
-            columns: 80,
-        }),
-    ),
-    (
-        "\x1b[8;1;65535t",
-        Some(Size {
-            rows: 1,
-            columns: 65535,
-        }),
-    ),
-    (
-        "\x1b[8;24;80t\x1b[8;25;81t",
-        Some(Size {
-            rows: 25,
-            columns: 81,
-        }),
-    ),
-    ("\x1b[8;0;80t", None),
-    ("\x1b[8;24;65536t", None),
-    ("\x1b[8;24t", None),
-    ("\x1b[4;24;80t", None),
-    ("\x1b[?8;24;80t", None),
+/// Bytes, and the rows and columns of the size that they report, or 0 where they report none.
+const SIZES: &[(&str, u16, u16)] = &[
+    ("", 0, 0),
+    ("\x1b[8;24;80t", 24, 80),
+    ("\x1b[8;1;65535t", 1, 65535),
+    ("\x1b[8;24;80t\x1b[8;25;81t", 25, 81),
+    ("\x1b[8;0;80t", 0, 0),
+    ("\x1b[8;24;65536t", 0, 0),
+    ("\x1b[8;24t", 0, 0),
+    ("\x1b[4;24;80t", 0, 0),
+    ("\x1b[?8;24;80t", 0, 0),
 ];
 
 #[test]
 fn report_sizes(rt: HostRuntime) {
-    for (bytes, size) in SIZES {
+    for (bytes, rows, columns) in SIZES {
         let mut decoder = Decoder::new(rt.alloc());
         let mut keys = KeyQueue::new(rt.alloc());
-        let is_so = decoder.feed(bytes.as_bytes(), &mut keys).is_ok()
-            && decoder.take_size() == *size
-            && decoder.take_size().is_none()
-            && keys.is_empty();
-        holds(&rt, is_so, bytes, 0);
+        let is_fed = decoder.feed(bytes.as_bytes(), &mut keys).is_ok() && keys.is_empty();
+        let is_so = match decoder.take_size() {
+            Some(size) => (size.rows, size.columns) == (*rows, *columns),
+            None => *rows == 0,
+        };
+        let is_taken = decoder.take_size().is_none();
+        holds(&rt, is_fed && is_so && is_taken, bytes, 0);
     }
 }

@@ -1,7 +1,7 @@
 //! Sessions that are typed into, whole and in pieces, and what comes of it.
 
 use crate::holds;
-use crate::parties::{Failing, NOBODY, Party, fault};
+use crate::parties::{Failing, NOBODY, Party};
 use crate::terminal::Counted;
 use line_buffer::GraphemeClusterMode;
 use line_config::{CompletionType, Config, EditMode, Result};
@@ -13,6 +13,7 @@ use line_session::editor::{Editor, Fed};
 use line_session::parts::Parts;
 use std::alloc::Global;
 use std::process::Abort;
+use tests_parties::fault::GONE;
 use tests_parties::shelf::Shelf;
 
 /// A session in which those who are asked can fail.
@@ -92,15 +93,6 @@ pub(crate) fn bindings(alloc: Global) -> Result<Bindings> {
     Ok(bindings)
 }
 
-/// A completer of the words of a text.
-fn completer(alloc: Global, text: &str, failing: Failing) -> Result<Party> {
-    let mut party = Party::new(alloc, "completer", failing);
-    for word in text.split(' ') {
-        party.words.words.push(String::from_str(alloc, word)?)?;
-    }
-    Ok(party)
-}
-
 /// A history of the lines of a text, and none where it is empty.
 fn history(alloc: Global, text: &str, failing: Failing) -> Result<Shelf> {
     let mut history = Shelf::new(alloc, 0);
@@ -109,7 +101,7 @@ fn history(alloc: Global, text: &str, failing: Failing) -> Result<Shelf> {
     }
     let (name, call) = failing;
     if name == "history" {
-        history.fail_by(call as u64, fault(name));
+        history.fail_by(call as u64, GONE);
     }
     Ok(history)
 }
@@ -141,14 +133,13 @@ pub(crate) fn new_session(
         .build();
     let completes = lists || how.starts_with("round");
     let (words, lines) = if completes { (text, "") } else { ("", text) };
-    let completer = completer(alloc, words, failing)?;
     let history = history(alloc, lines, failing)?;
     let out = Counted::failing(alloc, failing)?;
     let helper = Parts {
-        completer,
-        hinter: Party::new(alloc, "hinter", failing),
-        highlighter: Party::new(alloc, "highlighter", failing),
-        validator: Party::new(alloc, "validator", failing),
+        completer: Party::new(alloc, "completer", words, failing)?,
+        hinter: Party::new(alloc, "hinter", "", failing)?,
+        highlighter: Party::new(alloc, "highlighter", "", failing)?,
+        validator: Party::new(alloc, "validator", "", failing)?,
     };
     let mut session = Editor::new(alloc, config, out, 20, helper, history);
     let _ = session.resize(20, 5);
@@ -158,7 +149,10 @@ pub(crate) fn new_session(
 /// Does a step. What is fed goes in by pieces of at most this length.
 fn done(session: &mut Session, step: &str, piece: usize, bindings: &Bindings) -> Result<Fed> {
     if let Some(texts) = step.strip_prefix(BEGIN) {
-        return begun(session, texts, bindings);
+        return match texts.split_once(CURSOR) {
+            Some(texts) => session.begin_with(&"> ", texts, bindings),
+            None => session.begin(&"> ", bindings),
+        };
     }
     if let Some(columns) = step.strip_prefix(SIZE) {
         let columns: u16 = columns.parse().unwrap_or(20);
@@ -176,14 +170,6 @@ fn done(session: &mut Session, step: &str, piece: usize, bindings: &Bindings) ->
         fed = session.feed(bytes, bindings)?;
     }
     Ok(fed)
-}
-
-/// Begins a line with the texts before and after the mark of the cursor, or an empty one where there is no mark.
-fn begun(session: &mut Session, texts: &str, bindings: &Bindings) -> Result<Fed> {
-    match texts.split_once(CURSOR) {
-        Some(texts) => session.begin_with(&"> ", texts, bindings),
-        None => session.begin(&"> ", bindings),
-    }
 }
 
 /// The line with its cursor, and nothing where none goes on.
@@ -222,6 +208,6 @@ pub(crate) fn comes_true(rt: &impl Abort, alloc: Global, case: &Case) {
         }
         let came = came(alloc, &fed, &session).expect(rt, "memory");
         holds(rt, came.as_str() == wanted, keys, piece);
-        holds(rt, session.out().has(written), keys, piece);
+        holds(rt, session.out().written().contains(written), keys, piece);
     }
 }

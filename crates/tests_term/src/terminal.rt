@@ -1,23 +1,25 @@
 //! What a terminal asks of its output, and what comes of failures.
 
 use crate::holds;
-use crate::parties::{Failing, NOBODY, Party, fault};
+use crate::parties::{Failing, NOBODY, Party};
 use line_buffer::{GraphemeClusterMode, Layout, LineBuffer, Position};
-use line_config::{ReadlineError, Result};
+use line_config::{Prompt, ReadlineError, Result};
+use line_parts::Highlighter;
 use line_screen::KeyQueue;
 use line_session::dim_hints::DimHints;
 use line_state::Renderer;
 use line_term::Ansi;
 use std::alloc::Global;
 use std::io::{self, ErrorKind, Write};
-use tests_parties::fault::Fault;
+use tests_parties::fault::{Fault, GONE};
 
 /// An output that counts what it is asked for. It takes at most so many bytes at once. Its write of this number, from 1 on, fails; or
 /// each flush, where the number is the greatest.
 #[derive(Drop)]
 pub(crate) struct Counted {
     bytes: Vec<u8>,
-    writes: usize,
+    /// How often it was asked to write.
+    pub(crate) writes: usize,
     flushes: usize,
     most: usize,
     failing: usize,
@@ -34,27 +36,13 @@ impl Counted {
             flushes: 0,
             most: usize::MAX,
             failing: if name == "output" { call } else { 0 },
-            fault: fault(name),
+            fault: GONE,
         })
     }
 
-    /// How often it was asked to write.
-    pub(crate) fn writes(&self) -> usize {
-        self.writes
-    }
-
-    /// Whether it was asked to write this text, among others.
-    pub(crate) fn has(&self, text: &str) -> bool {
-        str::from_utf8(self.bytes.as_slice()).is_ok_and(|written| written.contains(text))
-    }
-
-    /// Whether what was written after the last of these texts begins on a new row. An empty text stands nowhere.
-    pub(crate) fn goes_on_below(&self, text: &str) -> bool {
-        let written = str::from_utf8(self.bytes.as_slice()).unwrap_or("");
-        match written.rsplit_once(text) {
-            Some((_, behind)) => text.is_empty() || behind.starts_with("\r\n"),
-            None => true,
-        }
+    /// What it has taken, if it is text.
+    pub(crate) fn written(&self) -> &str {
+        str::from_utf8(self.bytes.as_slice()).unwrap_or("")
     }
 }
 
@@ -80,50 +68,17 @@ impl Write for Counted {
 
 type Terminal = Ansi<Counted, KeyQueue>;
 
-/// A terminal of ten columns, whose output takes so many bytes at once and fails at this write.
-fn terminal(alloc: Global, most: usize, failing: usize, kind: ErrorKind) -> Terminal {
-    let out = Counted {
-        bytes: Vec::new(alloc),
-        writes: 0,
-        flushes: 0,
-        most,
-        failing,
-        fault: Fault {
-            kind,
-            text: "the output",
-        },
-    };
-    Ansi::new(alloc, out, 10, true, true)
-}
-
 /// Draws a line in full, with a hint after it.
-fn redraw(alloc: Global, terminal: &mut Terminal, failing: Failing) -> Result<()> {
+fn redraw<P: Prompt, H: Highlighter>(
+    alloc: Global,
+    terminal: &mut Terminal,
+    prompt: &P,
+    highlighter: &H,
+) -> Result<()> {
     let line = LineBuffer::init(alloc, "ab", 2)?;
     let begin = terminal.calculate_position("> ", Position { row: 0, col: 0 });
     let layout = terminal.compute_layout(begin, true, &line, Some("c"));
-    terminal.refresh_line(
-        &"> ",
-        &line,
-        Some("c"),
-        None,
-        &layout,
-        Some(&Party::new(alloc, "highlighter", failing)),
-    )
-}
-
-/// Draws a line in full with a styled prompt and a hint that has colors.
-fn redraw_with_colors(alloc: Global, terminal: &mut Terminal) -> Result<()> {
-    let line = LineBuffer::init(alloc, "ab", 2)?;
-    let begin = terminal.calculate_position("> ", Position { row: 0, col: 0 });
-    let layout = terminal.compute_layout(begin, true, &line, Some("c"));
-    terminal.refresh_line(
-        &("> ", "\x1b[1m> "),
-        &line,
-        Some("c"),
-        None,
-        &layout,
-        Some(&DimHints::new(false)),
-    )
+    terminal.refresh_line(prompt, &line, Some("c"), None, &layout, Some(highlighter))
 }
 
 /// A text of many bytes.
@@ -157,15 +112,18 @@ const CALLS: &[(&str, &str)] = &[
     ),
 ];
 
-/// Makes the call of this name.
-fn call(alloc: Global, terminal: &mut Terminal, name: &str) -> Result<()> {
+/// Makes the call of this name. A highlighter that it asks can fail.
+fn call(alloc: Global, terminal: &mut Terminal, name: &str, failing: Failing) -> Result<()> {
     match name {
         "beep" => terminal.beep(),
         "move_cursor" => {
             terminal.move_cursor(Position { row: 0, col: 0 }, Position { row: 1, col: 2 })
         }
         "write_and_flush" => terminal.write_and_flush("xyz"),
-        "colors" => redraw_with_colors(alloc, terminal),
+        "colors" => {
+            let prompt = ("> ", "\x1b[1m> ");
+            redraw(alloc, terminal, &prompt, &DimHints::new(false))
+        }
         "a long text" => terminal.write_and_flush(LONG),
         "a text of more than ASCII" => terminal.write_and_flush("e\u{301}日\t\u{85}\r\n"),
         "clear_to_eol" => terminal.clear_to_eol(),
@@ -179,79 +137,90 @@ fn call(alloc: Global, terminal: &mut Terminal, name: &str) -> Result<()> {
         "disable_bracketed_paste" => terminal.disable_bracketed_paste(),
         "begin_synchronized_update" => terminal.begin_synchronized_update(),
         "end_synchronized_update" => terminal.end_synchronized_update(),
-        _ => redraw(alloc, terminal, NOBODY),
+        _ => {
+            let highlighter = Party::new(alloc, "highlighter", "", failing)?;
+            redraw(alloc, terminal, &"> ", &highlighter)
+        }
     }
 }
 
-/// Whether a call that succeeds writes these bytes in so many writes, and flushes them once.
-fn writes(alloc: Global, name: &str, most: usize, failing: usize, bytes: &str) -> Option<usize> {
-    let mut terminal = terminal(alloc, most, failing, ErrorKind::Interrupted);
-    call(alloc, &mut terminal, name).ok()?;
+/// How many bytes an output takes at once, who fails, and by an error of which kind, if it is the output.
+type How = (usize, Failing, ErrorKind);
+
+/// Whether a call, on a terminal of ten columns, is asked to write so often, and these bytes are taken; and whether
+/// they are flushed once where it is well, and else it fails by that error and nothing is flushed.
+fn does(
+    alloc: Global,
+    name: &str,
+    how: How,
+    is_well: bool,
+    writes: usize,
+    bytes: &[u8],
+) -> Result<bool> {
+    let (most, failing, kind) = how;
+    let mut out = Counted::failing(alloc, failing)?;
+    out.most = most;
+    out.fault.kind = kind;
+    let mut terminal = Ansi::new(alloc, out, 10, true, true);
+    let is_so = match call(alloc, &mut terminal, name, failing) {
+        Ok(()) => is_well,
+        Err(ReadlineError::Io(error)) => !is_well && error.kind() == kind,
+        Err(_) => false,
+    };
     let out = terminal.into_out();
-    if out.bytes.as_slice() != bytes.as_bytes() || out.flushes != 1 {
-        return None;
-    }
-    Some(out.writes)
+    let asked = (out.writes, out.flushes);
+    Ok(is_so && asked == (writes, usize::from(is_well)) && out.bytes.as_slice() == bytes)
 }
 
-/// Whether a call fails by the error of this kind, with so many bytes written and none flushed.
-fn fails(alloc: Global, name: &str, failing: usize, bytes: &[u8]) -> bool {
-    let mut terminal = terminal(alloc, 1, failing, ErrorKind::PermissionDenied);
-    let outcome = call(alloc, &mut terminal, name);
-    let is_same =
-        matches!(&outcome, Err(ReadlineError::Io(e)) if e.kind() == ErrorKind::PermissionDenied);
-    let out = terminal.into_out();
-    is_same && out.bytes.as_slice() == bytes && out.flushes == 0
-}
-
+/// In one piece; and an interrupted write is tried again.
 #[test]
 fn writes_in_one_piece_and_flushes(rt: HostRuntime) {
     for (name, bytes) in CALLS {
-        let is_so = writes(rt.alloc(), name, usize::MAX, 0, bytes) == Some(1);
-        holds(&rt, is_so, name, 0);
+        for (call, writes) in [(0, 1), (1, 2)] {
+            let how = (usize::MAX, ("output", call), ErrorKind::Interrupted);
+            let is_so = does(rt.alloc(), name, how, true, writes, bytes.as_bytes());
+            holds(&rt, is_so.expect(&rt, "room"), name, writes);
+        }
     }
 }
 
+/// Bytes are taken one by one, and the write behind so many of them fails; there is none behind all of them.
 #[test]
-fn goes_on_behind_what_was_taken(rt: HostRuntime) {
-    for (name, bytes) in CALLS {
-        let is_so = writes(rt.alloc(), name, 1, 0, bytes) == Some(bytes.len());
-        holds(&rt, is_so, name, 0);
-        // an interrupted write is tried again
-        let again = writes(rt.alloc(), name, usize::MAX, 1, bytes) == Some(2);
-        holds(&rt, again, name, 1);
-    }
-}
-
-#[test]
-fn hands_on_the_failures_of_its_output(rt: HostRuntime) {
+fn goes_on_behind_what_was_taken_or_hands_on_the_failure(rt: HostRuntime) {
     for (name, bytes) in CALLS {
         let bytes = bytes.as_bytes();
-        for count in 0..bytes.len() {
-            let is_so = fails(rt.alloc(), name, count + 1, &bytes[..count]);
-            holds(&rt, is_so, name, count);
+        for count in 0..=bytes.len() {
+            let next = count.saturating_add(1);
+            let how = (1, ("output", next), ErrorKind::PermissionDenied);
+            let is_well = count == bytes.len();
+            let writes = if is_well { count } else { next };
+            let is_so = does(rt.alloc(), name, how, is_well, writes, &bytes[..count]);
+            holds(&rt, is_so.expect(&rt, "room"), name, count);
         }
-        let is_flushed = fails(rt.alloc(), name, usize::MAX, bytes);
-        holds(&rt, is_flushed, name, bytes.len());
     }
 }
 
-/// It is asked for the prompt, the line and the hint.
+/// The flush of each call fails, and each call of a highlighter, which is asked for the prompt, the line and the hint.
 #[test]
-fn hands_on_the_failures_of_a_highlighter(rt: HostRuntime) {
+fn hands_on_the_failures_of_a_flush_and_a_highlighter(rt: HostRuntime) {
+    let kind = ErrorKind::PermissionDenied;
+    for (name, bytes) in CALLS {
+        let how = (1, ("output", usize::MAX), kind);
+        let bytes = bytes.as_bytes();
+        let is_so = does(rt.alloc(), name, how, false, bytes.len(), bytes);
+        holds(&rt, is_so.expect(&rt, "room"), name, bytes.len());
+    }
     for call in 1..=3 {
-        let mut terminal = terminal(rt.alloc(), usize::MAX, 0, ErrorKind::Other);
-        let outcome = redraw(rt.alloc(), &mut terminal, ("highlighter", call));
-        let is_same =
-            matches!(&outcome, Err(ReadlineError::Io(e)) if e.kind() == ErrorKind::PermissionDenied);
-        let is_silent = terminal.into_out().writes == 0;
-        holds(&rt, is_same && is_silent, "highlighter", call);
+        let how = (usize::MAX, ("highlighter", call), kind);
+        let is_so = does(rt.alloc(), "refresh_line", how, false, 0, b"");
+        holds(&rt, is_so.expect(&rt, "room"), "highlighter", call);
     }
 }
 
 #[test]
 fn has_the_columns_of_the_last_resize(rt: HostRuntime) {
-    let mut terminal = terminal(rt.alloc(), usize::MAX, 0, ErrorKind::Other);
+    let out = Counted::failing(rt.alloc(), NOBODY).expect(&rt, "room");
+    let mut terminal: Terminal = Ansi::new(rt.alloc(), out, 10, true, true);
     let is_new = (terminal.get_columns(), terminal.get_rows()) == (10, 24);
     terminal.resize(3, 7);
     let is_resized = (terminal.get_columns(), terminal.get_rows()) == (3, 7);
