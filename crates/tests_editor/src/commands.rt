@@ -46,63 +46,42 @@ fn does(
 /// that it leads to.
 type Last = (Unit, &'static str, &'static str, Unit);
 
-fn stays(rt: &impl Abort, alloc: Global, case: &Last) {
-    let (columns, typed, calls, column) = case;
-    let mut prompt = String::new(alloc);
-    for _ in 0..65535 {
-        prompt.push('\n').expect(rt, "no fault");
-    }
-    let mut screen = Recorder::new(alloc, (*columns).max(1), false, 0);
-    let row = types(rt, alloc, &mut screen, &prompt, typed);
-    let letters = letters(alloc, screen.log(), 1).expect(rt, "no fault");
-    assert_eq!(rt;
-        (row, letters.as_str()),
-        ((65535, *column), *calls),
-        "{typed}"
-    );
-}
-
-/// Types characters into an empty line. Returns where the cursor is drawn.
-fn types(
-    rt: &impl Abort,
-    alloc: Global,
-    screen: &mut Recorder,
-    prompt: &String,
-    typed: &str,
-) -> (Unit, Unit) {
-    let history = Shelf::new(alloc, 0);
-    let context = Context::new(&history);
-    let mut state: State<'_, '_, Recorder, Advisor, String, Shelf> = State::new(
-        alloc, screen, prompt, None, context,
-    ).expect(rt, "no fault");
-    state.refresh_line().expect(rt, "no fault");
-    for c in typed.chars() {
-        state.edit_insert(c, 1).expect(rt, "no fault");
-    }
-    let cursor = state.layout().cursor;
-    (cursor.row, cursor.col)
-}
-
 const ON_THE_LAST_ROW: &[Last] = &[(1, "x", "d", 0), (2, "xyz", "wdw", 1), (3, "xyz", "wwd", 0)];
 
 #[test]
 fn on_the_last_row(rt: HostRuntime) {
-    for case in ON_THE_LAST_ROW {
-        stays(&rt, rt.alloc(), case);
+    let alloc = rt.alloc();
+    let mut prompt = String::new(alloc);
+    for _ in 0..65535 {
+        prompt.push('\n').expect(&rt, "no fault");
+    }
+    for (columns, typed, calls, column) in ON_THE_LAST_ROW {
+        let mut screen = Recorder::new(alloc, (*columns).max(1), false, 0);
+        let history = Shelf::new(alloc, 0);
+        let context = Context::new(&history);
+        let mut state: State<'_, '_, Recorder, Advisor, String, Shelf> = State::new(
+            alloc,
+            &mut screen,
+            &prompt,
+            None,
+            context,
+        ).expect(&rt, "no fault");
+        state.refresh_line().expect(&rt, "no fault");
+        for c in typed.chars() {
+            state.edit_insert(c, 1).expect(&rt, "no fault");
+        }
+        let cursor = state.layout().cursor;
+        let letters = letters(alloc, state.out().log(), 1).expect(&rt, "no fault");
+        assert_eq!(rt;
+            (cursor.row, cursor.col, letters.as_str()),
+            (65535, *column, *calls),
+            "{typed}"
+        );
     }
 }
 
 /// What `Debug` writes of a state has each of these pieces.
 const PIECES: &[&str] = &["State", "\"日本\"", "pos: 3", "history_index: 2", "Layout"];
-
-fn writes(rt: &impl Abort, alloc: Global, state: &Editor<'_, '_>) {
-    let mut formatter = Formatter::new(String::new(alloc));
-    assert!(rt; state.fmt(&mut formatter).is_ok());
-    let written = formatter.into_inner();
-    for piece in PIECES {
-        assert!(rt; written.as_str().contains(*piece), "{piece}");
-    }
-}
 
 #[test]
 fn is_written(rt: HostRuntime) {
@@ -118,8 +97,19 @@ fn is_written(rt: HostRuntime) {
     let context = Context::new(&history);
     let text = "日本";
     assert!(rt; text.is_char_boundary(3));
-    let state = State::with_line(alloc, &mut screen, &prompt, None, context, text, 3).expect(
-        &rt, "no fault",
-    );
-    writes(&rt, alloc, &state);
+    let state: Editor<'_, '_> = State::with_line(
+        alloc,
+        &mut screen,
+        &prompt,
+        None,
+        context,
+        text,
+        3,
+    ).expect(&rt, "no fault");
+    let mut formatter = Formatter::new(String::new(alloc));
+    assert!(rt; state.fmt(&mut formatter).is_ok());
+    let written = formatter.into_inner();
+    for piece in PIECES {
+        assert!(rt; written.as_str().contains(*piece), "{piece}");
+    }
 }

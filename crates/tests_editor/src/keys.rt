@@ -341,9 +341,9 @@ fn modifiers_are_sets(rt: HostRuntime) {
     assert_eq!(rt; (M::empty(), M::all()), (M::NONE, M::CTRL_ALT_SHIFT));
 }
 
-/// Equal events are one key of a map.
+/// Equal events are one key of a map, and what is bound to one is its handler.
 #[test]
-fn of_a_map(rt: HostRuntime) {
+fn of_maps_and_events(rt: HostRuntime) {
     let found = {
         let mut commands = HashMap::new(rt.alloc());
         for (key, number) in [(KeyEvent::ctrl('A'), 1), (KeyEvent::alt('A'), 2)] {
@@ -356,10 +356,6 @@ fn of_a_map(rt: HostRuntime) {
     assert_eq!(rt; found, (Some(1), None));
     let text = format!(in rt.alloc(); "{:?}", KeyEvent::ctrl('A')).expect(&rt, "no fault");
     assert_eq!(rt; text.as_str(), "KeyEvent(Char('A'), Modifiers(8))");
-}
-
-#[test]
-fn of_events(rt: HostRuntime) {
     let key = KeyEvent::ctrl('x');
     let event = Event::from_key(rt.alloc(), key).expect(&rt, "no fault");
     let found = (

@@ -12,7 +12,6 @@ use line_keys::cmd::Cmd;
 use line_keys::keys::{KeyCode, KeyEvent, Modifiers};
 use std::alloc::Global;
 use std::process::Abort;
-use std::test::Fail;
 
 /// An event.
 #[derive(Drop)]
@@ -179,53 +178,42 @@ const FORTY: &[Binding] = &[
     (40, 2, (0, 0), (0, 40)),
 ];
 
-/// Binds a beginning of forty keys; where memory runs out, the map is as it was. What is bound then, and nothing else, is
+/// Binds beginnings of forty keys; where memory runs out, the map is as it was. What is bound then, and nothing else, is
 /// found.
-fn binds(rt: &impl Abort, alloc: Global, bindings: &mut Bindings, case: &Binding) -> Result<()> {
-    let (len, n, before, after) = case;
-    let step = (Binds(*n), Keys("", 0, *len), None, *len);
-    let outcome = takes(rt, alloc, bindings, &step);
-    let (first, second) = if outcome.is_ok() { *after } else { *before };
-    let longest = first.max(second);
-    for len in 0..41 {
-        let wanted = match len {
-            0 => None,
-            len if len == first => Some(1),
-            len if len == second => Some(2),
-            _ => None,
-        };
-        let leads = longest > 0 && len <= longest;
-        let step = (Finds(leads), Keys("", 0, len), wanted, longest);
-        takes(rt, alloc, bindings, &step)?;
-    }
-    outcome
-}
-
-/// Binds beginnings of forty keys.
 fn forty(rt: &impl Abort, alloc: Global) -> Result<()> {
     let mut bindings = Bindings::new(alloc);
-    for case in FORTY {
-        let (first, second) = case.2;
-        if first == 0 && second == 0 {
+    for (len, n, before, after) in FORTY {
+        if *before == (0, 0) {
             bindings = Bindings::new(alloc);
         }
-        binds(rt, alloc, &mut bindings, case)?;
+        let step = (Binds(*n), Keys("", 0, *len), None, *len);
+        let outcome = takes(rt, alloc, &mut bindings, &step);
+        let (first, second) = if outcome.is_ok() { *after } else { *before };
+        let longest = first.max(second);
+        for len in 0..41 {
+            let wanted = match len {
+                0 => None,
+                len if len == first => Some(1),
+                len if len == second => Some(2),
+                _ => None,
+            };
+            let leads = longest > 0 && len <= longest;
+            let step = (Finds(leads), Keys("", 0, len), wanted, longest);
+            takes(rt, alloc, &mut bindings, &step)?;
+        }
+        outcome?;
     }
     Ok(())
 }
 
+/// Memory runs out no more than once: then they are bound anew.
 #[test]
-fn forty_keys_are_bound(rt: HostRuntime) {
-    forty(&rt, rt.alloc()).expect(&rt, "no fault");
-}
-
-/// A refusal is no failure of the test.
-#[test]
-fn forty_keys_are_bound_or_none(rt: HostRuntime) -> std::result::Result<(), Fail> {
-    match forty(&rt, rt.alloc()) {
-        Ok(()) | Err(ReadlineError::Memory) => Ok(()),
-        Err(_) => Err(Fail::from("no other error")),
-    }
+fn forty_keys_are_bound_or_none(rt: HostRuntime) {
+    let outcome = match forty(&rt, rt.alloc()) {
+        Err(ReadlineError::Memory) => forty(&rt, rt.alloc()),
+        outcome => outcome,
+    };
+    outcome.expect(&rt, "no other error");
 }
 
 /// Events, and their normal forms.

@@ -60,37 +60,6 @@ const CONTROL_X: KeyEvent = KeyEvent(K::Char('X'), M::CTRL);
 
 type Editor<'out, 'prompt> = State<'out, 'prompt, Recorder, Advisor, &'static str, MemHistory>;
 
-/// The keys of a count: the first of them with Alt.
-fn count_keys(rt: &impl Abort, alloc: Global, text: &str) -> Vec<KeyEvent> {
-    let mut keys = Vec::new(alloc);
-    let mut mods = M::ALT;
-    for c in text.chars() {
-        keys.push(KeyEvent(K::Char(c), mods)).expect(rt, "no fault");
-        mods = M::NONE;
-    }
-    keys
-}
-
-/// What a key means by the tables.
-fn meant(
-    rt: &impl Abort,
-    alloc: Global,
-    state: &Editor<'_, '_>,
-    way: &Way,
-    key: KeyEvent,
-    count: Count,
-) -> String {
-    let meaning = match way {
-        Way::Second => Meaning::Command(second_key(key, count)),
-        _ => entry_of_key(EditMode::Emacs, InputMode::Insert, key, Some(count), state).meaning,
-    };
-    let outcome = match meaning {
-        Meaning::Command(command) => format!(in alloc; "{command:?}"),
-        other => format!(in alloc; "{other:?}"),
-    };
-    outcome.expect(rt, "no fault")
-}
-
 /// The command of a key where it is typed after the keys of a count.
 fn commanded(
     rt: &impl Abort,
@@ -101,9 +70,13 @@ fn commanded(
     key: KeyEvent,
 ) -> String {
     let mut typist = Typist::new(alloc);
-    typist
-        .press(count_keys(rt, alloc, digits).as_slice())
-        .expect(rt, "no fault");
+    let mut mods = M::ALT;
+    for digit in digits.chars() {
+        typist
+            .press(&[KeyEvent(K::Char(digit), mods)])
+            .expect(rt, "no fault");
+        mods = M::NONE;
+    }
     let outcome = match way {
         Way::Second => typist.press(&[CONTROL_X, key]),
         Way::Search => typist.press(&[key, KeyEvent(K::Char('é'), M::NONE)]),
@@ -145,10 +118,25 @@ fn found(
         cursor,
     ).expect(rt, "no fault");
     state.hint().expect(rt, "no fault");
-    match count.0 {
-        Some(count) => meant(rt, alloc, &state, way, key, count),
-        None => commanded(rt, alloc, &mut state, count.1, way, key),
-    }
+    let Some(handed) = count.0 else {
+        return commanded(rt, alloc, &mut state, count.1, way, key);
+    };
+    let meaning = match way {
+        Way::Second => Meaning::Command(second_key(key, handed)),
+        _ => entry_of_key(
+            EditMode::Emacs,
+            InputMode::Insert,
+            key,
+            Some(handed),
+            &state,
+        )
+        .meaning,
+    };
+    let outcome = match meaning {
+        Meaning::Command(command) => format!(in alloc; "{command:?}"),
+        other => format!(in alloc; "{other:?}"),
+    };
+    outcome.expect(rt, "no fault")
 }
 
 /// Tries the key of a row on a line with each count that it does not go on with.
@@ -206,13 +194,11 @@ const TYPED: &[Typed] = &[
 fn of_counts(rt: HostRuntime) {
     for typed in TYPED {
         let (text, positive, n, prompt) = *typed;
-        let keys = count_keys(&rt, rt.alloc(), text);
-        let Some((first, others)) = keys.as_slice().split_first() else {
-            panic!(rt; "no key is typed");
-        };
-        let mut count = TypedCount::new(*first);
-        for key in others {
-            count.push(*key);
+        let mut keys = text.chars();
+        let first = keys.next().expect(&rt, "a key is typed");
+        let mut count = TypedCount::new(KeyEvent(K::Char(first), M::ALT));
+        for key in keys {
+            count.push(KeyEvent(K::Char(key), M::NONE));
         }
         let found = count.count();
         let shown = count.prompt(rt.alloc()).expect(&rt, "no fault");

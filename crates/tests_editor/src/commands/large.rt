@@ -35,10 +35,25 @@ fn shelved(rt: &impl Abort, alloc: Global, lines: u64) -> Shelf {
     history
 }
 
-/// Does the steps of a case, none of which fails: those of the first text once, the next so many
-/// times, the last once. Then the line has the length, the cursor and the place that are wanted.
-fn takes(rt: &impl Abort, alloc: Global, state: &mut Editor<'_, '_>, case: &Case) {
-    let (_, before, times, steps, behind, left) = case;
+/// Does the steps of a case, none of which fails: those of the first text once, the next so many times, the last once.
+/// Then the line has the length, the cursor and the place that are wanted.
+fn lasts(rt: &impl Abort, alloc: Global, case: &Case) {
+    let (lines, before, times, steps, behind, left) = case;
+    let prompt = (
+        String::from_str(alloc, "> ").expect(rt, "no fault"),
+        String::from_str(alloc, "> ").expect(rt, "no fault"),
+    );
+    let history = shelved(rt, alloc, *lines);
+    let mut screen = Recorder::new(alloc, 80, false, 0);
+    let mut helper = Advisor::new(Some("!!"), (true, true, None), None);
+    let context = Context::new(&history);
+    let mut state: Editor<'_, '_> = State::new(
+        alloc,
+        &mut screen,
+        &prompt,
+        Some(&mut helper),
+        context,
+    ).expect(rt, "no fault");
     let mut kills = KillRing::new(alloc, 60);
     for round in 0..times.saturating_add(2) {
         let text = match round {
@@ -47,26 +62,11 @@ fn takes(rt: &impl Abort, alloc: Global, state: &mut Editor<'_, '_>, case: &Case
             _ => *behind,
         };
         if !text.is_empty() {
-            does(rt, alloc, state, &mut kills, text).expect(rt, "no fault");
+            does(rt, alloc, &mut state, &mut kills, text).expect(rt, "no fault");
         }
     }
     let found = (state.line().len(), state.pos(), state.place());
     assert_eq!(rt; found, *left, "{steps} {behind}");
-}
-
-fn lasts(rt: &impl Abort, alloc: Global, case: &Case) {
-    let prompt = (
-        String::from_str(alloc, "> ").expect(rt, "no fault"),
-        String::from_str(alloc, "> ").expect(rt, "no fault"),
-    );
-    let history = shelved(rt, alloc, case.0);
-    let mut screen = Recorder::new(alloc, 80, false, 0);
-    let mut helper = Advisor::new(Some("!!"), (true, true, None), None);
-    let context = Context::new(&history);
-    let mut state = State::new(alloc, &mut screen, &prompt, Some(&mut helper), context).expect(
-        rt, "no fault",
-    );
-    takes(rt, alloc, &mut state, case);
 }
 
 /// One step after the other and one kill; and walks through a history of 1,100 lines of eight bytes.

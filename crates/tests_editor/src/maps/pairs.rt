@@ -52,47 +52,29 @@ fn drawn(rt: &impl Abort, alloc: Global, seed: u32) -> Event {
     Event::KeySeq(keys)
 }
 
-/// Both answer the same of an event. One time in three they give it a number, and answer the one that it had.
-fn agrees(
-    rt: &impl Abort,
-    alloc: Global,
-    bindings: &mut Bindings,
-    pairs: &mut Pairs,
-    event: Event,
-    own: u16,
-) {
-    let (wanted, begins) = looked_up(pairs, &event);
-    let found = number(bindings.get(&event));
-    let is_begun = bindings.begins(&event);
-    assert_eq!(rt; (found, is_begun), (wanted, begins), "{event:?}");
-    if own % 3 == 0 {
-        let copy = event.clone(alloc).expect(rt, "no fault");
-        pairs.push((copy, own)).expect(rt, "no fault");
-        let handler = EventHandler::from(Cmd::SelfInsert(own, 'x'));
-        let old = bindings.insert(event, handler).expect(rt, "no fault");
-        let found = number(old.as_ref());
-        assert_eq!(rt; found, wanted);
-    }
-}
-
-/// Events and numbers come of the numbers of a linear congruence, whose upper bits look mixed.
+/// Both answer the same of an event. One time in three they give it a number, and answer the one that it had. Events
+/// and numbers come of the numbers of a linear congruence, whose upper bits look mixed.
 #[test]
 fn a_list_of_pairs_answers_the_same(rt: HostRuntime) {
     let alloc = rt.alloc();
     let mut bindings = Bindings::new(alloc);
-    let mut pairs = Vec::new(alloc);
+    let mut pairs: Pairs = Vec::new(alloc);
     let mut last = 7u32;
     for _ in 0..2001 {
         let next = last.wrapping_mul(1_664_525).wrapping_add(1_013_904_223);
         let event = drawn(&rt, alloc, next);
-        agrees(
-            &rt,
-            alloc,
-            &mut bindings,
-            &mut pairs,
-            event,
-            (last >> 16) as u16,
-        );
+        let own = (last >> 16) as u16;
         last = next;
+        let wanted = looked_up(&pairs, &event);
+        let found = number(bindings.get(&event));
+        let is_begun = bindings.begins(&event);
+        assert_eq!(rt; (found, is_begun), wanted, "{event:?}");
+        if own % 3 == 0 {
+            let copy = event.clone(alloc).expect(&rt, "no fault");
+            pairs.push((copy, own)).expect(&rt, "no fault");
+            let handler = EventHandler::from(Cmd::SelfInsert(own, 'x'));
+            let old = bindings.insert(event, handler).expect(&rt, "no fault");
+            assert_eq!(rt; number(old.as_ref()), found);
+        }
     }
 }
