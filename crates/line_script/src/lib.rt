@@ -14,14 +14,15 @@ pub use complaint::Complaint;
 use complaint::complaint_at;
 pub use helper::ScriptHelper;
 use line_buffer::{GraphemeClusterMode, KillRing};
-use line_config::{Config, Result};
+use line_config::{Config, Prompt, Result};
 use line_editor::Bindings;
 use line_editor::edit::State;
 use line_editor::input_state::InputState;
 use line_editor::run::run;
+use line_keys::RawReader;
 use line_keys::editor_state::EditorState;
 use line_keys::refresher::Refresher;
-use line_parts::{Context, FileHistory};
+use line_parts::{Context, Helper, History};
 use line_screen::Plain;
 pub use names::key_named;
 pub use report::{Ending, Outcome, Report, exit_status};
@@ -58,21 +59,39 @@ fn play_script<R: Read + Drop, O: Write, E: Write>(
 ) -> Result<Ending> {
     let mut script = Vec::new(alloc);
     input.read_to_end(&mut script)?;
-    let mut parsed = match parse_script(alloc, &script) {
-        Ok(parsed) => parsed,
-        Err(ScriptError::BadLine(line)) => {
-            writeln!(out, "bad script line {line}")?;
-            out.flush()?;
-            // the status says that a line is bad, also where no more can be said
-            let _ = complain(&script, line, errors);
-            return Ok(Ending::BadScript);
-        }
-        Err(ScriptError::Fault(error)) => return Err(error),
-    };
+    match parse_script(alloc, &script) {
+        Ok(mut parsed) => run_script(alloc, &mut parsed, out),
+        Err(ScriptError::BadLine(line)) => refuse(&script, line, out, errors),
+        Err(ScriptError::Fault(error)) => Err(error),
+    }
+}
+
+/// Runs a script that was read.
+fn run_script<O: Write>(alloc: Global, parsed: &mut Parsed, out: &mut O) -> Result<Ending> {
     let bindings = Bindings::new(alloc);
-    let outcome = edit(alloc, &mut parsed, &bindings, KILL_RING_SIZE, out)?;
+    let outcome = edit(alloc, parsed, &bindings, KILL_RING_SIZE, out);
+    flushed(outcome, out)
+}
+
+/// Flushes what a run has printed, unless it failed.
+fn flushed<O: Write>(outcome: Result<Outcome>, out: &mut O) -> Result<Ending> {
+    let outcome = outcome?;
     out.flush()?;
     Ok(Ending::Ran(outcome))
+}
+
+/// Prints that the line of this number is bad, and writes why.
+fn refuse<O: Write, E: Write>(
+    script: &[u8],
+    line: usize,
+    out: &mut O,
+    errors: &mut E,
+) -> Result<Ending> {
+    writeln!(out, "bad script line {line}")?;
+    out.flush()?;
+    // the status says that a line is bad, also where no more can be said
+    let _ = complain(script, line, errors);
+    Ok(Ending::BadScript)
 }
 
 /// Writes why the line of this number is bad.
@@ -126,23 +145,13 @@ pub fn edit<O: Write>(
     Ok(report.outcome)
 }
 
-/// The state of an editor that a script is read by.
-type Scripted<'out, 'prompt, 'text> = State<
-    'out,
-    'prompt,
-    Plain<Script>,
-    ScriptHelper,
-    &'text str,
-    FileHistory,
->;
-
 /// What became of a line whose run ended so.
-fn report_of<'s, 'out, 'prompt, 'text>(
-    state: &'s Scripted<'out, 'prompt, 'text>,
+fn report_of<'s, 'out, 'prompt, R: RawReader, H: Helper, P: Prompt, S: History>(
+    state: &'s State<'out, 'prompt, Plain<R>, H, P, S>,
     outcome: Outcome,
 ) -> Report<'s>
     ensures outcome { result.outcome ≡ outcome }
-    ensures reports { Reports ⟦<Scripted<'out, 'prompt, 'text> as EditorState>⟧ state.now result }
+    ensures reports { Reports ⟦<State<'out, 'prompt, Plain<R>, H, P, S> as EditorState>⟧ state.now result }
 {
     Report {
         outcome,

@@ -24,6 +24,30 @@ pub fn key_named(name: &str) -> Option<KeyEvent> {
     Some(KeyEvent::normalize(KeyEvent(code, modifiers)))
 }
 
+/// The keys that have a name.
+const NAMED: [(&str, KeyCode); 20] = [
+    ("Enter", KeyCode::Enter),
+    ("Esc", KeyCode::Esc),
+    ("Tab", KeyCode::Tab),
+    ("BackTab", KeyCode::BackTab),
+    ("Backspace", KeyCode::Backspace),
+    ("Delete", KeyCode::Delete),
+    ("Insert", KeyCode::Insert),
+    ("Home", KeyCode::Home),
+    ("End", KeyCode::End),
+    ("Left", KeyCode::Left),
+    ("Right", KeyCode::Right),
+    ("Up", KeyCode::Up),
+    ("Down", KeyCode::Down),
+    ("PageUp", KeyCode::PageUp),
+    ("PageDown", KeyCode::PageDown),
+    ("Null", KeyCode::Null),
+    ("Unknown", KeyCode::UnknownEscSeq),
+    ("PasteStart", KeyCode::BracketedPasteStart),
+    ("PasteEnd", KeyCode::BracketedPasteEnd),
+    ("Space", KeyCode::Char(' ')),
+];
+
 /// The key of one character, or of this name.
 fn code_named(name: &str) -> Option<KeyCode> {
     let mut chars = name.chars();
@@ -32,30 +56,12 @@ fn code_named(name: &str) -> Option<KeyCode> {
     {
         return Some(KeyCode::Char(c));
     }
-    let code = match name {
-        "Enter" => KeyCode::Enter,
-        "Esc" => KeyCode::Esc,
-        "Tab" => KeyCode::Tab,
-        "BackTab" => KeyCode::BackTab,
-        "Backspace" => KeyCode::Backspace,
-        "Delete" => KeyCode::Delete,
-        "Insert" => KeyCode::Insert,
-        "Home" => KeyCode::Home,
-        "End" => KeyCode::End,
-        "Left" => KeyCode::Left,
-        "Right" => KeyCode::Right,
-        "Up" => KeyCode::Up,
-        "Down" => KeyCode::Down,
-        "PageUp" => KeyCode::PageUp,
-        "PageDown" => KeyCode::PageDown,
-        "Null" => KeyCode::Null,
-        "Unknown" => KeyCode::UnknownEscSeq,
-        "PasteStart" => KeyCode::BracketedPasteStart,
-        "PasteEnd" => KeyCode::BracketedPasteEnd,
-        "Space" => KeyCode::Char(' '),
-        _ => return function_key(name),
-    };
-    Some(code)
+    for (named, code) in NAMED {
+        if named == name {
+            return Some(code);
+        }
+    }
+    function_key(name)
 }
 
 /// The function key of a name from `F1` to `F24`.

@@ -62,6 +62,19 @@ impl Parsed {
         })
     }
 
+    /// Adds what the lines of a script stand for.
+    fn push_lines(&mut self, alloc: Global, script: &[u8]) -> Result<(), ScriptError> {
+        let mut number = 1;
+        let mut rest = script;
+        while let Some(end) = memchr(b'\n', rest) {
+            let (line, behind) = rest.split_at(end);
+            self.push_bytes(alloc, line, number)?;
+            rest = &behind[1..];
+            number = number.saturating_add(1);
+        }
+        self.push_bytes(alloc, rest, number)
+    }
+
     /// Adds what a line stands for; an empty one adds nothing. The number is for the error.
     ///
     /// # Errors
@@ -170,15 +183,7 @@ pub fn read_script<R: Read + Drop>(alloc: Global, mut input: R) -> Result<Parsed
 /// Reads a script, whose lines end in line feeds, the last one possibly in none. Empty lines add nothing.
 pub(crate) fn parse_script(alloc: Global, script: &[u8]) -> Result<Parsed, ScriptError> {
     let mut parsed = Parsed::new(alloc)?;
-    let mut number = 1;
-    let mut rest = script;
-    while let Some(end) = memchr(b'\n', rest) {
-        let (line, behind) = rest.split_at(end);
-        parsed.push_bytes(alloc, line, number)?;
-        rest = &behind[1..];
-        number = number.saturating_add(1);
-    }
-    parsed.push_bytes(alloc, rest, number)?;
+    parsed.push_lines(alloc, script)?;
     Ok(parsed)
 }
 
