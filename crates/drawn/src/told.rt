@@ -10,20 +10,16 @@ use std::io::Write;
 
 /// A screen that prints what a turn did.
 pub trait Told: Renderer<Reader = Script> {
-    /// Prints that the screen was resized, where this is to be printed.
-    fn tell_resized<O: Write>(&self, out: &mut O) -> Result<()>;
-
-    /// Prints what was written after the first `told` bytes, or what is shown. Returns how many bytes there are.
-    fn tell<O: Write>(&self, told: usize, out: &mut O) -> Result<usize>;
+    /// Prints what was written after the first `told` bytes, or what is shown; and before it that the screen was resized,
+    /// where it was and this is to be printed. Returns how many bytes there are.
+    fn tell<O: Write>(&self, resized: bool, told: usize, out: &mut O) -> Result<usize>;
 }
 
 impl Told for Ansi<Vec<u8>, Script> {
-    fn tell_resized<O: Write>(&self, out: &mut O) -> Result<()> {
-        writeln!(out, "resize {}", self.get_columns())?;
-        Ok(())
-    }
-
-    fn tell<O: Write>(&self, told: usize, out: &mut O) -> Result<usize> {
+    fn tell<O: Write>(&self, resized: bool, told: usize, out: &mut O) -> Result<usize> {
+        if resized {
+            writeln!(out, "resize {}", self.get_columns())?;
+        }
         let bytes = self.out();
         write!(out, "bytes ")?;
         print_bytes(bytes.get(told..).unwrap_or(&[]), out)?;
@@ -32,11 +28,7 @@ impl Told for Ansi<Vec<u8>, Script> {
 }
 
 impl Told for Plain<Script> {
-    fn tell_resized<O: Write>(&self, _out: &mut O) -> Result<()> {
-        Ok(())
-    }
-
-    fn tell<O: Write>(&self, told: usize, out: &mut O) -> Result<usize> {
+    fn tell<O: Write>(&self, _resized: bool, told: usize, out: &mut O) -> Result<usize> {
         print_cells(self, self.get_columns(), out)?;
         Ok(told)
     }

@@ -4,11 +4,11 @@ ghost use Rattle.std.specs.Prelude.{◌<◌, IfSome};
 
 use crate::told::Told;
 use line_buffer::{GraphemeClusterMode, KillRing, Unit};
-use line_config::{Config, ReadlineError, Result};
+use line_config::{Config, Prompt, ReadlineError, Result};
 use line_editor::edit::State;
 use line_editor::{Bindings, InputState, Turned, advance};
 use line_keys::refresher::Refresher;
-use line_parts::Context;
+use line_parts::{Context, Helper, History};
 use line_screen::Plain;
 use line_script::{Parsed, Script, ScriptError, read_script};
 use line_term::Ansi;
@@ -61,14 +61,19 @@ pub fn play<R: Read + Drop, O: Write>(alloc: Global, input: R, out: &mut O) -> u
 fn play_script<R: Read + Drop, O: Write>(alloc: Global, mut input: R, out: &mut O) -> Result<()> {
     let mut script = Vec::new(alloc);
     input.read_to_end(&mut script)?;
-    let columns = parsed(alloc, &script)?.columns;
+    print_script(alloc, script.as_slice(), out)
+}
+
+/// Prints the turns of a script on its own columns, on two and on one, and where the screen is resized.
+fn print_script<O: Write>(alloc: Global, script: &[u8], out: &mut O) -> Result<()> {
+    let columns = parsed(alloc, script)?.columns;
     for (first, other) in [
         (columns, columns),
         (2, 2),
         (1, 1),
         (columns, columns / 4 + 1),
     ] {
-        print_turns(alloc, &script, Widths { first, other }, out)?;
+        print_turns(alloc, script, Widths { first, other }, out)?;
     }
     out.flush()?;
     Ok(())
@@ -114,11 +119,11 @@ fn print_parsed<W: Told + Drop, O: Write>(
     widths: Widths,
     out: &mut O,
 ) -> Result<()> {
+    let prompt = colored(alloc, parsed.prompt.as_str())?;
     let config = config_of(parsed);
     let bindings = Bindings::new(alloc);
     let mut input = InputState::new(&config, &bindings);
     let mut kills = KillRing::new(alloc, KILL_RING_SIZE);
-    let prompt = colored(alloc, parsed.prompt.as_str())?;
     let context = Context::new(&parsed.history);
     let mut state = State::new(
         alloc,
@@ -128,21 +133,54 @@ fn print_parsed<W: Told + Drop, O: Write>(
         context,
     )?;
     state.refresh_line()?;
-    let mut told = state.out().tell(0, out)?;
+    let mut told = 0;
     for turn in 1..u64::MAX {
-        if let Some(columns) = widths.before(turn) {
-            state.resized(columns, ROWS)?;
-            state.out().tell_resized(out)?;
-            told = state.out().tell(told, out)?;
-        }
+        let columns = widths.before(turn);
         let items = &mut parsed.items;
-        let turned = advance(&mut state, &mut input, items, &mut kills, &config);
-        if !matches!(turned, Ok(Turned::Proceeds)) {
+        if !take(
+            &mut state, &mut input, items, &mut kills, &config, columns, &mut told, out,
+        )? {
             break;
         }
-        told = state.out().tell(told, out)?;
     }
     Ok(())
+}
+
+/// Prints what the last turn did, and takes the next one, after a resize to these columns if there is one. Returns whether
+/// the line goes on.
+fn take<'out, 'prompt, W: Told, H: Helper, P: Prompt, S: History, O: Write>(
+    state: &mut State<'out, 'prompt, W, H, P, S>,
+    input: &mut InputState<'_>,
+    items: &mut Script,
+    kills: &mut KillRing,
+    config: &Config,
+    columns: Option<Unit>,
+    told: &mut usize,
+    out: &mut O,
+) -> Result<bool>
+    requires { IfSome columns (λ columns. 0 < columns) }
+{
+    *told = tell(state, columns, *told, out)?;
+    let turned = advance(state, input, items, kills, config);
+    Ok(matches!(turned, Ok(Turned::Proceeds)))
+}
+
+/// Prints what the last turn did, and what a resize to these columns does, if there is one. Returns how many bytes were
+/// written.
+fn tell<'out, 'prompt, W: Told, P: Prompt, H: Helper, S: History, O: Write>(
+    state: &mut State<'out, 'prompt, W, H, P, S>,
+    columns: Option<Unit>,
+    told: usize,
+    out: &mut O,
+) -> Result<usize>
+    requires { IfSome columns (λ columns. 0 < columns) }
+{
+    let told = state.out().tell(false, told, out)?;
+    let Some(columns) = columns else {
+        return Ok(told);
+    };
+    state.resized(columns, ROWS)?;
+    state.out().tell(true, told, out)
 }
 
 /// A prompt, and the same in bold green.
