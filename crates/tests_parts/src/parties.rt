@@ -60,7 +60,8 @@ fn answers<H: Helper>(rt: &impl Abort, alloc: Global, helper: &mut H, wanted: An
     is_empty && is_lit == lit && is_hint(&hint, text) && is_said
 }
 
-/// A helper keeps its answers, and so does the unit. Each answer, and each error of a helper or a history, is handed on.
+/// A helper keeps its answers, and so does the unit. Each answer, and each error of a helper or a history, is handed
+/// on.
 #[test]
 fn a_helper_keeps_its_answers(rt: HostRuntime) {
     let alloc = rt.alloc();

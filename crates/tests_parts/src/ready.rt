@@ -38,8 +38,8 @@ pub(super) enum Asked<'t> {
     Unescaped(Option<char>, &'t str, bool),
     /// What the first of the texts in it begin with in common, so many of them; a stroke stands between two.
     Alike(usize, Option<&'t str>),
-    /// By a completer, with a cursor: a text that is elected to stand at its start, and the line, its cursor and how many
-    /// changes there are then.
+    /// By a completer, with a cursor: a text that is elected to stand at its start, and the line, its cursor and how
+    /// many changes there are then.
     Elected(completion::Which, usize, &'t str, (&'t str, usize, usize)),
     /// Shown in a pair for a replacement, which has something in common with that of another pair.
     Paired(&'t str, &'t str, &'t str),

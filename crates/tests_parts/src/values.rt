@@ -61,7 +61,8 @@ const RESULTS: &[Found] = &[
     ("ab", 1, 1),
 ];
 
-/// `Debug` names each. A result equals one of the same values alone, also where one of them owns its line; so does its copy.
+/// `Debug` names each. A result equals one of the same values alone, also where one of them owns its line; so does its
+/// copy.
 #[test]
 fn no_two_are_equal(rt: HostRuntime) {
     let alloc = rt.alloc();

@@ -50,7 +50,7 @@ pub(super) enum Edit {
     /// A kill, and what goes by it.
     Kill(Movement, Option<Gone>),
     /// A cut, and what the ring then gives.
-    Cut(Movement, Option<&'static str>),
+    Cut(Movement, Option<Given>),
     /// The text of a movement is this one.
     Copy(Movement, Option<Given>),
     /// This text is deleted.
@@ -157,7 +157,7 @@ fn composed(
         }
         Cut(mvt, kept) => {
             line.cut(mvt, changes, ring)?;
-            return Ok(Some(ring.yank() == *kept));
+            return Ok(Some(is_given(ring.yank(), *kept)));
         }
         _ => return Ok(None),
     };

@@ -110,7 +110,7 @@ pub(super) const ROWS: &[Row] = &[
     (Then, Undo(1), Back(true, "ab\ncd")),
     (
         On("ab\ncd", 4),
-        Cut(WholeLine, Some("cd")),
+        Cut(WholeLine, Some(("cd", 1))),
         Is(Some(true), "ab\n", 3, 1),
     ),
     (
@@ -121,7 +121,7 @@ pub(super) const ROWS: &[Row] = &[
     (Then, Undo(1), Back(true, "ab\n\ncd")),
     (
         On("ab\n\ncd", 3),
-        Cut(WholeLine, Some("\n")),
+        Cut(WholeLine, Some(("\n", 1))),
         Is(Some(true), "ab\ncd", 3, 1),
     ),
     (
@@ -132,7 +132,7 @@ pub(super) const ROWS: &[Row] = &[
     (Then, Undo(1), Back(true, "ab\ncd")),
     (
         On("ab\ncd", 1),
-        Cut(EndOfLine, Some("b")),
+        Cut(EndOfLine, Some(("b", 1))),
         Is(Some(true), "a\ncd", 1, 1),
     ),
     (
@@ -143,7 +143,7 @@ pub(super) const ROWS: &[Row] = &[
     (Then, Undo(1), Back(true, "ab\ncd")),
     (
         On("ab\ncd", 2),
-        Cut(EndOfLine, Some("\n")),
+        Cut(EndOfLine, Some(("\n", 1))),
         Is(Some(true), "abcd", 2, 1),
     ),
     (
@@ -165,7 +165,7 @@ pub(super) const ROWS: &[Row] = &[
     (Then, Undo(1), Back(true, "ab\ncd")),
     (
         On("ab\ncd", 4),
-        Cut(BeginningOfLine, Some("c")),
+        Cut(BeginningOfLine, Some(("c", 1))),
         Is(Some(true), "ab\nd", 3, 1),
     ),
     (
@@ -176,7 +176,7 @@ pub(super) const ROWS: &[Row] = &[
     (Then, Undo(1), Back(true, "ab\ncd")),
     (
         On("ab\ncd", 3),
-        Cut(BeginningOfLine, Some("\n")),
+        Cut(BeginningOfLine, Some(("\n", 1))),
         Is(Some(true), "abcd", 2, 1),
     ),
     (
@@ -198,7 +198,7 @@ pub(super) const ROWS: &[Row] = &[
     (Then, Undo(1), Back(true, "ab\ncd")),
     (
         On("ab\ncd", 4),
-        Cut(WholeBuffer, Some("ab\ncd")),
+        Cut(WholeBuffer, Some(("ab\ncd", 1))),
         Is(Some(true), "", 0, 1),
     ),
     (
@@ -209,7 +209,7 @@ pub(super) const ROWS: &[Row] = &[
     (Then, Undo(1), Back(true, "ab\ncd")),
     (
         On("ab\ncd", 4),
-        Cut(BeginningOfBuffer, Some("ab\nc")),
+        Cut(BeginningOfBuffer, Some(("ab\nc", 1))),
         Is(Some(true), "d", 0, 1),
     ),
     (
@@ -220,7 +220,7 @@ pub(super) const ROWS: &[Row] = &[
     (Then, Undo(1), Back(true, "ab\ncd")),
     (
         On("ab\ncd", 4),
-        Cut(EndOfBuffer, Some("d")),
+        Cut(EndOfBuffer, Some(("d", 1))),
         Is(Some(true), "ab\nc", 4, 1),
     ),
     (
@@ -256,7 +256,7 @@ pub(super) const ROWS: &[Row] = &[
     (Then, Undo(1), Back(true, "axbxcx")),
     (
         On("axbxcx", 0),
-        Cut(ViCharSearch(2, Search::Forward('x')), Some("axbx")),
+        Cut(ViCharSearch(2, Search::Forward('x')), Some(("axbx", 1))),
         Is(Some(true), "cx", 0, 1),
     ),
     (
@@ -270,7 +270,10 @@ pub(super) const ROWS: &[Row] = &[
     (Then, Undo(1), Back(true, "axbxcx")),
     (
         On("axbxcx", 0),
-        Cut(ViCharSearch(2, Search::ForwardBefore('x')), Some("axb")),
+        Cut(
+            ViCharSearch(2, Search::ForwardBefore('x')),
+            Some(("axb", 1)),
+        ),
         Is(Some(true), "xcx", 0, 1),
     ),
     (
@@ -284,7 +287,7 @@ pub(super) const ROWS: &[Row] = &[
     (Then, Undo(1), Back(true, "axbxcx")),
     (
         On("axbxcx", 4),
-        Cut(ViCharSearch(1, Search::Backward('x')), Some("x")),
+        Cut(ViCharSearch(1, Search::Backward('x')), Some(("x", 1))),
         Is(Some(true), "axbcx", 3, 1),
     ),
     (
@@ -298,7 +301,7 @@ pub(super) const ROWS: &[Row] = &[
     (Then, Undo(1), Back(true, "axbxcx")),
     (
         On("axbxcx", 4),
-        Cut(ViCharSearch(2, Search::BackwardAfter('x')), Some("bx")),
+        Cut(ViCharSearch(2, Search::BackwardAfter('x')), Some(("bx", 1))),
         Is(Some(true), "axcx", 2, 1),
     ),
     (

@@ -78,8 +78,8 @@ fn is_outcome<T>(
 /// there are then.
 type Put<'t> = (&'t str, usize, &'t str, (&'t str, usize, usize));
 
-/// Whether the line is completed, beside a history of which each call fails, and then takes the text, or each of the two
-/// fails by its fault, if it has one. An update that fails leaves the line as it was.
+/// Whether the line is completed, beside a history of which each call fails, and then takes the text, or each of the
+/// two fails by its fault, if it has one. An update that fails leaves the line as it was.
 fn asks<C: Completer>(
     rt: &impl Abort,
     alloc: Global,

@@ -225,8 +225,8 @@ const TRIPS: &[Trip] = &[
     ),
 ];
 
-/// The lines of each text come back; and each line of up to three of the characters, alone. Without an escape for it, the
-/// carriage return at its end is lost.
+/// The lines of each text come back; and each line of up to three of the characters, alone. Without an escape for it,
+/// the carriage return at its end is lost.
 #[test]
 fn come_back_from_their_text(rt: HostRuntime) {
     for trip in TRIPS {

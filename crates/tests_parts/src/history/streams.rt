@@ -336,7 +336,8 @@ fn writes_much(rt: &impl Abort, alloc: Global, escapes: Escapes, append: bool, p
     writes(rt, alloc, &case, place, &GONE);
 }
 
-/// The reader fails at each byte, and not at all; the writer at each byte, at the flush after the last one, and not at all.
+/// The reader fails at each byte, and not at all; the writer at each byte, at the flush after the last one, and not at
+/// all.
 #[test]
 fn that_fail(rt: HostRuntime) {
     for manner in MANNERS {
