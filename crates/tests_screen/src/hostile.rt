@@ -1,11 +1,10 @@
 //! Hostile use, as tables of cases, and lists of keys that are made from a number.
 
 mod bench;
-mod counted;
+mod commands;
 mod cuts;
 mod every;
 mod handler;
 mod mended;
+mod movements;
 mod random;
-mod ranges;
-mod tasks;

@@ -49,21 +49,8 @@ const ENDS: &[(Unit, &str, Place, Place)] = &[
     (0, "a\nb", (0, 0), (2, 0)),
 ];
 
-#[test]
-fn puts_clusters_on_rows(rt: HostRuntime) {
-    for (columns, text, (row, col), end) in ENDS {
-        let origin = Position {
-            row: *row,
-            col: *col,
-        };
-        let place = measured(*columns, text, origin);
-        let is_so = (place.row, place.col) == *end;
-        holds(&rt, is_so, text, usize::from(*columns));
-    }
-}
-
-/// The columns, a text after a prompt of two columns, the cursor in bytes and a text after the line; where the cursor is,
-/// and where what is shown ends.
+/// The columns, a text after a prompt of two columns, the cursor in bytes and a text after the line; where the cursor
+/// is, and where what is shown ends.
 type Layout = (
     Unit,
     &'static str,
@@ -89,8 +76,18 @@ const LAYOUTS: &[Layout] = &[
     (10, "é", 0, Some("\n"), (0, 2), (1, 0)),
 ];
 
+/// Texts end where they are to, and lines are laid out so.
 #[test]
-fn measures_a_line_once(rt: HostRuntime) {
+fn puts_clusters_on_rows(rt: HostRuntime) {
+    for (columns, text, (row, col), end) in ENDS {
+        let origin = Position {
+            row: *row,
+            col: *col,
+        };
+        let place = measured(*columns, text, origin);
+        let is_so = (place.row, place.col) == *end;
+        holds(&rt, is_so, text, usize::from(*columns));
+    }
     for (columns, text, pos, info, cursor, end) in LAYOUTS {
         assert!(rt; *columns > 0 && text.is_char_boundary(*pos));
         let screen: Plain<KeyQueue> = Plain::new(rt.alloc(), *columns);

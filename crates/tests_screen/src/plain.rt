@@ -7,11 +7,10 @@ use line_state::Renderer;
 use std::alloc::Global;
 use std::process::Abort;
 
-/// A call of the screen. The first draws a line of two rows with something after it. The last makes two calls that are as the
-/// trait has them: nothing is held back.
+/// A call of the screen. A line is drawn in full, with the cursor at this place in it, after a prompt and before a
+/// hint. The last makes two calls that are as the trait has them: nothing is held back.
 enum Call {
-    Draw,
-    DrawPlain,
+    Draw(&'static str, usize, &'static str, Option<&'static str>),
     Move(Unit, Unit),
     Write(&'static str),
     ClearToEnd,
@@ -19,48 +18,36 @@ enum Call {
     HoldBack,
 }
 
-/// Draws this line in full, with the cursor at this place in it.
-fn draws(
-    rt: &impl Abort,
-    screen: &mut Plain<KeyQueue>,
-    line: &LineBuffer,
-    prompt: &str,
-    hint: Option<&str>,
-) {
-    let prompt_end = screen.calculate_position(prompt, Position { row: 0, col: 0 });
-    let layout = screen.compute_layout(prompt_end, true, line, hint);
-    screen
-        .refresh_line(&prompt, line, hint, None, &layout, None::<&()>)
-        .expect(rt, "no fault");
-}
+/// A line of two rows with something after it.
+const DRAW: Call = Call::Draw("ab\nc", 3, "> ", Some("de"));
+
+const DRAW_PLAIN: Call = Call::Draw("é", 2, "", None);
 
 fn called(rt: &impl Abort, alloc: Global, screen: &mut Plain<KeyQueue>, call: &Call) {
-    match call {
-        Call::Draw => {
-            let line = LineBuffer::init(alloc, "ab\nc", 3).expect(rt, "no fault");
-            draws(rt, screen, &line, "> ", Some("de"));
-        }
-        Call::DrawPlain => {
-            let line = LineBuffer::init(alloc, "é", 2).expect(rt, "no fault");
-            draws(rt, screen, &line, "", None);
+    let answer = match call {
+        Call::Draw(text, pos, prompt, hint) => {
+            assert!(rt; text.is_char_boundary(*pos));
+            let line = LineBuffer::init(alloc, text, *pos).expect(rt, "no fault");
+            let prompt_end = screen.calculate_position(prompt, Position { row: 0, col: 0 });
+            let layout = screen.compute_layout(prompt_end, true, &line, *hint);
+            screen.refresh_line(prompt, &line, *hint, None, &layout, None::<&()>)
         }
         Call::Move(row, col) => {
             let place = Position {
                 row: *row,
                 col: *col,
             };
-            screen
-                .move_cursor(screen.cursor(), place)
-                .expect(rt, "no fault");
+            screen.move_cursor(screen.cursor(), place)
         }
-        Call::Write(text) => screen.write_and_flush(text).expect(rt, "no fault"),
-        Call::ClearToEnd => screen.clear_to_eol().expect(rt, "no fault"),
-        Call::Clear => screen.clear_screen().expect(rt, "no fault"),
+        Call::Write(text) => screen.write_and_flush(text),
+        Call::ClearToEnd => screen.clear_to_eol(),
+        Call::Clear => screen.clear_screen(),
         Call::HoldBack => {
             screen.begin_synchronized_update().expect(rt, "no fault");
-            screen.end_synchronized_update().expect(rt, "no fault");
+            screen.end_synchronized_update()
         }
-    }
+    };
+    answer.expect(rt, "no fault");
 }
 
 /// What a screen shows: the text, with the row and the column of its cursor, the prompt and the hint.
@@ -76,34 +63,30 @@ type Case = (&'static [Call], Shown, u64);
 
 const CALLS: &[Case] = &[
     (&[], ("", (0, 0), "", None), 0),
-    (&[Call::Draw], ("ab\nc", (1, 0), "> ", Some("de")), 1),
+    (&[DRAW], ("ab\nc", (1, 0), "> ", Some("de")), 1),
     (
-        &[Call::Draw, Call::Move(1, 1), Call::Write("x")],
+        &[DRAW, Call::Move(1, 1), Call::Write("x")],
         ("ab\ncx", (1, 2), "> ", Some("de")),
         1,
     ),
     (
-        &[Call::Draw, Call::ClearToEnd],
+        &[DRAW, Call::ClearToEnd],
         ("ab\n", (1, 0), "> ", Some("de")),
         1,
     ),
     (
-        &[Call::Draw, Call::Move(1, 1), Call::ClearToEnd],
+        &[DRAW, Call::Move(1, 1), Call::ClearToEnd],
         ("ab\nc", (1, 1), "> ", Some("de")),
         1,
     ),
-    (&[Call::Draw, Call::Clear], ("", (0, 0), "", None), 1),
+    (&[DRAW, Call::Clear], ("", (0, 0), "", None), 1),
     (
-        &[Call::Draw, Call::HoldBack],
+        &[DRAW, Call::HoldBack],
         ("ab\nc", (1, 0), "> ", Some("de")),
         1,
     ),
-    (&[Call::Draw, Call::DrawPlain], ("é", (0, 1), "", None), 2),
-    (
-        &[Call::DrawPlain, Call::Draw],
-        ("ab\nc", (1, 0), "> ", Some("de")),
-        2,
-    ),
+    (&[DRAW, DRAW_PLAIN], ("é", (0, 1), "", None), 2),
+    (&[DRAW_PLAIN, DRAW], ("ab\nc", (1, 0), "> ", Some("de")), 2),
 ];
 
 #[test]

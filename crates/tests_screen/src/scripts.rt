@@ -11,21 +11,6 @@ use std::alloc::Global;
 use std::io::{self, Read, Write};
 use std::process::Abort;
 
-/// A script, what is printed, and the status.
-type Case = (&'static str, &'static str, u8);
-
-/// Plays a script where nothing can be said of a bad line.
-fn played<R: Read + Drop, O: Write>(alloc: Global, input: R, out: &mut O) -> u8 {
-    let mut errors = Faulty {
-        bytes: Vec::new(alloc),
-        writes: 0,
-        failing: 0,
-        goes_on: false,
-        flushes: false,
-    };
-    play(alloc, input, out, &mut errors)
-}
-
 /// Scripts, and what is said of their bad line.
 const COMPLAINTS: &[(&str, &str)] = &[
     (
@@ -86,198 +71,117 @@ fn says_why_a_line_is_bad(rt: HostRuntime) {
     }
 }
 
-/// Plays a script, at once and byte by byte: each prints the same and ends with the same status.
-fn prints(rt: &impl Abort, alloc: Global, case: Case) {
-    prints_by_bytes(rt, alloc, case);
-    let (script, printed, status) = case;
-    let mut out = Vec::new(alloc);
-    let ended = played(alloc, script.as_bytes(), &mut out);
-    let is_so = out.as_slice() == printed.as_bytes() && ended == status;
-    holds(rt, is_so, script, usize::from(ended));
+/// Which stream of a script fails.
+#[derive(Clone, Copy)]
+enum Fails {
+    Nothing,
+    Input,
+    Output,
 }
 
-/// Each outcome, bad lines, and what stands after a submit, which has to be good too.
-const SCRIPTS: &[Case] = &[
-    (
-        "type ab\nkey Left\ntype c\nkey Enter\n",
-        "outcome submitted\nline acb\ncursor 2\nplace 0\nat 0 4\nredraws 2\n",
-        0,
-    ),
-    (
-        "",
-        "outcome eof\nline \ncursor 0\nplace 0\nat 0 2\nredraws 1\n",
-        1,
-    ),
-    (
-        "type ab\nkey C-a\nkey C-c\n",
-        "outcome interrupted\nline ab\ncursor 0\nplace 0\nat 0 4\nredraws 1\n",
-        2,
-    ),
-    (
-        "key PasteStart\nkey C-d\n",
-        "outcome fault\nline \ncursor 0\nplace 0\nat 0 2\nredraws 1\n",
-        3,
-    ),
-    ("type a\nkey Left\nkey Foo\n", "bad script line 3\n", 4),
-    ("type a\nhistory a\n", "bad script line 2\n", 4),
-    ("load x\\q\n", "bad script line 1\n", 4),
-    ("type a\n\nkey Enter\nkey\n", "bad script line 4\n", 4),
-    (
-        "paste a\\nb\n",
-        "outcome eof\nline a\\nb\ncursor 3\nplace 0\nat 1 1\nredraws 2\n",
-        1,
-    ),
-];
-
-#[test]
-fn prints_what_became_of_the_line(rt: HostRuntime) {
-    for case in SCRIPTS {
-        prints(&rt, rt.alloc(), *case);
-    }
-}
-
-/// Writes so many numbers from 1 on, each between two texts.
-fn numbered(rt: &impl Abort, alloc: Global, count: usize, before: &str, behind: &str) -> Vec<u8> {
-    let mut script = Vec::new(alloc);
-    for number in 1..=count {
-        write!(script, "{before}{number}{behind}").expect(rt, "no fault");
-    }
-    script
-}
-
-/// How many numbers from 1 on are killed, each by itself; how many steps back follow a yank; and what is printed. The ring has
-/// 60 slots: the 61st kill takes the place of the first, and the 60th step comes back to where it began.
-const RING: &[(usize, usize, &str)] = &[
-    (
-        4,
-        3,
-        "outcome eof\nline 1\ncursor 1\nplace 0\nat 0 3\nredraws 5\n",
-    ),
-    (
-        60,
-        59,
-        "outcome eof\nline 1\ncursor 1\nplace 0\nat 0 3\nredraws 61\n",
-    ),
-    (
-        61,
-        59,
-        "outcome eof\nline 2\ncursor 1\nplace 0\nat 0 3\nredraws 61\n",
-    ),
-    (
-        61,
-        60,
-        "outcome eof\nline 61\ncursor 2\nplace 0\nat 0 4\nredraws 62\n",
-    ),
-];
-
-#[test]
-fn keeps_sixty_killed_texts(rt: HostRuntime) {
-    let alloc = rt.alloc();
-    for (kills, turns, printed) in RING {
-        let mut script = numbered(&rt, alloc, *kills, "type ", "\nkey C-u\n");
-        {
-            let steps = "key M-y\n".repeat(alloc, *turns).expect(&rt, "no fault");
-            write!(script, "key C-y\n{steps}").expect(&rt, "no fault");
-        }
-        let mut out = Vec::new(alloc);
-        let ended = played(alloc, script.as_slice(), &mut out);
-        let is_so = out.as_slice() == printed.as_bytes() && ended == 1;
-        holds(&rt, is_so, printed, *kills);
-    }
-}
-
-const GOOD: &[&str] = &[
-    "columns 40\nhistory git status\nhistory a\\nb\nprompt lang: \nhints\nbrackets\ntype a\nkey Up\nkey Enter\n",
-    "type 日本日本日本日本日本\npaste one\\ntwo\nkey M-3\nkey C-b\nkey C-k\nkey C-y\nkey C-c\n",
-    "mode vi\nhistory one two\nkey Up\nkey Esc\ntype 0cwx\nkey Esc\ntype w.3p2y\nkey Esc\nkey Enter\n",
-];
-
-/// Plays scripts without a bad line, and finds none. So it is with any one allocation refused, which is a fault.
-#[test]
-fn takes_no_refused_allocation_for_a_bad_line(rt: HostRuntime) {
-    for script in GOOD {
-        let mut out = Vec::new(rt.alloc());
-        let ended = played(rt.alloc(), script.as_bytes(), &mut out);
-        let is_good = ended < 4 && !out.starts_with(b"bad");
-        holds(&rt, is_good, script, usize::from(ended));
-    }
-}
-
-/// A stream that gives so many bytes a call, and at the end can't be read, or ends.
-#[derive(Drop)]
-struct Cut {
-    rest: &'static [u8],
+/// The streams of a script: which of them fails, and how many bytes they give or take at once; and of what is printed,
+/// whether one write alone fails, or each from then on, and whether it can be flushed.
+#[derive(Clone, Copy)]
+struct Streams {
+    fails: Fails,
     at_once: usize,
-    fails: bool,
-}
-
-impl Read for Cut {
-    fn read(&mut self, buf: &mut [u8]) -> io::Result<usize> {
-        if self.fails && self.rest.is_empty() {
-            return Err(io::Error::from(io::ErrorKind::Other));
-        }
-        let count = self.at_once.min(buf.len());
-        self.rest.read(&mut buf[..count])
-    }
-}
-
-/// Plays a script that its stream cuts short after so many bytes: nothing is printed, and the status is that of a fault.
-fn is_cut(rt: &impl Abort, alloc: Global, script: &'static str, at: usize, at_once: usize) {
-    let mut out = Vec::new(alloc);
-    let input = Cut {
-        rest: script.as_bytes().get(..at).unwrap_or(&[]),
-        at_once,
-        fails: true,
-    };
-    let ended = played(alloc, input, &mut out);
-    holds(rt, ended == 3 && out.is_empty(), script, at);
-}
-
-/// Scripts that are good or bad by where they are cut.
-const CUT: &[&str] = &["", "history é\n\ntype a\nkey Enter\n", "key\n"];
-
-/// Cuts each script after each of its bytes, which come together or one by one.
-#[test]
-fn ends_with_the_fault_of_its_input(rt: HostRuntime) {
-    for script in CUT {
-        for at in 0..=script.len() {
-            is_cut(&rt, rt.alloc(), script, at, script.len());
-            is_cut(&rt, rt.alloc(), script, at, 1);
-        }
-    }
-}
-
-/// A stream that takes one byte a call. One write of it fails, or each from one on, or each flush.
-#[derive(Drop)]
-struct Faulty {
-    bytes: Vec<u8>,
-    writes: usize,
-    failing: usize,
     goes_on: bool,
     flushes: bool,
 }
 
-impl Write for Faulty {
-    fn write(&mut self, buf: &[u8]) -> io::Result<usize> {
-        let failed = self.writes == self.failing;
-        if failed && !self.goes_on {
+const AT_ONCE: Streams = Streams {
+    fails: Fails::Nothing,
+    at_once: usize::MAX,
+    goes_on: false,
+    flushes: true,
+};
+
+/// All is given and taken, at once or byte by byte.
+const WHOLE: &[Streams] = &[
+    AT_ONCE,
+    Streams {
+        at_once: 1,
+        ..AT_ONCE
+    },
+];
+
+/// The script is cut, its bytes together or one by one.
+const CUT: &[Streams] = &[
+    Streams {
+        fails: Fails::Input,
+        ..AT_ONCE
+    },
+    Streams {
+        fails: Fails::Input,
+        at_once: 1,
+        ..AT_ONCE
+    },
+];
+
+/// A byte can't be written: each from one on, that one alone, or each and no flush is made.
+const BROKEN: &[Streams] = &[
+    Streams {
+        fails: Fails::Output,
+        at_once: 1,
+        ..AT_ONCE
+    },
+    Streams {
+        fails: Fails::Output,
+        at_once: 1,
+        goes_on: true,
+        ..AT_ONCE
+    },
+    Streams {
+        fails: Fails::Output,
+        at_once: 1,
+        flushes: false,
+        ..AT_ONCE
+    },
+];
+
+/// The stream of a script, which at its end can't be read, or ends.
+#[derive(Drop)]
+struct Input {
+    rest: &'static [u8],
+    streams: Streams,
+    is_cut: bool,
+}
+
+impl Read for Input {
+    fn read(&mut self, buf: &mut [u8]) -> io::Result<usize> {
+        if self.is_cut && self.rest.is_empty() {
             return Err(io::Error::from(io::ErrorKind::Other));
         }
-        self.writes = self.writes.saturating_add(1);
+        let count = self.streams.at_once.min(buf.len());
+        self.rest.read(&mut buf[..count])
+    }
+}
+
+/// The stream of what is printed, of which the write after so many fails.
+#[derive(Drop)]
+struct Output {
+    bytes: Vec<u8>,
+    streams: Streams,
+    writes: usize,
+    failing: usize,
+}
+
+impl Write for Output {
+    fn write(&mut self, buf: &[u8]) -> io::Result<usize> {
+        let failed = self.writes == self.failing;
+        if !failed || self.streams.goes_on {
+            self.writes = self.writes.saturating_add(1);
+        }
         if failed {
             return Err(io::Error::from(io::ErrorKind::Other));
         }
-        match buf.first() {
-            Some(byte) => {
-                self.bytes.push(*byte)?;
-                Ok(1)
-            }
-            None => Ok(0),
-        }
+        let count = self.streams.at_once.min(buf.len());
+        self.bytes.extend_from_slice(&buf[..count])?;
+        Ok(count)
     }
 
     fn flush(&mut self) -> io::Result<()> {
-        if self.flushes {
+        if self.streams.flushes {
             Ok(())
         } else {
             Err(io::Error::from(io::ErrorKind::Other))
@@ -285,24 +189,194 @@ impl Write for Faulty {
     }
 }
 
-/// Plays a script that comes byte by byte, to a stream that takes it so: nothing else is printed, and the status is the same.
-fn prints_by_bytes(rt: &impl Abort, alloc: Global, case: Case) {
-    let (script, printed, status) = case;
-    let input = Cut {
-        rest: script.as_bytes(),
-        at_once: 1,
-        fails: false,
+/// The streams of a script, the script, what is printed where they do not fail, and the status then.
+type Case = (&'static [Streams], &'static str, &'static str, u8);
+
+/// Each outcome, bad lines, and what stands after a submit, which has to be good too.
+const CASES: &[Case] = &[
+    (
+        WHOLE,
+        "type ab\nkey Left\ntype c\nkey Enter\n",
+        "outcome submitted\nline acb\ncursor 2\nplace 0\nat 0 4\nredraws 2\n",
+        0,
+    ),
+    (
+        WHOLE,
+        "",
+        "outcome eof\nline \ncursor 0\nplace 0\nat 0 2\nredraws 1\n",
+        1,
+    ),
+    (
+        WHOLE,
+        "type ab\nkey C-a\nkey C-c\n",
+        "outcome interrupted\nline ab\ncursor 0\nplace 0\nat 0 4\nredraws 1\n",
+        2,
+    ),
+    (
+        WHOLE,
+        "key PasteStart\nkey C-d\n",
+        "outcome fault\nline \ncursor 0\nplace 0\nat 0 2\nredraws 1\n",
+        3,
+    ),
+    (
+        WHOLE,
+        "type a\nkey Left\nkey Foo\n",
+        "bad script line 3\n",
+        4,
+    ),
+    (WHOLE, "type a\nhistory a\n", "bad script line 2\n", 4),
+    (WHOLE, "load x\\q\n", "bad script line 1\n", 4),
+    (
+        WHOLE,
+        "type a\n\nkey Enter\nkey\n",
+        "bad script line 4\n",
+        4,
+    ),
+    (
+        WHOLE,
+        "paste a\\nb\n",
+        "outcome eof\nline a\\nb\ncursor 3\nplace 0\nat 1 1\nredraws 2\n",
+        1,
+    ),
+    // the ring has 60 slots: the 61st kill takes the first one's place, and the 60th step back comes to where it began
+    (
+        WHOLE,
+        "type 1\nkey C-u\ntype 2\nkey C-u\ntype 3\nkey C-u\ntype 4\nkey C-u\nkey C-y\nkey M-y\nkey M-y\n\
+         key M-y\n",
+        "outcome eof\nline 1\ncursor 1\nplace 0\nat 0 3\nredraws 5\n",
+        1,
+    ),
+    (
+        WHOLE,
+        "type 1\nkey C-u\ntype 2\nkey C-u\ntype 3\nkey C-u\ntype 4\nkey C-u\ntype 5\nkey C-u\ntype 6\n\
+         key C-u\ntype 7\nkey C-u\ntype 8\nkey C-u\ntype 9\nkey C-u\ntype 10\nkey C-u\ntype 11\nkey C-u\n\
+         type 12\nkey C-u\ntype 13\nkey C-u\ntype 14\nkey C-u\ntype 15\nkey C-u\ntype 16\nkey C-u\ntype 17\n\
+         key C-u\ntype 18\nkey C-u\ntype 19\nkey C-u\ntype 20\nkey C-u\ntype 21\nkey C-u\ntype 22\nkey C-u\n\
+         type 23\nkey C-u\ntype 24\nkey C-u\ntype 25\nkey C-u\ntype 26\nkey C-u\ntype 27\nkey C-u\ntype 28\n\
+         key C-u\ntype 29\nkey C-u\ntype 30\nkey C-u\ntype 31\nkey C-u\ntype 32\nkey C-u\ntype 33\nkey C-u\n\
+         type 34\nkey C-u\ntype 35\nkey C-u\ntype 36\nkey C-u\ntype 37\nkey C-u\ntype 38\nkey C-u\ntype 39\n\
+         key C-u\ntype 40\nkey C-u\ntype 41\nkey C-u\ntype 42\nkey C-u\ntype 43\nkey C-u\ntype 44\nkey C-u\n\
+         type 45\nkey C-u\ntype 46\nkey C-u\ntype 47\nkey C-u\ntype 48\nkey C-u\ntype 49\nkey C-u\ntype 50\n\
+         key C-u\ntype 51\nkey C-u\ntype 52\nkey C-u\ntype 53\nkey C-u\ntype 54\nkey C-u\ntype 55\nkey C-u\n\
+         type 56\nkey C-u\ntype 57\nkey C-u\ntype 58\nkey C-u\ntype 59\nkey C-u\ntype 60\nkey C-u\nkey C-y\n\
+         key M-y\nkey M-y\nkey M-y\nkey M-y\nkey M-y\nkey M-y\nkey M-y\nkey M-y\nkey M-y\nkey M-y\nkey M-y\n\
+         key M-y\nkey M-y\nkey M-y\nkey M-y\nkey M-y\nkey M-y\nkey M-y\nkey M-y\nkey M-y\nkey M-y\nkey M-y\n\
+         key M-y\nkey M-y\nkey M-y\nkey M-y\nkey M-y\nkey M-y\nkey M-y\nkey M-y\nkey M-y\nkey M-y\nkey M-y\n\
+         key M-y\nkey M-y\nkey M-y\nkey M-y\nkey M-y\nkey M-y\nkey M-y\nkey M-y\nkey M-y\nkey M-y\nkey M-y\n\
+         key M-y\nkey M-y\nkey M-y\nkey M-y\nkey M-y\nkey M-y\nkey M-y\nkey M-y\nkey M-y\nkey M-y\nkey M-y\n\
+         key M-y\nkey M-y\nkey M-y\nkey M-y\n",
+        "outcome eof\nline 1\ncursor 1\nplace 0\nat 0 3\nredraws 61\n",
+        1,
+    ),
+    (
+        WHOLE,
+        "type 1\nkey C-u\ntype 2\nkey C-u\ntype 3\nkey C-u\ntype 4\nkey C-u\ntype 5\nkey C-u\ntype 6\n\
+         key C-u\ntype 7\nkey C-u\ntype 8\nkey C-u\ntype 9\nkey C-u\ntype 10\nkey C-u\ntype 11\nkey C-u\n\
+         type 12\nkey C-u\ntype 13\nkey C-u\ntype 14\nkey C-u\ntype 15\nkey C-u\ntype 16\nkey C-u\ntype 17\n\
+         key C-u\ntype 18\nkey C-u\ntype 19\nkey C-u\ntype 20\nkey C-u\ntype 21\nkey C-u\ntype 22\nkey C-u\n\
+         type 23\nkey C-u\ntype 24\nkey C-u\ntype 25\nkey C-u\ntype 26\nkey C-u\ntype 27\nkey C-u\ntype 28\n\
+         key C-u\ntype 29\nkey C-u\ntype 30\nkey C-u\ntype 31\nkey C-u\ntype 32\nkey C-u\ntype 33\nkey C-u\n\
+         type 34\nkey C-u\ntype 35\nkey C-u\ntype 36\nkey C-u\ntype 37\nkey C-u\ntype 38\nkey C-u\ntype 39\n\
+         key C-u\ntype 40\nkey C-u\ntype 41\nkey C-u\ntype 42\nkey C-u\ntype 43\nkey C-u\ntype 44\nkey C-u\n\
+         type 45\nkey C-u\ntype 46\nkey C-u\ntype 47\nkey C-u\ntype 48\nkey C-u\ntype 49\nkey C-u\ntype 50\n\
+         key C-u\ntype 51\nkey C-u\ntype 52\nkey C-u\ntype 53\nkey C-u\ntype 54\nkey C-u\ntype 55\nkey C-u\n\
+         type 56\nkey C-u\ntype 57\nkey C-u\ntype 58\nkey C-u\ntype 59\nkey C-u\ntype 60\nkey C-u\ntype 61\n\
+         key C-u\nkey C-y\nkey M-y\nkey M-y\nkey M-y\nkey M-y\nkey M-y\nkey M-y\nkey M-y\nkey M-y\nkey M-y\n\
+         key M-y\nkey M-y\nkey M-y\nkey M-y\nkey M-y\nkey M-y\nkey M-y\nkey M-y\nkey M-y\nkey M-y\nkey M-y\n\
+         key M-y\nkey M-y\nkey M-y\nkey M-y\nkey M-y\nkey M-y\nkey M-y\nkey M-y\nkey M-y\nkey M-y\nkey M-y\n\
+         key M-y\nkey M-y\nkey M-y\nkey M-y\nkey M-y\nkey M-y\nkey M-y\nkey M-y\nkey M-y\nkey M-y\nkey M-y\n\
+         key M-y\nkey M-y\nkey M-y\nkey M-y\nkey M-y\nkey M-y\nkey M-y\nkey M-y\nkey M-y\nkey M-y\nkey M-y\n\
+         key M-y\nkey M-y\nkey M-y\nkey M-y\nkey M-y\nkey M-y\n",
+        "outcome eof\nline 2\ncursor 1\nplace 0\nat 0 3\nredraws 61\n",
+        1,
+    ),
+    (
+        WHOLE,
+        "type 1\nkey C-u\ntype 2\nkey C-u\ntype 3\nkey C-u\ntype 4\nkey C-u\ntype 5\nkey C-u\ntype 6\n\
+         key C-u\ntype 7\nkey C-u\ntype 8\nkey C-u\ntype 9\nkey C-u\ntype 10\nkey C-u\ntype 11\nkey C-u\n\
+         type 12\nkey C-u\ntype 13\nkey C-u\ntype 14\nkey C-u\ntype 15\nkey C-u\ntype 16\nkey C-u\ntype 17\n\
+         key C-u\ntype 18\nkey C-u\ntype 19\nkey C-u\ntype 20\nkey C-u\ntype 21\nkey C-u\ntype 22\nkey C-u\n\
+         type 23\nkey C-u\ntype 24\nkey C-u\ntype 25\nkey C-u\ntype 26\nkey C-u\ntype 27\nkey C-u\ntype 28\n\
+         key C-u\ntype 29\nkey C-u\ntype 30\nkey C-u\ntype 31\nkey C-u\ntype 32\nkey C-u\ntype 33\nkey C-u\n\
+         type 34\nkey C-u\ntype 35\nkey C-u\ntype 36\nkey C-u\ntype 37\nkey C-u\ntype 38\nkey C-u\ntype 39\n\
+         key C-u\ntype 40\nkey C-u\ntype 41\nkey C-u\ntype 42\nkey C-u\ntype 43\nkey C-u\ntype 44\nkey C-u\n\
+         type 45\nkey C-u\ntype 46\nkey C-u\ntype 47\nkey C-u\ntype 48\nkey C-u\ntype 49\nkey C-u\ntype 50\n\
+         key C-u\ntype 51\nkey C-u\ntype 52\nkey C-u\ntype 53\nkey C-u\ntype 54\nkey C-u\ntype 55\nkey C-u\n\
+         type 56\nkey C-u\ntype 57\nkey C-u\ntype 58\nkey C-u\ntype 59\nkey C-u\ntype 60\nkey C-u\ntype 61\n\
+         key C-u\nkey C-y\nkey M-y\nkey M-y\nkey M-y\nkey M-y\nkey M-y\nkey M-y\nkey M-y\nkey M-y\nkey M-y\n\
+         key M-y\nkey M-y\nkey M-y\nkey M-y\nkey M-y\nkey M-y\nkey M-y\nkey M-y\nkey M-y\nkey M-y\nkey M-y\n\
+         key M-y\nkey M-y\nkey M-y\nkey M-y\nkey M-y\nkey M-y\nkey M-y\nkey M-y\nkey M-y\nkey M-y\nkey M-y\n\
+         key M-y\nkey M-y\nkey M-y\nkey M-y\nkey M-y\nkey M-y\nkey M-y\nkey M-y\nkey M-y\nkey M-y\nkey M-y\n\
+         key M-y\nkey M-y\nkey M-y\nkey M-y\nkey M-y\nkey M-y\nkey M-y\nkey M-y\nkey M-y\nkey M-y\nkey M-y\n\
+         key M-y\nkey M-y\nkey M-y\nkey M-y\nkey M-y\nkey M-y\nkey M-y\n",
+        "outcome eof\nline 61\ncursor 2\nplace 0\nat 0 4\nredraws 62\n",
+        1,
+    ),
+    // good or bad by where they are cut
+    (CUT, "", "", 3),
+    (CUT, "history é\n\ntype a\nkey Enter\n", "", 3),
+    (CUT, "key\n", "", 3),
+    // where no write fails
+    (
+        BROKEN,
+        "type a\nkey Enter\n",
+        "outcome submitted\nline a\ncursor 1\nplace 0\nat 0 3\nredraws 1\n",
+        0,
+    ),
+    (BROKEN, "key\n", "bad script line 1\n", 4),
+];
+
+/// Plays a script, of whose streams one fails after so many bytes: what is printed is a beginning of the whole, and
+/// nothing where the script can't be read; and the status is that of a fault, if one fails. Nothing can be said of a
+/// bad line.
+fn plays(rt: &impl Abort, alloc: Global, case: Case, streams: Streams, at: usize) {
+    let (_, script, whole, status) = case;
+    let (cut, failing) = match streams.fails {
+        Fails::Nothing => (usize::MAX, usize::MAX),
+        Fails::Input => (at, usize::MAX),
+        Fails::Output => (usize::MAX, at),
     };
-    let mut out = Faulty {
+    let is_cut = cut <= script.len();
+    let input = Input {
+        rest: script.as_bytes().get(..cut).unwrap_or(script.as_bytes()),
+        streams,
+        is_cut,
+    };
+    let mut out = Output {
         bytes: Vec::new(alloc),
+        streams,
         writes: 0,
-        failing: usize::MAX,
-        goes_on: false,
-        flushes: true,
+        failing,
     };
-    let ended = played(alloc, input, &mut out);
-    let is_so = out.bytes.as_slice() == printed.as_bytes() && ended == status;
-    holds(rt, is_so, script, usize::from(ended));
+    let mut errors = Output {
+        bytes: Vec::new(alloc),
+        streams: AT_ONCE,
+        writes: 0,
+        failing: 0,
+    };
+    let ended = play(alloc, input, &mut out, &mut errors);
+    let printed = if is_cut { 0 } else { failing.min(whole.len()) };
+    let is_whole = !is_cut && printed == whole.len() && streams.flushes;
+    let wanted = if is_whole { status } else { 3 };
+    let is_so = whole.as_bytes().get(..printed) == Some(out.bytes.as_slice()) && ended == wanted;
+    holds(rt, is_so, script, at);
+}
+
+/// Plays each script with each of its streams, which fail after each number of bytes.
+#[test]
+fn ends_as_its_streams_let_it(rt: HostRuntime) {
+    for case in CASES {
+        for streams in case.0 {
+            let last = match streams.fails {
+                Fails::Nothing => 0,
+                Fails::Input => case.1.len(),
+                Fails::Output => case.2.len(),
+            };
+            for at in 0..=last {
+                plays(&rt, rt.alloc(), *case, *streams, at);
+            }
+        }
+    }
 }
 
 /// How each of the six lines begins.
@@ -320,8 +394,23 @@ fn is_beginning(printed: &str) -> bool {
     lines.next().is_none()
 }
 
-/// Scripts of which no outcome is a fault.
-const NO_FAULTS: &[Case] = &[
+/// Good scripts, and of those of which no outcome is a fault what is printed and the status.
+const GOOD: &[(&str, &str, u8)] = &[
+    (
+        "columns 40\nhistory git status\nhistory a\\nb\nprompt lang: \nhints\nbrackets\ntype a\nkey Up\nkey Enter\n",
+        "",
+        0,
+    ),
+    (
+        "type 日本日本日本日本日本\npaste one\\ntwo\nkey M-3\nkey C-b\nkey C-k\nkey C-y\nkey C-c\n",
+        "",
+        0,
+    ),
+    (
+        "mode vi\nhistory one two\nkey Up\nkey Esc\ntype 0cwx\nkey Esc\ntype w.3p2y\nkey Esc\nkey Enter\n",
+        "",
+        0,
+    ),
     (
         "hints\nhistory git status\ntype git\nkey Right\nkey Enter\n",
         "outcome submitted\nline git status\ncursor 10\nplace 1\nat 0 12\nredraws 5\n",
@@ -339,120 +428,69 @@ const NO_FAULTS: &[Case] = &[
     ),
 ];
 
-/// With ample memory a script prints its lines and ends with its status. Where an allocation is refused the status may be
-/// that of a fault, and what is printed is then a beginning of these lines or of those of a fault.
+/// Plays scripts without a bad line, and finds none. With ample memory a script prints its lines and ends with its
+/// status. Where an allocation is refused the status may be that of a fault, and what is printed is then a beginning of
+/// these lines or of those of a fault.
 #[test]
-fn prints_a_beginning_without_memory(rt: HostRuntime) {
-    for (script, whole, status) in NO_FAULTS {
+fn ends_by_a_fault_alone_where_memory_is_refused(rt: HostRuntime) {
+    for (script, whole, status) in GOOD {
         let mut out = Vec::new(rt.alloc());
-        let ended = played(rt.alloc(), script.as_bytes(), &mut out);
-        let shown = str::from_utf8(&out).expect(&rt, "a text");
-        let is_right = if ended == 3 {
+        let mut errors = Vec::new(rt.alloc());
+        let ended = play(rt.alloc(), script.as_bytes(), &mut out, &mut errors);
+        let shown = str::from_utf8(&out).unwrap_or("no text");
+        let is_good = ended < 4 && !shown.starts_with("bad") && shown != "no text";
+        let is_right = if whole.is_empty() {
+            true
+        } else if ended == 3 {
             let is_of_these = whole.starts_with(shown) || shown.starts_with("outcome fault\n");
             is_of_these && is_beginning(shown)
         } else {
             (shown, ended) == (*whole, *status)
         };
-        holds(&rt, is_right, script, usize::from(ended));
+        holds(&rt, is_good && is_right, script, usize::from(ended));
     }
 }
 
-/// A script and what is printed where nothing fails, with the status.
-const WHOLE: &[Case] = &[
+/// An outcome, a line, and what is printed.
+const REPORTS: &[(Outcome, &str, &str)] = &[
     (
-        "type a\nkey Enter\n",
-        "outcome submitted\nline a\ncursor 1\nplace 0\nat 0 3\nredraws 1\n",
-        0,
-    ),
-    ("key\n", "bad script line 1\n", 4),
-];
-
-/// Plays to a stream of which the write after `failing` bytes fails, once or for good, or whose flush does: what is
-/// printed is a beginning of the whole, and the status is that of a fault.
-fn faults(
-    rt: &impl Abort,
-    alloc: Global,
-    case: Case,
-    failing: usize,
-    goes_on: bool,
-    flushes: bool,
-) {
-    let (script, whole, status) = case;
-    let mut out = Faulty {
-        bytes: Vec::new(alloc),
-        writes: 0,
-        failing,
-        goes_on,
-        flushes,
-    };
-    let ended = played(alloc, script.as_bytes(), &mut out);
-    let printed = failing.min(whole.len());
-    let wanted = if failing < whole.len() || !flushes {
-        3
-    } else {
-        status
-    };
-    let is_so = out.bytes.as_slice() == &whole.as_bytes()[..printed] && ended == wanted;
-    holds(rt, is_so, script, failing);
-}
-
-/// Which writes fail, from one on or that one alone, and whether a flush does.
-const STREAMS: &[(bool, bool)] = &[(false, true), (true, true), (false, false)];
-
-#[test]
-fn ends_with_the_fault_of_its_output(rt: HostRuntime) {
-    for (goes_on, flushes) in STREAMS {
-        for (script, whole, status) in WHOLE {
-            for failing in 0..=whole.len() {
-                faults(
-                    &rt,
-                    rt.alloc(),
-                    (script, whole, *status),
-                    failing,
-                    *goes_on,
-                    *flushes,
-                );
-            }
-        }
-    }
-}
-
-const OUTCOMES: &[(Outcome, &str)] = &[
-    (Outcome::Submitted, "submitted"),
-    (Outcome::Eof, "eof"),
-    (Outcome::Interrupted, "interrupted"),
-    (Outcome::Fault, "fault"),
-];
-
-#[test]
-fn names_each_outcome(rt: HostRuntime) {
-    for (outcome, name) in OUTCOMES {
-        let shown = format!(in rt.alloc(); "{outcome}").expect(&rt, "no fault");
-        holds(&rt, shown.as_str() == *name, name, 0);
-    }
-}
-
-const LINES: &[(&str, &str)] = &[
-    (
+        Outcome::Eof,
         "",
         "outcome eof\nline \ncursor 3\nplace 7\nat 2 5\nredraws 9\n",
     ),
     (
+        Outcome::Eof,
         "a\\\n世",
         "outcome eof\nline a\\\\\\n世\ncursor 3\nplace 7\nat 2 5\nredraws 9\n",
     ),
     // other control characters stand as they are
     (
+        Outcome::Eof,
         "\r\t\u{1}\\n\0",
         "outcome eof\nline \r\t\u{1}\\\\n\0\ncursor 3\nplace 7\nat 2 5\nredraws 9\n",
+    ),
+    (
+        Outcome::Submitted,
+        "",
+        "outcome submitted\nline \ncursor 3\nplace 7\nat 2 5\nredraws 9\n",
+    ),
+    (
+        Outcome::Interrupted,
+        "",
+        "outcome interrupted\nline \ncursor 3\nplace 7\nat 2 5\nredraws 9\n",
+    ),
+    (
+        Outcome::Fault,
+        "",
+        "outcome fault\nline \ncursor 3\nplace 7\nat 2 5\nredraws 9\n",
     ),
 ];
 
 #[test]
-fn escapes_the_line(rt: HostRuntime) {
-    for (line, printed) in LINES {
+fn names_the_outcome_and_escapes_the_line(rt: HostRuntime) {
+    for (outcome, line, printed) in REPORTS {
         let report = Report {
-            outcome: Outcome::Eof,
+            outcome: *outcome,
             line,
             cursor: 3,
             place: 7,

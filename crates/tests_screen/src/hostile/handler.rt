@@ -9,24 +9,12 @@ use line_editor::binding::{ConditionalEventHandler, Event, EventContext};
 use line_keys::cmd::Cmd;
 use std::alloc::Global;
 use tests_parties::countdown::Countdown;
-use tests_parties::fault::Fault;
 
-/// A handler that answers a move to the line's beginning, or nothing.
+/// A handler that answers a move to the line's beginning, or nothing, and counts its calls, one of which may fail.
 #[derive(Drop)]
 pub(crate) struct Handler {
-    moves: bool,
-    countdown: Countdown,
-}
-
-impl Handler {
-    /// A handler that answers a move or nothing. Its call of the number `failing`, from 1 on, fails by this fault; none does
-    /// where that is 0.
-    pub(crate) fn new(moves: bool, failing: u64, fault: Fault) -> Handler {
-        Handler {
-            moves,
-            countdown: Countdown::with(failing, fault),
-        }
-    }
+    pub(crate) moves: bool,
+    pub(crate) countdown: Countdown,
 }
 
 impl ConditionalEventHandler for Handler {

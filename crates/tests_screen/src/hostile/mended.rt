@@ -1,14 +1,13 @@
-//! Each call of those who are asked fails once, and each run answers the error of the one that failed. The history stays, and
-//! once nothing fails, what is left is drawn as an editor that is made of it draws it.
+//! Each call of those who are asked fails once, and each run answers the error of the one that failed. Once nothing fails,
+//! what is left is drawn as an editor that is made of it draws it.
 
-use super::bench::{self, Desk, Look, Mode, PLAIN, ended, keys, looks, marked};
-use super::handler::Handler;
+use super::bench::{self, Desk, Item, PLAIN, To, VI, bindings, ended, items, shelf};
 use crate::holds;
-use line_buffer::{KillRing, Unit};
-use line_config::{ReadlineError, Result};
-use line_editor::binding::{Event, EventHandler};
+use line_buffer::{GraphemeClusterMode, KillRing, Unit};
+use line_config::{Config, ReadlineError, Result};
 use line_editor::run::run;
-use line_editor::{Bindings, InputState, State};
+use line_editor::{InputState, State};
+use line_keys::keys::{KeyCode as K, KeyEvent, Modifiers as M};
 use line_keys::refresher::Refresher;
 use line_parts::{Context, History};
 use std::alloc::Global;
@@ -16,45 +15,60 @@ use std::io::ErrorKind;
 use std::process::Abort;
 use tests_parties::fault::Fault;
 use tests_parties::guide::Guide;
-use tests_parties::shelf::Shelf;
 use tests_stand_ins::recorder::{self, Recorder};
 use tests_stand_ins::typist::{self, Typist};
 
 type Editor<'out, 'prompt> = bench::Editor<'out, 'prompt, Recorder>;
 
-/// Who is asked in a run: the handlers are one of each key and one of a sequence.
-#[derive(Clone, Copy, PartialEq, Eq)]
-enum Party {
-    Screen,
-    Reader,
-    Helper,
-    OfEachKey,
-    OfSequence,
-    History,
-}
+// Who is asked in a run, by number: the handlers are one of each key and one of a sequence.
+const OF_SCREEN: usize = 0;
 
-impl Party {
-    /// The fault by which it fails. No two are of one kind.
-    fn fault(self) -> Fault {
-        let (kind, text) = match self {
-            Party::Screen => (ErrorKind::PermissionDenied, recorder::CUT),
-            Party::Reader => (ErrorKind::UnexpectedEof, typist::CUT),
-            Party::Helper => (ErrorKind::Other, "the helper is asleep"),
-            Party::OfEachKey => (ErrorKind::InvalidInput, "no key is handled"),
-            Party::OfSequence => (ErrorKind::NotFound, "no sequence is handled"),
-            Party::History => (ErrorKind::InvalidData, "the history is torn"),
-        };
-        Fault { kind, text }
-    }
-}
+const OF_READER: usize = 1;
 
-/// A run: the desk with the edit mode, the history's lines and whether there are hints, and what is typed; how it ends where
-/// nothing fails; the line that is left then with a bar at its cursor, the history index, where the cursor is drawn, and how
-/// often all was drawn; and how many calls each of those who are asked gets.
+const OF_HELPER: usize = 2;
+
+const OF_EACH_KEY: usize = 3;
+
+const OF_SEQUENCE: usize = 4;
+
+const OF_HISTORY: usize = 5;
+
+/// The faults by which these fail. No two are of one kind.
+const FAULTS: [Fault; 6] = [
+    Fault {
+        kind: ErrorKind::PermissionDenied,
+        text: recorder::CUT,
+    },
+    Fault {
+        kind: ErrorKind::UnexpectedEof,
+        text: typist::CUT,
+    },
+    Fault {
+        kind: ErrorKind::Other,
+        text: "the helper is asleep",
+    },
+    Fault {
+        kind: ErrorKind::InvalidInput,
+        text: "no key is handled",
+    },
+    Fault {
+        kind: ErrorKind::NotFound,
+        text: "no sequence is handled",
+    },
+    Fault {
+        kind: ErrorKind::InvalidData,
+        text: "the history is torn",
+    },
+];
+
+/// A run: the desk with the edit mode, the history's lines and whether there are hints, and what is typed; how it ends
+/// where nothing fails; the line that is left then with a bar at its cursor, the history index, where the cursor is
+/// drawn, and how often all was drawn; and how many calls each of those who are asked gets, by its number.
 ///
-/// The reader is asked for each key, and once more where the input ends. The screen draws all, or writes a character or moves the
-/// cursor. The helper is asked for a hint where the text changes or all is drawn, and for a validation result by Enter. The
-/// handler of each key is asked for no key of a count, and for no further key after an operator or of a sequence.
+/// The reader is asked for each key, and once more where the input ends. The screen draws all, or writes a character or
+/// moves the cursor. The helper is asked for a hint where the text changes or all is drawn, and for a validation result
+/// by Enter. The handler of each key is asked for no key of a count, and for no further key after an operator or of a
+/// sequence.
 #[derive(Clone, Copy)]
 struct Scene {
     desk: Desk,
@@ -64,13 +78,8 @@ struct Scene {
     place: usize,
     at: (Unit, Unit),
     redraws: u64,
-    calls: &'static [(Party, u64)],
+    calls: [u64; 6],
 }
-
-const VI: Desk = Desk {
-    mode: Mode::Insert,
-    ..PLAIN
-};
 
 const OUT_AND_BACK: Scene = Scene {
     desk: Desk {
@@ -83,14 +92,7 @@ const OUT_AND_BACK: Scene = Scene {
     place: 2,
     at: (0, 3),
     redraws: 3,
-    calls: &[
-        (Party::Screen, 3 + 1),
-        (Party::Reader, 4),
-        (Party::Helper, 3 + 1 + 1),
-        (Party::OfEachKey, 4),
-        (Party::OfSequence, 0),
-        (Party::History, 1),
-    ],
+    calls: [3 + 1, 4, 3 + 1 + 1, 4, 0, 1],
 };
 
 const COUNTED_KILL: Scene = Scene {
@@ -101,14 +103,7 @@ const COUNTED_KILL: Scene = Scene {
     place: 0,
     at: (0, 2),
     redraws: 6,
-    calls: &[
-        (Party::Screen, 6 + 15 + 2),
-        (Party::Reader, 15 + 6 + 1),
-        (Party::Helper, 6 + 15),
-        (Party::OfEachKey, 15 + 3),
-        (Party::OfSequence, 0),
-        (Party::History, 0),
-    ],
+    calls: [6 + 15 + 2, 15 + 6 + 1, 6 + 15, 15 + 3, 0, 0],
 };
 
 /// The handler's move, and an undo by two keys that begin as the bound ones do.
@@ -120,14 +115,7 @@ const SEQUENCE: Scene = Scene {
     place: 0,
     at: (0, 2),
     redraws: 2,
-    calls: &[
-        (Party::Screen, 2 + 1 + 1),
-        (Party::Reader, 5 + 1),
-        (Party::Helper, 2 + 1),
-        (Party::OfEachKey, 3),
-        (Party::OfSequence, 1),
-        (Party::History, 0),
-    ],
+    calls: [2 + 1 + 1, 5 + 1, 2 + 1, 3, 1, 0],
 };
 
 /// The history is asked for the hint of each line but the empty one.
@@ -143,18 +131,11 @@ const TAKEN_HINT: Scene = Scene {
     place: 1,
     at: (0, 12),
     redraws: 5,
-    calls: &[
-        (Party::Screen, 5),
-        (Party::Reader, 5),
-        (Party::Helper, 5 + 1),
-        (Party::OfEachKey, 5),
-        (Party::OfSequence, 0),
-        (Party::History, 4),
-    ],
+    calls: [5, 5, 5 + 1, 5, 0, 4],
 };
 
-/// The screen is asked for a drawing of each typed character, since a hint stands after it; for the two moves; and for what goes
-/// and comes back.
+/// The screen is asked for a drawing of each typed character, since a hint stands after it; for the two moves; and for
+/// what goes and comes back.
 const TO_THE_MATCH: Scene = Scene {
     desk: Desk {
         entries: &["(a)bc"],
@@ -167,14 +148,7 @@ const TO_THE_MATCH: Scene = Scene {
     place: 1,
     at: (0, 4),
     redraws: 6,
-    calls: &[
-        (Party::Screen, 1 + 3 + 2 + 2),
-        (Party::Reader, 8 + 1),
-        (Party::Helper, 1 + 3 + 2),
-        (Party::OfEachKey, 7),
-        (Party::OfSequence, 0),
-        (Party::History, 3),
-    ],
+    calls: [1 + 3 + 2 + 2, 8 + 1, 1 + 3 + 2, 7, 0, 3],
 };
 
 /// How a run is to end.
@@ -185,151 +159,137 @@ enum Ending {
     WellOrByMemory,
 }
 
-/// A scene; whose call fails, and its number among that one's calls, from 1 on, or 0 where none does; and how the run is to end.
+/// A scene; the number of the one whose call fails, and the call's number among that one's calls, from 1 on, or 0 where
+/// none does; and how the run is to end.
 #[derive(Clone, Copy)]
 struct Take<'s> {
     scene: &'s Scene,
-    party: Party,
+    party: usize,
     call: u64,
     ending: Ending,
 }
 
 impl Take<'_> {
     /// Which of its calls fails.
-    fn failing(&self, party: Party) -> u64 {
+    fn failing(&self, party: usize) -> u64 {
         if self.party == party { self.call } else { 0 }
-    }
-
-    /// The map of both handlers.
-    fn bindings(&self, alloc: Global) -> Result<Bindings> {
-        let sequence = Event::KeySeq(keys(alloc, "⌃Xa")?);
-        let bindings = Bindings::new(alloc);
-        let bindings = self.binds(alloc, bindings, Party::OfSequence, sequence)?;
-        self.binds(alloc, bindings, Party::OfEachKey, Event::Any)
-    }
-
-    /// Binds an input event to the handler that is this one.
-    fn binds(
-        &self,
-        alloc: Global,
-        mut bindings: Bindings,
-        party: Party,
-        event: Event,
-    ) -> Result<Bindings> {
-        let moves = matches!(party, Party::OfSequence);
-        let handler = Handler::new(moves, self.failing(party), party.fault());
-        let handler = EventHandler::Conditional(Box::new(alloc, handler)?);
-        let _ = bindings.insert(event, handler)?;
-        Ok(bindings)
     }
 }
 
 /// Plays a scene, and looks at what is left.
 fn plays(rt: &impl Abort, alloc: Global, take: Take<'_>) -> Result<()> {
-    let mut history = take.scene.desk.shelf(alloc)?;
-    history.fail_by(take.failing(Party::History), Party::History.fault());
+    let scene = take.scene;
+    let mut history = shelf(alloc, scene.desk.entries)?;
+    history.fail_by(take.failing(OF_HISTORY), FAULTS[OF_HISTORY]);
     let mut screen = Recorder::new(alloc, 80, false, 0);
-    screen.cut_at(take.failing(Party::Screen));
-    let mut helper = Guide::new(take.scene.desk.hints, false);
-    helper.fail_by(take.failing(Party::Helper), Party::Helper.fault());
+    screen.cut_at(take.failing(OF_SCREEN));
+    let mut helper = Guide::new(scene.desk.hints, false);
+    helper.fail_by(take.failing(OF_HELPER), FAULTS[OF_HELPER]);
     let context = Context::new(&history);
     let mut state = State::new(alloc, &mut screen, &"> ", Some(&mut helper), context)?;
     let outcome = runs(alloc, take, &mut state)?;
-    ends(rt, alloc, take, &outcome, &history, &mut state)
+    let is_right = is_right(alloc, take, &outcome, &mut state)?;
+    holds(rt, is_right, scene.typed, take.call as usize);
+    Ok(())
 }
+
+/// The keys of the sequence that is bound.
+const BEHIND_X: &[KeyEvent] = &[
+    KeyEvent(K::Char('X'), M::CTRL),
+    KeyEvent(K::Char('a'), M::NONE),
+];
 
 /// Runs on what is typed. How that ended.
 fn runs(alloc: Global, take: Take<'_>, state: &mut Editor<'_, '_>) -> Result<Result<()>> {
-    let typed = keys(alloc, take.scene.typed)?;
+    let scene = take.scene;
     let mut typist = Typist::new(alloc);
-    typist.press(typed.as_slice())?;
-    typist.cut_at(take.failing(Party::Reader));
-    drop(typed);
-    let bindings = take.bindings(alloc)?;
-    let config = take.scene.desk.config();
+    for item in items(alloc, scene.typed)?.as_slice() {
+        if let Item::Key(key) = item {
+            typist.press(&[*key])?;
+        }
+    }
+    typist.cut_at(take.failing(OF_READER));
+    let sequence = To::Asks(true, take.failing(OF_SEQUENCE), FAULTS[OF_SEQUENCE]);
+    let each_key = To::Asks(false, take.failing(OF_EACH_KEY), FAULTS[OF_EACH_KEY]);
+    let bindings = bindings(alloc, &[(BEHIND_X, sequence), (&[], each_key)])?;
+    let config = Config::builder(GraphemeClusterMode::Unicode)
+        .edit_mode(scene.desk.style)
+        .build();
     let mut input = InputState::new(&config, &bindings);
     let mut kills = KillRing::new(alloc, 60);
     Ok(run(state, &mut input, &mut typist, &mut kills, &config))
 }
 
-/// The run ended as it is to end: by the fault of the one that failed, or as it does where nothing fails.
-fn ends(
-    rt: &impl Abort,
+/// Whether the run ended as it is to end: by the fault of the one that failed, or as it does where nothing fails, and
+/// left what the scene has.
+fn is_right(
     alloc: Global,
     take: Take<'_>,
     outcome: &Result<()>,
-    history: &Shelf,
-    state: &mut Editor<'_, '_>,
-) -> Result<()> {
-    let is_well = match take.ending {
-        Ending::Fails => false,
-        Ending::Well => true,
-        Ending::WellOrByMemory => !matches!(outcome, Err(ReadlineError::Memory)),
-    };
-    let is_right = if is_well {
-        is_as_wanted(alloc, take.scene, ended(outcome), state)?
-    } else {
-        let is_answer = match take.ending {
-            Ending::Fails => take.party.fault().is_answer(alloc, outcome)?,
-            _ => true,
-        };
-        is_answer && is_mended(rt, alloc, take.scene, history, state)?
-    };
-    holds(rt, is_right, take.party.fault().text, take.call as usize);
-    Ok(())
-}
-
-/// Whether the run ended so, and left what the scene has.
-fn is_as_wanted(alloc: Global, scene: &Scene, end: &str, state: &Editor<'_, '_>) -> Result<bool> {
-    let (look, screen) = looks(state);
-    let is_drawn = (look.cursor.row, look.cursor.col) == scene.at
-        && screen.redraws() == scene.redraws;
-    let ends_so = look.place == scene.place && end == scene.end;
-    let line = marked(alloc, look.text, look.pos)?;
-    Ok(is_drawn && ends_so && line.as_str() == scene.left)
-}
-
-/// Whether the history has its lines and no others, and the line is drawn again as an editor that is made of it draws it.
-fn is_mended(
-    rt: &impl Abort,
-    alloc: Global,
-    scene: &Scene,
-    history: &Shelf,
     state: &mut Editor<'_, '_>,
 ) -> Result<bool> {
-    let is_kept = scene.desk.is_kept(history)?;
+    let scene = take.scene;
+    match (take.ending, outcome) {
+        (Ending::Fails, _) => {
+            let Some(fault) = FAULTS.get(take.party) else {
+                return Ok(false);
+            };
+            Ok(fault.is_answer(alloc, outcome)? && is_mended(alloc, scene, state)?)
+        }
+        (Ending::WellOrByMemory, Err(ReadlineError::Memory)) => is_mended(alloc, scene, state),
+        _ => {
+            let at = state.layout().cursor;
+            let is_drawn = (at.row, at.col, state.out().redraws())
+                == (scene.at.0, scene.at.1, scene.redraws);
+            let line = state.line().split_at_checked(state.pos());
+            let is_line = line.is_some() && line == scene.left.split_once('|');
+            let ends_so = (state.place(), ended(outcome)) == (scene.place, scene.end);
+            Ok(is_drawn && is_line && ends_so)
+        }
+    }
+}
+
+/// Whether the place is within the history, and the line is drawn again as an editor that is made of it draws it.
+fn is_mended(alloc: Global, scene: &Scene, state: &mut Editor<'_, '_>) -> Result<bool> {
     state.refresh_line()?;
-    let shown = looks(state);
-    let (look, _) = shown;
-    let is_within = look.place <= history.len();
-    if !is_kept || !is_within || !look.text.is_char_boundary(look.pos) {
+    let (text, pos, place) = (state.line(), state.pos(), state.place());
+    if place > scene.desk.entries.len() || !text.is_char_boundary(pos) {
         return Ok(false);
     }
-    let (text, pos) = (look.text, look.pos);
     let mut screen = Recorder::new(alloc, 80, false, 0);
     let mut helper = Guide::new(scene.desk.hints, false);
-    let mut context = Context::new(history);
-    context.set_history_index(look.place);
+    let mut context = Context::new(state.history());
+    context.set_history_index(place);
     let advisor = Some(&mut helper);
     let mut anew = State::with_line(alloc, &mut screen, &"> ", advisor, context, text, pos)?;
     anew.refresh_line()?;
-    Ok(shows_alike(rt, looks(&anew), shown))
+    Ok(shows_alike(&anew, state))
 }
 
-/// Whether two editors that have drawn their lines show the same, on their screens too, which were handed the same last.
-fn shows_alike(rt: &impl Abort, one: (Look<'_>, &Recorder), other: (Look<'_>, &Recorder)) -> bool {
-    let (screen, second) = (one.1, other.1);
-    one.0 == other.0
-        && screen.shows() == second.shows()
-        && handed_last(rt, screen.log()) == handed_last(rt, second.log())
+/// Whether two editors that have drawn their lines show the same, on their screens too, which were handed the same
+/// last.
+fn shows_alike(one: &Editor<'_, '_>, other: &Editor<'_, '_>) -> bool {
+    let (kept, second) = (one.layout(), other.layout());
+    let is_placed = (kept.prompt_size, kept.cursor, kept.end)
+        == (second.prompt_size, second.cursor, second.end)
+        && (kept.has_info, kept.default_prompt) == (second.has_info, second.default_prompt)
+        && kept.grapheme_cluster_mode == second.grapheme_cluster_mode;
+    let is_line = (one.line(), one.pos(), one.place())
+        == (other.line(), other.pos(), other.place());
+    let is_hinted = (one.has_hint(), one.hint_text()) == (other.has_hint(), other.hint_text());
+    let is_shown = one.out().shows() == other.out().shows();
+    let handed = handed_last(one.out().log());
+    let is_handed = handed.is_some() && handed == handed_last(other.out().log());
+    is_placed && is_line && is_hinted && is_shown && is_handed
 }
 
-/// What a screen was handed last, before and after the old layout. A line of its log can miss its end, where memory ran out.
-fn handed_last<'l>(rt: &impl Abort, log: &'l str) -> (&'l str, &'l str) {
-    let (_, last) = log.rsplit_once("draw ").expect(rt, "a drawing");
-    let (before, rest) = last.split_once(" old ").expect(rt, "an old layout");
-    let (_, behind) = rest.split_once(" new ").expect(rt, "a new layout");
-    (before, behind)
+/// What a screen was handed last, before and after the old layout. A line of its log can miss its end, where memory ran
+/// out.
+fn handed_last(log: &str) -> Option<(&str, &str)> {
+    let (_, last) = log.rsplit_once("draw ")?;
+    let (before, rest) = last.split_once(" old ")?;
+    let (_, behind) = rest.split_once(" new ")?;
+    Some((before, behind))
 }
 
 const SCENES: &[Scene] = &[
@@ -344,7 +304,7 @@ const SCENES: &[Scene] = &[
 #[test]
 fn after_each_fault(rt: HostRuntime) {
     for scene in SCENES {
-        for (party, calls) in scene.calls {
+        for (party, calls) in scene.calls.iter().enumerate() {
             for call in 1..=calls.saturating_add(1) {
                 let ending = if call > *calls {
                     Ending::Well
@@ -353,7 +313,7 @@ fn after_each_fault(rt: HostRuntime) {
                 };
                 let take = Take {
                     scene,
-                    party: *party,
+                    party,
                     call,
                     ending,
                 };
@@ -369,7 +329,7 @@ fn scenes_or_memory(rt: HostRuntime) {
     for scene in SCENES {
         let take = Take {
             scene,
-            party: Party::Screen,
+            party: OF_SCREEN,
             call: 0,
             ending: Ending::WellOrByMemory,
         };

@@ -1,16 +1,17 @@
-//! Lists of keys and pasted texts that are made from a number, in both edit modes, with bindings, hints and brackets, on narrow and
-//! wide screens. What is promised of each turn is looked at on the desk; a run leaves what turns leave, and so do items that come
-//! one by one; and where all is taken back the text is that of the start.
+//! Lists of keys and pasted texts that are made from a number, in both edit modes, with bindings, hints and brackets,
+//! on narrow and wide screens. What is promised of each turn is looked at on the desk; a run leaves what turns leave,
+//! and so do items that come one by one; and where all is taken back the text is that of the start.
 
-use super::bench::{CODES, Desk, Item, Left, Mode, SETS, To, Way, Work, left_by};
+use super::bench::{CODES, Desk, Item, SETS, To, Way, agree};
 use crate::holds;
 use line_buffer::Unit;
+use line_config::EditMode;
 use line_keys::keys::{KeyCode as K, KeyEvent, Modifiers as M};
 use std::alloc::Global;
 use std::process::Abort;
 
-/// Numbers that look mixed, each from the one before by a linear congruence, of which the upper bits are taken; and how many digits
-/// were made.
+/// Numbers that look mixed, each from the one before by a linear congruence, of which the upper bits are taken; and how
+/// many digits were made.
 #[derive(Clone, Copy)]
 struct Dice {
     last: usize,
@@ -114,12 +115,13 @@ const OTHERS: &[K] = &[
     K::F(5),
 ];
 
-/// A key: often one of a table of the edit mode, at times any one. The mark before a pasted text then stands without one.
-fn key(dice: &mut Dice, mode: Mode) -> KeyEvent {
+/// A key: often one of a table of the edit mode, at times any one. The mark before a pasted text then stands without
+/// one.
+fn key(dice: &mut Dice, style: EditMode) -> KeyEvent {
     match dice.below(16) {
         0..=4 => KeyEvent(K::Char(dice.pick(TYPED, 'a')), M::NONE),
         // a key of the edit mode's own table
-        5..=9 if matches!(mode, Mode::Insert) => KeyEvent(K::Char(dice.pick(OF_VI, 'w')), M::NONE),
+        5..=9 if matches!(style, EditMode::Vi) => KeyEvent(K::Char(dice.pick(OF_VI, 'w')), M::NONE),
         5..=9 if dice.below(3) == 0 => KeyEvent(K::Char(dice.pick(WITH_ALT, 'b')), M::ALT),
         5..=9 => KeyEvent(K::Char(dice.pick(WITH_CTRL, 'A')), M::CTRL),
         10..=11 => KeyEvent(dice.pick(OTHERS, K::Left), M::NONE),
@@ -128,7 +130,7 @@ fn key(dice: &mut Dice, mode: Mode) -> KeyEvent {
         12 => {
             dice.digits = dice.digits.saturating_add(1);
             let digit = K::Char(dice.pick(DIGITS, '2'));
-            let with_alt = matches!(mode, Mode::Emacs) != (dice.below(4) == 0);
+            let with_alt = matches!(style, EditMode::Emacs) != (dice.below(4) == 0);
             KeyEvent(digit, if with_alt { M::ALT } else { M::NONE })
         }
         13 => ESC,
@@ -138,13 +140,13 @@ fn key(dice: &mut Dice, mode: Mode) -> KeyEvent {
 }
 
 /// Up to 32 items, one in twelve a pasted text.
-fn items_of(rt: &impl Abort, alloc: Global, dice: &mut Dice, mode: Mode) -> Vec<Item> {
+fn items_of(rt: &impl Abort, alloc: Global, dice: &mut Dice, style: EditMode) -> Vec<Item> {
     let mut items = Vec::new(alloc);
     for _ in 0..dice.below(32).saturating_add(1) {
         let item = if dice.below(12) == 0 {
             Item::Paste(dice.pick(PASTED, ""))
         } else {
-            Item::Key(key(dice, mode))
+            Item::Key(key(dice, style))
         };
         items.push(item).expect(rt, "no fault");
     }
@@ -171,22 +173,31 @@ const ENTRIES: &[&[&str]] = &[
     &["a\nb", "日", "(", "git status"],
 ];
 
-/// A key is bound to a text that comes again, one and a sequence that begins with it to an undo and to a yank, and a sequence
-/// of C-X to a move.
-const BOUND: &[(&str, To)] = &[
-    ("⑤", To::PutsAgain),
-    ("④④", To::Undoes(1)),
-    ("④a", To::Yanks(2)),
-    ("⌃Xa", To::Moves),
+const F4: KeyEvent = KeyEvent(K::F(4), M::NONE);
+
+const F5: KeyEvent = KeyEvent(K::F(5), M::NONE);
+
+const A: KeyEvent = KeyEvent(K::Char('a'), M::NONE);
+
+const CTRL_X: KeyEvent = KeyEvent(K::Char('X'), M::CTRL);
+
+/// A key is bound to a text that comes again, one and a sequence that begins with it to an undo and to a yank, and a
+/// sequence of C-X to a move.
+const BOUND: &[(&[KeyEvent], To)] = &[
+    (&[F5], To::PutsAgain),
+    (&[F4, F4], To::Undoes(1)),
+    (&[F4, A], To::Yanks(2)),
+    (&[CTRL_X, A], To::Moves),
 ];
 
 /// A desk of this mode. The first numbers look alike where the seeds are near, and are passed over.
-fn laid(dice: &mut Dice, mode: Mode) -> Desk {
+fn laid(dice: &mut Dice, style: EditMode) -> Desk {
     for _ in 0..4 {
         let _ = dice.below(1);
     }
     Desk {
-        mode,
+        style,
+        takes_commands: false,
         columns: dice.pick(COLUMNS, 80),
         prompt: dice.pick(PROMPTS, "> "),
         start: dice.pick(STARTS, ("", 0)),
@@ -198,44 +209,44 @@ fn laid(dice: &mut Dice, mode: Mode) -> Desk {
     }
 }
 
-/// What is the same in all ways.
-fn same(left: &Left) -> (&str, usize, Option<&str>, &str) {
-    (
-        left.line.as_str(),
-        left.place,
-        left.yanked.as_deref(),
-        left.end,
-    )
-}
-
-/// The list of this number, read in each way: nothing is amiss, each leaves the same, and a run draws as often as turns.
-fn plays(rt: &impl Abort, alloc: Global, mode: Mode, seed: usize) {
+/// The list of this number, read in each way: nothing is amiss, each leaves the same, and a run draws as often as
+/// turns.
+fn plays(rt: &impl Abort, alloc: Global, style: EditMode, seed: usize) {
     let mut dice = Dice {
         last: seed,
         digits: 0,
     };
-    let desk = laid(&mut dice, mode);
-    let items = items_of(rt, alloc, &mut dice, mode);
-    let items = items.as_slice();
-    let by_turns = left_by(rt, alloc, &desk, Work::Reads(Way::Turns, items));
-    for (way, name) in &[(Way::Run, "run"), (Way::OneByOne, "one by one")] {
-        let left = left_by(rt, alloc, &desk, Work::Reads(*way, items));
-        let draws_alike = !matches!(way, Way::Run) || left.redraws == by_turns.redraws;
-        let is_well = (left.amiss, by_turns.amiss) == ("", "") && draws_alike;
-        holds(rt, is_well && same(&left) == same(&by_turns), name, seed);
-    }
+    let desk = laid(&mut dice, style);
+    let items = items_of(rt, alloc, &mut dice, style);
+    let others = &[Way::Run, Way::OneByOne];
+    let end = agree(rt, alloc, &desk, items.as_slice(), Way::Turns, others);
+    holds(rt, end.is_some(), "the list", seed);
 }
 
 #[test]
 fn keep_what_is_promised_in_emacs(rt: HostRuntime) {
-    for seed in 0..1000 {
-        plays(&rt, rt.alloc(), Mode::Emacs, seed);
+    for seed in 0..500 {
+        plays(&rt, rt.alloc(), EditMode::Emacs, seed);
+    }
+}
+
+#[test]
+fn keep_more_in_emacs(rt: HostRuntime) {
+    for seed in 500..1000 {
+        plays(&rt, rt.alloc(), EditMode::Emacs, seed);
     }
 }
 
 #[test]
 fn keep_what_is_promised_in_vi(rt: HostRuntime) {
-    for seed in 1000..2000 {
-        plays(&rt, rt.alloc(), Mode::Insert, seed);
+    for seed in 1000..1500 {
+        plays(&rt, rt.alloc(), EditMode::Vi, seed);
+    }
+}
+
+#[test]
+fn keep_more_in_vi(rt: HostRuntime) {
+    for seed in 1500..2000 {
+        plays(&rt, rt.alloc(), EditMode::Vi, seed);
     }
 }
