@@ -69,26 +69,23 @@ pub fn first_wrong(alloc: Global, way: Way, bytes: &str, names: &str) -> Option<
 /// Whether a queue has the keys of these names with these modifiers and the pasted texts, and nothing else.
 fn are(keys: &mut KeyQueue, names: &str, modifiers: Modifiers) -> bool {
     for name in names.split(' ') {
-        if !name.is_empty() && !is_next(keys, name, modifiers) {
+        if name.is_empty() {
+            continue;
+        }
+        let Ok(key) = keys.next_key(false) else {
+            return false;
+        };
+        let is_so = match (name.strip_prefix(TEXT), key_named(name)) {
+            (Some(text), _) => match keys.read_pasted_text() {
+                Ok(pasted) => key == PASTE_START && pasted.as_str() == text,
+                Err(_) => false,
+            },
+            (None, Some(KeyEvent(code, named))) => key == KeyEvent(code, named | modifiers),
+            (None, None) => false,
+        };
+        if !is_so {
             return false;
         }
     }
     keys.is_empty()
-}
-
-/// Whether the next item is the key of this name with these modifiers, or the pasted text.
-fn is_next(keys: &mut KeyQueue, name: &str, modifiers: Modifiers) -> bool {
-    let Ok(key) = keys.next_key(false) else {
-        return false;
-    };
-    if let Some(text) = name.strip_prefix(TEXT) {
-        return match keys.read_pasted_text() {
-            Ok(pasted) => key == PASTE_START && pasted.as_str() == text,
-            Err(_) => false,
-        };
-    }
-    match key_named(name) {
-        Some(KeyEvent(code, named)) => key == KeyEvent(code, named | modifiers),
-        None => false,
-    }
 }

@@ -30,20 +30,15 @@ pub(crate) struct Party {
 }
 
 impl Party {
-    /// A part of this name with the words of a text, one of whose calls fails if it is the one that does.
-    pub(crate) fn new(alloc: Global, name: &str, words: &str, failing: Failing) -> Result<Party> {
+    /// A part of this name without words, one of whose calls fails if it is the one that does.
+    pub(crate) fn new(alloc: Global, name: &str, failing: Failing) -> Party {
         let (fails, call) = failing;
-        let failing = if fails == name { call as u64 } else { 0 };
-        let mut party = Party {
+        Party {
             words: Words {
                 words: Vec::new(alloc),
             },
-            calls: Countdown::with(failing, GONE),
-        };
-        for word in words.split(' ') {
-            party.words.words.push(String::from_str(alloc, word)?)?;
+            calls: Countdown::with(if fails == name { call as u64 } else { 0 }, GONE),
         }
-        Ok(party)
     }
 }
 

@@ -3,12 +3,11 @@
 
 use crate::by_bytes::{Way, first_wrong};
 use crate::holds;
-use crate::texts::{PASTED, TYPED};
+use crate::texts::{BY_A_HUNDRED, BY_FOUR, BY_NONE, BY_ONE, BY_THREE, PASTED, TYPED};
 use line_keys::keys::Modifiers;
 use line_screen::KeyQueue;
 use line_term::Decoder;
 use line_term::decoder::PASTE_BOUND;
-use line_term::sequence::Size;
 
 /// Bytes, and the names of what they come to.
 pub(crate) type Rows = &'static [(&'static str, &'static str)];
@@ -339,6 +338,11 @@ const TABLES: &[(Way, Rows)] = &[
     (PLAINLY, PAUSED),
     (PLAINLY, TYPED),
     (PLAINLY, PASTED),
+    ((4, "", Modifiers::NONE), BY_FOUR),
+    ((3, "", Modifiers::NONE), BY_THREE),
+    ((100, "", Modifiers::NONE), BY_A_HUNDRED),
+    ((0, "", Modifiers::NONE), BY_NONE),
+    ((1, "", Modifiers::NONE), BY_ONE),
 ];
 
 #[test]
@@ -371,7 +375,7 @@ fn report_sizes(rt: HostRuntime) {
         let mut keys = KeyQueue::new(rt.alloc());
         let is_fed = decoder.feed(bytes.as_bytes(), &mut keys).is_ok() && keys.is_empty();
         let is_so = match decoder.take_size() {
-            Some(size) => (size.rows, size.columns) == (*rows, *columns),
+            Some(size) => *rows > 0 && (size.rows, size.columns) == (*rows, *columns),
             None => *rows == 0,
         };
         let is_taken = decoder.take_size().is_none();

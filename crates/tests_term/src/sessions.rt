@@ -93,6 +93,15 @@ pub(crate) fn bindings(alloc: Global) -> Result<Bindings> {
     Ok(bindings)
 }
 
+/// A completer of the words of a text.
+fn completer(alloc: Global, text: &str, failing: Failing) -> Result<Party> {
+    let mut party = Party::new(alloc, "completer", failing);
+    for word in text.split(' ') {
+        party.words.words.push(String::from_str(alloc, word)?)?;
+    }
+    Ok(party)
+}
+
 /// A history of the lines of a text, and none where it is empty.
 fn history(alloc: Global, text: &str, failing: Failing) -> Result<Shelf> {
     let mut history = Shelf::new(alloc, 0);
@@ -133,13 +142,14 @@ pub(crate) fn new_session(
         .build();
     let completes = lists || how.starts_with("round");
     let (words, lines) = if completes { (text, "") } else { ("", text) };
+    let completer = completer(alloc, words, failing)?;
     let history = history(alloc, lines, failing)?;
     let out = Counted::failing(alloc, failing)?;
     let helper = Parts {
-        completer: Party::new(alloc, "completer", words, failing)?,
-        hinter: Party::new(alloc, "hinter", "", failing)?,
-        highlighter: Party::new(alloc, "highlighter", "", failing)?,
-        validator: Party::new(alloc, "validator", "", failing)?,
+        completer,
+        hinter: Party::new(alloc, "hinter", failing),
+        highlighter: Party::new(alloc, "highlighter", failing),
+        validator: Party::new(alloc, "validator", failing),
     };
     let mut session = Editor::new(alloc, config, out, 20, helper, history);
     let _ = session.resize(20, 5);
@@ -184,18 +194,6 @@ pub(crate) fn marked(alloc: Global, session: &Session) -> Result<String> {
     }
 }
 
-/// What became of it, written as in a case.
-fn came(alloc: Global, fed: &Fed, session: &Session) -> Result<String> {
-    let line = marked(alloc, session)?;
-    Ok(match fed {
-        Fed::Submitted(text) => format!(in alloc; "{SUBMITTED}{text}{line}")?,
-        Fed::Ended => format!(in alloc; "{ENDED}{line}")?,
-        Fed::Interrupted => format!(in alloc; "{INTERRUPTED}{line}")?,
-        Fed::More if session.is_suspended() => format!(in alloc; "{SUSPENDED}{line}")?,
-        Fed::More => line,
-    })
-}
-
 /// Does what a case says, with the bytes of a step whole and in pieces.
 pub(crate) fn comes_true(rt: &impl Abort, alloc: Global, case: &Case) {
     let (how, text, keys, wanted, written) = *case;
@@ -206,7 +204,15 @@ pub(crate) fn comes_true(rt: &impl Abort, alloc: Global, case: &Case) {
         for step in keys.split(CUT) {
             fed = done(&mut session, step, piece, &bindings).expect(rt, "no fault");
         }
-        let came = came(alloc, &fed, &session).expect(rt, "memory");
+        let line = marked(alloc, &session).expect(rt, "memory");
+        let came = match &fed {
+            Fed::Submitted(text) => format!(in alloc; "{SUBMITTED}{text}{line}"),
+            Fed::Ended => format!(in alloc; "{ENDED}{line}"),
+            Fed::Interrupted => format!(in alloc; "{INTERRUPTED}{line}"),
+            Fed::More if session.is_suspended() => format!(in alloc; "{SUSPENDED}{line}"),
+            Fed::More => format!(in alloc; "{line}"),
+        };
+        let came = came.expect(rt, "memory");
         holds(rt, came.as_str() == wanted, keys, piece);
         holds(rt, session.out().written().contains(written), keys, piece);
     }

@@ -3,8 +3,7 @@
 use crate::holds;
 use crate::parties::{Failing, NOBODY, Party};
 use line_buffer::{GraphemeClusterMode, Layout, LineBuffer, Position};
-use line_config::{Prompt, ReadlineError, Result};
-use line_parts::Highlighter;
+use line_config::{ReadlineError, Result};
 use line_screen::KeyQueue;
 use line_session::dim_hints::DimHints;
 use line_state::Renderer;
@@ -68,17 +67,34 @@ impl Write for Counted {
 
 type Terminal = Ansi<Counted, KeyQueue>;
 
-/// Draws a line in full, with a hint after it.
-fn redraw<P: Prompt, H: Highlighter>(
-    alloc: Global,
-    terminal: &mut Terminal,
-    prompt: &P,
-    highlighter: &H,
-) -> Result<()> {
+/// Draws a line in full, with a hint after it. The highlighter can fail.
+fn redraw(alloc: Global, terminal: &mut Terminal, failing: Failing) -> Result<()> {
     let line = LineBuffer::init(alloc, "ab", 2)?;
     let begin = terminal.calculate_position("> ", Position { row: 0, col: 0 });
     let layout = terminal.compute_layout(begin, true, &line, Some("c"));
-    terminal.refresh_line(prompt, &line, Some("c"), None, &layout, Some(highlighter))
+    terminal.refresh_line(
+        &"> ",
+        &line,
+        Some("c"),
+        None,
+        &layout,
+        Some(&Party::new(alloc, "highlighter", failing)),
+    )
+}
+
+/// Draws a line in full with a styled prompt and a hint that has colors.
+fn redraw_with_colors(alloc: Global, terminal: &mut Terminal) -> Result<()> {
+    let line = LineBuffer::init(alloc, "ab", 2)?;
+    let begin = terminal.calculate_position("> ", Position { row: 0, col: 0 });
+    let layout = terminal.compute_layout(begin, true, &line, Some("c"));
+    terminal.refresh_line(
+        &("> ", "\x1b[1m> "),
+        &line,
+        Some("c"),
+        None,
+        &layout,
+        Some(&DimHints::new(false)),
+    )
 }
 
 /// A text of many bytes.
@@ -120,10 +136,7 @@ fn call(alloc: Global, terminal: &mut Terminal, name: &str, failing: Failing) ->
             terminal.move_cursor(Position { row: 0, col: 0 }, Position { row: 1, col: 2 })
         }
         "write_and_flush" => terminal.write_and_flush("xyz"),
-        "colors" => {
-            let prompt = ("> ", "\x1b[1m> ");
-            redraw(alloc, terminal, &prompt, &DimHints::new(false))
-        }
+        "colors" => redraw_with_colors(alloc, terminal),
         "a long text" => terminal.write_and_flush(LONG),
         "a text of more than ASCII" => terminal.write_and_flush("e\u{301}日\t\u{85}\r\n"),
         "clear_to_eol" => terminal.clear_to_eol(),
@@ -137,10 +150,7 @@ fn call(alloc: Global, terminal: &mut Terminal, name: &str, failing: Failing) ->
         "disable_bracketed_paste" => terminal.disable_bracketed_paste(),
         "begin_synchronized_update" => terminal.begin_synchronized_update(),
         "end_synchronized_update" => terminal.end_synchronized_update(),
-        _ => {
-            let highlighter = Party::new(alloc, "highlighter", "", failing)?;
-            redraw(alloc, terminal, &"> ", &highlighter)
-        }
+        _ => redraw(alloc, terminal, failing),
     }
 }
 
@@ -149,18 +159,20 @@ type How = (usize, Failing, ErrorKind);
 
 /// Whether a call, on a terminal of ten columns, is asked to write so often, and these bytes are taken; and whether
 /// they are flushed once where it is well, and else it fails by that error and nothing is flushed.
-fn does(
-    alloc: Global,
-    name: &str,
-    how: How,
-    is_well: bool,
-    writes: usize,
-    bytes: &[u8],
-) -> Result<bool> {
+fn does(alloc: Global, name: &str, how: How, is_well: bool, writes: usize, bytes: &[u8]) -> bool {
     let (most, failing, kind) = how;
-    let mut out = Counted::failing(alloc, failing)?;
-    out.most = most;
-    out.fault.kind = kind;
+    let (party, number) = failing;
+    let out = Counted {
+        bytes: Vec::new(alloc),
+        writes: 0,
+        flushes: 0,
+        most,
+        failing: if party == "output" { number } else { 0 },
+        fault: Fault {
+            kind,
+            text: "the output",
+        },
+    };
     let mut terminal = Ansi::new(alloc, out, 10, true, true);
     let is_so = match call(alloc, &mut terminal, name, failing) {
         Ok(()) => is_well,
@@ -169,19 +181,7 @@ fn does(
     };
     let out = terminal.into_out();
     let asked = (out.writes, out.flushes);
-    Ok(is_so && asked == (writes, usize::from(is_well)) && out.bytes.as_slice() == bytes)
-}
-
-/// In one piece; and an interrupted write is tried again.
-#[test]
-fn writes_in_one_piece_and_flushes(rt: HostRuntime) {
-    for (name, bytes) in CALLS {
-        for (call, writes) in [(0, 1), (1, 2)] {
-            let how = (usize::MAX, ("output", call), ErrorKind::Interrupted);
-            let is_so = does(rt.alloc(), name, how, true, writes, bytes.as_bytes());
-            holds(&rt, is_so.expect(&rt, "room"), name, writes);
-        }
-    }
+    is_so && asked == (writes, usize::from(is_well)) && out.bytes.as_slice() == bytes
 }
 
 /// Bytes are taken one by one, and the write behind so many of them fails; there is none behind all of them.
@@ -195,25 +195,32 @@ fn goes_on_behind_what_was_taken_or_hands_on_the_failure(rt: HostRuntime) {
             let is_well = count == bytes.len();
             let writes = if is_well { count } else { next };
             let is_so = does(rt.alloc(), name, how, is_well, writes, &bytes[..count]);
-            holds(&rt, is_so.expect(&rt, "room"), name, count);
+            holds(&rt, is_so, name, count);
         }
     }
 }
 
-/// The flush of each call fails, and each call of a highlighter, which is asked for the prompt, the line and the hint.
+/// Each call writes in one piece and flushes, an interrupted write is tried again, and a flush can fail; so can each
+/// call of a highlighter, which is asked for the prompt, the line and the hint.
 #[test]
-fn hands_on_the_failures_of_a_flush_and_a_highlighter(rt: HostRuntime) {
+fn writes_in_one_piece_and_flushes_or_hands_on_the_failure(rt: HostRuntime) {
     let kind = ErrorKind::PermissionDenied;
     for (name, bytes) in CALLS {
-        let how = (1, ("output", usize::MAX), kind);
         let bytes = bytes.as_bytes();
-        let is_so = does(rt.alloc(), name, how, false, bytes.len(), bytes);
-        holds(&rt, is_so.expect(&rt, "room"), name, bytes.len());
+        let whole = usize::MAX;
+        for (how, is_well, writes) in [
+            ((whole, NOBODY, kind), true, 1),
+            ((whole, ("output", 1), ErrorKind::Interrupted), true, 2),
+            ((1, ("output", usize::MAX), kind), false, bytes.len()),
+        ] {
+            let is_so = does(rt.alloc(), name, how, is_well, writes, bytes);
+            holds(&rt, is_so, name, writes);
+        }
     }
     for call in 1..=3 {
         let how = (usize::MAX, ("highlighter", call), kind);
         let is_so = does(rt.alloc(), "refresh_line", how, false, 0, b"");
-        holds(&rt, is_so.expect(&rt, "room"), "highlighter", call);
+        holds(&rt, is_so, "highlighter", call);
     }
 }
 

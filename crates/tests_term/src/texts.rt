@@ -1,9 +1,6 @@
 //! Texts and pasted texts, by their bytes.
 
-use crate::by_bytes::first_wrong;
-use crate::holds;
 use crate::sequences::Rows;
-use line_keys::keys::Modifiers;
 
 /// Bytes, and the characters that they type.
 pub(crate) const TYPED: Rows = &[
@@ -82,28 +79,28 @@ pub(crate) const PASTED: Rows = &[
     ("\x1b[200~ls\r\x1b[201~", "“ls\n"),
 ];
 
-/// What a pasted text may have before its end, bytes, and the pasted texts that they come to: before the input ends,
-/// and then.
-const BOUNDS: &[(usize, &str, &str)] = &[
-    (4, "\x1b[200~abcdefgh\x1b[201~", "“abcd “efgh"),
-    (4, "\x1b[200~abcdefgh\x1b[201~…■", "“abcd “efgh"),
-    (4, "\x1b[200~abcdefghi", "“abcd “efgh"),
-    (4, "\x1b[200~abcdefghi…■", "“abcd “efgh “i"),
-    (3, "\x1b[200~a\u{e6}\u{97}\u{a5}bc\x1b[201~", "“a日 “bc"),
-    (3, "\x1b[200~a\u{e6}\u{97}\u{a5}bc\x1b[201~…■", "“a日 “bc"),
-    (100, "\x1b[200~abc\x1b[20", ""),
-    (100, "\x1b[200~abc\x1b[20…■", "“abc"),
-    (0, "\x1b[200~ab\x1b[201~", "“a “b"),
-    (0, "\x1b[200~ab\x1b[201~…■", "“a “b"),
-    (1, "\x1b[200~\x1b[201~", ""),
-    (1, "\x1b[200~\x1b[201~…■", ""),
+// Pasted texts that are given at a bound of so many bytes, and the last one where the input ends.
+
+pub(crate) const BY_FOUR: Rows = &[
+    ("\x1b[200~abcdefgh\x1b[201~", "“abcd “efgh"),
+    ("\x1b[200~abcdefgh\x1b[201~…■", "“abcd “efgh"),
+    ("\x1b[200~abcdefghi", "“abcd “efgh"),
+    ("\x1b[200~abcdefghi…■", "“abcd “efgh “i"),
 ];
 
-#[test]
-fn are_given_at_the_bound_and_at_the_end(rt: HostRuntime) {
-    for (bound, bytes, names) in BOUNDS {
-        let way = (*bound, "", Modifiers::NONE);
-        let wrong = first_wrong(rt.alloc(), way, bytes, names);
-        holds(&rt, wrong.is_none(), bytes, wrong.unwrap_or(0));
-    }
-}
+pub(crate) const BY_THREE: Rows = &[
+    ("\x1b[200~a\u{e6}\u{97}\u{a5}bc\x1b[201~", "“a日 “bc"),
+    ("\x1b[200~a\u{e6}\u{97}\u{a5}bc\x1b[201~…■", "“a日 “bc"),
+];
+
+pub(crate) const BY_A_HUNDRED: Rows = &[
+    ("\x1b[200~abc\x1b[20", ""),
+    ("\x1b[200~abc\x1b[20…■", "“abc"),
+];
+
+pub(crate) const BY_NONE: Rows = &[
+    ("\x1b[200~ab\x1b[201~", "“a “b"),
+    ("\x1b[200~ab\x1b[201~…■", "“a “b"),
+];
+
+pub(crate) const BY_ONE: Rows = &[("\x1b[200~\x1b[201~", ""), ("\x1b[200~\x1b[201~…■", "")];
