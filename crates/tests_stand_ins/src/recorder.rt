@@ -20,7 +20,6 @@ const ORIGIN: Position = Position { row: 0, col: 0 };
 pub const CUT: &str = "the screen is cut";
 
 /// A renderer: a screen of so many columns, each of one byte, that keeps a line of text for each call that can fail.
-#[derive(Drop)]
 pub struct Recorder {
     alloc: Global,
     columns: Unit,
@@ -38,6 +37,28 @@ pub struct Recorder {
     is_cut: bool,
     log: String,
     ghost some_columns: { 0 < columns },
+}
+
+impl Drop for Recorder {
+    fn drop(self) {
+        let Recorder {
+            alloc: _,
+            columns: _,
+            rows: _,
+            colors: _,
+            place: _,
+            prompt: _,
+            text: _,
+            origin: _,
+            hint: _,
+            redraws: _,
+            failures: _,
+            calls: _,
+            failing: _,
+            is_cut: _,
+            log: _,
+        } = self;
+    }
 }
 
 impl Recorder {

@@ -24,7 +24,6 @@ struct Item {
 }
 
 /// A reader: the items that are left, and the flag that came with each key that was asked for. One call of it can fail.
-#[derive(Drop)]
 pub struct Typist {
     alloc: Global,
     items: VecDeque<Item>,
@@ -32,6 +31,19 @@ pub struct Typist {
     failures: u64,
     calls: u64,
     failing: u64,
+}
+
+impl Drop for Typist {
+    fn drop(self) {
+        let Typist {
+            alloc: _,
+            items: _,
+            flags: _,
+            failures: _,
+            calls: _,
+            failing: _,
+        } = self;
+    }
 }
 
 impl Typist {
