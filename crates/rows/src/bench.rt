@@ -320,7 +320,8 @@ fn prompt_of(alloc: Global, setup: &Setup<'_>) -> Result<(String, String)> {
 
 /// A helper that answers and fails as the settings say.
 fn helper_of(setup: &Setup<'_>) -> Advisor {
-    let mut helper = Advisor::hinting(setup.hint, setup.verdict, setup.lit);
+    let mut helper = Advisor::new(None, setup.verdict, setup.lit);
+    helper.hint = setup.hint;
     let Failing { call, by_its_own } = setup.failing[1];
     helper.fail_by(call, if by_its_own { ASLEEP } else { USUAL });
     helper

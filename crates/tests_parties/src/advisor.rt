@@ -44,7 +44,8 @@ impl Hint for Tip {
 /// alone, shows for each line what it was asked last, and one of its hints and validation results can fail.
 #[derive(Drop)]
 pub struct Advisor {
-    hint: Option<Tip>,
+    /// What it hints for each line.
+    pub hint: Option<Tip>,
     verdict: Verdict,
     lit: Option<CmdKind>,
     kinds: Kinds,
@@ -61,26 +62,16 @@ impl Advisor {
             Some(text) => Some(Tip(text, Some(text))),
             None => None,
         };
-        Advisor::hinting(hint, verdict, lit)
-    }
-
-    /// A helper with these answers, which was asked nothing yet.
-    pub fn hinting(hint: Option<Tip>, verdict: Verdict, lit: Option<CmdKind>) -> Advisor {
         Advisor {
             hint,
             verdict,
             lit,
             kinds: (None, None, None, None),
-            countdown: Countdown::new(0),
+            countdown: Countdown::with(0, USUAL),
         }
     }
 
-    /// Its hint or validation result of the number `failing`, from 1 on, fails; none does where that is 0.
-    pub fn fail_at(&mut self, failing: u64) {
-        self.fail_by(failing, USUAL);
-    }
-
-    /// The same, by this fault.
+    /// Its hint or validation result of the number `failing`, from 1 on, fails by this fault; none does where that is 0.
     pub fn fail_by(&mut self, failing: u64, fault: Fault) {
         self.countdown = Countdown::with(failing, fault);
     }

@@ -1,7 +1,7 @@
 //! A count of the calls that a helper or a history gets, one of which fails.
 ghost use Rattle.line_config.specs.Error.{FaultsOnly};
 
-use crate::fault::{Fault, USUAL};
+use crate::fault::Fault;
 use line_config::Result;
 use std::cell::Cell;
 
@@ -13,11 +13,6 @@ pub struct Countdown {
 }
 
 impl Countdown {
-    /// The call of the number `failing`, from 1 on, fails by the usual fault; none does where that is 0.
-    pub fn new(failing: u64) -> Countdown {
-        Countdown::with(failing, USUAL)
-    }
-
     /// The call of the number `failing`, from 1 on, fails by this fault; none does where that is 0.
     pub fn with(failing: u64, fault: Fault) -> Countdown {
         Countdown {

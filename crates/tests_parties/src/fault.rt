@@ -7,7 +7,7 @@ use std::alloc::Global;
 use std::io::{Error, ErrorKind};
 
 /// An error of input or output: its kind, and the text that it displays.
-#[derive(Clone, Copy, Debug)]
+#[derive(Clone, Copy)]
 pub struct Fault {
     pub kind: ErrorKind,
     pub text: &'static str,
@@ -31,13 +31,10 @@ pub const CUT: Fault = Fault {
     text: "the answer broke off",
 };
 
-/// What one says that does not answer.
-pub const ASLEEP_TEXT: &str = "the party is asleep";
-
 /// The fault of one that does not answer.
 pub const ASLEEP: Fault = Fault {
     kind: ErrorKind::PermissionDenied,
-    text: ASLEEP_TEXT,
+    text: "the party is asleep",
 };
 
 /// Three faults, no two of one kind or one text.

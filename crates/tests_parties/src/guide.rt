@@ -6,7 +6,7 @@ ghost use Rattle.line_parts.specs.HistoryHint.{history_hint};
 ghost use Rattle.line_parts.specs.Verdict.{valid};
 
 use crate::countdown::Countdown;
-use crate::fault::Fault;
+use crate::fault::{Fault, USUAL};
 use line_config::Result;
 use line_parts::{
     CmdKind, Completer, Context, Helper, Highlighter, Hinter, History, HistoryHinter,
@@ -29,7 +29,7 @@ impl Guide {
         Guide {
             hints,
             brackets,
-            countdown: Countdown::new(0),
+            countdown: Countdown::with(0, USUAL),
         }
     }
 

@@ -2,27 +2,23 @@
 ghost use Rattle.line_config.specs.Error.{FaultsOnly};
 
 use crate::countdown::Countdown;
-use crate::fault::Fault;
+use crate::fault::{Fault, USUAL};
 use line_config::Result;
 use line_parts::history::{SearchDirection, SearchResult};
 use line_parts::{History, MemHistory};
 use std::alloc::Global;
 
-/// A call that can fail: a look-up with the index that is looked at first.
-#[derive(Clone, Copy, Debug, PartialEq, Eq)]
+/// A call that can fail: a look-up with the index that is looked at first, or a change of the lines or of the rules.
+#[derive(Clone, Copy, PartialEq, Eq)]
 pub enum Call {
     Get(usize),
     Search(usize),
     StartsWith(usize),
-    Add,
-    AddOwned,
-    SetMaxLen,
-    IgnoreDups,
-    Clear,
+    Change,
 }
 
 /// Which calls fail.
-#[derive(Clone, Copy, Debug)]
+#[derive(Clone, Copy)]
 pub enum Failing {
     /// This call alone.
     Only(Call),
@@ -44,11 +40,20 @@ impl Failing {
 
 /// A history: lines that are kept in memory, how many look-ups come up to the one that fails, and which calls fail
 /// each time, by what.
-#[derive(Drop)]
 pub struct Shelf {
     lines: MemHistory,
     countdown: Countdown,
     failing: Option<(Failing, Fault)>,
+}
+
+impl Drop for Shelf {
+    fn drop(self) {
+        let Shelf {
+            lines: _,
+            countdown: _,
+            failing: _,
+        } = self;
+    }
 }
 
 impl Shelf {
@@ -56,7 +61,7 @@ impl Shelf {
     pub fn new(alloc: Global, failing: u64) -> Shelf {
         Shelf {
             lines: MemHistory::new(alloc),
-            countdown: Countdown::new(failing),
+            countdown: Countdown::with(failing, USUAL),
             failing: None,
         }
     }
@@ -71,22 +76,15 @@ impl Shelf {
         self.failing = Some((failing, fault));
     }
 
-    /// Fails where this call is to fail each time.
+    /// Counts a look-up, and fails where this call is to fail.
     fn called(&self, call: Call) -> Result<()>
         ensures { FaultsOnly result }
     {
-        match self.failing {
-            Some((failing, fault)) if failing.has(call) => fault.answer(),
-            _ => Ok(()),
+        match (self.failing, call) {
+            (Some((failing, fault)), _) if failing.has(call) => fault.answer(),
+            (_, Call::Change) => Ok(()),
+            _ => self.countdown.call(),
         }
-    }
-
-    /// Counts a look-up, and fails where it is to fail.
-    fn looked_up(&self, call: Call) -> Result<()>
-        ensures { FaultsOnly result }
-    {
-        self.called(call)?;
-        self.countdown.call()
     }
 }
 
@@ -100,17 +98,17 @@ impl History for Shelf {
     ghost sure = { λ _. false };
 
     fn get(&self, index: usize, dir: SearchDirection) -> Result<Option<SearchResult<'_>>> {
-        self.looked_up(Call::Get(index))?;
+        self.called(Call::Get(index))?;
         self.lines.get(index, dir)
     }
 
     fn add(&mut self, line: &str) -> Result<bool> {
-        self.called(Call::Add)?;
+        self.called(Call::Change)?;
         self.lines.add(line)
     }
 
     fn add_owned(&mut self, line: String) -> Result<bool> {
-        self.called(Call::AddOwned)?;
+        self.called(Call::Change)?;
         self.lines.add_owned(line)
     }
 
@@ -119,12 +117,12 @@ impl History for Shelf {
     }
 
     fn set_max_len(&mut self, len: usize) -> Result<()> {
-        self.called(Call::SetMaxLen)?;
+        self.called(Call::Change)?;
         self.lines.set_max_len(len)
     }
 
     fn ignore_dups(&mut self, yes: bool) -> Result<()> {
-        self.called(Call::IgnoreDups)?;
+        self.called(Call::Change)?;
         self.lines.ignore_dups(yes)
     }
 
@@ -133,7 +131,7 @@ impl History for Shelf {
     }
 
     fn clear(&mut self) -> Result<()> {
-        self.called(Call::Clear)?;
+        self.called(Call::Change)?;
         self.lines.clear()
     }
 
@@ -143,7 +141,7 @@ impl History for Shelf {
         start: usize,
         dir: SearchDirection,
     ) -> Result<Option<SearchResult<'_>>> {
-        self.looked_up(Call::Search(start))?;
+        self.called(Call::Search(start))?;
         self.lines.search(term, start, dir)
     }
 
@@ -153,7 +151,7 @@ impl History for Shelf {
         start: usize,
         dir: SearchDirection,
     ) -> Result<Option<SearchResult<'_>>> {
-        self.looked_up(Call::StartsWith(start))?;
+        self.called(Call::StartsWith(start))?;
         self.lines.starts_with(term, start, dir)
     }
 }
