@@ -114,10 +114,18 @@ pub(super) fn edited(
         Dedent(mvt, amount) => line.indent(mvt, *amount, true, changes),
         End => return Ok(Some(changes.end()?)),
         Undo(n) => changes.undo(line, *n),
-        Copy(mvt, wanted) => Ok(is_given(line.copy(mvt)?.as_deref(), *wanted)),
-        Deleted(n, wanted) => Ok(is_given(line.delete(*n, changes)?.as_deref(), *wanted)),
-        LastInsert(wanted) => Ok(is_given(changes.last_insert()?.as_deref(), *wanted)),
-        Kill(mvt, gone) => Ok(is_killed(&line.kill(mvt, changes, ring)?, ring, gone)),
+        Copy(mvt, wanted) => {
+            return Ok(Some(is_given(line.copy(mvt)?.as_deref(), *wanted)));
+        }
+        LastInsert(wanted) => {
+            return Ok(Some(is_given(changes.last_insert()?.as_deref(), *wanted)));
+        }
+        Deleted(n, wanted) => {
+            return Ok(Some(is_given(line.delete(*n, changes)?.as_deref(), *wanted)));
+        }
+        Kill(mvt, gone) => {
+            return Ok(Some(is_killed(&line.kill(mvt, changes, ring)?, ring, gone)));
+        }
         _ => return composed(rt, alloc, line, changes, ring, step),
     };
     Ok(Some(answer?))

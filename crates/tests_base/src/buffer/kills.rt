@@ -1,5 +1,5 @@
-//! Kills by movements. Where there is a second row, all of the first is taken back; a third is a cut, which leaves the line
-//! and the ring as a kill does.
+//! Kills by movements. Where there is a second row, all of the first is taken back; a third is a cut, which leaves the
+//! line and the ring as a kill does.
 
 use super::FAMILY;
 use super::edits::Edit::*;
@@ -11,8 +11,8 @@ use line_buffer::Direction::{self, *};
 use line_buffer::Movement::*;
 use line_buffer::{CharSearch as Search, KillRing};
 
-/// Where what text went, so many times, on which side, and whether the ring holds it then. What goes by characters is not
-/// put into the ring.
+/// Where what text went, so many times, on which side, and whether the ring holds it then. What goes by characters is
+/// not put into the ring.
 pub(super) type Gone = (usize, &'static str, usize, Direction, bool);
 
 /// What a kill gives is what went, and the ring gives it where it holds it.

@@ -20,8 +20,8 @@ enum Move {
     ToChar(Search, RepeatCount),
     LineUp(RepeatCount),
     LineDown(RepeatCount),
-    /// No move: the places one cluster on and back, whether the cursor is at the end, and whether only white space stands
-    /// from it on.
+    /// No move: the places one cluster on and back, whether the cursor is at the end, and whether only white space
+    /// stands from it on.
     Stands(Option<usize>, Option<usize>, bool, bool),
 }
 

@@ -76,8 +76,8 @@ const ROWS: &[Row] = &[
     ),
 ];
 
-/// Whether the call is refused. The line is then as it was before, where the call changes nothing or there is never memory
-/// enough; else the list is empty with no open group, and the cursor stands on a boundary.
+/// Whether the call is refused. The line is then as it was before, where the call changes nothing or there is never
+/// memory enough; else the list is empty with no open group, and the cursor stands on a boundary.
 fn is_refused(
     rt: &impl Abort,
     alloc: Global,
