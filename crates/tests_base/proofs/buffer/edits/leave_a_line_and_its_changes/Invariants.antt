@@ -3,7 +3,7 @@ use Rattle.tests_base.proofs.buffer.edits.leave_a_line_and_its_changes.Given as 
 
 -- the changes tell of the line
 abbrev pub invariant-loop-table : goal.invariant-loop-table
-invariant-loop-table l = Tells l.changes.entries l.line.text
+invariant-loop-table g l = Tells l.changes.entries l.line.text
 
 abbrev pub invariant-loop-row : goal.invariant-loop-row
-invariant-loop-row l = Tells l.changes.entries l.line.text
+invariant-loop-row g l = Tells l.changes.entries l.line.text

@@ -3,4 +3,4 @@ use Rattle.tests_base.proofs.buffer.refusals.of_calls.Given as goal
 
 -- the changes tell of the line
 abbrev pub invariant-loop-row : goal.invariant-loop-row
-invariant-loop-row l = Tells l.changes.entries l.line.text
+invariant-loop-row g l = Tells l.changes.entries l.line.text
