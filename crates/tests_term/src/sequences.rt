@@ -8,6 +8,8 @@ use line_keys::keys::Modifiers;
 use line_screen::KeyQueue;
 use line_term::Decoder;
 use line_term::decoder::PASTE_BOUND;
+use std::alloc::Global;
+use std::process::Abort;
 
 /// Bytes, and the names of what they come to.
 pub(crate) type Rows = &'static [(&'static str, &'static str)];
@@ -329,30 +331,37 @@ const PLAINLY: Way = (PASTE_BOUND, "", Modifiers::NONE);
 
 const WITH_ALT: Way = (PASTE_BOUND, "\x1b", Modifiers::ALT);
 
-const TABLES: &[(Way, Rows)] = &[
-    (PLAINLY, KEYS),
-    (WITH_ALT, KEYS),
-    (PLAINLY, CHARS),
-    (PLAINLY, PLAIN),
-    (PLAINLY, OTHERS),
-    (PLAINLY, PAUSED),
-    (PLAINLY, TYPED),
-    (PLAINLY, PASTED),
-    ((4, "", Modifiers::NONE), BY_FOUR),
-    ((3, "", Modifiers::NONE), BY_THREE),
-    ((100, "", Modifiers::NONE), BY_A_HUNDRED),
-    ((0, "", Modifiers::NONE), BY_NONE),
-    ((1, "", Modifiers::NONE), BY_ONE),
-];
+/// Each row comes to its names.
+fn come_to(rt: &impl Abort, alloc: Global, way: Way, rows: Rows) {
+    for (bytes, names) in rows {
+        let wrong = first_wrong(alloc, way, bytes, names);
+        holds(rt, wrong.is_none(), names, wrong.unwrap_or(0));
+    }
+}
 
 #[test]
-fn come_to_their_names(rt: HostRuntime) {
-    for (way, rows) in TABLES {
-        for (bytes, names) in *rows {
-            let wrong = first_wrong(rt.alloc(), *way, bytes, names);
-            holds(&rt, wrong.is_none(), names, wrong.unwrap_or(0));
-        }
-    }
+fn are_keys(rt: HostRuntime) {
+    come_to(&rt, rt.alloc(), PLAINLY, KEYS);
+    come_to(&rt, rt.alloc(), WITH_ALT, KEYS);
+}
+
+#[test]
+fn are_keys_and_reports(rt: HostRuntime) {
+    come_to(&rt, rt.alloc(), PLAINLY, CHARS);
+    come_to(&rt, rt.alloc(), PLAINLY, PLAIN);
+    come_to(&rt, rt.alloc(), PLAINLY, OTHERS);
+    come_to(&rt, rt.alloc(), PLAINLY, PAUSED);
+}
+
+#[test]
+fn are_texts(rt: HostRuntime) {
+    come_to(&rt, rt.alloc(), PLAINLY, TYPED);
+    come_to(&rt, rt.alloc(), PLAINLY, PASTED);
+    come_to(&rt, rt.alloc(), (4, "", Modifiers::NONE), BY_FOUR);
+    come_to(&rt, rt.alloc(), (3, "", Modifiers::NONE), BY_THREE);
+    come_to(&rt, rt.alloc(), (100, "", Modifiers::NONE), BY_A_HUNDRED);
+    come_to(&rt, rt.alloc(), (0, "", Modifiers::NONE), BY_NONE);
+    come_to(&rt, rt.alloc(), (1, "", Modifiers::NONE), BY_ONE);
 }
 
 /// Bytes, and the rows and columns of the size that they report, or 0 where they report none.
