@@ -13,31 +13,37 @@ use line_keys::refresher::Refresher;
 use line_parts::{Context, History};
 use std::alloc::Global;
 use std::process::Abort;
+use std::test::Fail;
 use tests_parties::advisor::Advisor;
 use tests_parties::shelf::Shelf;
 use tests_stand_ins::recorder::Recorder;
 use tests_steps::calls::{Editor, starts};
 
-/// What the editor stands on beside its line: nothing, a history of the line `one`, a hint, or a helper that takes no
-/// line; or it is made of the line, and has no helper.
+/// What the editor stands on beside its line: nothing, a history of the line `one`, a hint, or a helper that takes no line.
 #[derive(Clone, Copy)]
 enum With {
     Nothing,
     History,
     Hint,
     Refusal,
-    Line,
 }
 
 use With::*;
 
-/// That, the line with a bar at its cursor, commands and calls, and the line that they leave with ample memory. Where
-/// it is made of the line: the text before the cursor, the whole text, and the line with the bar.
+/// That, the line with a bar at its cursor, commands and calls, and the line that they leave with ample memory.
 type Case = (With, &'static str, &'static str, &'static str);
+
+/// The text before the bar, and the text after it.
+fn halves<'l>(rt: &impl Abort, marked: &'l str) -> (&'l str, &'l str) {
+    match marked.split_once('|') {
+        Some(found) => found,
+        None => panic!(rt; "no cursor in {marked:?}"),
+    }
+}
 
 /// Does the steps, which leave the history as it was.
 fn tries(rt: &impl Abort, alloc: Global, case: &Case) -> Result<()> {
-    let (with, start, steps, _) = *case;
+    let with = case.0;
     let mut history = Shelf::new(alloc, 0);
     if matches!(with, With::History) {
         let _ = history.add("one")?;
@@ -55,15 +61,7 @@ fn tries(rt: &impl Abort, alloc: Global, case: &Case) -> Result<()> {
     let mut screen = Recorder::new(alloc, 80, false, 0);
     let mut helper = Advisor::new(hint, verdict, None);
     let context = Context::new(&history);
-    let made = match with {
-        With::Line => {
-            let cursor = start.len();
-            assert!(rt; steps.is_char_boundary(cursor));
-            State::with_line(alloc, &mut screen, &prompt, None, context, steps, cursor)
-        }
-        _ => State::new(alloc, &mut screen, &prompt, Some(&mut helper), context),
-    };
-    let outcome = match made {
+    let outcome = match State::new(alloc, &mut screen, &prompt, Some(&mut helper), context) {
         Ok(mut state) => leaves(rt, alloc, case, &mut state),
         Err(error) => Err(error),
     };
@@ -71,23 +69,30 @@ fn tries(rt: &impl Abort, alloc: Global, case: &Case) -> Result<()> {
     outcome
 }
 
-/// Fills the line, and does the steps; where memory runs out in one of them, looks at what is left.
+/// Does the steps; where memory runs out in one of them, looks at what is left.
 fn leaves(rt: &impl Abort, alloc: Global, case: &Case, state: &mut Editor<'_, '_>) -> Result<()> {
-    let (with, start, steps, after) = *case;
-    if !matches!(with, With::Line) {
-        let config = Config::new(GraphemeClusterMode::Unicode);
-        let bindings = Bindings::new(alloc);
-        let input = InputState::new(&config, &bindings);
-        let (before, behind) = start.split_once('|').unwrap_or(("", ""));
-        starts(state, &input, before, behind)?;
-        let mut kills = KillRing::new(alloc, 60);
-        if let Err(error) = does(rt, alloc, state, &mut kills, steps) {
-            assert!(rt; matches!(error, ReadlineError::Memory));
-            return settled(rt, alloc, state, &mut kills);
-        }
+    let (_, start, steps, after) = case;
+    let (before, behind) = halves(rt, start);
+    begins(alloc, state, before, behind)?;
+    let mut kills = KillRing::new(alloc, 60);
+    let refused = match does(rt, alloc, state, &mut kills, steps) {
+        Ok(()) => None,
+        Err(error) => Some(matches!(error, ReadlineError::Memory)),
+    };
+    if let Some(is_memory) = refused {
+        assert!(rt; is_memory);
+        return settled(rt, alloc, state, &mut kills);
     }
-    assert_eq!(rt; Some(at(rt, state)), after.split_once('|'));
+    assert_eq!(rt; at(rt, state), halves(rt, after));
     Ok(())
+}
+
+/// Draws the empty line, and fills it.
+fn begins(alloc: Global, state: &mut Editor<'_, '_>, before: &str, behind: &str) -> Result<()> {
+    let config = Config::new(GraphemeClusterMode::Unicode);
+    let bindings = Bindings::new(alloc);
+    let input = InputState::new(&config, &bindings);
+    starts(state, &input, before, behind)
 }
 
 /// The line before and after its cursor, which is on a boundary.
@@ -107,15 +112,20 @@ fn settled(
 ) -> Result<()> {
     let _ = at(rt, state);
     let len = state.line().len();
-    let config = Config::new(GraphemeClusterMode::Unicode);
-    let bindings = Bindings::new(alloc);
-    let input = InputState::new(&config, &bindings);
-    let status = execute(Cmd::Undo(65535), state, &input, kills, &config)?;
+    let status = undone(alloc, state, kills)?;
     assert_eq!(rt; status, Status::Proceed);
     let _ = at(rt, state);
     let left = state.line().len();
     assert!(rt; left == 0 || left == len);
     Ok(())
+}
+
+/// Takes back all changes.
+fn undone(alloc: Global, state: &mut Editor<'_, '_>, kills: &mut KillRing) -> Result<Status> {
+    let config = Config::new(GraphemeClusterMode::Unicode);
+    let bindings = Bindings::new(alloc);
+    let input = InputState::new(&config, &bindings);
+    execute(Cmd::Undo(65535), state, &input, kills, &config)
 }
 
 /// Edits, commands of other kinds, moves, and the calls of the state that no command makes as they stand.
@@ -237,18 +247,45 @@ const CASES: &[Case] = &[
         "move_cursor_to_end; move_cursor MoveCursor",
         "日|本",
     ),
-    (Line, "", "", "|"),
-    (Line, "日", "日本", "日|本"),
-    (Line, "a\ne\u{301}", "a\ne\u{301}", "a\ne\u{301}|"),
 ];
 
 /// A refusal in what comes before the steps is no failure of the test.
 #[test]
-fn of_steps(rt: HostRuntime) {
+fn of_steps(rt: HostRuntime) -> std::result::Result<(), Fail> {
     for case in CASES {
         match tries(&rt, rt.alloc(), case) {
             Ok(()) | Err(ReadlineError::Memory) => {}
             Err(error) => panic!(rt; "{error}"),
         }
     }
+    Ok(())
+}
+
+/// An edit state to begin with, its cursor after so many bytes.
+fn is_made(rt: &impl Abort, alloc: Global, text: &str, cursor: usize) -> Result<()> {
+    assert!(rt; text.is_char_boundary(cursor));
+    let wanted = (&text[..cursor], &text[cursor..]);
+    let prompt = (
+        String::from_str(alloc, "> ")?,
+        String::from_str(alloc, "> ")?,
+    );
+    let history = Shelf::new(alloc, 0);
+    let mut screen = Recorder::new(alloc, 80, false, 0);
+    let context = Context::new(&history);
+    match State::with_line(alloc, &mut screen, &prompt, None, context, text, cursor) {
+        Ok(state) => assert_eq!(rt; at(rt, &state), wanted),
+        Err(error) => return Err(error),
+    }
+    Ok(())
+}
+
+#[test]
+fn of_a_line_to_begin_with(rt: HostRuntime) -> std::result::Result<(), Fail> {
+    for (text, cursor) in [("", 0), ("日本", 3), ("a\ne\u{301}", 5)] {
+        match is_made(&rt, rt.alloc(), text, cursor) {
+            Ok(()) | Err(ReadlineError::Memory) => {}
+            Err(error) => panic!(rt; "{error}"),
+        }
+    }
+    Ok(())
 }

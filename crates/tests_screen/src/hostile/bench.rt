@@ -327,9 +327,6 @@ const ORIGIN: Position = Position { row: 0, col: 0 };
 /// What is amiss where the line is not drawn as in a full redraw.
 const UNDRAWN: &str = "what is drawn";
 
-/// How long a line is, in bytes, that is not measured again.
-const LONG: usize = 60_000;
-
 /// How a turn ended that needs more items.
 const UNREAD: &str = "needs more";
 
@@ -466,7 +463,7 @@ impl Bench<'_, '_, '_> {
     }
 
     /// Whether the layout is a full redraw's with what stands after the line, and the screen shows the line after the prompt,
-    /// with its cursor there. A line of tens of thousands of characters is not measured again.
+    /// with its cursor there.
     fn is_drawn(&self, rt: &impl Abort) -> bool {
         let (text, pos, kept) = (self.state.line(), self.state.pos(), self.state.layout());
         if !text.is_char_boundary(pos) {
@@ -476,9 +473,6 @@ impl Bench<'_, '_, '_> {
         let (prompt_end, hint) = (screen.calculate_position(prompt, ORIGIN), screen.hint());
         let shows_so = screen.prompt() == prompt && screen.text() == text;
         let is_placed = screen.cursor() == kept.cursor && kept.prompt_size == prompt_end;
-        if text.len() > LONG {
-            return shows_so && is_placed && kept.has_info == hint.is_some();
-        }
         let (cursor, end, has_info) = {
             let line = LineBuffer::init(self.alloc, text, pos).expect(rt, "no fault");
             let layout = screen.compute_layout(prompt_end, true, &line, hint);

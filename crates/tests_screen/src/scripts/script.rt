@@ -59,8 +59,8 @@ fn gives(rt: &impl Abort, alloc: Global, script: &[u8], wanted: &str) {
     holds(rt, is_given, text, script.len());
 }
 
-/// A script, and one of the lines that say what it gives, or its first bad line.
-const GIVEN: &[(&str, &str)] = &[
+/// A script, and one of the lines that say what it gives.
+const GOOD: &[(&str, &str)] = &[
     ("", "items"),
     ("\n\n", "items"),
     ("type ", "items"),
@@ -158,102 +158,10 @@ const GIVEN: &[(&str, &str)] = &[
     ("paste  é\n", "items pasted \" é\""),
     ("paste a\r\n", "items pasted \"a\\r\""),
     (r"paste a\\nb", "items pasted \"a\\\\nb\""),
-    // the history keeps a hundred lines
-    (
-        "history 1\nhistory 2\nhistory 3\nhistory 4\nhistory 5\nhistory 6\nhistory 7\nhistory 8\nhistory 9\n\
-         history 10\nhistory 11\nhistory 12\nhistory 13\nhistory 14\nhistory 15\nhistory 16\nhistory 17\n\
-         history 18\nhistory 19\nhistory 20\nhistory 21\nhistory 22\nhistory 23\nhistory 24\nhistory 25\n\
-         history 26\nhistory 27\nhistory 28\nhistory 29\nhistory 30\nhistory 31\nhistory 32\nhistory 33\n\
-         history 34\nhistory 35\nhistory 36\nhistory 37\nhistory 38\nhistory 39\nhistory 40\nhistory 41\n\
-         history 42\nhistory 43\nhistory 44\nhistory 45\nhistory 46\nhistory 47\nhistory 48\nhistory 49\n\
-         history 50\nhistory 51\nhistory 52\nhistory 53\nhistory 54\nhistory 55\nhistory 56\nhistory 57\n\
-         history 58\nhistory 59\nhistory 60\nhistory 61\nhistory 62\nhistory 63\nhistory 64\nhistory 65\n\
-         history 66\nhistory 67\nhistory 68\nhistory 69\nhistory 70\nhistory 71\nhistory 72\nhistory 73\n\
-         history 74\nhistory 75\nhistory 76\nhistory 77\nhistory 78\nhistory 79\nhistory 80\nhistory 81\n\
-         history 82\nhistory 83\nhistory 84\nhistory 85\nhistory 86\nhistory 87\nhistory 88\nhistory 89\n\
-         history 90\nhistory 91\nhistory 92\nhistory 93\nhistory 94\nhistory 95\nhistory 96\nhistory 97\n\
-         history 98\nhistory 99\nhistory 100\n",
-        "history [\"1\", \"2\", \"3\", \"4\", \"5\", \"6\", \"7\", \"8\", \"9\", \"10\", \"11\", \"12\", \
-         \"13\", \"14\", \"15\", \"16\", \"17\", \"18\", \"19\", \"20\", \"21\", \"22\", \"23\", \"24\", \
-         \"25\", \"26\", \"27\", \"28\", \"29\", \"30\", \"31\", \"32\", \"33\", \"34\", \"35\", \"36\", \
-         \"37\", \"38\", \"39\", \"40\", \"41\", \"42\", \"43\", \"44\", \"45\", \"46\", \"47\", \"48\", \
-         \"49\", \"50\", \"51\", \"52\", \"53\", \"54\", \"55\", \"56\", \"57\", \"58\", \"59\", \"60\", \
-         \"61\", \"62\", \"63\", \"64\", \"65\", \"66\", \"67\", \"68\", \"69\", \"70\", \"71\", \"72\", \
-         \"73\", \"74\", \"75\", \"76\", \"77\", \"78\", \"79\", \"80\", \"81\", \"82\", \"83\", \"84\", \
-         \"85\", \"86\", \"87\", \"88\", \"89\", \"90\", \"91\", \"92\", \"93\", \"94\", \"95\", \"96\", \
-         \"97\", \"98\", \"99\", \"100\"]",
-    ),
-    (
-        "history 1\nhistory 2\nhistory 3\nhistory 4\nhistory 5\nhistory 6\nhistory 7\nhistory 8\nhistory 9\n\
-         history 10\nhistory 11\nhistory 12\nhistory 13\nhistory 14\nhistory 15\nhistory 16\nhistory 17\n\
-         history 18\nhistory 19\nhistory 20\nhistory 21\nhistory 22\nhistory 23\nhistory 24\nhistory 25\n\
-         history 26\nhistory 27\nhistory 28\nhistory 29\nhistory 30\nhistory 31\nhistory 32\nhistory 33\n\
-         history 34\nhistory 35\nhistory 36\nhistory 37\nhistory 38\nhistory 39\nhistory 40\nhistory 41\n\
-         history 42\nhistory 43\nhistory 44\nhistory 45\nhistory 46\nhistory 47\nhistory 48\nhistory 49\n\
-         history 50\nhistory 51\nhistory 52\nhistory 53\nhistory 54\nhistory 55\nhistory 56\nhistory 57\n\
-         history 58\nhistory 59\nhistory 60\nhistory 61\nhistory 62\nhistory 63\nhistory 64\nhistory 65\n\
-         history 66\nhistory 67\nhistory 68\nhistory 69\nhistory 70\nhistory 71\nhistory 72\nhistory 73\n\
-         history 74\nhistory 75\nhistory 76\nhistory 77\nhistory 78\nhistory 79\nhistory 80\nhistory 81\n\
-         history 82\nhistory 83\nhistory 84\nhistory 85\nhistory 86\nhistory 87\nhistory 88\nhistory 89\n\
-         history 90\nhistory 91\nhistory 92\nhistory 93\nhistory 94\nhistory 95\nhistory 96\nhistory 97\n\
-         history 98\nhistory 99\nhistory 100\nhistory 101\n",
-        "history [\"2\", \"3\", \"4\", \"5\", \"6\", \"7\", \"8\", \"9\", \"10\", \"11\", \"12\", \"13\", \
-         \"14\", \"15\", \"16\", \"17\", \"18\", \"19\", \"20\", \"21\", \"22\", \"23\", \"24\", \"25\", \
-         \"26\", \"27\", \"28\", \"29\", \"30\", \"31\", \"32\", \"33\", \"34\", \"35\", \"36\", \"37\", \
-         \"38\", \"39\", \"40\", \"41\", \"42\", \"43\", \"44\", \"45\", \"46\", \"47\", \"48\", \"49\", \
-         \"50\", \"51\", \"52\", \"53\", \"54\", \"55\", \"56\", \"57\", \"58\", \"59\", \"60\", \"61\", \
-         \"62\", \"63\", \"64\", \"65\", \"66\", \"67\", \"68\", \"69\", \"70\", \"71\", \"72\", \"73\", \
-         \"74\", \"75\", \"76\", \"77\", \"78\", \"79\", \"80\", \"81\", \"82\", \"83\", \"84\", \"85\", \
-         \"86\", \"87\", \"88\", \"89\", \"90\", \"91\", \"92\", \"93\", \"94\", \"95\", \"96\", \"97\", \
-         \"98\", \"99\", \"100\", \"101\"]",
-    ),
-    (
-        "history 1\nhistory 2\nhistory 3\nhistory 4\nhistory 5\nhistory 6\nhistory 7\nhistory 8\nhistory 9\n\
-         history 10\nhistory 11\nhistory 12\nhistory 13\nhistory 14\nhistory 15\nhistory 16\nhistory 17\n\
-         history 18\nhistory 19\nhistory 20\nhistory 21\nhistory 22\nhistory 23\nhistory 24\nhistory 25\n\
-         history 26\nhistory 27\nhistory 28\nhistory 29\nhistory 30\nhistory 31\nhistory 32\nhistory 33\n\
-         history 34\nhistory 35\nhistory 36\nhistory 37\nhistory 38\nhistory 39\nhistory 40\nhistory 41\n\
-         history 42\nhistory 43\nhistory 44\nhistory 45\nhistory 46\nhistory 47\nhistory 48\nhistory 49\n\
-         history 50\nhistory 51\nhistory 52\nhistory 53\nhistory 54\nhistory 55\nhistory 56\nhistory 57\n\
-         history 58\nhistory 59\nhistory 60\nhistory 61\nhistory 62\nhistory 63\nhistory 64\nhistory 65\n\
-         history 66\nhistory 67\nhistory 68\nhistory 69\nhistory 70\nhistory 71\nhistory 72\nhistory 73\n\
-         history 74\nhistory 75\nhistory 76\nhistory 77\nhistory 78\nhistory 79\nhistory 80\nhistory 81\n\
-         history 82\nhistory 83\nhistory 84\nhistory 85\nhistory 86\nhistory 87\nhistory 88\nhistory 89\n\
-         history 90\nhistory 91\nhistory 92\nhistory 93\nhistory 94\nhistory 95\nhistory 96\nhistory 97\n\
-         history 98\nhistory 99\nhistory 100\nhistory 101\nhistory 102\nhistory 103\nhistory 104\n\
-         history 105\nhistory 106\nhistory 107\nhistory 108\nhistory 109\nhistory 110\nhistory 111\n\
-         history 112\nhistory 113\nhistory 114\nhistory 115\nhistory 116\nhistory 117\nhistory 118\n\
-         history 119\nhistory 120\nhistory 121\nhistory 122\nhistory 123\nhistory 124\nhistory 125\n\
-         history 126\nhistory 127\nhistory 128\nhistory 129\nhistory 130\nhistory 131\nhistory 132\n\
-         history 133\nhistory 134\nhistory 135\nhistory 136\nhistory 137\nhistory 138\nhistory 139\n\
-         history 140\nhistory 141\nhistory 142\nhistory 143\nhistory 144\nhistory 145\nhistory 146\n\
-         history 147\nhistory 148\nhistory 149\nhistory 150\nhistory 151\nhistory 152\nhistory 153\n\
-         history 154\nhistory 155\nhistory 156\nhistory 157\nhistory 158\nhistory 159\nhistory 160\n\
-         history 161\nhistory 162\nhistory 163\nhistory 164\nhistory 165\nhistory 166\nhistory 167\n\
-         history 168\nhistory 169\nhistory 170\nhistory 171\nhistory 172\nhistory 173\nhistory 174\n\
-         history 175\nhistory 176\nhistory 177\nhistory 178\nhistory 179\nhistory 180\nhistory 181\n\
-         history 182\nhistory 183\nhistory 184\nhistory 185\nhistory 186\nhistory 187\nhistory 188\n\
-         history 189\nhistory 190\nhistory 191\nhistory 192\nhistory 193\nhistory 194\nhistory 195\n\
-         history 196\nhistory 197\nhistory 198\nhistory 199\nhistory 200\nhistory 201\nhistory 202\n\
-         history 203\nhistory 204\nhistory 205\nhistory 206\nhistory 207\nhistory 208\nhistory 209\n\
-         history 210\nhistory 211\nhistory 212\nhistory 213\nhistory 214\nhistory 215\nhistory 216\n\
-         history 217\nhistory 218\nhistory 219\nhistory 220\nhistory 221\nhistory 222\nhistory 223\n\
-         history 224\nhistory 225\nhistory 226\nhistory 227\nhistory 228\nhistory 229\nhistory 230\n\
-         history 231\nhistory 232\nhistory 233\nhistory 234\nhistory 235\nhistory 236\nhistory 237\n\
-         history 238\nhistory 239\nhistory 240\nhistory 241\nhistory 242\nhistory 243\nhistory 244\n\
-         history 245\nhistory 246\nhistory 247\nhistory 248\nhistory 249\nhistory 250\n",
-        "history [\"151\", \"152\", \"153\", \"154\", \"155\", \"156\", \"157\", \"158\", \"159\", \
-         \"160\", \"161\", \"162\", \"163\", \"164\", \"165\", \"166\", \"167\", \"168\", \"169\", \
-         \"170\", \"171\", \"172\", \"173\", \"174\", \"175\", \"176\", \"177\", \"178\", \"179\", \
-         \"180\", \"181\", \"182\", \"183\", \"184\", \"185\", \"186\", \"187\", \"188\", \"189\", \
-         \"190\", \"191\", \"192\", \"193\", \"194\", \"195\", \"196\", \"197\", \"198\", \"199\", \
-         \"200\", \"201\", \"202\", \"203\", \"204\", \"205\", \"206\", \"207\", \"208\", \"209\", \
-         \"210\", \"211\", \"212\", \"213\", \"214\", \"215\", \"216\", \"217\", \"218\", \"219\", \
-         \"220\", \"221\", \"222\", \"223\", \"224\", \"225\", \"226\", \"227\", \"228\", \"229\", \
-         \"230\", \"231\", \"232\", \"233\", \"234\", \"235\", \"236\", \"237\", \"238\", \"239\", \
-         \"240\", \"241\", \"242\", \"243\", \"244\", \"245\", \"246\", \"247\", \"248\", \"249\", \"250\"]",
-    ),
-    // bad lines
+];
+
+/// A script, and its first bad line.
+const BAD: &[(&str, &str)] = &[
     ("key Foo", "bad line 1"),
     ("type a\nkey Left\nkey Foo\ntype b\n", "bad line 3"),
     ("\n\nkey\n", "bad line 3"),
@@ -375,11 +283,42 @@ const BYTES: &[(&[u8], &str)] = &[
 ];
 
 #[test]
-fn gives_what_its_lines_say(rt: HostRuntime) {
-    for (script, wanted) in GIVEN {
+fn gives_what_good_lines_say(rt: HostRuntime) {
+    for (script, wanted) in GOOD {
+        gives(&rt, rt.alloc(), script.as_bytes(), wanted);
+    }
+}
+
+#[test]
+fn names_the_first_bad_line(rt: HostRuntime) {
+    for (script, wanted) in BAD {
         gives(&rt, rt.alloc(), script.as_bytes(), wanted);
     }
     for (script, wanted) in BYTES {
         gives(&rt, rt.alloc(), script, wanted);
+    }
+}
+
+/// So many lines, the numbers from 1 on, and how many of them are kept and the oldest: the history keeps 100.
+const LIMITED: &[(usize, usize, &str)] = &[(100, 100, "1"), (101, 100, "2"), (250, 100, "151")];
+
+/// Lines of a history, by their numbers.
+fn numbered(rt: &impl Abort, alloc: Global, lines: usize) -> Vec<u8> {
+    let mut script = Vec::new(alloc);
+    for index in 0..lines {
+        let number = index + 1;
+        writeln!(script, "history {number}").expect(rt, "no fault");
+    }
+    script
+}
+
+#[test]
+fn keeps_a_hundred_lines(rt: HostRuntime) {
+    for (lines, kept, oldest) in LIMITED {
+        let script = numbered(&rt, rt.alloc(), *lines);
+        let parsed = read_script(rt.alloc(), script.as_slice()).expect(&rt, "a good script");
+        let first = parsed.history.iter().next().expect(&rt, "a line");
+        let is_so = parsed.history.len() == *kept && first.as_str() == *oldest;
+        holds(&rt, is_so, oldest, *lines);
     }
 }
