@@ -5,15 +5,15 @@ use Rattle.tests_base.proofs.buffer.refusals.of_calls.Goals.{then-matches, else-
 
 pub is_refused-refused-requires : goal.is_refused-refused-requires
 is_refused-refused-requires g c = elim c.if-matches.branch [
-    then-matches w ↦ none_tell _ _ (w.changes-is ∙ w.new-changes-then-matches.ensures)
+  | then-matches w ↦ none_tell _ _ (w.changes-is ∙ w.new-changes-then-matches.ensures)
   | else-matches w ↦ same_tell _ _ _ _ w.changes-is w.line-is c.loop-row.invariant
-  ]
+]
 
 pub loop-row-preserved : goal.loop-row-preserved
 loop-row-preserved g c = elim c.if-not-refused.branch [
-    then-not-refused w ↦ same_tell _ _ _ _ w.changes-is w.line-is w.is_refused-refused.ensures
+  | then-not-refused w ↦ same_tell _ _ _ _ w.changes-is w.line-is w.is_refused-refused.ensures
   | else-not-refused w ↦ same_tell _ _ _ _ w.changes-is w.line-is (elim c.if-matches.branch [
-      then-matches w' ↦ none_tell _ _ (w'.changes-is ∙ w'.new-changes-then-matches.ensures)
+    | then-matches w' ↦ none_tell _ _ (w'.changes-is ∙ w'.new-changes-then-matches.ensures)
     | else-matches w' ↦ same_tell _ _ _ _ w'.changes-is w'.line-is c.loop-row.invariant
-    ])
-  ]
+  ])
+]
