@@ -151,7 +151,8 @@ fn report_of<'s, 'out, 'prompt, R: RawReader, H: Helper, P: Prompt, S: History>(
     outcome: Outcome,
 ) -> Report<'s>
     ensures outcome { result.outcome ≡ outcome }
-    ensures reports { Reports ⟦<State<'out, 'prompt, Plain<R>, H, P, S> as EditorState>⟧ state.now result }
+    ensures reports { Reports ⟦<State<'out, 'prompt, Plain<R>, H, P, S> as EditorState>⟧
+        state.now result }
 {
     Report {
         outcome,
