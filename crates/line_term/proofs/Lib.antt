@@ -21,6 +21,7 @@ pub mod RedrawLemmas
 pub mod RowLemmas
 pub mod SequenceLemmas
 pub mod ShownLemmas
+pub mod SilenceLemmas
 pub mod SilentLemmas
 pub mod TypingLemmas
 pub mod Utf8Lemmas

@@ -1,6 +1,6 @@
 //! Laws of the bytes that come from a terminal, and of those that are written to it. Each function's contract is a law, and its body
 //! does nothing.
-ghost use Rattle.line_term.specs.DecoderLaws.{ComesBack, ComesInPieces, EscapesAreKept, FlushSettles, PasteComesWhole, PastesGiveNoKey, RowsAreKeys, SequencesNeverType, TextIsTyped, TextsAreSilent};
+ghost use Rattle.line_term.specs.DecoderLaws.{ComesBack, ComesInPieces, EscapesAreKept, FlushSettles, PasteComesWhole, PastesGiveNoKey, RowsAreKeys, SequencesNeverType, SilenceSettles, TextIsTyped, TextIsTypedAfterSilence, TextsAreSilent};
 ghost use Rattle.line_term.specs.Laws.{MovesArrive, OthersStay, PartsShow, RedrawsShow, TerminalsStayReady, TextsAreShown, TextsArrive};
 
 use line_config::Prompt;
@@ -41,7 +41,8 @@ pub fn escapes_are_kept()
     ensures { EscapesAreKept }
 {}
 
-/// A pasted text stands for no key, and has no control characters but newlines and tabs.
+/// A pasted text stands for no key, and has no control characters but newlines and tabs. Its mark alone ends it, and a pause hands over
+/// what has come of it, as text.
 pub fn pastes_give_no_key()
     ensures { PastesGiveNoKey }
 {}
@@ -51,9 +52,20 @@ pub fn comes_back()
     ensures { ComesBack }
 {}
 
-/// After a flush there is nothing left to wait for.
+/// After a flush there is nothing left to wait for, unless it may last: a pasted text, a control string or a sequence of which more
+/// than its beginning was read.
 pub fn flush_settles()
     ensures { FlushSettles }
+{}
+
+/// After so many pauses one behind the other nothing is left of what had begun.
+pub fn silence_settles()
+    ensures { SilenceSettles }
+{}
+
+/// The UTF-8 of a text without Esc stands for the key of each of its characters then.
+pub fn text_is_typed_after_silence()
+    ensures { TextIsTypedAfterSilence }
 {}
 
 /// The bytes of a cursor move take a terminal's cursor from the one place to the other, and change no cell.
