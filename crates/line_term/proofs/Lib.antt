@@ -18,6 +18,7 @@ pub mod PrintLemmas
 pub mod ReadingLemmas
 pub mod ReadyLemmas
 pub mod RedrawLemmas
+pub mod ReleaseLemmas
 pub mod RowLemmas
 pub mod SequenceLemmas
 pub mod ShownLemmas

@@ -10,12 +10,12 @@ use Rattle.line_keys.specs.Key.{event, event_of}
 use Rattle.line_keys.specs.declared.keys.KeyCode.TheVariants.{Esc}
 use Rattle.line_keys.specs.declared.keys.TheConstants.Modifiers.{NONE}
 use Rattle.line_screen.specs.KeyQueue.{Queued}
-use Rattle.line_term.specs.Begun.{cut, ends_before, gives, goes_on_as_text, lasts, leads_to, step, waits}
+use Rattle.line_term.specs.Begun.{cut, ends_before, gives, goes_on_as_text, lasts, leads_to, opening_step, step, waits}
 use Rattle.line_term.specs.Decoder.{Gives, Standing, after_pauses, begins_no_char, cut_char, flushed, followed_by, given_turn, is_waiting, items_of, leaves, longest_silence, read, read_char, settle, settled_all, waited}
 use Rattle.line_term.specs.DecoderLaws.{FlushSettles, SilenceSettles, TextIsTypedAfterSilence, has_no_escape}
 use Rattle.line_term.specs.Sequence.{cut_off}
 use Rattle.line_term.specs.declared.begun.Begun.{Begun}
-use Rattle.line_term.specs.declared.begun.Begun.TheVariants.{Nothing, Escape, Opening, Text}
+use Rattle.line_term.specs.declared.begun.Begun.TheVariants.{Nothing, Escape, Opening, Device}
 use Rattle.line_term.specs.declared.begun.Begun.TheVariants as begun
 use Rattle.line_term.specs.declared.begun.Step.{Step}
 use Rattle.line_term.specs.declared.sequence.Given.TheVariants.{Key}
@@ -34,6 +34,7 @@ brief_cut (begun.Sequence s) c ends brief = by_escape (c == 27) where
   by_escape true = refl
   by_escape false = brief
 brief_cut (Opening sign) c ends brief = refl
+brief_cut (Device escape) c ends brief = refl
 brief_cut Nothing c ends brief = refl
 brief_cut (Escape twice) c ends brief = refl
 brief_cut _ c ends brief = absurd (cc)
@@ -51,21 +52,23 @@ no_text sign = by_sign (sign == 93) (sign == 95) where
   by_sign false true = refl
   by_sign false false = refl
 
--- U+FFFD ends it
-gone : (b : Begun) → lasts b ≡ false → next 0xFFFD b ≡ Nothing
+-- U+FFFD leaves nothing that lasts
+gone : (b : Begun) → lasts b ≡ false → lasts (next 0xFFFD b) ≡ false
 gone Nothing brief = refl
 gone (Escape true) brief = refl
 gone (Escape false) brief = refl
 gone (begun.Sequence s) brief =
-    ap (λ x. if x then (step (cut (begun.Sequence s) 0xFFFD).begun 0xFFFD).begun else Nothing) (and_false s.alt)
-gone (Opening sign) brief = ap (λ x. if not x then Nothing else Text false) (no_text sign)
+    ap (λ x. lasts (if x then (step (cut (begun.Sequence s) 0xFFFD).begun 0xFFFD).begun else Nothing)) (and_false s.alt)
+gone (Opening sign) brief = ap (λ x. lasts (if not x then Nothing else (opening_step sign 0xFFFD).begun)) (no_text sign)
+gone (Device true) brief = refl
+gone (Device false) brief = refl
 gone _ brief = absurd (cc)
 
 cut_gone : (s : Standing) → lasts s.begun ≡ false → lasts (cut_char s).after.begun ≡ false
 cut_gone s brief = by_length (length s.pending == 0) where
   by_length : (b : Bool) → lasts (if b then leaves s else begins_no_char (read_char 0xFFFD s)).after.begun ≡ false
   by_length true = brief
-  by_length false = ap lasts (begun_next 0xFFFD s ∙ gone s.begun brief)
+  by_length false = ap lasts (begun_next 0xFFFD s) ∙ gone s.begun brief
 
 is_true : (b : Bool) → not b ≡ false → b ≡ true
 is_true true e = refl
@@ -84,6 +87,8 @@ settled_over u b e brief =
         ap (λ x. (given_turn (if x then gives Nothing (cut_off s) else leads_to (begun.Sequence s)) (record u { begun = begun.Sequence s })).after.begun)
         (is_true s.bare h)
     by_begun (Opening sign) h = refl
+    by_begun (Device true) h = refl
+    by_begun (Device false) h = refl
     by_begun _ h = absurd (cc)
 
 -- no byte of a character is left, and nothing has begun
