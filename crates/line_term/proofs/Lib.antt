@@ -7,11 +7,13 @@ pub mod CutLemmas
 pub mod DrawnLemmas
 pub mod FeedLemmas
 pub mod GoesLemmas
+pub mod HeldLemmas
 pub mod KnownLemmas
 pub mod MoveLemmas
 pub mod PaintedLemmas
 pub mod PartLemmas
 pub mod PastingLemmas
+pub mod PauseLemmas
 pub mod PlainLemmas
 pub mod PrefixLemmas
 pub mod PrintLemmas

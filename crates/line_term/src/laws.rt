@@ -1,6 +1,6 @@
 //! Laws of the bytes that come from a terminal, and of those that are written to it. Each function's contract is a law, and its body
 //! does nothing.
-ghost use Rattle.line_term.specs.DecoderLaws.{ComesBack, ComesInPieces, EscapesAreKept, FlushSettles, PasteComesWhole, PastesGiveNoKey, RowsAreKeys, SequencesNeverType, SilenceSettles, TextIsTyped, TextIsTypedAfterSilence, TextsAreSilent};
+ghost use Rattle.line_term.specs.DecoderLaws.{ComesBack, ComesInPieces, EscapesAreKept, FlushSettles, HeldIsTyped, PasteComesWhole, PastesGiveNoKey, PausesKeepPastes, RowsAreKeys, SequencesNeverType, SilenceSettles, TextIsTyped, TextIsTypedAfterSilence, TextsAreSilent};
 ghost use Rattle.line_term.specs.Laws.{MovesArrive, OthersStay, PartsShow, RedrawsShow, TerminalsStayReady, TextsAreShown, TextsArrive};
 
 use line_config::Prompt;
@@ -14,6 +14,11 @@ pub fn comes_in_pieces()
 /// The UTF-8 of a text without Esc stands for the key of each of its characters.
 pub fn text_is_typed()
     ensures { TextIsTyped }
+{}
+
+/// ESC P and what goes on with it as a control string that a pause cuts off stand for Alt with P and the key of each character.
+pub fn held_is_typed()
+    ensures { HeldIsTyped }
 {}
 
 /// A pasted text without Esc is handed over whole, cleaned of carriage returns and control characters.
@@ -45,6 +50,11 @@ pub fn escapes_are_kept()
 /// what has come of it, as text.
 pub fn pastes_give_no_key()
     ensures { PastesGiveNoKey }
+{}
+
+/// A pasted text that pauses is the same text, and what is behind it the same items, unless it pauses for too long.
+pub fn pauses_keep_pastes()
+    ensures { PausesKeepPastes }
 {}
 
 /// Whatever was read, the six bytes that end a pasted text lead back to where nothing has begun.
