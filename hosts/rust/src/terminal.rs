@@ -121,6 +121,7 @@ impl Terminal {
             marks_pastes,
             _taken: taken,
         };
+        mode::take_broken_off();
         mode::make_raw()?;
         Ok(terminal)
     }
@@ -148,7 +149,17 @@ impl Terminal {
 
     /// Sets the terminal back in the middle of a line: what comes next stands below it.
     pub(crate) fn break_off(&self) {
-        mode::set_back(mode::BREAK_OFF);
+        mode::break_off();
+    }
+
+    /// Returns whether a signal broke the line off: what was drawn stands above the cursor.
+    pub(crate) fn is_broken_off(&self) -> bool {
+        mode::is_broken_off()
+    }
+
+    /// Returns whether a signal broke the line off, which is over now.
+    pub(crate) fn take_broken_off(&self) -> bool {
+        mode::take_broken_off()
     }
 
     /// Waits for input, for so many milliseconds or without end.
@@ -198,11 +209,11 @@ impl Terminal {
 
 impl Drop for Terminal {
     fn drop(&mut self) {
-        mode::set_back(if thread::panicking() {
-            mode::BREAK_OFF
+        if thread::panicking() {
+            mode::break_off();
         } else {
-            b""
-        });
+            mode::set_back(b"");
+        }
     }
 }
 
