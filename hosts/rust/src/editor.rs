@@ -65,8 +65,8 @@ impl<H: Helper> Editor<H, DefaultHistory> {
         })
     }
 
-    /// Reads a line. Where standard input and output are a terminal, the prompt is shown and the
-    /// line is edited; elsewhere a line of standard input is read as it is.
+    /// Reads a line. Where standard input is a terminal, the prompt is shown and the line is edited;
+    /// elsewhere a line of standard input is read as it is.
     ///
     /// # Errors
     /// [`ReadlineError::Eof`] where the input has ended, [`ReadlineError::Interrupted`] at C-c, and
@@ -101,7 +101,7 @@ impl<H: Helper> Editor<H, DefaultHistory> {
         };
         let answer = session.read(&Start {
             prompt: prompt.raw(),
-            styled: if self.config.has_colors(true) {
+            styled: if self.config.has_colors(terminal::is_output()) {
                 prompt.styled()
             } else {
                 prompt.raw()
@@ -288,7 +288,7 @@ impl<H: Helper, I: History> fmt::Debug for Editor<H, I> {
 
 /// Makes an editor of the library, with keys bound to commands.
 fn make_handle(config: &Config, bound: &[(String, Cmd)]) -> Result<Handle> {
-    let colors = config.has_colors(terminal::is_there());
+    let colors = config.has_colors(terminal::is_output());
     let mut handle = Handle::new(&config.to_raw(terminal::size_or_usual(), colors))?;
     for (keys, command) in bound {
         bind(&mut handle, keys, command)?;

@@ -3,6 +3,8 @@
 #[path = "common/screen.rs"]
 mod screen;
 
+use std::fs::File;
+use std::os::fd::AsRawFd;
 use std::os::unix::process::ExitStatusExt;
 use std::time::Duration;
 use std::{env, io, ptr, thread};
@@ -40,6 +42,10 @@ fn scene() -> Result<()> {
         "initial" => {
             let line = editor.readline_with_initial("> ", ("ab", "ef"))?;
             println!("got {line}.");
+        }
+        "replaced" => {
+            println!("got {}.", editor.readline("no prompt")?);
+            replace_input()?;
         }
         _ => {}
     }
@@ -96,6 +102,16 @@ fn raise(signal: i32) {
     unsafe { libc::raise(signal) };
 }
 
+/// Puts the terminal in the place of standard input.
+fn replace_input() -> io::Result<()> {
+    let terminal = File::options().read(true).open("/dev/tty")?;
+    // SAFETY: this call takes no pointer.
+    match unsafe { libc::dup2(terminal.as_raw_fd(), libc::STDIN_FILENO) } {
+        0.. => Ok(()),
+        _ => Err(io::Error::last_os_error()),
+    }
+}
+
 /// Starts a scene at a terminal that controls it.
 fn start(scene: &'static str) -> io::Result<Screen> {
     Screen::start(&Start { scene, ..LINES })
@@ -147,12 +163,21 @@ fn a_panic_sets_the_terminal_back() -> io::Result<()> {
 
 #[test]
 fn a_terminal_is_edited_at_wherever_it_stands() -> io::Result<()> {
-    let ways = [(
-        "a terminal that controls no program",
-        "exec \"$@\"",
-        false,
-        "lines",
-    )];
+    let ways = [
+        (
+            "a terminal that controls no program",
+            "exec \"$@\"",
+            false,
+            "lines",
+        ),
+        ("output into a pipe", "\"$@\" | cat", true, "lines"),
+        (
+            "a terminal in place of a pipe",
+            "echo a | \"$@\"",
+            true,
+            "replaced",
+        ),
+    ];
     let lines: Lines = &[
         ("ac\x1b[Db\r", "got abc. Raw: false."),
         ("d\x7fe\r", "got e."),
@@ -175,6 +200,19 @@ fn a_terminal_is_edited_at_wherever_it_stands() -> io::Result<()> {
         screen.end()?;
     }
     Ok(())
+}
+
+#[test]
+fn a_terminal_that_cannot_move_its_cursor_is_sent_no_escape_sequence() -> io::Result<()> {
+    let mut screen = Screen::start(&Start {
+        term: "dumb",
+        ..LINES
+    })?;
+    assert!(!screen.is_raw());
+    let shown = screen.type_for("abc\n", "got abc.")?;
+    assert!(!shown.contains('\x1b'), "{shown:?}");
+    screen.wait_for("> ")?;
+    screen.end()
 }
 
 #[test]
