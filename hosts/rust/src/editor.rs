@@ -9,7 +9,7 @@ use crate::config::Config;
 use crate::error::{ReadlineError, Result};
 use crate::handle::Handle;
 use crate::history::{DefaultHistory, History};
-use crate::history_file;
+use crate::history_file::{self, Form};
 use crate::prompt::Prompt;
 use crate::session::{self, Completer, Session, Start};
 use crate::terminal::{self, Terminal};
@@ -156,31 +156,55 @@ impl<H: Helper> Editor<H, DefaultHistory> {
         Ok(())
     }
 
-    /// Puts the history in place of what a file holds. The file is written beside the old one and
-    /// then renamed, under a lock; its owner alone can read it.
+    /// Puts the history in place of what a file holds. The file is written beside the old one, which
+    /// is locked, and then renamed; its owner alone can read it.
     ///
     /// # Errors
     /// A file cannot be made or written, and the old one is as it was; or memory ran out.
     pub fn save_history<P: AsRef<Path> + ?Sized>(&mut self, path: &P) -> Result<()> {
         self.note_new_lines()?;
-        let text = self.handle.history_text(false)?;
+        let text = self.whole_text()?;
         history_file::write(path.as_ref(), text.as_bytes())?;
         self.history.set_written();
         Ok(())
     }
 
-    /// Appends those lines to a file that came since the history was last loaded, saved or
-    /// appended, under a lock. A file that is empty or not there gets the whole history.
+    /// Appends those lines to a file, which is locked, that came since the history was last loaded,
+    /// saved or appended. A file that is empty or not there gets the whole history.
     ///
     /// # Errors
-    /// The file cannot be made or written, or does not begin with the line `#V3`; or memory ran
-    /// out. The lines are then appended the next time.
+    /// The file cannot be made or written, or its lines have another form than the settings say; or
+    /// memory ran out. The lines are then appended the next time.
     pub fn append_history<P: AsRef<Path> + ?Sized>(&mut self, path: &P) -> Result<()> {
         self.note_new_lines()?;
-        let lines = self.history.unwritten_text();
-        let whole = self.handle.history_text(false)?;
-        history_file::append(path.as_ref(), lines.as_bytes(), whole.as_bytes())?;
+        let (form, lines) = if self.config.history_plain() {
+            (Form::Plain, self.history.plain_unwritten_text())
+        } else {
+            (Form::Escaped, self.history.unwritten_text())
+        };
+        let whole = self.whole_text()?;
+        history_file::append(path.as_ref(), form, lines.as_bytes(), whole.as_bytes())?;
         self.history.set_written();
+        Ok(())
+    }
+
+    /// Sets how many lines the history keeps, and drops the oldest where there are more. Where the
+    /// number is another one, the editor is made anew for it, as by
+    /// [`clear_history`](Self::clear_history).
+    ///
+    /// # Errors
+    /// Memory ran out, and the number is as it was.
+    pub fn set_max_history_size(&mut self, lines: usize) -> Result<()> {
+        if lines == self.config.max_history_size() {
+            return Ok(());
+        }
+        self.note_new_lines()?;
+        let mut config = self.config.clone();
+        config.set_max_history_size(lines);
+        let mut handle = make_handle(&config, &self.bound)?;
+        handle.load_history(self.handle.history_text(false)?.as_bytes())?;
+        self.history.set_most(lines);
+        (self.config, self.handle) = (config, handle);
         Ok(())
     }
 
@@ -239,6 +263,15 @@ impl<H: Helper> Editor<H, DefaultHistory> {
     #[must_use]
     pub fn dimensions(&mut self) -> Option<(usize, usize)> {
         terminal::size().map(|(columns, rows)| (columns.into(), rows.into()))
+    }
+
+    /// Returns the whole history as it goes into a file.
+    fn whole_text(&mut self) -> Result<String> {
+        if self.config.history_plain() {
+            Ok(self.history.plain_text())
+        } else {
+            self.handle.history_text(false)
+        }
     }
 
     /// Takes lines over that are new in the library's history, and returns whether there are any.

@@ -56,10 +56,28 @@ impl FileHistory {
         }
     }
 
+    /// Says how many lines are kept, and drops the oldest where there are more.
+    pub(crate) fn set_most(&mut self, most: usize) {
+        self.most = most;
+        for lines in [&mut self.lines, &mut self.unwritten] {
+            lines.drain(..lines.len().saturating_sub(most));
+        }
+    }
+
     /// Returns the lines that were not yet written, as they go into a file.
     pub(crate) fn unwritten_text(&self) -> String {
-        let ended = |line: &String| format!("{line}\n");
         self.unwritten.iter().map(ended).collect()
+    }
+
+    /// Returns the lines that were not yet written, as they are.
+    pub(crate) fn plain_unwritten_text(&self) -> String {
+        let lines = self.unwritten.iter().map(|line| unescape(line));
+        lines.map(ended).collect()
+    }
+
+    /// Returns all lines as they are.
+    pub(crate) fn plain_text(&self) -> String {
+        self.lines.iter().map(ended).collect()
     }
 
     /// Says that all lines were written.
@@ -82,6 +100,13 @@ impl History for FileHistory {
     fn is_empty(&self) -> bool {
         self.lines.is_empty()
     }
+}
+
+/// Returns a line with what ends it in a file.
+fn ended(line: impl AsRef<str>) -> String {
+    let mut line = line.as_ref().to_owned();
+    line.push('\n');
+    line
 }
 
 /// Puts a line behind others, and drops the oldest where there are too many.
@@ -128,6 +153,21 @@ mod tests {
         history.set_written();
         assert_eq!(history.unwritten_text(), "");
         assert_eq!(history.len(), 2);
+    }
+
+    #[test]
+    fn a_new_limit_drops_the_oldest_lines() {
+        let mut history = FileHistory::with_most(usize::MAX);
+        history.take_all("#V3\na\n");
+        history.take_new("b\nc\\nd\ne\\\\\n");
+        history.set_most(2);
+        assert_eq!(history.plain_text(), "c\nd\ne\\\n");
+        assert_eq!(history.plain_unwritten_text(), "c\nd\ne\\\n");
+        history.set_most(3);
+        history.take_new("f\n");
+        assert_eq!(lines(&history), ["c\nd", "e\\", "f"]);
+        history.set_most(0);
+        assert!(!history.take_new("") && history.is_empty());
     }
 
     #[test]
