@@ -1,7 +1,7 @@
 //! The editor.
 
-use std::fmt;
 use std::path::Path;
+use std::{fmt, mem};
 
 use crate::binding::{Event, EventHandler};
 use crate::command::Cmd;
@@ -233,11 +233,21 @@ impl<H: Helper> Editor<H, DefaultHistory> {
         let Some(keys) = event.names() else {
             return Err(ReadlineError::refused("the event is no sequence of keys"));
         };
-        bind(&mut self.handle, &keys, &command)?;
-        let before = self.bound.iter().position(|(bound, _)| *bound == keys);
-        let before = before.map(|place| self.bound.remove(place).1);
-        self.bound.push((keys, command));
-        Ok(before.map(EventHandler::Simple))
+        let mut bound = self.bound.iter_mut();
+        match bound.find(|(bound, _)| *bound == keys) {
+            // The library would keep each binding, and look at all of them.
+            Some((_, before)) if *before == command => Ok(Some(EventHandler::Simple(command))),
+            Some((_, before)) => {
+                bind(&mut self.handle, &keys, &command)?;
+                let before = mem::replace(before, command);
+                Ok(Some(EventHandler::Simple(before)))
+            }
+            None => {
+                bind(&mut self.handle, &keys, &command)?;
+                self.bound.push((keys, command));
+                Ok(None)
+            }
+        }
     }
 
     /// Sets who is asked for words when the terminal sends a Tab. It is handed the line and the
@@ -336,5 +346,41 @@ fn bind(handle: &mut Handle, keys: &str, command: &Cmd) -> Result<()> {
         None => Err(ReadlineError::refused(format!(
             "{command:?} has no readline name"
         ))),
+    }
+}
+
+#[cfg(test)]
+mod tests {
+    use super::*;
+    use crate::keys::{KeyCode, KeyEvent, Modifiers};
+    use std::time::{Duration, Instant};
+
+    /// Returns how long it takes to type some keys, when nothing comes in between.
+    fn time_of_keys(editor: &mut DefaultEditor) -> Result<Duration> {
+        let mut best = Duration::MAX;
+        for _ in 0..5 {
+            editor.handle.begin("> ", "> ", ("", ""))?;
+            let started = Instant::now();
+            for _ in 0..20 {
+                editor.handle.feed(b"a")?;
+            }
+            best = best.min(started.elapsed());
+            editor.handle.drop_line()?;
+        }
+        Ok(best)
+    }
+
+    #[test]
+    fn a_key_that_is_bound_again_takes_no_more_time() -> Result<()> {
+        let mut editor = DefaultEditor::new()?;
+        let before = time_of_keys(&mut editor)?;
+        let keys = [5, 6].map(|number| KeyEvent(KeyCode::F(number), Modifiers::NONE));
+        for _ in 0..50_000 {
+            editor.bind_sequence(keys[0], Cmd::Undo(1))?;
+            editor.bind_sequence(keys[1], Cmd::ClearScreen)?;
+        }
+        let after = time_of_keys(&mut editor)?;
+        assert!(after < 20 * before, "{before:?}, then {after:?}");
+        Ok(())
     }
 }
