@@ -16,9 +16,9 @@
 //!
 //! The crate is for Linux. Places in a line are counted in bytes, sizes of a terminal in columns and
 //! rows, and times in milliseconds. While a line is read, the signals `WINCH` and `CONT` are
-//! caught, and where the program does not handle them itself `INT`, `TERM`, `HUP`, `QUIT`, `TSTP`,
-//! `ALRM`, `ABRT`, `ILL` and `FPE`, before which the terminal is set back. So it is before `SEGV` and
-//! `BUS`, also where they have a handler, which is then called.
+//! caught, and where the program does not handle them itself `TSTP` and those that end a process,
+//! before which the terminal is set back. So it is before `SEGV` and `BUS`, also where they have a
+//! handler, which is then called.
 #![warn(missing_docs)]
 #![warn(clippy::undocumented_unsafe_blocks)]
 

@@ -5,7 +5,7 @@ use std::io;
 use std::mem::MaybeUninit;
 use std::sync::atomic::{AtomicBool, AtomicI32, AtomicUsize, Ordering};
 
-use libc::{STDIN_FILENO, STDOUT_FILENO, termios};
+use libc::{STDIN_FILENO, STDOUT_FILENO, pollfd, termios};
 
 use crate::turn::{Turn, process};
 
@@ -73,14 +73,28 @@ pub(crate) fn set_back(text: &[u8]) -> bool {
     if is_of_others() {
         return false;
     }
-    // SAFETY: the text is as long as its length says. This thread has the turn, and the settings
-    // were kept before the terminal was made raw. Both calls may be made in a handler. That one of
-    // them fails, nobody can be told.
-    unsafe {
-        libc::write(STDOUT_FILENO, text.as_ptr().cast(), text.len());
-        libc::tcsetattr(STDIN_FILENO, libc::TCSANOW, (*BEFORE.0.get()).as_ptr());
-    }
+    write_at_once(text);
+    // SAFETY: this thread has the turn, and the settings were kept before the terminal was made raw.
+    // The call may be made in a handler. That it fails, nobody can be told.
+    unsafe { libc::tcsetattr(STDIN_FILENO, libc::TCSANOW, (*BEFORE.0.get()).as_ptr()) };
     true
+}
+
+/// Writes bytes, if there is room for them now: an output that takes none must keep no process from
+/// its end.
+fn write_at_once(text: &[u8]) {
+    let mut output = pollfd {
+        fd: STDOUT_FILENO,
+        events: libc::POLLOUT,
+        revents: 0,
+    };
+    // SAFETY: the pointer is that of one file, and the text is as long as its length says. Both
+    // calls may be made in a handler. That one of them fails, nobody can be told.
+    unsafe {
+        if libc::poll(&raw mut output, 1, 0) > 0 {
+            libc::write(STDOUT_FILENO, text.as_ptr().cast(), text.len());
+        }
+    }
 }
 
 /// Sets the terminal back in the middle of a line: what comes next stands below it.

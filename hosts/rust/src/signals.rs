@@ -17,7 +17,7 @@ const TELLING: [c_int; 2] = [libc::SIGWINCH, libc::SIGCONT];
 
 /// Before these end or stop the process, the terminal is set back. They are caught where the
 /// program does not handle or ignore them itself.
-const ENDING: [c_int; 11] = [
+const ENDING: [c_int; 19] = [
     libc::SIGINT,
     libc::SIGTERM,
     libc::SIGHUP,
@@ -29,6 +29,14 @@ const ENDING: [c_int; 11] = [
     libc::SIGBUS,
     libc::SIGILL,
     libc::SIGFPE,
+    libc::SIGSYS,
+    libc::SIGPIPE,
+    libc::SIGUSR1,
+    libc::SIGUSR2,
+    libc::SIGXCPU,
+    libc::SIGXFSZ,
+    libc::SIGVTALRM,
+    libc::SIGPROF,
 ];
 
 /// Whether a signal came since this was asked last.
