@@ -173,17 +173,18 @@ impl<H: Helper> Editor<H, DefaultHistory> {
     /// saved or appended. A file that is empty or not there gets the whole history.
     ///
     /// # Errors
-    /// The file cannot be made or written, or its lines have another form than the settings say; or
-    /// memory ran out. The lines are then appended the next time.
+    /// The file cannot be made or written; or it is rustyline's, or has plain lines where the settings
+    /// do not say so; or memory ran out. The lines are then appended the next time.
     pub fn append_history<P: AsRef<Path> + ?Sized>(&mut self, path: &P) -> Result<()> {
         self.note_new_lines()?;
-        let (form, lines) = if self.config.history_plain() {
-            (Form::Plain, self.history.plain_unwritten_text())
+        let wanted = if self.config.history_plain() {
+            Form::Plain
         } else {
-            (Form::Escaped, self.history.unwritten_text())
+            Form::Escaped
         };
         let whole = self.whole_text()?;
-        history_file::append(path.as_ref(), form, lines.as_bytes(), whole.as_bytes())?;
+        let lines = |form| self.history.unwritten_text(form);
+        history_file::append(path.as_ref(), wanted, lines, &whole)?;
         self.history.set_written();
         Ok(())
     }

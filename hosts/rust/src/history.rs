@@ -2,6 +2,8 @@
 
 use std::collections::VecDeque;
 
+use crate::history_file::Form;
+
 /// Lines that were entered before, the oldest first.
 pub trait History {
     /// Returns how many lines there are.
@@ -64,15 +66,13 @@ impl FileHistory {
         }
     }
 
-    /// Returns the lines that were not yet written, as they go into a file.
-    pub(crate) fn unwritten_text(&self) -> String {
-        self.unwritten.iter().map(ended).collect()
-    }
-
-    /// Returns the lines that were not yet written, as they are.
-    pub(crate) fn plain_unwritten_text(&self) -> String {
-        let lines = self.unwritten.iter().map(|line| unescape(line));
-        lines.map(ended).collect()
+    /// Returns the lines that were not yet written, as they go into a file of a form.
+    pub(crate) fn unwritten_text(&self, form: Form) -> String {
+        let formed = |line: &String| match form {
+            Form::Escaped => ended(line),
+            Form::Plain => ended(unescape(line)),
+        };
+        self.unwritten.iter().map(formed).collect()
     }
 
     /// Returns all lines as they are.
@@ -149,9 +149,9 @@ mod tests {
         assert!(history.take_new("\\\\d\n"));
         assert!(!history.take_new(""));
         assert_eq!(lines(&history), ["b\nc", "\\d"]);
-        assert_eq!(history.unwritten_text(), "b\\nc\n\\\\d\n");
+        assert_eq!(history.unwritten_text(Form::Escaped), "b\\nc\n\\\\d\n");
         history.set_written();
-        assert_eq!(history.unwritten_text(), "");
+        assert_eq!(history.unwritten_text(Form::Escaped), "");
         assert_eq!(history.len(), 2);
     }
 
@@ -162,7 +162,7 @@ mod tests {
         history.take_new("b\nc\\nd\ne\\\\\n");
         history.set_most(2);
         assert_eq!(history.plain_text(), "c\nd\ne\\\n");
-        assert_eq!(history.plain_unwritten_text(), "c\nd\ne\\\n");
+        assert_eq!(history.unwritten_text(Form::Plain), "c\nd\ne\\\n");
         history.set_most(3);
         history.take_new("f\n");
         assert_eq!(lines(&history), ["c\nd", "e\\", "f"]);
@@ -176,7 +176,7 @@ mod tests {
         history.take_new("old\n");
         history.take_all("#V3\nold\nb\\r\n\\\\n\n");
         assert_eq!(lines(&history), ["old", "b\r", "\\n"]);
-        assert_eq!(history.unwritten_text(), "");
+        assert_eq!(history.unwritten_text(Form::Escaped), "");
     }
 
     #[test]

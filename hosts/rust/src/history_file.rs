@@ -52,28 +52,37 @@ pub(crate) enum Form {
     Plain,
 }
 
-/// Appends lines to a file, or gives an empty one the whole text.
+/// Appends lines to a file, which are asked for in the form that it has, or gives an empty one the
+/// whole text.
 ///
 /// # Errors
-/// The file cannot be made or written, or its lines have another form.
-pub(crate) fn append(path: &Path, form: Form, lines: &[u8], whole: &[u8]) -> io::Result<()> {
+/// The file cannot be made or written, or is rustyline's, or has plain lines that are not wanted.
+pub(crate) fn append(
+    path: &Path,
+    wanted: Form,
+    lines: impl Fn(Form) -> String,
+    whole: &str,
+) -> io::Result<()> {
     let (mut file, _) = open_locked(path)?;
     let facts = file.metadata()?;
     if !facts.is_file() || facts.len() == 0 {
-        return file.write_all(whole);
+        return file.write_all(whole.as_bytes());
     }
-    if form_of(&mut file)? != Some(form) {
-        return Err(io::Error::new(
-            io::ErrorKind::InvalidData,
-            "the lines of the file have another form: save_history writes it anew",
-        ));
-    }
+    let lines = match form_of(&mut file)? {
+        Some(form) if form == wanted || form == Form::Escaped => lines(form),
+        _ => {
+            return Err(io::Error::new(
+                io::ErrorKind::InvalidData,
+                "the lines of the file have another form: save_history writes it anew",
+            ));
+        }
+    };
     let mut text = Vec::with_capacity(lines.len() + 1);
     if !ends_in_newline(&mut file)? {
         // The last line was cut off when it was written.
         text.push(b'\n');
     }
-    text.extend_from_slice(lines);
+    text.extend_from_slice(lines.as_bytes());
     file.write_all(&text)
 }
 
@@ -196,19 +205,31 @@ mod tests {
         Ok(())
     }
 
+    /// Returns a line that tells its form.
+    fn line(form: Form) -> String {
+        format!("{form:?}\n")
+    }
+
     #[test]
     fn lines_are_appended_behind_a_whole_line() -> io::Result<()> {
         let folder = Folder::new("append")?;
         let path = folder.0.join("history");
-        append(&path, Form::Escaped, b"b\n", b"#V3\na\nb\n")?;
-        append(&path, Form::Escaped, b"c\n", b"unused")?;
-        assert_eq!(read(&path)?, b"#V3\na\nb\nc\n");
-        fs::write(&path, b"#V3\ncut")?;
-        append(&path, Form::Escaped, b"d\n", b"unused")?;
-        assert_eq!(read(&path)?, b"#V3\ncut\nd\n");
-        fs::write(&path, b"plain")?;
-        append(&path, Form::Plain, b"a\\\n", b"unused")?;
-        assert_eq!(read(&path)?, b"plain\na\\\n");
+        let cases = [
+            ("", Form::Escaped, "whole"),
+            ("", Form::Plain, "whole"),
+            ("#V3\na\n", Form::Escaped, "#V3\na\nEscaped\n"),
+            ("#V3\na\n", Form::Plain, "#V3\na\nEscaped\n"),
+            ("#V3\ncut", Form::Escaped, "#V3\ncut\nEscaped\n"),
+            ("plain", Form::Plain, "plain\nPlain\n"),
+        ];
+        for (before, wanted, after) in cases {
+            fs::write(&path, before)?;
+            append(&path, wanted, line, "whole")?;
+            assert_eq!(read(&path)?, after.as_bytes());
+        }
+        fs::remove_file(&path)?;
+        append(&path, Form::Escaped, line, "whole")?;
+        assert_eq!(read(&path)?, b"whole");
         Ok(())
     }
 
@@ -218,7 +239,7 @@ mod tests {
         let (path, other) = (folder.0.join("history"), folder.0.join("other"));
         let locked = open_locked(&path)?;
         thread::scope(|scope| {
-            let appended = scope.spawn(|| append(&path, Form::Escaped, b"b\n", b"unused"));
+            let appended = scope.spawn(|| append(&path, Form::Escaped, line, ""));
             // So that it waits for the lock.
             thread::sleep(Duration::from_millis(100));
             fs::write(&other, b"#V3\na\n")?;
@@ -228,7 +249,7 @@ mod tests {
                 .join()
                 .unwrap_or_else(|_| Err(io::Error::other("a panic")))
         })?;
-        assert_eq!(read(&path)?, b"#V3\na\nb\n");
+        assert_eq!(read(&path)?, b"#V3\na\nEscaped\n");
         Ok(())
     }
 
@@ -236,19 +257,18 @@ mod tests {
     fn other_files_are_left_alone() -> io::Result<()> {
         let folder = Folder::new("other")?;
         let path = folder.0.join("history");
-        for (text, form) in [
+        for (text, wanted) in [
             ("plain\n", Form::Escaped),
             ("#V2\na\n", Form::Escaped),
             ("#V2\na\n", Form::Plain),
-            ("#V3\na\n", Form::Plain),
         ] {
             fs::write(&path, text)?;
-            let refused = append(&path, form, b"a\n", b"unused");
+            let refused = append(&path, wanted, line, "");
             assert!(refused.is_err_and(|error| error.kind() == io::ErrorKind::InvalidData));
             assert_eq!(read(&path)?, text.as_bytes());
         }
         write(Path::new("/dev/null"), b"a\n")?;
-        append(Path::new("/dev/null"), Form::Escaped, b"a\n", b"unused")?;
+        append(Path::new("/dev/null"), Form::Escaped, line, "")?;
         assert!(!fs::metadata("/dev/null")?.is_file());
         Ok(())
     }
