@@ -35,6 +35,10 @@ fn scene() -> Result<()> {
             print!("{:?}", thread::spawn(other).join());
             Vec::new()
         }),
+        "flood" => editor.set_completer(|_, _| {
+            print!("{}", "no room ".repeat(100_000));
+            Vec::new()
+        }),
         "fault" => editor.set_completer(|_, _| write_to_nowhere()),
         "overflow" => editor.set_completer(|_, _| vec![nested(0).to_string()]),
         "exiting child" => editor.set_completer(|_, _| with_child(exit)),
@@ -237,6 +241,18 @@ fn a_signal_sets_the_terminal_back() -> io::Result<()> {
         assert_eq!(screen.status()?.signal(), Some(signal));
         assert!(!screen.is_raw(), "signal {signal} after {moment:?}");
     }
+    Ok(())
+}
+
+#[test]
+fn a_signal_ends_a_program_whose_output_is_full() -> io::Result<()> {
+    let mut screen = start("flood")?;
+    screen.type_for("a\t", "no room")?;
+    // Nobody reads what else is written.
+    thread::sleep(Duration::from_millis(100));
+    screen.signal(libc::SIGTERM)?;
+    assert_eq!(screen.status()?.signal(), Some(libc::SIGTERM));
+    assert!(!screen.is_raw());
     Ok(())
 }
 
