@@ -1,6 +1,7 @@
 //! A line, from its prompt to its end.
 
 use std::io::{self, BufRead, Write};
+use std::ops::Range;
 
 use crate::error::{ReadlineError, Result};
 use crate::handle::{Handle, Progress};
@@ -8,6 +9,9 @@ use crate::terminal::{self, Terminal, Wake};
 
 /// How many bytes are read at once.
 const PIECE: usize = 4096;
+
+/// What asks the terminal to show what follows at once.
+const AT_ONCE: &[u8] = b"\x1b[?2026h";
 
 /// The key at which words are completed.
 const TAB: u8 = b'\t';
@@ -74,16 +78,25 @@ impl Session<'_> {
         }
     }
 
-    /// Writes what was drawn.
+    /// Writes what was drawn, unless the line was broken off: then it is to be drawn anew.
     fn show(&mut self) -> Result<()> {
         let drawn = self.handle.take_output()?;
+        if self.terminal.is_broken_off() {
+            return Ok(());
+        }
         Ok(terminal::write_all(&drawn)?)
     }
 
-    /// Draws the line anew, for the size that the terminal has now.
+    /// Draws the line anew, for the size that the terminal has now. One that was broken off is drawn
+    /// where the cursor stands.
     fn draw_anew(&mut self) -> Result<Progress> {
         let (columns, rows) = terminal::size_or_usual();
         self.handle.resize(columns, rows)?;
+        let mut drawn = self.handle.take_output()?;
+        if self.terminal.take_broken_off() {
+            drawn.drain(way_up(&drawn));
+        }
+        terminal::write_all(&drawn)?;
         self.handle.feed(&[])
     }
 
@@ -131,6 +144,26 @@ impl Session<'_> {
         }
         let piece: Vec<u8> = self.typed.drain(..piece_len(self.typed)).collect();
         self.handle.feed(&piece)
+    }
+}
+
+/// Returns which bytes of a drawing move the cursor from its row up to the first one. They come
+/// first, or behind what asks the terminal to show all at once.
+fn way_up(drawn: &[u8]) -> Range<usize> {
+    let begin = if drawn.starts_with(AT_ONCE) {
+        AT_ONCE.len()
+    } else {
+        0
+    };
+    let steps = drawn.get(begin..).unwrap_or_default();
+    let steps = steps.strip_prefix(b"\x1b[").unwrap_or_default();
+    let digits = steps
+        .iter()
+        .take_while(|byte| byte.is_ascii_digit())
+        .count();
+    match steps.get(digits) {
+        Some(b'A') => begin..begin + 3 + digits,
+        _ => begin..begin,
     }
 }
 
@@ -187,6 +220,15 @@ mod tests {
         assert_eq!(piece_len(b"\tc\td"), 2);
         assert_eq!(piece_len(b"\t\t"), 1);
         assert_eq!(piece_len(b"\tcd"), 3);
+    }
+
+    #[test]
+    fn the_way_up_begins_a_drawing() {
+        assert_eq!(way_up(b"\x1b[12A\r\x1b[J> a"), 0..5);
+        assert_eq!(way_up(b"\x1b[?2026h\x1b[1A\r\x1b[J> a"), 8..12);
+        assert_eq!(way_up(b"\x1b[?2026h\r\x1b[J> a\x1b[1A"), 8..8);
+        assert_eq!(way_up(b"\x1b[3B"), 0..0);
+        assert_eq!(way_up(b""), 0..0);
     }
 
     #[test]
