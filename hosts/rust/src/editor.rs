@@ -98,6 +98,7 @@ impl<H: Helper> Editor<H, DefaultHistory> {
             typed: &mut self.typed,
             completer: self.completer.as_mut(),
             timeout: self.config.keyseq_timeout(),
+            last: session::Last::default(),
         };
         let answer = session.read(&Start {
             prompt: prompt.raw(),

@@ -16,6 +16,15 @@ const AT_ONCE: &[u8] = b"\x1b[?2026h";
 /// The key at which words are completed.
 const TAB: u8 = b'\t';
 
+/// What begins most sequences, and is a key by itself.
+const ESC: u8 = b'\x1b';
+
+/// How many milliseconds a pause lasts behind the first one.
+const PAUSE: u16 = 50;
+
+/// How many pauses settle what has begun, whatever it is.
+const PAUSES: u16 = 20;
+
 /// Gives the words that may complete a line, which it is handed with the cursor's place in bytes.
 pub(crate) type Completer = Box<dyn FnMut(&str, usize) -> Vec<String>>;
 
@@ -39,8 +48,17 @@ pub(crate) struct Session<'a> {
     pub(crate) completer: Option<&'a mut Completer>,
     /// How many milliseconds the byte behind an Esc is waited for; `None` stands for without end.
     pub(crate) timeout: Option<u16>,
+    /// What came last.
+    pub(crate) last: Last,
     /// The terminal.
     pub(crate) terminal: Terminal,
+}
+
+/// What came last: a byte, and whether a pause came behind it.
+#[derive(Default)]
+pub(crate) struct Last {
+    byte: Option<u8>,
+    has_paused: bool,
 }
 
 impl Session<'_> {
@@ -103,18 +121,44 @@ impl Session<'_> {
     /// Waits for what comes next.
     fn await_more(&mut self) -> Result<Progress> {
         let limit = if self.handle.is_waiting()? {
-            self.timeout
+            self.pause_length()
         } else {
             None
         };
         match self.terminal.wait(limit)? {
             Wake::Input => self.take_input(),
-            Wake::Pause => self.handle.flush(),
+            Wake::Pause => self.settle(),
             Wake::Signal => {
                 self.terminal.take_again()?;
                 self.draw_anew()
             }
         }
+    }
+
+    /// Returns how many milliseconds what belongs to the bytes so far is waited for. Where an Esc may
+    /// last without end, what has begun otherwise is waited for until it is settled.
+    fn pause_length(&self) -> Option<u16> {
+        match self.timeout {
+            Some(_) if self.last.has_paused => Some(PAUSE),
+            None if self.last.byte != Some(ESC) => Some(PAUSE * PAUSES),
+            timeout => timeout,
+        }
+    }
+
+    /// Settles what has begun, as no byte came for a pause; or for so many, where a single one is not
+    /// looked at.
+    fn settle(&mut self) -> Result<Progress> {
+        self.last.has_paused = true;
+        let mut progress = self.handle.flush()?;
+        if self.timeout.is_none() {
+            for _ in 1..PAUSES {
+                if !matches!(progress, Progress::Reading) {
+                    break;
+                }
+                progress = self.handle.flush()?;
+            }
+        }
+        Ok(progress)
     }
 
     /// Reads what was typed, or finds that nothing will come any more.
@@ -134,6 +178,10 @@ impl Session<'_> {
     /// Hands what was typed over. Where there is a completer, what stands before a Tab goes first,
     /// so that the completer sees the line as it is at the Tab.
     fn feed_typed(&mut self) -> Result<Progress> {
+        self.last = Last {
+            byte: self.typed.last().copied(),
+            has_paused: false,
+        };
         let Some(completer) = &mut self.completer else {
             return self.handle.feed(&std::mem::take(self.typed));
         };
