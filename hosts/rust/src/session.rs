@@ -13,6 +13,9 @@ const PIECE: usize = 4096;
 /// What asks the terminal to show what follows at once.
 const AT_ONCE: &[u8] = b"\x1b[?2026h";
 
+/// What clears the rows of a line, from the first one on, before it is drawn in full.
+const CLEAR: &[u8] = b"\r\x1b[J";
+
 /// The key at which words are completed.
 const TAB: u8 = b'\t';
 
@@ -106,16 +109,19 @@ impl Session<'_> {
     }
 
     /// Draws the line anew, for the size that the terminal has now. One that was broken off is drawn
-    /// where the cursor stands.
+    /// where the cursor stands. What was typed behind the key that suspended the line is read.
     fn draw_anew(&mut self) -> Result<Progress> {
         let (columns, rows) = terminal::size_or_usual();
         self.handle.resize(columns, rows)?;
-        let mut drawn = self.handle.take_output()?;
+        let first = self.handle.take_output()?;
+        let progress = self.handle.feed(&[]);
+        let again = self.handle.take_output()?;
+        let mut drawn = drawn_once(first, &again);
         if self.terminal.take_broken_off() {
             drawn.drain(way_up(&drawn));
         }
         terminal::write_all(&drawn)?;
-        self.handle.feed(&[])
+        progress
     }
 
     /// Waits for what comes next.
@@ -193,6 +199,20 @@ impl Session<'_> {
         let piece: Vec<u8> = self.typed.drain(..piece_len(self.typed)).collect();
         self.handle.feed(&piece)
     }
+}
+
+/// Returns one drawing for two, as the library draws a line at a new size and again before it reads.
+/// What leads to the line is that of the first one, and what follows that of the second.
+fn drawn_once(mut first: Vec<u8>, again: &[u8]) -> Vec<u8> {
+    let place_in = |drawn: &[u8]| drawn.windows(CLEAR.len()).position(|bytes| bytes == CLEAR);
+    match (place_in(&first), place_in(again)) {
+        (Some(lead), Some(rest)) => {
+            first.truncate(lead);
+            first.extend_from_slice(again.get(rest..).unwrap_or_default());
+        }
+        _ => first.extend_from_slice(again),
+    }
+    first
 }
 
 /// Returns which bytes of a drawing move the cursor from its row up to the first one. They come
@@ -277,6 +297,19 @@ mod tests {
         assert_eq!(way_up(b"\x1b[?2026h\r\x1b[J> a\x1b[1A"), 8..8);
         assert_eq!(way_up(b"\x1b[3B"), 0..0);
         assert_eq!(way_up(b""), 0..0);
+    }
+
+    #[test]
+    fn two_drawings_are_shown_as_one() {
+        let once = |first: &str, again: &str| drawn_once(first.into(), again.as_bytes());
+        let first = "\x1b[?2026h\x1b[2A\r\x1b[J> a\x1b[?2026l";
+        let again = "\x1b[?2026h\x1b[1A\r\x1b[J> ab\x1b[?2026lc";
+        assert_eq!(
+            once(first, again),
+            b"\x1b[?2026h\x1b[2A\r\x1b[J> ab\x1b[?2026lc"
+        );
+        assert_eq!(once(first, "c"), [first.as_bytes(), b"c"].concat());
+        assert_eq!(once("", again), again.as_bytes());
     }
 
     #[test]
