@@ -1,8 +1,8 @@
 -- The command that an event was bound to is left out.
-use Rattle.std.proofs.Common.{◌≡◌, refl, sym, ◌∙◌, ap, ap₂, subst, arith, ℕ, suc, ◌+◌, ◌<◌, ◌≤◌, Bool, true, false, List, [], ◌∷◌, ◌++◌, length, map, take, drop, get_or, append_assoc, if◌then◌else◌}
+use Rattle.std.proofs.Common.{◌≡◌, sym, ◌∙◌, ap, ap₂, subst, arith, ℕ, suc, ◌<◌, true, List, [], ◌∷◌, ◌++◌, length, map, take, drop, get_or, append_assoc, if◌then◌else◌}
 use Rattle.std.specs.List.{remove}
-use Rattle.std.proofs.Math.Seq.{drop-cons, take-suc}
-use Rattle.std.proofs.lemmas.List.{append-nil, drop-append-le, drop_all, map-append, take-append-le, take_all}
+use Rattle.std.proofs.Math.Seq.{drop-cons}
+use Rattle.std.proofs.lemmas.List.{drop-append-le, map-append, take-append-le}
 use Rattle.line_editor.specs.BoundCommands.{BoundCommands, bound_value}
 use Rattle.line_editor.specs.Event.{Chord, chord_of, same_chord}
 use Rattle.line_editor.specs.declared.binding.Event.{Event}
@@ -13,17 +13,6 @@ use Rattle.line_keys.specs.declared.cmd.Cmd.{Cmd}
 abbrev pub NoneBefore : Chord → List (Event × Cmd) → ℕ → Type 0
 NoneBefore chord commands i = without chord (map bound_value commands) ≡ map bound_value (take i commands) ++ without chord (map bound_value (drop i commands))
 
--- nor is the next one
-pub none_on : (chord : Chord) (commands : List (Event × Cmd)) (i : ℕ) (d x : Event × Cmd) → i < length commands → x ≡ get_or commands i d
-    → false ≡ same_chord (chord_of x.0) chord → NoneBefore chord commands i → NoneBefore chord commands (i + 1)
-none_on chord commands i d x within is other before =
-    before ∙ ap (λ xs. map bound_value (take i commands) ++ without chord (map bound_value xs)) (drop-cons commands i d within ∙ ap (λ y. y ∷ drop (suc i) commands) (sym is))
-    ∙ ap (λ b. map bound_value (take i commands) ++ (if b then map bound_value (drop (suc i) commands) else bound_value x ∷ without chord (map bound_value (drop (suc i) commands)))) (sym other)
-    ∙ sym (append_assoc (map bound_value (take i commands)) (bound_value x ∷ []) (without chord (map bound_value (drop (suc i) commands))))
-    ∙ ap (λ xs. xs ++ without chord (map bound_value (drop (suc i) commands)))
-    (sym (map-append bound_value (take i commands) (x ∷ [])) ∙ ap (map bound_value) (ap (λ y. take i commands ++ y ∷ []) is ∙ sym (take-suc commands i d within)))
-    ∙ ap (λ j. map bound_value (take j commands) ++ without chord (map bound_value (drop j commands))) (let e : suc i ≡ i + 1 = omega arith in e)
-
 -- the next one is
 pub found_there : (chord : Chord) (commands : List (Event × Cmd)) (i : ℕ) (d x : Event × Cmd) → i < length commands → x ≡ get_or commands i d
     → true ≡ same_chord (chord_of x.0) chord → NoneBefore chord commands i → map bound_value (remove commands i) ≡ without chord (map bound_value commands)
@@ -32,19 +21,13 @@ found_there chord commands i d x within is same before =
     ∙ sym (before ∙ ap (λ xs. map bound_value (take i commands) ++ without chord (map bound_value xs)) (drop-cons commands i d within ∙ ap (λ y. y ∷ drop (suc i) commands) (sym is))
     ∙ ap (λ b. map bound_value (take i commands) ++ (if b then map bound_value (drop (suc i) commands) else bound_value x ∷ without chord (map bound_value (drop (suc i) commands)))) (sym same))
 
--- none is
-pub none_there : (chord : Chord) (commands : List (Event × Cmd)) (i : ℕ) → length commands ≤ i → NoneBefore chord commands i
-    → without chord (map bound_value commands) ≡ map bound_value commands
-none_there chord commands i all before =
-    before ∙ ap₂ (λ xs ys. map bound_value xs ++ without chord (map bound_value ys)) (take_all i commands all) (drop_all i commands all)
-    ∙ append-nil (map bound_value commands)
-
 -- one is left out in front of what was put behind
 pub removed_before : (xs ys : List (Event × Cmd)) (i : ℕ) → i < length xs → remove (xs ++ ys) i ≡ remove xs i ++ ys
 removed_before xs ys i within =
     ap₂ (λ a b. a ++ b) (take-append-le i xs ys (omega arith)) (drop-append-le (suc i) xs ys (omega arith))
     ∙ sym (append_assoc (take i xs) (drop (suc i) xs) ys)
 
+-- so it is where the command was put behind first
 pub bound_behind : (old : BoundCommands) (xs ys zs ws : List (Event × Cmd)) (chord : Chord) (i : ℕ) (pair : Event × Cmd) → map bound_value xs ≡ old → ys ≡ xs
     → zs ≡ xs ++ pair ∷ [] → ws ≡ remove zs i → i < length ys → map bound_value (remove ys i) ≡ without chord (map bound_value ys)
     → map bound_value ws ≡ without chord old ++ bound_value pair ∷ []
