@@ -33,6 +33,20 @@
 extern "C" {
 #endif
 
+/* ----------------------------------------------------------------------------------------- the version */
+
+/* The version of this file. */
+#define COMVIZGA_VERSION_MAJOR 0
+#define COMVIZGA_VERSION_MINOR 1
+#define COMVIZGA_VERSION_PATCH 0
+#define COMVIZGA_VERSION "0.1.0"
+
+/* The number in the name of the shared library. It goes up where a call goes, or comes to mean something else. */
+#define COMVIZGA_ABI 0
+
+/* The version of the library, as COMVIZGA_VERSION. */
+const char *comvizga_version(void);
+
 /* ------------------------------------------------------------------------------------------ the handle */
 
 /* An editor, by its handle. Never copy one that holds something, and never use one in two threads at once. Different
@@ -48,8 +62,9 @@ typedef struct comvizga {
     }
 
 /* How an editor behaves. comvizga_defaults gives one to begin with; a field that is not said to be a number is 0 for
- * no, else yes. */
+ * no, else yes. Later versions have more fields, at the end. */
 typedef struct comvizga_settings {
+    size_t size;                    /* a number: the bytes of all fields that the program knows */
     size_t max_history_size;        /* a number: lines that the history keeps */
     size_t completion_prompt_limit; /* a number: candidates that are listed without asking */
     uint16_t columns;               /* a number: columns of the terminal, at least 1 */
@@ -86,7 +101,7 @@ enum comvizga_status {
     COMVIZGA_EMPTY = 24,      /* the handle holds nothing */
     COMVIZGA_IN_USE = 25,     /* comvizga_new: the handle holds something */
     COMVIZGA_NULL = 26,       /* a null pointer */
-    COMVIZGA_BAD_SETTING = 27 /* 0 columns */
+    COMVIZGA_BAD_SETTING = 27 /* 0 columns, or settings that comvizga_defaults did not give */
 };
 
 /* ----------------------------------------------------------------------------------- calls of a handle
@@ -102,12 +117,21 @@ enum comvizga_status {
  * read is not told. COMVIZGA_FAILED is for errors of input or output. What a handle draws goes into memory, so no call
  * is known to answer it; what is said of COMVIZGA_NO_MEMORY would hold of it, too. */
 
-/* The settings that are the usual ones: 80 columns, 24 rows, keys of Emacs, a history of 100 lines, colors. */
-comvizga_settings comvizga_defaults(void);
+/* Sets so many bytes of settings, sizeof(comvizga_settings), to the usual ones: 80 columns, 24 rows, keys of Emacs, a
+ * history of 100 lines, colors. */
+void comvizga_set_defaults(comvizga_settings *settings, size_t size);
+
+/* The settings that are the usual ones. */
+static inline comvizga_settings comvizga_defaults(void)
+{
+    comvizga_settings settings;
+    comvizga_set_defaults(&settings, sizeof settings);
+    return settings;
+}
 
 /* Makes an editor. The handle has to hold nothing before, and holds the editor after COMVIZGA_OK alone.
- * COMVIZGA_IN_USE: the handle holds something, and still does. COMVIZGA_BAD_SETTING: 0 columns. The settings are
- * copied. */
+ * COMVIZGA_IN_USE: the handle holds something, and still does. COMVIZGA_BAD_SETTING: 0 columns, or a size that
+ * is too small. The settings are copied; those that the library does not know yet are passed over. */
 uint32_t comvizga_new(const comvizga_settings *settings, comvizga *handle);
 
 /* Frees all memory of an editor. The handle holds nothing then, and may be used for a new one. A second call answers
@@ -226,9 +250,10 @@ enum comvizga_history_form {
 
 /* How comvizga_readline behaves. */
 typedef struct comvizga_readline_settings {
-    comvizga_settings editor; /* columns and rows become those of the terminal, where there is one */
     int escape_milliseconds;  /* how long Esc waits for what belongs to it, as in the bytes of an arrow; 50 at first */
     int history_form;         /* one of comvizga_history_form */
+    int later[6];             /* room for what later versions have */
+    comvizga_settings editor; /* columns and rows become those of the terminal, where there is one */
 } comvizga_readline_settings;
 
 /* The settings, to be changed before the first other call: the editor is made with what they are then.
