@@ -119,7 +119,7 @@ int comvizga_set_completions(const char *const *words, size_t count)
     int answer;
     if (!handle)
         return -1;
-    if (comvizga_lacks(words, count))
+    if (!words && count)
         return comvizga_answer(COMVIZGA_NULL);
     for (size_t i = 0; i < count; i++)
         length += strlen(words[i]) + 1;

@@ -89,45 +89,6 @@ enum comvizga_status {
     COMVIZGA_BAD_SETTING = 27 /* 0 columns */
 };
 
-/* ----------------------------------------------------------------- the library; call what stands below */
-
-uint32_t line_c_new(const comvizga_settings *settings, comvizga *handle);
-uint32_t line_c_free(comvizga *handle);
-uint32_t line_c_begin(comvizga *handle, const uint8_t *prompt, size_t prompt_length);
-uint32_t line_c_begin_with(comvizga *handle, const uint8_t *prompt, size_t prompt_length, const uint8_t *styled,
-                           size_t styled_length, const uint8_t *left, size_t left_length, const uint8_t *right,
-                           size_t right_length);
-uint32_t line_c_feed(comvizga *handle, const uint8_t *bytes, size_t length);
-uint32_t line_c_flush(comvizga *handle);
-uint32_t line_c_finish(comvizga *handle);
-uint32_t line_c_abandon(comvizga *handle);
-uint32_t line_c_resize(comvizga *handle, uint16_t columns, uint16_t rows);
-uint32_t line_c_is_waiting(comvizga *handle, uint8_t *waiting);
-uint32_t line_c_output(comvizga *handle, uint8_t *buffer, size_t size, size_t *taken);
-uint32_t line_c_line(comvizga *handle, uint8_t *buffer, size_t size, size_t *length);
-uint32_t line_c_cursor(comvizga *handle, size_t *cursor);
-uint32_t line_c_history_add(comvizga *handle, const uint8_t *text, size_t length);
-uint32_t line_c_history_load(comvizga *handle, const uint8_t *text, size_t length);
-uint32_t line_c_history_save(comvizga *handle, uint8_t append);
-uint32_t line_c_saved(comvizga *handle, uint8_t *buffer, size_t size, size_t *taken);
-uint32_t line_c_set_words(comvizga *handle, const uint8_t *words, size_t length);
-uint32_t line_c_bind(comvizga *handle, const uint8_t *keys, size_t keys_length, const uint8_t *command,
-                     size_t command_length);
-
-/* The library is never handed a null pointer. The next two are used below. */
-
-/* A text as the library takes it: never null, also where it is empty. */
-static inline const uint8_t *comvizga_text(const void *text)
-{
-    return (const uint8_t *)(text ? text : "");
-}
-
-/* Whether a pointer is null where bytes were promised. */
-static inline int comvizga_lacks(const void *text, size_t length)
-{
-    return !text && length;
-}
-
 /* ----------------------------------------------------------------------------------- calls of a handle
  *
  * Each call but comvizga_new answers COMVIZGA_EMPTY where the handle holds nothing. Each answers COMVIZGA_NULL where
@@ -142,57 +103,31 @@ static inline int comvizga_lacks(const void *text, size_t length)
  * is known to answer it; what is said of COMVIZGA_NO_MEMORY would hold of it, too. */
 
 /* The settings that are the usual ones: 80 columns, 24 rows, keys of Emacs, a history of 100 lines, colors. */
-static inline comvizga_settings comvizga_defaults(void)
-{
-    comvizga_settings settings = {100, 100, 80, 24, 0, 0, 0, 0, 0, 1, 0, 1, 0, 1, 1, 2};
-    return settings;
-}
+comvizga_settings comvizga_defaults(void);
 
 /* Makes an editor. The handle has to hold nothing before, and holds the editor after COMVIZGA_OK alone.
  * COMVIZGA_IN_USE: the handle holds something, and still does. COMVIZGA_BAD_SETTING: 0 columns. The settings are
  * copied. */
-static inline uint32_t comvizga_new(const comvizga_settings *settings, comvizga *handle)
-{
-    if (!settings || !handle)
-        return COMVIZGA_NULL;
-    return line_c_new(settings, handle);
-}
+uint32_t comvizga_new(const comvizga_settings *settings, comvizga *handle);
 
 /* Frees all memory of an editor. The handle holds nothing then, and may be used for a new one. A second call answers
  * COMVIZGA_EMPTY. Where a line goes on, the terminal would still mark pasted texts behind this: call comvizga_abandon
  * before, and write what comvizga_output gives. */
-static inline uint32_t comvizga_free(comvizga *handle)
-{
-    if (!handle)
-        return COMVIZGA_NULL;
-    return line_c_free(handle);
-}
+uint32_t comvizga_free(comvizga *handle);
 
 /* Begins a line behind a prompt and draws it: the terminal's cursor has to stand in the first column. A line that went
  * on before is dropped. Keys that were typed behind the end of the line before are read, so this may answer all that
  * comvizga_feed does, COMVIZGA_SUSPENDED too. Lengths are bytes. COMVIZGA_NOT_TEXT: the prompt is not UTF-8, and
  * nothing has changed. After COMVIZGA_NO_MEMORY the new line goes on, or the one before, or no line goes on, which
  * comvizga_cursor tells. */
-static inline uint32_t comvizga_begin(comvizga *handle, const char *prompt, size_t prompt_length)
-{
-    if (!handle || comvizga_lacks(prompt, prompt_length))
-        return COMVIZGA_NULL;
-    return line_c_begin(handle, comvizga_text(prompt), prompt_length);
-}
+uint32_t comvizga_begin(comvizga *handle, const char *prompt, size_t prompt_length);
 
 /* Begins a line as comvizga_begin does, with a prompt that is shown as styled, the same text with escape sequences for
  * colors; and with texts that stand before and behind the cursor at first. COMVIZGA_NOT_TEXT: one of the four is not
  * UTF-8. */
-static inline uint32_t comvizga_begin_with(comvizga *handle, const char *prompt, size_t prompt_length,
-                                           const char *styled, size_t styled_length, const char *left,
-                                           size_t left_length, const char *right, size_t right_length)
-{
-    if (!handle || comvizga_lacks(prompt, prompt_length) || comvizga_lacks(styled, styled_length)
-        || comvizga_lacks(left, left_length) || comvizga_lacks(right, right_length))
-        return COMVIZGA_NULL;
-    return line_c_begin_with(handle, comvizga_text(prompt), prompt_length, comvizga_text(styled), styled_length,
-                             comvizga_text(left), left_length, comvizga_text(right), right_length);
-}
+uint32_t comvizga_begin_with(comvizga *handle, const char *prompt, size_t prompt_length, const char *styled,
+                             size_t styled_length, const char *left, size_t left_length, const char *right,
+                             size_t right_length);
 
 /* Hands over bytes of the terminal, in any pieces: a character or a key may be cut. Bytes that are no UTF-8 count as
  * U+FFFD. COMVIZGA_OK: the line goes on. COMVIZGA_SUBMITTED, COMVIZGA_ENDED, COMVIZGA_INTERRUPTED: it ended, the
@@ -203,154 +138,76 @@ static inline uint32_t comvizga_begin_with(comvizga *handle, const char *prompt,
  * pasted texts then, where the settings say so: that is yours to turn off (ESC [?2004l) and, when the program goes on,
  * on (ESC [?2004h). Then a feed of no bytes draws the line where the cursor stands, in a first column, and reads what
  * was typed behind that key. */
-static inline uint32_t comvizga_feed(comvizga *handle, const void *bytes, size_t length)
-{
-    if (!handle || comvizga_lacks(bytes, length))
-        return COMVIZGA_NULL;
-    return line_c_feed(handle, comvizga_text(bytes), length);
-}
+uint32_t comvizga_feed(comvizga *handle, const void *bytes, size_t length);
 
 /* Says that no byte came for a while, some 50 milliseconds: what has come of a key is the key. A lone Esc is the Esc
  * key then, and not the beginning of a sequence. Call it where comvizga_is_waiting says so. Answers as comvizga_feed
  * does. */
-static inline uint32_t comvizga_flush(comvizga *handle)
-{
-    if (!handle)
-        return COMVIZGA_NULL;
-    return line_c_flush(handle);
-}
+uint32_t comvizga_flush(comvizga *handle);
 
 /* Says that no more bytes come at all. What has come of a key is read, and answered as by comvizga_feed; but a line
  * that would go on is dropped, as comvizga_abandon does it, with COMVIZGA_ENDED: ask comvizga_line for its text before.
  * After COMVIZGA_SUSPENDED the line goes on, and this is to be called once more behind the feed of no bytes. */
-static inline uint32_t comvizga_finish(comvizga *handle)
-{
-    if (!handle)
-        return COMVIZGA_NULL;
-    return line_c_finish(handle);
-}
+uint32_t comvizga_finish(comvizga *handle);
 
 /* Drops the line that goes on, as after an error of the terminal, so that the calls of the history can be made again.
  * Its text is lost. Keys that were typed ahead are kept for the next line. The cursor of the terminal stays where it
  * is: what was drawn stands there, and to come below it is yours. COMVIZGA_NO_LINE: no line goes on. After
  * COMVIZGA_NO_MEMORY it goes on as before. */
-static inline uint32_t comvizga_abandon(comvizga *handle)
-{
-    if (!handle)
-        return COMVIZGA_NULL;
-    return line_c_abandon(handle);
-}
+uint32_t comvizga_abandon(comvizga *handle);
 
 /* Says that the terminal has so many columns and rows now; also where no line goes on. One that does is drawn anew,
  * also where they are the same as before. So is the line of a program that was suspended, for which this stands in
  * place of the drawing; what was typed behind is read by the next feed. COMVIZGA_BAD_SETTING: 0 columns, and nothing
  * has changed. After COMVIZGA_NO_MEMORY columns and rows are the new ones. */
-static inline uint32_t comvizga_resize(comvizga *handle, uint16_t columns, uint16_t rows)
-{
-    if (!handle)
-        return COMVIZGA_NULL;
-    return line_c_resize(handle, columns, rows);
-}
+uint32_t comvizga_resize(comvizga *handle, uint16_t columns, uint16_t rows);
 
 /* Sets *waiting to 1 where the bytes that came last may be the beginning of a key, so that comvizga_flush would settle
  * it, else to 0. */
-static inline uint32_t comvizga_is_waiting(comvizga *handle, uint8_t *waiting)
-{
-    if (!handle || !waiting)
-        return COMVIZGA_NULL;
-    return line_c_is_waiting(handle, waiting);
-}
+uint32_t comvizga_is_waiting(comvizga *handle, uint8_t *waiting);
 
 /* Takes bytes that are to be written to the terminal, at most size, and sets *taken to their number. Each call that
  * begins, reads, ends, drops or resizes a line may leave bytes, whatever it answers. Call this behind it until *taken
  * is 0, with a size above 0. */
-static inline uint32_t comvizga_output(comvizga *handle, void *buffer, size_t size, size_t *taken)
-{
-    uint8_t none;
-    if (!handle || comvizga_lacks(buffer, size) || !taken)
-        return COMVIZGA_NULL;
-    return line_c_output(handle, buffer ? (uint8_t *)buffer : &none, size, taken);
-}
+uint32_t comvizga_output(comvizga *handle, void *buffer, size_t size, size_t *taken);
 
 /* Copies the text of the line that goes on, or else of the line that was submitted last, and sets *length to its bytes;
  * no NUL comes behind it. COMVIZGA_TOO_SMALL: *length is what is needed, and nothing is copied; so a size of 0 asks for
  * the length. COMVIZGA_NO_LINE: no line goes on, and none was submitted; *length is 0. */
-static inline uint32_t comvizga_line(comvizga *handle, void *buffer, size_t size, size_t *length)
-{
-    uint8_t none;
-    if (!handle || comvizga_lacks(buffer, size) || !length)
-        return COMVIZGA_NULL;
-    return line_c_line(handle, buffer ? (uint8_t *)buffer : &none, size, length);
-}
+uint32_t comvizga_line(comvizga *handle, void *buffer, size_t size, size_t *length);
 
 /* Sets *cursor to the place of the cursor in the line that goes on: an offset in bytes, between two characters.
  * COMVIZGA_NO_LINE: no line goes on. */
-static inline uint32_t comvizga_cursor(comvizga *handle, size_t *cursor)
-{
-    if (!handle || !cursor)
-        return COMVIZGA_NULL;
-    return line_c_cursor(handle, cursor);
-}
+uint32_t comvizga_cursor(comvizga *handle, size_t *cursor);
 
 /* Adds a line to the history, as its newest; by the settings some are left out, an empty one always. COMVIZGA_HAS_LINE:
  * a line goes on. COMVIZGA_NOT_TEXT: the line is not UTF-8. Nothing has changed then, nor after COMVIZGA_NO_MEMORY. */
-static inline uint32_t comvizga_history_add(comvizga *handle, const char *text, size_t length)
-{
-    if (!handle || comvizga_lacks(text, length))
-        return COMVIZGA_NULL;
-    return line_c_history_add(handle, comvizga_text(text), length);
-}
+uint32_t comvizga_history_add(comvizga *handle, const char *text, size_t length);
 
 /* Adds the lines of a text to the history: one as comvizga_history_save makes it, with the first line #V3, or plain
  * lines, each ended by a newline. COMVIZGA_HAS_LINE: a line goes on, and nothing has changed. After COMVIZGA_NOT_TEXT
  * and COMVIZGA_NO_MEMORY some lines may have been added. */
-static inline uint32_t comvizga_history_load(comvizga *handle, const void *text, size_t length)
-{
-    if (!handle || comvizga_lacks(text, length))
-        return COMVIZGA_NULL;
-    return line_c_history_load(handle, comvizga_text(text), length);
-}
+uint32_t comvizga_history_load(comvizga *handle, const void *text, size_t length);
 
 /* Makes a text of the history, which comvizga_saved gives: all lines behind the first line #V3; or, where append is not
  * 0, those lines alone that came since the last load or save. COMVIZGA_HAS_LINE: a line goes on. After that, and after
  * COMVIZGA_NO_MEMORY, comvizga_saved goes on with the text from before. */
-static inline uint32_t comvizga_history_save(comvizga *handle, uint8_t append)
-{
-    if (!handle)
-        return COMVIZGA_NULL;
-    return line_c_history_save(handle, append);
-}
+uint32_t comvizga_history_save(comvizga *handle, uint8_t append);
 
 /* Takes a piece of the text that comvizga_history_save made, as comvizga_output takes one. */
-static inline uint32_t comvizga_saved(comvizga *handle, void *buffer, size_t size, size_t *taken)
-{
-    uint8_t none;
-    if (!handle || comvizga_lacks(buffer, size) || !taken)
-        return COMVIZGA_NULL;
-    return line_c_saved(handle, buffer ? (uint8_t *)buffer : &none, size, taken);
-}
+uint32_t comvizga_saved(comvizga *handle, void *buffer, size_t size, size_t *taken);
 
 /* Sets the words that Tab completes, one a line, where empty lines are none; at any time. They take the place of those
  * before. COMVIZGA_NOT_TEXT: they are not UTF-8. The words are those of before then, and after COMVIZGA_NO_MEMORY. */
-static inline uint32_t comvizga_set_words(comvizga *handle, const char *words, size_t length)
-{
-    if (!handle || comvizga_lacks(words, length))
-        return COMVIZGA_NULL;
-    return line_c_set_words(handle, comvizga_text(words), length);
-}
+uint32_t comvizga_set_words(comvizga *handle, const char *words, size_t length);
 
 /* Binds a key to a command; from the next call on that reads keys. Keys are one or several names with a space between
  * them, as "M-f", "C-x C-e", "F5", "C-Left", "Tab" or "a"; the command has its name in GNU Readline, as
  * "beginning-of-line", "kill-line", "undo", "complete", "reverse-search-history", "suspend" or "accept-line".
  * COMVIZGA_NO_KEY, COMVIZGA_NO_COMMAND: there is none of that name. COMVIZGA_NOT_TEXT: a name is not UTF-8. Of several
  * commands for the same keys the last one counts. */
-static inline uint32_t comvizga_bind(comvizga *handle, const char *keys, size_t keys_length, const char *command,
-                                     size_t command_length)
-{
-    if (!handle || comvizga_lacks(keys, keys_length) || comvizga_lacks(command, command_length))
-        return COMVIZGA_NULL;
-    return line_c_bind(handle, comvizga_text(keys), keys_length, comvizga_text(command), command_length);
-}
+uint32_t comvizga_bind(comvizga *handle, const char *keys, size_t keys_length, const char *command,
+                       size_t command_length);
 
 /* ------------------------------------------------------------------------------- lines of the terminal
  *
