@@ -33,6 +33,20 @@
 extern "C" {
 #endif
 
+/* ----------------------------------------------------------------------------------------- the version */
+
+/* The version of this file. */
+#define COMVIZGA_VERSION_MAJOR 0
+#define COMVIZGA_VERSION_MINOR 1
+#define COMVIZGA_VERSION_PATCH 0
+#define COMVIZGA_VERSION "0.1.0"
+
+/* The number in the name of the shared library. It goes up where a call goes, or comes to mean something else. */
+#define COMVIZGA_ABI 0
+
+/* The version of the library, as COMVIZGA_VERSION. */
+const char *comvizga_version(void);
+
 /* ------------------------------------------------------------------------------------------ the handle */
 
 /* An editor, by its handle. Never copy one that holds something, and never use one in two threads at once. Different

@@ -37,6 +37,11 @@ static int lacks(const void *text, size_t length)
     return !text && length;
 }
 
+const char *comvizga_version(void)
+{
+    return COMVIZGA_VERSION;
+}
+
 comvizga_settings comvizga_defaults(void)
 {
     comvizga_settings settings = {100, 100, 80, 24, 0, 0, 0, 0, 0, 1, 0, 1, 0, 1, 1, 2};
