@@ -1,22 +1,27 @@
-//! Finds the library of the editor: in the folder that `COMVIZGA_LIB_DIR` names, or in `../out`.
+//! Finds the library of the editor: in the folder that `COMVIZGA_LIB_DIR` names, or in a usual one.
 
 use std::env;
 use std::path::{Path, PathBuf};
 use std::process;
 
-/// The folder in which `hosts/build` leaves the library.
-const USUAL_FOLDER: &str = "../out";
+/// Where `hosts/build` leaves the library, and where it lies beside an installed crate.
+const USUAL_FOLDERS: [&str; 2] = ["../out", "../../../lib"];
 
 fn main() {
     println!("cargo::rerun-if-env-changed=COMVIZGA_LIB_DIR");
-    let folder = match env::var_os("COMVIZGA_LIB_DIR") {
-        Some(folder) => PathBuf::from(folder),
-        None => Path::new(env!("CARGO_MANIFEST_DIR")).join(USUAL_FOLDER),
+    let folders = match env::var_os("COMVIZGA_LIB_DIR") {
+        Some(folder) => vec![PathBuf::from(folder)],
+        None => USUAL_FOLDERS
+            .map(|folder| Path::new(env!("CARGO_MANIFEST_DIR")).join(folder))
+            .to_vec(),
     };
-    let Some(names) = libraries_in(&folder) else {
+    let Some((folder, names)) = folders
+        .iter()
+        .find_map(|folder| Some((folder, libraries_in(folder)?)))
+    else {
         println!(
             "cargo::error=no libcomvizga.a in {}: run hosts/build, or set COMVIZGA_LIB_DIR",
-            folder.display()
+            folders[0].display()
         );
         process::exit(1);
     };
