@@ -108,6 +108,25 @@ static void check_empty(void)
     HOLDS(comvizga_bind(&editor, "a", 1, "undo", 4) == COMVIZGA_EMPTY);
 }
 
+/* Settings of programs that know more or fewer of them than the library. */
+static void check_sizes(void)
+{
+    comvizga_settings settings = comvizga_defaults();
+    struct {
+        comvizga_settings known;
+        uint8_t later[24];
+    } more;
+    HOLDS(!strcmp(comvizga_version(), COMVIZGA_VERSION) && settings.size == sizeof settings);
+    settings.size--;
+    HOLDS(comvizga_new(&settings, &editor) == COMVIZGA_BAD_SETTING && !editor.at);
+    settings.size = 0;
+    HOLDS(comvizga_new(&settings, &editor) == COMVIZGA_BAD_SETTING && !editor.at);
+    memset(&more, 1, sizeof more);
+    comvizga_set_defaults(&more.known, sizeof more);
+    HOLDS(more.known.size == sizeof more && more.known.columns == 80 && !more.later[0] && !more.later[23]);
+    HOLDS(comvizga_new(&more.known, &editor) == COMVIZGA_OK && comvizga_free(&editor) == COMVIZGA_OK);
+}
+
 static void check_line(void)
 {
     comvizga_settings settings = comvizga_defaults();
@@ -320,6 +339,7 @@ int main(void)
 {
     check_null();
     check_empty();
+    check_sizes();
     check_line();
     check_more_lines();
     check_suspended();

@@ -62,8 +62,9 @@ typedef struct comvizga {
     }
 
 /* How an editor behaves. comvizga_defaults gives one to begin with; a field that is not said to be a number is 0 for
- * no, else yes. */
+ * no, else yes. Later versions have more fields, at the end. */
 typedef struct comvizga_settings {
+    size_t size;                    /* a number: the bytes of all fields that the program knows */
     size_t max_history_size;        /* a number: lines that the history keeps */
     size_t completion_prompt_limit; /* a number: candidates that are listed without asking */
     uint16_t columns;               /* a number: columns of the terminal, at least 1 */
@@ -100,7 +101,7 @@ enum comvizga_status {
     COMVIZGA_EMPTY = 24,      /* the handle holds nothing */
     COMVIZGA_IN_USE = 25,     /* comvizga_new: the handle holds something */
     COMVIZGA_NULL = 26,       /* a null pointer */
-    COMVIZGA_BAD_SETTING = 27 /* 0 columns */
+    COMVIZGA_BAD_SETTING = 27 /* 0 columns, or settings that comvizga_defaults did not give */
 };
 
 /* ----------------------------------------------------------------------------------- calls of a handle
@@ -116,12 +117,21 @@ enum comvizga_status {
  * read is not told. COMVIZGA_FAILED is for errors of input or output. What a handle draws goes into memory, so no call
  * is known to answer it; what is said of COMVIZGA_NO_MEMORY would hold of it, too. */
 
-/* The settings that are the usual ones: 80 columns, 24 rows, keys of Emacs, a history of 100 lines, colors. */
-comvizga_settings comvizga_defaults(void);
+/* Sets so many bytes of settings, sizeof(comvizga_settings), to the usual ones: 80 columns, 24 rows, keys of Emacs, a
+ * history of 100 lines, colors. */
+void comvizga_set_defaults(comvizga_settings *settings, size_t size);
+
+/* The settings that are the usual ones. */
+static inline comvizga_settings comvizga_defaults(void)
+{
+    comvizga_settings settings;
+    comvizga_set_defaults(&settings, sizeof settings);
+    return settings;
+}
 
 /* Makes an editor. The handle has to hold nothing before, and holds the editor after COMVIZGA_OK alone.
- * COMVIZGA_IN_USE: the handle holds something, and still does. COMVIZGA_BAD_SETTING: 0 columns. The settings are
- * copied. */
+ * COMVIZGA_IN_USE: the handle holds something, and still does. COMVIZGA_BAD_SETTING: 0 columns, or a size that
+ * is too small. The settings are copied; those that the library does not know yet are passed over. */
 uint32_t comvizga_new(const comvizga_settings *settings, comvizga *handle);
 
 /* Frees all memory of an editor. The handle holds nothing then, and may be used for a new one. A second call answers

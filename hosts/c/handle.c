@@ -2,7 +2,17 @@
  * comvizga.h says what each does. */
 #include "comvizga.h"
 
-uint32_t line_c_new(const comvizga_settings *settings, comvizga *handle);
+#include <string.h>
+
+/* The settings as the proved library takes them. */
+struct line_c_settings {
+    size_t max_history_size, completion_prompt_limit;
+    uint16_t columns, rows;
+    uint8_t vi, list_completions, show_all_if_ambiguous, hints, brackets, colors, auto_add_history;
+    uint8_t history_ignore_dups, history_ignore_space, bracketed_paste, synchronized_output, indent_size;
+};
+
+uint32_t line_c_new(const struct line_c_settings *settings, comvizga *handle);
 uint32_t line_c_free(comvizga *handle);
 uint32_t line_c_begin(comvizga *handle, const uint8_t *prompt, size_t prompt_length);
 uint32_t line_c_begin_with(comvizga *handle, const uint8_t *prompt, size_t prompt_length, const uint8_t *styled,
@@ -42,17 +52,72 @@ const char *comvizga_version(void)
     return COMVIZGA_VERSION;
 }
 
-comvizga_settings comvizga_defaults(void)
+/* ---------------------------------------------------------------------------------------- the settings */
+
+/* What every program knows: the fields of version 0.1.0. */
+enum { FIRST_SIZE = offsetof(comvizga_settings, indent_size) + sizeof(uint8_t) };
+
+static const comvizga_settings usual = {
+    .max_history_size = 100,
+    .completion_prompt_limit = 100,
+    .columns = 80,
+    .rows = 24,
+    .colors = 1,
+    .history_ignore_dups = 1,
+    .bracketed_paste = 1,
+    .synchronized_output = 1,
+    .indent_size = 2,
+};
+
+/* Copies the settings that two programs know, of which one has a size. */
+static void copy(comvizga_settings *to, const comvizga_settings *from, size_t size)
 {
-    comvizga_settings settings = {100, 100, 80, 24, 0, 0, 0, 0, 0, 1, 0, 1, 0, 1, 1, 2};
-    return settings;
+    memcpy(to, from, size < sizeof *from ? size : sizeof *from);
 }
+
+void comvizga_set_defaults(comvizga_settings *settings, size_t size)
+{
+    memset(settings, 0, size);
+    copy(settings, &usual, size);
+    settings->size = size;
+}
+
+/* All settings, for the proved library: the usual ones where the program does not know them. */
+static struct line_c_settings proved(const comvizga_settings *settings)
+{
+    comvizga_settings all = usual;
+    copy(&all, settings, settings->size);
+    return (struct line_c_settings){
+        .max_history_size = all.max_history_size,
+        .completion_prompt_limit = all.completion_prompt_limit,
+        .columns = all.columns,
+        .rows = all.rows,
+        .vi = all.vi,
+        .list_completions = all.list_completions,
+        .show_all_if_ambiguous = all.show_all_if_ambiguous,
+        .hints = all.hints,
+        .brackets = all.brackets,
+        .colors = all.colors,
+        .auto_add_history = all.auto_add_history,
+        .history_ignore_dups = all.history_ignore_dups,
+        .history_ignore_space = all.history_ignore_space,
+        .bracketed_paste = all.bracketed_paste,
+        .synchronized_output = all.synchronized_output,
+        .indent_size = all.indent_size,
+    };
+}
+
+/* ------------------------------------------------------------------------------------------- the calls */
 
 uint32_t comvizga_new(const comvizga_settings *settings, comvizga *handle)
 {
+    struct line_c_settings all;
     if (!settings || !handle)
         return COMVIZGA_NULL;
-    return line_c_new(settings, handle);
+    if (settings->size < FIRST_SIZE)
+        return COMVIZGA_BAD_SETTING;
+    all = proved(settings);
+    return line_c_new(&all, handle);
 }
 
 uint32_t comvizga_free(comvizga *handle)
