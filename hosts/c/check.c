@@ -269,7 +269,7 @@ static void check_files(void)
     put("file", "#V3\none\\ntwo");
     HOLDS(comvizga_append_history("link") == 0 && file_is("file", "#V3\none\\ntwo\nthree\n"));
     HOLDS(comvizga_write_history("link") == 0 && file_is("file", "#V3\none\\ntwo\na\nb\nthree\n"));
-    HOLDS(readlink("link", (char *)buffer, sizeof buffer) == 4 && access("file.lock", F_OK) == 0);
+    HOLDS(readlink("link", (char *)buffer, sizeof buffer) == 4 && access("file.lock", F_OK) < 0);
     put("bad", "#V3\n\xff\n");
     FAILS(comvizga_read_history("bad"), EILSEQ);
     comvizga_close();

@@ -1,8 +1,7 @@
-/* Lines of the terminal: comvizga_readline and the calls beside it. comvizga.h says what each does. */
+/* A line of the terminal: comvizga_readline. comvizga.h says what it does. */
 #define _XOPEN_SOURCE 700
 #define _DEFAULT_SOURCE
 #define _DARWIN_C_SOURCE
-#include "comvizga.h"
 #include "internal.h"
 
 #include <errno.h>
@@ -10,164 +9,121 @@
 #include <stdio.h>
 #include <stdlib.h>
 #include <string.h>
-#include <sys/ioctl.h>
 #include <unistd.h>
 
-static comvizga_readline_settings settings;
-static int is_configured, is_tty;
-static int is_left; /* whether a line may go on that an error left, since there was no memory to drop it */
-static comvizga editor = COMVIZGA_NOTHING;
+enum { PIECE = 4096 };
 
-comvizga_readline_settings *comvizga_configure(void)
+static comvizga *editor;
+static int is_terminal; /* whether the line is read from one */
+
+/* Bytes that were read and not yet handed over. */
+static char ahead[PIECE];
+static size_t ahead_at, ahead_end;
+
+/* --------------------------------------------------------------------------------------------- drawing */
+
+/* Writes a part of a drawing, and then the rest of it. */
+static int write_from(const char *part, size_t length)
 {
-    const char *no_color = getenv("NO_COLOR");
-    if (!is_configured) {
-        settings.editor = comvizga_defaults();
-        settings.editor.colors = !no_color || !*no_color;
-        settings.escape_milliseconds = 50;
-        is_configured = 1;
+    char piece[PIECE];
+    int answer = comvizga_tty_write(part, length);
+    for (size_t taken = 1; taken && answer == 0;) {
+        answer = comvizga_answer(comvizga_output(editor, piece, sizeof piece, &taken));
+        if (answer == 0)
+            answer = comvizga_tty_write(piece, taken);
     }
-    return &settings;
-}
-
-/* ------------------------------------------------------------------------------------------ the editor */
-
-int comvizga_answer(uint32_t status)
-{
-    switch (status) {
-    case COMVIZGA_OK: return 0;
-    case COMVIZGA_NO_MEMORY: errno = ENOMEM; break;
-    case COMVIZGA_NOT_TEXT: errno = EILSEQ; break;
-    case COMVIZGA_FAILED: errno = EIO; break;
-    case COMVIZGA_HAS_LINE: errno = EBUSY; break;
-    default: errno = EINVAL;
-    }
-    return -1;
-}
-
-/* Asks the terminal for its size. */
-static void measure(void)
-{
-    struct winsize size;
-    if (!ioctl(STDOUT_FILENO, TIOCGWINSZ, &size) && size.ws_col) {
-        settings.editor.columns = size.ws_col;
-        settings.editor.rows = size.ws_row;
-    }
-}
-
-static int make_editor(void)
-{
-    static int is_called_at_exit;
-    comvizga_settings used;
-    comvizga_configure();
-    is_tty = comvizga_tty_is_there();
-    measure();
-    used = settings.editor;
-    if (!is_tty)
-        used.bracketed_paste = used.synchronized_output = 0;
-    if (!is_called_at_exit && atexit(comvizga_tty_break_off)) {
-        errno = ENOMEM;
-        return -1;
-    }
-    is_called_at_exit = 1;
-    if (comvizga_answer(comvizga_new(&used, &editor)) < 0)
-        return -1;
-    if (comvizga_answer(comvizga_bind(&editor, "C-z", 3, "suspend", 7)) == 0)
-        return 0;
-    comvizga_free(&editor);
-    return -1;
-}
-
-/* Drops what was drawn and not yet written. */
-static void drop_drawn(void)
-{
-    char piece[4096];
-    size_t taken;
-    while (comvizga_output(&editor, piece, sizeof piece, &taken) == COMVIZGA_OK && taken)
-        ;
-}
-
-comvizga *comvizga_of_process(void)
-{
-    if (is_left) {
-        is_left = comvizga_abandon(&editor) == COMVIZGA_NO_MEMORY;
-        drop_drawn();
-    }
-    return editor.at || make_editor() == 0 ? &editor : NULL;
-}
-
-void comvizga_close(void)
-{
-    comvizga_free(&editor);
-    is_left = 0;
-}
-
-int comvizga_bind_key(const char *keys, const char *command)
-{
-    comvizga *handle = comvizga_of_process();
-    if (!handle)
-        return -1;
-    return comvizga_answer(keys && command ? comvizga_bind(handle, keys, strlen(keys), command, strlen(command))
-                                           : COMVIZGA_NULL);
-}
-
-int comvizga_set_completions(const char *const *words, size_t count)
-{
-    comvizga *handle = comvizga_of_process();
-    size_t length = 0, at = 0;
-    char *text;
-    int answer;
-    if (!handle)
-        return -1;
-    if (!words && count)
-        return comvizga_answer(COMVIZGA_NULL);
-    for (size_t i = 0; i < count; i++)
-        length += strlen(words[i]) + 1;
-    text = malloc(length + 1);
-    if (!text)
-        return -1;
-    for (size_t i = 0; i < count; i++)
-        at += (size_t)sprintf(text + at, "%s\n", words[i]);
-    answer = comvizga_answer(comvizga_set_words(handle, text, length));
-    free(text);
     return answer;
 }
-
-/* -------------------------------------------------------------------------------------------- the line */
 
 /* Writes what was drawn. */
 static int write_drawn(void)
 {
-    char piece[4096];
-    size_t taken;
-    do {
-        if (comvizga_answer(comvizga_output(&editor, piece, sizeof piece, &taken)) < 0
-            || comvizga_write_whole(STDOUT_FILENO, piece, taken) < 0)
-            return -1;
-    } while (taken);
-    return 0;
+    return write_from("", 0);
+}
+
+/* Where a drawing, after it has gone to the first row of the one before, clears that one; its length where it does not.
+ */
+static size_t place_of_clearing(const char *drawing, size_t length)
+{
+    static const char clearing[] = "\r\x1b[J";
+    size_t at = 0;
+    while (at + sizeof clearing - 1 <= length && memcmp(drawing + at, clearing, sizeof clearing - 1))
+        at++;
+    return at + sizeof clearing - 1 <= length ? at : length;
+}
+
+/* How much of the beginning of a drawing stands before the way up to its first row, as in ESC [ 2 A. */
+static size_t without_way_up(const char *drawing, size_t length)
+{
+    size_t at = length;
+    if (!at || drawing[at - 1] != 'A')
+        return length;
+    at--;
+    while (at && drawing[at - 1] >= '0' && drawing[at - 1] <= '9')
+        at--;
+    return at >= 2 && drawing[at - 1] == '[' && drawing[at - 2] == '\x1b' ? at - 2 : length;
+}
+
+/* Draws the line anew, in its place or below it. The library draws it at the resize and once more at the feed; written
+ * is what of the first drawing leads to the place, and what of the second follows that. */
+static uint32_t draw_anew(int is_below)
+{
+    comvizga_settings *used = &comvizga_configure()->editor;
+    char piece[PIECE];
+    size_t length = 0, lead;
+    uint32_t status;
+    comvizga_measure();
+    status = comvizga_resize(editor, used->columns, used->rows);
+    if (status != COMVIZGA_OK)
+        return status;
+    comvizga_output(editor, piece, sizeof piece, &length);
+    comvizga_drop_drawn();
+    lead = place_of_clearing(piece, length);
+    if (is_below)
+        lead = without_way_up(piece, lead);
+    if (comvizga_tty_write(piece, lead) < 0)
+        return COMVIZGA_FAILED;
+    status = comvizga_feed(editor, NULL, 0);
+    comvizga_output(editor, piece, sizeof piece, &length);
+    lead = place_of_clearing(piece, length);
+    if (lead == length)
+        lead = 0;
+    return write_from(piece + lead, length - lead) < 0 ? COMVIZGA_FAILED : status;
 }
 
 /* Takes the terminal again, and draws the line: behind a signal, or when the program goes on. */
 static uint32_t go_on(void)
 {
-    uint32_t status;
-    if (comvizga_tty_take() < 0
-        || (settings.editor.bracketed_paste && comvizga_write_whole(STDOUT_FILENO, "\x1b[?2004h", 8) < 0))
+    int is_taken = comvizga_tty_take() == 0, is_below = comvizga_tty_came_below();
+    if (!is_taken || (comvizga_configure()->editor.bracketed_paste && comvizga_tty_write("\x1b[?2004h", 8) < 0))
         return COMVIZGA_FAILED;
-    measure();
-    status = comvizga_resize(&editor, settings.editor.columns, settings.editor.rows);
-    return status == COMVIZGA_OK ? comvizga_feed(&editor, NULL, 0) : status;
+    return draw_anew(is_below);
 }
 
 /* Stops the process and those beside it, as the terminal does at C-z. */
 static uint32_t suspend(void)
 {
-    if (!is_tty)
-        return comvizga_feed(&editor, NULL, 0);
+    if (!is_terminal)
+        return comvizga_feed(editor, NULL, 0);
     comvizga_tty_give_back();
     kill(0, SIGTSTP);
+    comvizga_tty_release();
+    comvizga_tty_hold();
     return go_on();
+}
+
+/* ------------------------------------------------------------------------------------------- reading on */
+
+/* Hands over what was read: up to a byte that may end the line, so that what comes behind it is kept here. */
+static uint32_t feed_ahead(void)
+{
+    const char *from = ahead + ahead_at;
+    size_t length = 0;
+    while (ahead_at + length < ahead_end && !strchr("\r\n\x03\x04", from[length]))
+        length++;
+    length += ahead_at + length < ahead_end;
+    ahead_at += length;
+    return comvizga_feed(editor, from, length);
 }
 
 /* The input has ended. A last line of a file that lacks its newline is submitted. One that was being typed is not: what
@@ -175,39 +131,44 @@ static uint32_t suspend(void)
 static uint32_t end(void)
 {
     size_t length = 0;
-    uint32_t status = comvizga_flush(&editor);
-    if (status == COMVIZGA_OK && !is_tty && comvizga_line(&editor, NULL, 0, &length) == COMVIZGA_TOO_SMALL)
-        status = comvizga_feed(&editor, "\r", 1);
+    uint32_t status = comvizga_flush(editor);
+    if (status == COMVIZGA_OK && !is_terminal && comvizga_line(editor, NULL, 0, &length) == COMVIZGA_TOO_SMALL)
+        status = comvizga_feed(editor, "\r", 1);
     if (status != COMVIZGA_OK)
         return status;
-    if (write_drawn() < 0 || comvizga_write_whole(STDOUT_FILENO, "\r\n\x1b[J", 5) < 0)
+    if (write_drawn() < 0 || comvizga_tty_write("\r\n\x1b[J", 5) < 0)
         return COMVIZGA_FAILED;
-    return comvizga_finish(&editor);
+    return comvizga_finish(editor);
 }
 
 /* Waits for what comes next, and hands it over. */
 static uint32_t read_on(void)
 {
-    char bytes[4096];
     uint8_t is_waiting = 0;
     ssize_t length;
     int found;
     if (comvizga_tty_is_upset())
         return go_on();
-    comvizga_is_waiting(&editor, &is_waiting);
-    found = comvizga_tty_wait(is_waiting ? settings.escape_milliseconds : -1);
+    if (ahead_at < ahead_end)
+        return feed_ahead();
+    comvizga_is_waiting(editor, &is_waiting);
+    found = comvizga_tty_wait(is_waiting ? comvizga_configure()->escape_milliseconds : -1);
     if (found == 0)
-        return comvizga_flush(&editor);
-    length = found < 0 ? -1 : read(STDIN_FILENO, bytes, sizeof bytes);
+        return comvizga_flush(editor);
+    length = found < 0 ? -1 : comvizga_tty_read(ahead, sizeof ahead);
     if (length < 0)
         return errno == EINTR || errno == EAGAIN ? COMVIZGA_OK : COMVIZGA_FAILED;
-    return length ? comvizga_feed(&editor, bytes, (size_t)length) : end();
+    if (length == 0)
+        return end();
+    ahead_at = 0;
+    ahead_end = (size_t)length;
+    return feed_ahead();
 }
 
 /* Reads a line to its end. */
-static uint32_t read_line(const char *prompt)
+static uint32_t read_to_end(const char *prompt)
 {
-    uint32_t status = comvizga_begin(&editor, prompt, strlen(prompt));
+    uint32_t status = comvizga_begin(editor, prompt, strlen(prompt));
     for (;;) {
         errno = EIO; /* unless the system says another one */
         if (write_drawn() < 0)
@@ -226,13 +187,13 @@ static uint32_t read_line(const char *prompt)
 static void drop_line(void)
 {
     uint32_t status;
-    drop_drawn();
-    status = comvizga_abandon(&editor);
+    comvizga_drop_drawn();
+    status = comvizga_abandon(editor);
     if (status == COMVIZGA_NO_LINE)
         return;
-    is_left = status == COMVIZGA_NO_MEMORY;
-    drop_drawn();
-    if (is_tty)
+    comvizga_reads_line(status == COMVIZGA_NO_MEMORY);
+    comvizga_drop_drawn();
+    if (is_terminal)
         comvizga_tty_break_off();
 }
 
@@ -241,9 +202,9 @@ static char *copy_line(void)
 {
     size_t length = 0;
     char *line;
-    comvizga_line(&editor, NULL, 0, &length);
+    comvizga_line(editor, NULL, 0, &length);
     line = malloc(length + 1);
-    if (line && comvizga_answer(comvizga_line(&editor, line, length, &length)) == 0) {
+    if (line && comvizga_answer(comvizga_line(editor, line, length, &length)) == 0) {
         line[length] = 0;
         return line;
     }
@@ -251,26 +212,69 @@ static char *copy_line(void)
     return NULL;
 }
 
-char *comvizga_readline(const char *prompt)
+/* Reads a line, with signals held. */
+static char *read_line(const char *prompt)
 {
+    comvizga_settings *used = &comvizga_configure()->editor;
     uint32_t status = COMVIZGA_FAILED;
     int reason;
-    fflush(stdout);
-    if (!comvizga_of_process())
+    is_terminal = comvizga_tty_is_there();
+    editor = comvizga_editor_at(is_terminal);
+    if (!editor)
         return NULL;
-    is_left = 0;
-    if (!is_tty || comvizga_tty_take() == 0) {
-        measure();
-        comvizga_resize(&editor, settings.editor.columns, settings.editor.rows);
-        status = read_line(prompt ? prompt : "");
+    comvizga_tty_settle();
+    if (!is_terminal || comvizga_tty_take() == 0) {
+        comvizga_reads_line(1);
+        comvizga_resize(editor, used->columns, used->rows);
+        status = read_to_end(prompt);
+        comvizga_reads_line(0);
     }
     if (status != COMVIZGA_FAILED)
         comvizga_answer(status);
     reason = status == COMVIZGA_ENDED ? 0 : status == COMVIZGA_INTERRUPTED ? EINTR : errno;
     if (status >= COMVIZGA_NO_MEMORY)
         drop_line();
-    if (is_tty)
+    if (is_terminal)
         comvizga_tty_give_back();
     errno = reason;
     return status == COMVIZGA_SUBMITTED ? copy_line() : NULL;
+}
+
+/* Reads a line as it comes, behind the prompt: nothing else is drawn. */
+static char *read_plain_line(const char *prompt)
+{
+    char *line = NULL;
+    size_t size = 0;
+    ssize_t length;
+    if (comvizga_write_whole(STDOUT_FILENO, prompt, strlen(prompt)) < 0)
+        return NULL;
+    clearerr(stdin);
+    errno = 0;
+    length = getline(&line, &size, stdin);
+    if (length < 0) {
+        free(line);
+        return NULL;
+    }
+    if (line[length - 1] == '\n')
+        line[length - 1] = 0;
+    if (comvizga_configure()->editor.auto_add_history)
+        comvizga_add_history(line);
+    return line;
+}
+
+char *comvizga_readline(const char *prompt)
+{
+    char *line;
+    int reason;
+    fflush(stdout);
+    if (!prompt)
+        prompt = "";
+    if (comvizga_tty_is_dumb())
+        return read_plain_line(prompt);
+    comvizga_tty_hold();
+    line = read_line(prompt);
+    reason = errno;
+    comvizga_tty_release();
+    errno = reason;
+    return line;
 }

@@ -240,19 +240,29 @@ uint32_t comvizga_bind(comvizga *handle, const char *keys, size_t keys_length, c
  * command, EILSEQ for what is not UTF-8, ENOMEM, EBUSY while a line of comvizga_of_process goes on, or what the system
  * said. After an error all of them can be called again. */
 
+/* How lines stand in a file of the history that is written. */
+enum comvizga_history_form {
+    COMVIZGA_HISTORY_MARKED = 0, /* behind the line #V3; a backslash is \\, a newline \n and a carriage return \r */
+    COMVIZGA_HISTORY_PLAIN = 1   /* as they are: a line in which newlines stand becomes several */
+};
+
 /* How comvizga_readline behaves. */
 typedef struct comvizga_readline_settings {
     comvizga_settings editor; /* columns and rows become those of the terminal, where there is one */
     int escape_milliseconds;  /* how long Esc waits for what belongs to it, as in the bytes of an arrow; 50 at first */
+    int history_form;         /* one of comvizga_history_form */
 } comvizga_readline_settings;
 
 /* The settings, to be changed before the first other call: the editor is made with what they are then.
- * escape_milliseconds may be changed later, too. They are those of comvizga_defaults at first, without colors where
+ * escape_milliseconds, history_form and editor.max_history_size may be changed later, too. They are those of
+ * comvizga_defaults at first, but that the history has no limit (SIZE_MAX), and that no colors are written where
  * NO_COLOR is set. Never null. */
 comvizga_readline_settings *comvizga_configure(void);
 
 /* The editor itself, for calls of a handle between two lines, as comvizga_history_add with a text that holds a NUL. It
- * is not to be freed. Null with errno where there is no memory for it, or where the settings have 0 columns. */
+ * is not to be freed. Keys and words are set by the calls below: those that are set here are forgotten where the editor
+ * is made anew, which the limit of the history or another kind of standard input asks for. Null with errno where there
+ * is no memory for it, or where the settings have 0 columns. */
 comvizga *comvizga_of_process(void);
 
 /* Reads a line behind a prompt; null is no prompt. Returns the line without its newline, with a NUL behind it, to be
@@ -263,22 +273,33 @@ comvizga *comvizga_of_process(void);
  * - else an error, and the line is lost: ENOMEM; EILSEQ, where the prompt is not UTF-8; EIO and the like of a read or a
  * write.
  *
- * What was printed by stdio is written out first. The line is read from standard input and drawn on standard output.
- * Where both are a terminal, it is raw until the line ends. It is also set back at exit, where C-z suspends the
- * program, and before a SIGINT, SIGTERM, SIGHUP, SIGQUIT or SIGTSTP that was sent does what the program has it do; if
- * the program lives on, the line goes on. While a line is read these signals, SIGWINCH and SIGCONT are caught; one of
- * the first five that the program ignores stays ignored.
+ * What was printed by stdio is written out first. The line is read from standard input and drawn on standard output,
+ * which may be a pipe. Where standard input is a terminal, it is raw until the line ends. It is also set back at exit,
+ * where C-z suspends the program, and before a SIGINT, SIGTERM, SIGHUP, SIGQUIT or SIGTSTP that was sent does what the
+ * program has it do; if the program lives on, the line goes on, below what stands there. So it is before a signal ends
+ * the program for which it has no handler, as SIGALRM or SIGSEGV. While a line is read these signals, SIGWINCH and
+ * SIGCONT are caught; one that the program ignores stays ignored. No handler runs inside of the editor: one may jump
+ * out of this call (siglongjmp), and the next call of these drops the line and sets the terminal back. A child of fork
+ * leaves the terminal as it is.
  *
- * Else the bytes are read as if they were typed, as GNU Readline does: prompts and lines are drawn on standard output
- * too, for the columns of the settings. A last line that lacks its newline is a line; but one in which a bracket is
- * open, where the settings look for that, is lost. Bytes behind the line may be read ahead; they are kept for the next
- * one. */
+ * Where standard input is no terminal, the bytes are read as if they were typed, as GNU Readline does: prompts and
+ * lines are drawn on standard output too, for the columns of the settings. A last line that lacks its newline is a
+ * line; but one in which a bracket is open, where the settings look for that, is lost. Bytes behind the line may be
+ * read ahead; they are kept for the next one.
+ *
+ * Where TERM is dumb, cons25 or emacs, the line is read by getline from stdin, as the terminal edits it: nothing is
+ * written but the prompt, no key does anything else, and no bracket is looked at. */
 char *comvizga_readline(const char *prompt);
 
 /* Adds a line to the history, as its newest. */
 int comvizga_add_history(const char *line);
 
-/* Adds the lines of a file to the history. ENOENT, where the file is not there. */
+/* Sets how many lines the history keeps, the newest ones: editor.max_history_size. It counts for the lines that are
+ * there and for those that come, and so for what comvizga_write_history writes. Where lines were added or read before,
+ * what was killed is forgotten. */
+int comvizga_set_history_limit(size_t lines);
+
+/* Adds the lines of a file to the history, in either form. ENOENT, where the file is not there. */
 int comvizga_read_history(const char *path);
 
 /* Writes the lines of the history to a file in place of those that it holds: to a new file, which then takes its name,
@@ -286,12 +307,12 @@ int comvizga_read_history(const char *path);
  * file has the mode 0600. EINVAL, where path is no plain file, but a device, say. */
 int comvizga_write_history(const char *path);
 
-/* Appends to a file those lines that came into the history since the last of these three calls. A file that is not
- * there is made, with the mode 0600; EINVAL, where one does not begin with the line #V3. Where writing fails, no later
- * call of this appends those lines; comvizga_write_history writes all lines at any time.
+/* Appends to a file those lines that came into the history since the last of these three calls; none of those that the
+ * file has is dropped, whatever the limit. A file that is not there is made, with the mode 0600. Lines are appended in
+ * the form that the file has; EINVAL, where it has plain lines and history_form says otherwise. Where writing fails,
+ * the file stays as it was, and the next call appends those lines.
  *
- * Both calls that write hold a lock (flock) on the file PATH.lock, which stays: programs that share a file wait for
- * each other. */
+ * Both calls that write hold a lock (flock) on the file: programs that share one wait for each other. */
 int comvizga_append_history(const char *path);
 
 /* Sets the words that Tab completes, in place of those before. No newline stands in them. */

@@ -138,8 +138,8 @@ uint32_t comvizga_begin_with(comvizga *handle, const char *prompt, size_t prompt
                              size_t styled_length, const char *left, size_t left_length, const char *right,
                              size_t right_length)
 {
-    if (!handle || lacks(prompt, prompt_length) || lacks(styled, styled_length)
-        || lacks(left, left_length) || lacks(right, right_length))
+    if (!handle || lacks(prompt, prompt_length) || lacks(styled, styled_length) || lacks(left, left_length)
+        || lacks(right, right_length))
         return COMVIZGA_NULL;
     return line_c_begin_with(handle, text_at(prompt), prompt_length, text_at(styled), styled_length, text_at(left),
                              left_length, text_at(right), right_length);

@@ -2,7 +2,6 @@
 #define _XOPEN_SOURCE 700
 #define _DEFAULT_SOURCE
 #define _DARWIN_C_SOURCE
-#include "comvizga.h"
 #include "internal.h"
 
 #include <errno.h>
@@ -14,6 +13,7 @@
 #include <sys/stat.h>
 #include <unistd.h>
 
+/* The first line of a file whose lines have escapes. */
 static const char header[] = "#V3\n";
 enum { HEADER = sizeof header - 1 };
 
@@ -34,6 +34,8 @@ static int close_with(int file, int answer)
     errno = kept;
     return answer;
 }
+
+/* ---------------------------------------------------------------------------------------- reading a file */
 
 /* Reads so many bytes, or those up to the end of the file. Returns their number, or -1. */
 static ssize_t read_whole(int file, char *bytes, size_t length)
@@ -65,9 +67,53 @@ int comvizga_read_history(const char *path)
         length = read_whole(file, text, (size_t)facts.st_size);
     if (length >= 0)
         answer = comvizga_answer(comvizga_history_load(editor, text, (size_t)length));
+    if (answer == 0)
+        comvizga_forget_new_lines();
     free(text);
     return close_with(file, answer);
 }
+
+/* ------------------------------------------------------------------------------------------ plain lines */
+
+/* Takes the escapes out of lines. Returns their new length. */
+static size_t without_escapes(char *lines, size_t length)
+{
+    size_t end = 0;
+    for (size_t at = 0; at < length; at++) {
+        char byte = lines[at];
+        if (byte == '\\' && at + 1 < length) {
+            byte = lines[++at];
+            byte = byte == 'n' ? '\n' : byte == 'r' ? '\r' : byte;
+        }
+        lines[end++] = byte;
+    }
+    return end;
+}
+
+/* Writes lines with escapes as plain ones. An empty line, which counts for nothing, comes before a first one that would
+ * say of a file that its lines have escapes. */
+static int write_plain(int file, const char *lines, size_t length, int is_first)
+{
+    char *plain = malloc(length + 1);
+    int answer = plain ? 0 : -1;
+    if (plain) {
+        memcpy(plain, lines, length);
+        length = without_escapes(plain, length);
+        if (is_first && length >= 2 && plain[0] == '#' && plain[1] == 'V')
+            answer = comvizga_write_whole(file, "\n", 1);
+    }
+    if (answer == 0)
+        answer = comvizga_write_whole(file, plain, length);
+    free(plain);
+    return answer;
+}
+
+static int is_plain_wanted(void)
+{
+    return comvizga_configure()->history_form == COMVIZGA_HISTORY_PLAIN;
+}
+
+/* ---------------------------------------------------------------------------------------- writing a file */
 
 /* A name with an ending, to be freed; null where memory ran out. */
 static char *with_ending(const char *name, const char *ending)
@@ -81,40 +127,28 @@ static char *with_ending(const char *name, const char *ending)
     return both;
 }
 
-/* Waits for the lock of a file. Returns the file of the lock, which holds it until it is closed, or -1. */
-static int lock(const char *path)
+/* Writes all lines of the history. */
+static int write_all(int file)
 {
-    char *name = with_ending(path, ".lock");
-    int file = name ? open(name, O_RDWR | O_CREAT | O_CLOEXEC, 0600) : -1;
-    free(name);
-    while (file >= 0 && flock(file, LOCK_EX) < 0)
-        if (errno != EINTR)
-            return close_with(file, -1);
-    return file;
-}
-
-/* Writes the lines of the history to a file: all of them, or those that are new. */
-static int write_lines(comvizga *editor, int file, uint8_t append)
-{
-    char piece[4096];
-    size_t taken;
-    if (comvizga_answer(comvizga_history_save(editor, append)) < 0)
-        return -1;
-    do {
-        if (comvizga_answer(comvizga_saved(editor, piece, sizeof piece, &taken)) < 0
-            || comvizga_write_whole(file, piece, taken) < 0)
-            return -1;
-    } while (taken);
-    return 0;
+    size_t length;
+    char *text = comvizga_history_text(0, &length);
+    int answer = -1;
+    if (text && is_plain_wanted())
+        answer = write_plain(file, text + HEADER, length - HEADER, 1);
+    else if (text)
+        answer = comvizga_write_whole(file, text, length);
+    free(text);
+    return answer;
 }
 
 /* Writes the whole history to a new file, which then takes the name of the old one. */
-static int replace(comvizga *editor, const char *path)
+static int replace(const char *path)
 {
-    char *name = with_ending(path, ".XXXXXX");
+    size_t length;
+    char *name = comvizga_new_lines(&length) ? with_ending(path, ".XXXXXX") : NULL;
     int file = name ? mkstemp(name) : -1, answer = -1;
     if (file >= 0)
-        answer = close_with(file, write_lines(editor, file, 0) < 0 ? -1 : fsync(file));
+        answer = close_with(file, write_all(file) < 0 ? -1 : fsync(file));
     if (answer == 0)
         answer = rename(name, path);
     if (file >= 0 && answer < 0) {
@@ -122,35 +156,71 @@ static int replace(comvizga *editor, const char *path)
         unlink(name);
         errno = kept;
     }
+    if (answer == 0)
+        comvizga_forget_new_lines();
     free(name);
     return answer;
 }
 
-/* Makes a file ready for more lines: one that is empty gets the header, and a last line that was cut off its newline.
- */
-static int prepare(int file)
+/* How lines are to be appended to a file. */
+enum form { UNKNOWN = -1, MARKED, PLAIN };
+
+/* Tells how lines stand in a file that is not empty, and takes it to its end: -1 with errno where that is not known, or
+ * plain and not wanted so. */
+static enum form form_of(int file)
 {
-    char begins[HEADER], last = '\n';
-    off_t length = lseek(file, 0, SEEK_END);
-    if (length == 0)
-        return comvizga_write_whole(file, header, HEADER);
-    if (length < 0 || pread(file, begins, HEADER, 0) < 0 || pread(file, &last, 1, length - 1) < 0)
-        return -1;
-    if (length < HEADER || memcmp(begins, header, HEADER)) {
-        errno = EINVAL;
-        return -1;
-    }
-    return last == '\n' ? 0 : comvizga_write_whole(file, "\n", 1);
+    char begins[HEADER];
+    ssize_t length = pread(file, begins, HEADER, 0);
+    if (length < 0)
+        return UNKNOWN;
+    if (length == HEADER && !memcmp(begins, header, HEADER))
+        return MARKED;
+    if (is_plain_wanted() && (length < HEADER || memcmp(begins, "#V2\n", HEADER)))
+        return PLAIN;
+    errno = EINVAL;
+    return UNKNOWN;
 }
 
-/* Appends the lines that are new to a file. */
-static int append(comvizga *editor, const char *path)
+/* Makes a file of so many bytes ready for more lines: one that is empty gets the header, and a last line that was cut
+ * off its newline. Tells in which form they are to be. */
+static enum form prepare(int file, off_t length)
 {
-    int file = open(path, O_RDWR | O_APPEND | O_CLOEXEC);
-    if (file < 0)
-        return -1;
-    return close_with(file, prepare(file) < 0 ? -1 : write_lines(editor, file, 1));
+    char last = '\n';
+    enum form form;
+    if (length == 0 && is_plain_wanted())
+        return PLAIN;
+    if (length == 0)
+        return comvizga_write_whole(file, header, HEADER) < 0 ? UNKNOWN : MARKED;
+    form = form_of(file);
+    if (form == UNKNOWN || pread(file, &last, 1, length - 1) < 0)
+        return UNKNOWN;
+    return last == '\n' || comvizga_write_whole(file, "\n", 1) == 0 ? form : UNKNOWN;
 }
+
+/* Appends the lines that are new to a file. Where that fails, the file is as it was. */
+static int append(int file)
+{
+    size_t length;
+    const char *lines = comvizga_new_lines(&length);
+    off_t before = lseek(file, 0, SEEK_END);
+    enum form form = lines && before >= 0 ? prepare(file, before) : UNKNOWN;
+    int answer = -1, kept;
+    if (form == PLAIN)
+        answer = write_plain(file, lines, length, before == 0);
+    else if (form == MARKED)
+        answer = comvizga_write_whole(file, lines, length);
+    if (answer == 0) {
+        comvizga_forget_new_lines();
+        return 0;
+    }
+    kept = errno;
+    if (before >= 0 && ftruncate(file, before) < 0)
+        kept = errno;
+    errno = kept;
+    return -1;
+}
+
+/* ---------------------------------------------------------------------------------------------- its lock */
 
 /* The name to which all symbolic links lead, to be freed. The file is made where it is not there. Null for what is no
  * plain file, as a device, and where it cannot be made. */
@@ -166,23 +236,53 @@ static char *real_name(const char *path)
     return NULL;
 }
 
-/* Does one of the two under the lock of the file. */
-static int with_lock(const char *path, int (*write_to)(comvizga *, const char *))
+static int wait_for_lock(int file)
 {
-    comvizga *editor = comvizga_of_process();
-    char *name = editor ? real_name(path) : NULL;
-    int held = name ? lock(name) : -1;
-    int answer = held < 0 ? -1 : close_with(held, write_to(editor, name));
+    while (flock(file, LOCK_EX) < 0)
+        if (errno != EINTR)
+            return -1;
+    return 0;
+}
+
+/* Whether a file has a name still, and no other program has put another one in its place. */
+static int has_name(int file, const char *name)
+{
+    struct stat held, named;
+    return fstat(file, &held) == 0 && stat(name, &named) == 0 && held.st_dev == named.st_dev
+           && held.st_ino == named.st_ino;
+}
+
+/* Opens a file and waits for its lock, which it holds until it is closed. Returns it, or -1. */
+static int open_locked(const char *name)
+{
+    for (;;) {
+        int file = open(name, O_RDWR | O_APPEND | O_CREAT | O_CLOEXEC, 0600);
+        if (file < 0)
+            return -1;
+        if (wait_for_lock(file) < 0)
+            return close_with(file, -1);
+        if (has_name(file, name))
+            return file;
+        close(file);
+    }
+}
+
+/* Writes the history, or appends to it, under the lock of the file. */
+static int write_locked(const char *path, int is_appended)
+{
+    char *name = comvizga_of_process() ? real_name(path) : NULL;
+    int file = name ? open_locked(name) : -1;
+    int answer = file < 0 ? -1 : close_with(file, is_appended ? append(file) : replace(name));
     free(name);
     return answer;
 }
 
 int comvizga_write_history(const char *path)
 {
-    return with_lock(path, replace);
+    return write_locked(path, 0);
 }
 
 int comvizga_append_history(const char *path)
 {
-    return with_lock(path, append);
+    return write_locked(path, 1);
 }
