@@ -248,9 +248,10 @@ enum comvizga_history_form {
 
 /* How comvizga_readline behaves. */
 typedef struct comvizga_readline_settings {
-    comvizga_settings editor; /* columns and rows become those of the terminal, where there is one */
     int escape_milliseconds;  /* how long Esc waits for what belongs to it, as in the bytes of an arrow; 50 at first */
     int history_form;         /* one of comvizga_history_form */
+    int later[6];             /* room for what later versions have */
+    comvizga_settings editor; /* columns and rows become those of the terminal, where there is one */
 } comvizga_readline_settings;
 
 /* The settings, to be changed before the first other call: the editor is made with what they are then.
