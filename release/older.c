@@ -6,10 +6,15 @@
 #include <sys/syscall.h>
 #include <unistd.h>
 
-/* The C library has it as a call of its own from 2.33 on. */
+/* The C library has the two as calls of its own from 2.33 on. */
 int fstat(int file, struct stat *facts)
 {
     return (int)syscall(SYS_fstat, file, facts);
+}
+
+int stat(const char *path, struct stat *facts)
+{
+    return (int)syscall(SYS_stat, path, facts);
 }
 
 /* What the processor can do, by the registers of cpuid: what it has, and what of that can be used. */
