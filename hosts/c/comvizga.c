@@ -19,6 +19,7 @@ static int is_terminal; /* whether the line is read from one */
 /* Bytes that were read and not yet handed over. */
 static char ahead[PIECE];
 static size_t ahead_at, ahead_end;
+static int has_paused; /* whether no byte came for a while since the last one */
 
 /* --------------------------------------------------------------------------------------------- drawing */
 
@@ -123,6 +124,7 @@ static uint32_t feed_ahead(void)
         length++;
     length += ahead_at + length < ahead_end;
     ahead_at += length;
+    has_paused = 0;
     return comvizga_feed(editor, from, length);
 }
 
@@ -141,6 +143,13 @@ static uint32_t end(void)
     return comvizga_finish(editor);
 }
 
+/* How long what belongs to an Esc, or to another thing that has begun, is waited for: behind the first pause 50
+ * milliseconds, as comvizga_flush wants it. */
+static int pause_length(void)
+{
+    return has_paused ? 50 : comvizga_configure()->escape_milliseconds;
+}
+
 /* Waits for what comes next, and hands it over. */
 static uint32_t read_on(void)
 {
@@ -152,9 +161,11 @@ static uint32_t read_on(void)
     if (ahead_at < ahead_end)
         return feed_ahead();
     comvizga_is_waiting(editor, &is_waiting);
-    found = comvizga_tty_wait(is_waiting ? comvizga_configure()->escape_milliseconds : -1);
-    if (found == 0)
+    found = comvizga_tty_wait(is_waiting ? pause_length() : -1);
+    if (found == 0) {
+        has_paused = 1;
         return comvizga_flush(editor);
+    }
     length = found < 0 ? -1 : comvizga_tty_read(ahead, sizeof ahead);
     if (length < 0)
         return errno == EINTR || errno == EAGAIN ? COMVIZGA_OK : COMVIZGA_FAILED;

@@ -165,7 +165,9 @@ uint32_t comvizga_begin_with(comvizga *handle, const char *prompt, size_t prompt
 uint32_t comvizga_feed(comvizga *handle, const void *bytes, size_t length);
 
 /* Says that no byte came for a while, some 50 milliseconds: what has come of a key is the key. A lone Esc is the Esc
- * key then, and not the beginning of a sequence. Call it where comvizga_is_waiting says so. Answers as comvizga_feed
+ * key then, and not the beginning of a sequence, and a paste is put in as far as it has come. Call it where
+ * comvizga_is_waiting says so, and again each 50 milliseconds in which no byte comes, as long as it does: the twentieth
+ * call behind the last byte ends a paste, or a reply of the terminal, that has not ended. Answers as comvizga_feed
  * does. */
 uint32_t comvizga_flush(comvizga *handle);
 
@@ -186,8 +188,8 @@ uint32_t comvizga_abandon(comvizga *handle);
  * has changed. After COMVIZGA_NO_MEMORY columns and rows are the new ones. */
 uint32_t comvizga_resize(comvizga *handle, uint16_t columns, uint16_t rows);
 
-/* Sets *waiting to 1 where the bytes that came last may be the beginning of a key, so that comvizga_flush would settle
- * it, else to 0. */
+/* Sets *waiting to 1 where the bytes that came last have begun a key, a paste or a reply of the terminal that has not
+ * ended, so that comvizga_flush would settle it, else to 0. */
 uint32_t comvizga_is_waiting(comvizga *handle, uint8_t *waiting);
 
 /* Takes bytes that are to be written to the terminal, at most size, and sets *taken to their number. Each call that

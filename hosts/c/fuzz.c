@@ -268,7 +268,7 @@ static const char *const characters[] = {
 /* Behind an Esc. */
 static const char *const sequences[] = {
     "[A", "[B", "[C", "[D", "[H", "[F", "[3~", "[1;5C", "[1;5D", "OP", "[Z", "[200~", "[201~", "[8;24;80t", "[1;2R", "]0;title\x07",
-    "P1$r\x1b\\", "[M !!", "[999999999999999~", "[27;5;97~", "[97;6u", "\x1b", "f", "b", "d", "y", "<", "-", "3", ".", "R", "c" };
+    "P1$r\x1b\\", "]11;rgb:00", "P1$r", "X", "_G", "[M !!", "[999999999999999~", "[27;5;97~", "[97;6u", "\x1b", "f", "b", "d", "y", "<", "-", "3", ".", "R", "c" };
 
 static const char *const broken_bytes[] = {
     "\xff", "\xc3", "\x80", "\xe2\x82", "\xf0\x9f\x98", "\xed\xa0\x80", "\xc0\xaf", "\xf4\x90\x80\x80", "\xfe\xfe" };
@@ -424,6 +424,20 @@ static void call_flush(struct slot *slot)
     int gave_null = 0;
     uint32_t status = comvizga_flush(pointer_to_handle(slot, &gave_null));
     check_read(slot, gave_null, status, READS);
+}
+
+/* A second without a byte: whatever had begun has ended then, so that what is typed next is read as keys. */
+static void call_flush_for_a_second(struct slot *slot)
+{
+    uint8_t waiting = 0;
+    for (int i = 0; i < 20; i++) {
+        uint32_t status = comvizga_flush(&slot->handle);
+        check_read(slot, 0, status, READS);
+        if (status != COMVIZGA_OK)
+            return;
+    }
+    check(slot, 0, comvizga_is_waiting(&slot->handle, &waiting), BIT(COMVIZGA_OK));
+    must(!waiting, "deaf behind a second", 0);
 }
 
 static void call_finish(struct slot *slot)
@@ -602,6 +616,7 @@ static const struct {
     {"begin_with", call_begin_with, 5},
     {"feed", call_feed, 40},
     {"flush", call_flush, 5},
+    {"flush, for a second", call_flush_for_a_second, 3},
     {"finish", call_finish, 1},
     {"abandon", call_abandon, 1},
     {"resize", call_resize, 3},

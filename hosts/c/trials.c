@@ -4,6 +4,7 @@
  *     add=LINE, limit=NUMBER, read=PATH, write=PATH, append=PATH, plain
  *                   the calls of the history; prints errno where one fails
  *     bind=KEY      binds a key to accept-line
+ *     vi            has the keys of Vi; before all others
  *     fork=NUMBER   from now on this signal has a child begin and exit
  *     jump=NUMBER   from now on this signal jumps out of the line
  *     catch=NUMBER  from now on this signal prints a line
@@ -105,6 +106,8 @@ static int run(const char *what, const char *value)
         return on(value, say_caught);
     if (!strcmp(what, "terminal"))
         return take_terminal();
+    if (!strcmp(what, "vi"))
+        return comvizga_configure()->editor.vi = 1;
     comvizga_configure()->history_form = COMVIZGA_HISTORY_PLAIN;
     return 0;
 }

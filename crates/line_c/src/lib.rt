@@ -112,7 +112,7 @@ pub extern "C" fn line_c_feed(handle: &mut Handle, alloc: Global, bytes: &[u8]) 
     on_session!(handle, alloc, |session| session.feed(bytes))
 }
 
-/// Settles what bytes have begun, as none have arrived for a while.
+/// Settles what bytes have begun, as none have arrived for a moment.
 #[unsafe(no_mangle)]
 pub extern "C" fn line_c_flush(handle: &mut Handle, alloc: Global) -> u32
     ensures { OnSession handle.old handle.new result
@@ -147,7 +147,7 @@ pub extern "C" fn line_c_resize(handle: &mut Handle, alloc: Global, columns: u16
     on_session!(handle, alloc, |session| session.resize(columns, rows))
 }
 
-/// Reports whether bytes have begun something that `line_c_flush` would settle: 1 where they have, and else 0.
+/// Reports whether bytes have begun something, which calls of `line_c_flush` would settle: 1 where they have, and else 0.
 #[unsafe(no_mangle)]
 pub extern "C" fn line_c_is_waiting(handle: &mut Handle, alloc: Global, waiting: &mut u8) -> u32
     ensures session { OnSession handle.old handle.new result (λ old new came.

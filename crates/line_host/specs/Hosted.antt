@@ -1,5 +1,5 @@
 -- What a host's session holds, and what its calls lead to.
-use Rattle.std.specs.Prelude.{◌≡◌, ◌≢◌, ◌<◌, ◌⊎◌, ◌++◌, ◌∷◌, [], ℕ, Bool, MatchOption, OnErr, OnOk, is_some, true, false, if◌then◌else◌, List, Option, Some, None, Result, Ok, Err, String, string_bytes}
+use Rattle.std.specs.Prelude.{◌≡◌, ◌≢◌, ◌<◌, ◌⊎◌, ℕ, Bool, MatchOption, OnErr, OnOk, is_some, true, false, if◌then◌else◌, List, Option, Some, None, Result, Ok, Err, String, string_bytes}
 use Rattle.std.specs.Option.{option_or}
 use Rattle.std.specs.declared.alloc.Global.{Global}
 use Rattle.line_config.specs.declared.error.ReadlineError.{ReadlineError}
@@ -17,6 +17,7 @@ use Rattle.line_session.specs.Sitting.{BegunLine, Came, CameBegun, Keeps, LosesN
 use Rattle.line_session.specs.declared.editor.Fed.{Fed}
 use Rattle.line_session.specs.declared.editor.Fed.TheVariants as fed
 use Rattle.line_editor.specs.BoundCommands.{AreBound, BoundCommands}
+use Rattle.line_host.specs.Bound.{bound_again}
 use Rattle.line_host.specs.Status.{IsDoneOrFault, IsFault, MayBind}
 use Rattle.line_host.specs.declared.status.Status.{Status}
 use Rattle.line_host.specs.declared.status.Status.TheVariants as status
@@ -99,12 +100,12 @@ module _ {H : Type 0} where
   TellsCursor session before told came = MatchOption session.editor.line ((came ≡ status.NoLine) × (told ≡ before))
       (λ begun. (came ≡ status.Done) × (told ≡ begun.kept.draft.line.cursor))
 
-  -- keys were bound to a command, by texts that are names; or nothing was
+  -- keys were bound to a command, in place of the one that they were bound to, by texts that are names; or nothing was
   pub record BindsKeys (keys command : List ℕ) (old new : Hosted H) (came : Status) : Type 0 where
     pub stays : new ≡ record old { commands = new.commands }
     pub no_text : ¬ (IsUtf8 keys × IsUtf8 command) → came ≡ status.NotText
     pub answers : IsUtf8 keys → IsUtf8 command → MayBind came
-    pub binds : came ≡ status.Done → (pair : Chord × Command) × (new.commands ≡ old.commands ++ pair ∷ [])
+    pub binds : came ≡ status.Done → (pair : Chord × Command) × (new.commands ≡ bound_again pair.0 pair.1 old.commands)
     pub kept : came ≢ status.Done → new ≡ old
 
   -- what becomes of a line is reported by a status, and the text of one that was submitted is kept

@@ -1,3 +1,4 @@
+pub mod Bound
 pub mod Copied
 pub mod Heard
 pub mod Helped

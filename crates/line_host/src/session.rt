@@ -163,7 +163,8 @@ impl Session {
         self.hear(Heard::Bytes(bytes))
     }
 
-    /// Settles what bytes have begun, as none have arrived for a while: a lone Esc is the Esc key then. Returns what `feed` does.
+    /// Settles what bytes have begun, as none have arrived for a moment: a lone Esc is the Esc key then, and of a pasted text what has
+    /// arrived is put in. The twentieth such call behind the last byte ends what has not ended. Returns what `feed` does.
     pub fn flush(&mut self) -> Status
         ensures { TakesTurns answers (flushed self.old.editor.decoder) self.old self.new result }
     {
@@ -276,7 +277,8 @@ impl Session {
         Status::of(drawn)
     }
 
-    /// Returns whether bytes have begun something that `flush` would settle: a host then waits for more only a moment.
+    /// Returns whether bytes have begun something: a host then waits for more only a moment, and calls `flush` if none have arrived, as
+    /// long as this says so.
     pub fn is_waiting(&self) -> bool
         ensures { result ≡ is_waiting self.now.editor.decoder }
     {

@@ -292,7 +292,8 @@ impl<O: Write + Drop, H: Helper + Drop, S: History + Drop> Editor<O, H, S> {
         self.screen.exchange_out(out)
     }
 
-    /// Returns whether bytes have begun something that `flush` would settle: a program then waits for more only a moment.
+    /// Returns whether bytes have begun something. A program then waits for more only a moment, some 50 ms, and calls `flush` if none have
+    /// come; and so on, as long as this says so.
     pub fn is_waiting(&self) -> bool
         ensures { result ≡ is_waiting self.now.decoder }
     {
@@ -373,7 +374,8 @@ impl<O: Write + Drop, H: Helper + Drop, S: History + Drop> Editor<O, H, S> {
         self.take_turns(bindings)
     }
 
-    /// Settles what bytes have begun, as none have come for a while: a lone Esc is the Esc key then.
+    /// Settles what bytes have begun, as none have come for a moment: a lone Esc is the Esc key then, and of a pasted text what has come is
+    /// put in. The twentieth such call behind the last byte ends what has not ended: a pasted text, a control string, a sequence.
     ///
     /// # Errors
     /// Those of `feed`.

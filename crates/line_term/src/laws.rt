@@ -1,6 +1,6 @@
 //! Laws of the bytes that come from a terminal, and of those that are written to it. Each function's contract is a law, and its body
 //! does nothing.
-ghost use Rattle.line_term.specs.DecoderLaws.{ComesBack, ComesInPieces, EscapesAreKept, FlushSettles, PasteComesWhole, PastesGiveNoKey, RowsAreKeys, SequencesNeverType, TextIsTyped, TextsAreSilent};
+ghost use Rattle.line_term.specs.DecoderLaws.{ComesBack, ComesInPieces, EscapesAreKept, FlushSettles, HeldIsTyped, PasteComesWhole, PastesGiveNoKey, PausesKeepPastes, RowsAreKeys, SequencesNeverType, SilenceSettles, TextIsTyped, TextIsTypedAfterSilence, TextsAreSilent};
 ghost use Rattle.line_term.specs.Laws.{MovesArrive, OthersStay, PartsShow, RedrawsShow, TerminalsStayReady, TextsAreShown, TextsArrive};
 
 use line_config::Prompt;
@@ -14,6 +14,11 @@ pub fn comes_in_pieces()
 /// The UTF-8 of a text without Esc stands for the key of each of its characters.
 pub fn text_is_typed()
     ensures { TextIsTyped }
+{}
+
+/// ESC P and what goes on with it as a control string that a pause cuts off stand for Alt with P and the key of each character.
+pub fn held_is_typed()
+    ensures { HeldIsTyped }
 {}
 
 /// A pasted text without Esc is handed over whole, cleaned of carriage returns and control characters.
@@ -41,9 +46,15 @@ pub fn escapes_are_kept()
     ensures { EscapesAreKept }
 {}
 
-/// A pasted text stands for no key, and has no control characters but newlines and tabs.
+/// A pasted text stands for no key, and has no control characters but newlines and tabs. Its mark alone ends it, and a pause hands over
+/// what has come of it, as text.
 pub fn pastes_give_no_key()
     ensures { PastesGiveNoKey }
+{}
+
+/// A pasted text that pauses is the same text, and what is behind it the same items, unless it pauses for too long.
+pub fn pauses_keep_pastes()
+    ensures { PausesKeepPastes }
 {}
 
 /// Whatever was read, the six bytes that end a pasted text lead back to where nothing has begun.
@@ -51,9 +62,20 @@ pub fn comes_back()
     ensures { ComesBack }
 {}
 
-/// After a flush there is nothing left to wait for.
+/// After a flush there is nothing left to wait for, unless it may last: a pasted text, a control string or a sequence of which more
+/// than its beginning was read.
 pub fn flush_settles()
     ensures { FlushSettles }
+{}
+
+/// After so many pauses one behind the other nothing is left of what had begun.
+pub fn silence_settles()
+    ensures { SilenceSettles }
+{}
+
+/// The UTF-8 of a text without Esc stands for the key of each of its characters then.
+pub fn text_is_typed_after_silence()
+    ensures { TextIsTypedAfterSilence }
 {}
 
 /// The bytes of a cursor move take a terminal's cursor from the one place to the other, and change no cell.

@@ -1,14 +1,20 @@
 //! What bytes come to, whole and in pieces. Bytes are written as texts: a character is the byte of its number, `…` a
-//! pause, and `■` the end of the input.
+//! pause behind which nothing has begun, `⋯` one behind which something goes on, `‖` the longest silence, and `■` the
+//! end of the input.
 
 use line_keys::keys::{KeyCode, KeyEvent, Modifiers};
 use line_keys::raw_reader::RawReader;
 use line_screen::KeyQueue;
 use line_script::key_named;
 use line_term::Decoder;
+use line_term::decoder::LONGEST_SILENCE;
 use std::alloc::Global;
 
 const PAUSE: char = '…';
+
+const SHORT_PAUSE: char = '⋯';
+
+const SILENCE: char = '‖';
 
 const END: char = '■';
 
@@ -24,7 +30,17 @@ const PASTE_START: KeyEvent = KeyEvent(KeyCode::BracketedPasteStart, Modifiers::
 /// its names have besides.
 pub type Way = (usize, &'static str, Modifiers);
 
-/// Feeds bytes, cut at a place. Returns whether no call fails, and nothing is left waiting behind a pause.
+/// Lets so many pauses go by. Returns whether none fails, and something is left waiting behind them, or nothing.
+fn pauses(decoder: &mut Decoder, keys: &mut KeyQueue, count: u32, is_left: bool) -> bool {
+    for _ in 0..count {
+        if decoder.flush(keys).is_err() {
+            return false;
+        }
+    }
+    decoder.is_waiting() == is_left
+}
+
+/// Feeds bytes, cut at a place. Returns whether no call fails, and no pause leaves more or less waiting than it says.
 pub fn feeds(
     alloc: Global,
     decoder: &mut Decoder,
@@ -35,13 +51,15 @@ pub fn feeds(
     let mut piece = Vec::new(alloc);
     let mut is_well = true;
     for (place, c) in bytes.chars().enumerate() {
-        if place == cut || cut == EACH || c == PAUSE || c == END {
+        if place == cut || cut == EACH || matches!(c, PAUSE | SHORT_PAUSE | SILENCE | END) {
             is_well = is_well && decoder.feed(&piece, keys).is_ok();
             piece.clear();
         }
         is_well = is_well
             && match c {
-                PAUSE => decoder.flush(keys).is_ok() && !decoder.is_waiting(),
+                PAUSE => pauses(decoder, keys, 1, false),
+                SHORT_PAUSE => pauses(decoder, keys, 1, true),
+                SILENCE => pauses(decoder, keys, LONGEST_SILENCE, false),
                 END => decoder.finish(keys).is_ok(),
                 c => piece.push(u8::try_from(u32::from(c)).unwrap_or(0)).is_ok(),
             };
@@ -49,7 +67,8 @@ pub fn feeds(
     is_well && decoder.feed(&piece, keys).is_ok()
 }
 
-/// The first place where bytes, cut there and followed by a pause, do not come to these names and nothing else.
+/// The first place where bytes, cut there and followed by a pause, do not come to these names and nothing else; or where
+/// what is typed behind the longest silence is not typed.
 pub fn first_wrong(alloc: Global, way: Way, bytes: &str, names: &str) -> Option<usize> {
     let (bound, front, modifiers) = way;
     for cut in 0..=bytes.len() {
@@ -58,8 +77,12 @@ pub fn first_wrong(alloc: Global, way: Way, bytes: &str, names: &str) -> Option<
         decoder.set_paste_bound(bound);
         let is_fed = feeds(alloc, &mut decoder, &mut keys, front, 0)
             && feeds(alloc, &mut decoder, &mut keys, bytes, cut)
-            && feeds(alloc, &mut decoder, &mut keys, "…", 0);
-        if !is_fed || !are(&mut keys, names, modifiers) {
+            && decoder.flush(&mut keys).is_ok();
+        let is_so = is_fed
+            && are(&mut keys, names, modifiers)
+            && feeds(alloc, &mut decoder, &mut keys, "‖x", 0)
+            && are(&mut keys, "x", Modifiers::NONE);
+        if !is_so {
             return Some(cut);
         }
     }

@@ -50,6 +50,27 @@ const CASES: &[Case] = &[
     (ADD_VI, "old", "»¦ab\x1b", "ab|", ""),
     (ADD_VI, "old", "»¦ab\x1b¦…", "a|b", ""),
     (ADD_VI, "old", "»¦ab\x1b¦■", "a|b", ""),
+    // Esc and P in one piece are both keys, also where a digit follows
+    (ADD_VI, "old", "»¦abc\x1b¦…¦0Di\x1bP¦…¦\r", "⏎abc", ""),
+    (ADD_VI, "old", "»¦abc\x1b¦…¦0Di\x1bP0iy¦…¦\r", "⏎yabc", ""),
+    (ADD_VI, "old", "»¦ab\x1bP1$r0m\x1b\\c¦…¦\r", "⏎abc", ""),
+    // a pasted text that pauses, and what never ends: keys are keys after a long silence
+    (ADD, "old", "»¦\x1b[200~ab¦…¦c\x1b[201~d", "abcd|", ""),
+    (ADD, "old", "»¦\x1b[200~a\r\x03b¦…", "a\nb|", ""),
+    (
+        ADD,
+        "old",
+        "»¦\x1b[200~ab¦…¦…¦…¦…¦…¦…¦…¦…¦…¦…¦…¦…¦…¦…¦…¦…¦…¦…¦…¦…¦\x02c\r",
+        "⏎acb",
+        "",
+    ),
+    (
+        ADD,
+        "old",
+        "»¦ab\x1b]11;rgb:00¦…¦…¦…¦…¦…¦…¦…¦…¦…¦…¦…¦…¦…¦…¦…¦…¦…¦…¦…¦…¦\x02c\r",
+        "⏎acb",
+        "",
+    ),
     // a pasted text, and one where a key is read: the text comes in
     (ADD, "old", "»¦a\x1b[200~x\ny\x1b[201~\r", "⏎ax\ny", ""),
     (ADD, "old", "»¦a\x18\x1b[200~x\x1b[201~b\r", "⏎axb", ""),

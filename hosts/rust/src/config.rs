@@ -14,6 +14,7 @@ pub struct Config {
     max_history_size: usize,
     history_duplicates: HistoryDuplicates,
     history_ignore_space: bool,
+    history_plain: bool,
     completion_type: CompletionType,
     completion_prompt_limit: usize,
     completion_show_all_if_ambiguous: bool,
@@ -35,7 +36,7 @@ impl Config {
         Builder::new()
     }
 
-    /// Returns how many lines the history keeps. Usually 100.
+    /// Returns how many lines the history keeps. Usually it keeps all.
     #[must_use]
     pub fn max_history_size(&self) -> usize {
         self.max_history_size
@@ -51,6 +52,12 @@ impl Config {
     #[must_use]
     pub fn history_ignore_space(&self) -> bool {
         self.history_ignore_space
+    }
+
+    /// Returns whether files of the history have plain lines. Usually they have the form `#V3`.
+    #[must_use]
+    pub fn history_plain(&self) -> bool {
+        self.history_plain
     }
 
     /// Returns how words are completed. Usually the candidates are gone through.
@@ -134,6 +141,11 @@ impl Config {
         self.brackets
     }
 
+    /// Sets how many lines the history keeps.
+    pub(crate) fn set_max_history_size(&mut self, lines: usize) {
+        self.max_history_size = lines;
+    }
+
     /// Returns whether colors are shown, at an output that is a terminal or not.
     pub(crate) fn has_colors(&self, at_terminal: bool) -> bool {
         match self.color_mode() {
@@ -170,9 +182,10 @@ impl Config {
 impl Default for Config {
     fn default() -> Self {
         Self {
-            max_history_size: 100,
+            max_history_size: usize::MAX,
             history_duplicates: HistoryDuplicates::IgnoreConsecutive,
             history_ignore_space: false,
+            history_plain: false,
             completion_type: CompletionType::Circular,
             completion_prompt_limit: 100,
             completion_show_all_if_ambiguous: false,
@@ -243,7 +256,8 @@ impl Builder {
         Self::default()
     }
 
-    /// Sets how many lines the history keeps.
+    /// Sets how many lines the history keeps: the newest ones.
+    /// [`Editor::set_max_history_size`](crate::Editor::set_max_history_size) changes that later.
     ///
     /// # Errors
     /// None; the `Result` is there for programs written for rustyline.
@@ -303,6 +317,9 @@ macro_rules! setters {
 setters! {
     /// Sets whether the history leaves out lines that begin with white space.
     history_ignore_space: bool;
+    /// Sets whether files of the history have plain lines, as other programs read them: without a
+    /// header, and a backslash is one. A line that was broken is several lines then.
+    history_plain: bool;
     /// Sets how words are completed.
     completion_type: CompletionType;
     /// Sets how many candidates are listed without asking.

@@ -1,7 +1,7 @@
 //! The editor.
 
-use std::fmt;
 use std::path::Path;
+use std::{fmt, mem};
 
 use crate::binding::{Event, EventHandler};
 use crate::command::Cmd;
@@ -9,7 +9,7 @@ use crate::config::Config;
 use crate::error::{ReadlineError, Result};
 use crate::handle::Handle;
 use crate::history::{DefaultHistory, History};
-use crate::history_file;
+use crate::history_file::{self, Form};
 use crate::prompt::Prompt;
 use crate::session::{self, Completer, Session, Start};
 use crate::terminal::{self, Terminal};
@@ -65,8 +65,8 @@ impl<H: Helper> Editor<H, DefaultHistory> {
         })
     }
 
-    /// Reads a line. Where standard input and output are a terminal, the prompt is shown and the
-    /// line is edited; elsewhere a line of standard input is read as it is.
+    /// Reads a line. Where standard input is a terminal, the prompt is shown and the line is edited;
+    /// elsewhere a line of standard input is read as it is.
     ///
     /// # Errors
     /// [`ReadlineError::Eof`] where the input has ended, [`ReadlineError::Interrupted`] at C-c, and
@@ -98,10 +98,11 @@ impl<H: Helper> Editor<H, DefaultHistory> {
             typed: &mut self.typed,
             completer: self.completer.as_mut(),
             timeout: self.config.keyseq_timeout(),
+            last: session::Last::default(),
         };
         let answer = session.read(&Start {
             prompt: prompt.raw(),
-            styled: if self.config.has_colors(true) {
+            styled: if self.config.has_colors(terminal::is_output()) {
                 prompt.styled()
             } else {
                 prompt.raw()
@@ -156,31 +157,56 @@ impl<H: Helper> Editor<H, DefaultHistory> {
         Ok(())
     }
 
-    /// Puts the history in place of what a file holds. The file is written beside the old one and
-    /// then renamed, under a lock; its owner alone can read it.
+    /// Puts the history in place of what a file holds. The file is written beside the old one, which
+    /// is locked, and then renamed; its owner alone can read it.
     ///
     /// # Errors
     /// A file cannot be made or written, and the old one is as it was; or memory ran out.
     pub fn save_history<P: AsRef<Path> + ?Sized>(&mut self, path: &P) -> Result<()> {
         self.note_new_lines()?;
-        let text = self.handle.history_text(false)?;
+        let text = self.whole_text()?;
         history_file::write(path.as_ref(), text.as_bytes())?;
         self.history.set_written();
         Ok(())
     }
 
-    /// Appends those lines to a file that came since the history was last loaded, saved or
-    /// appended, under a lock. A file that is empty or not there gets the whole history.
+    /// Appends those lines to a file, which is locked, that came since the history was last loaded,
+    /// saved or appended. A file that is empty or not there gets the whole history.
     ///
     /// # Errors
-    /// The file cannot be made or written, or does not begin with the line `#V3`; or memory ran
-    /// out. The lines are then appended the next time.
+    /// The file cannot be made or written; or it is rustyline's, or has plain lines where the settings
+    /// do not say so; or memory ran out. The lines are then appended the next time.
     pub fn append_history<P: AsRef<Path> + ?Sized>(&mut self, path: &P) -> Result<()> {
         self.note_new_lines()?;
-        let lines = self.history.unwritten_text();
-        let whole = self.handle.history_text(false)?;
-        history_file::append(path.as_ref(), lines.as_bytes(), whole.as_bytes())?;
+        let wanted = if self.config.history_plain() {
+            Form::Plain
+        } else {
+            Form::Escaped
+        };
+        let whole = self.whole_text()?;
+        let lines = |form| self.history.unwritten_text(form);
+        history_file::append(path.as_ref(), wanted, lines, &whole)?;
         self.history.set_written();
+        Ok(())
+    }
+
+    /// Sets how many lines the history keeps, and drops the oldest where there are more. Where the
+    /// number is another one, the editor is made anew for it, as by
+    /// [`clear_history`](Self::clear_history).
+    ///
+    /// # Errors
+    /// Memory ran out, and the number is as it was.
+    pub fn set_max_history_size(&mut self, lines: usize) -> Result<()> {
+        if lines == self.config.max_history_size() {
+            return Ok(());
+        }
+        self.note_new_lines()?;
+        let mut config = self.config.clone();
+        config.set_max_history_size(lines);
+        let mut handle = make_handle(&config, &self.bound)?;
+        handle.load_history(self.handle.history_text(false)?.as_bytes())?;
+        self.history.set_most(lines);
+        (self.config, self.handle) = (config, handle);
         Ok(())
     }
 
@@ -209,11 +235,21 @@ impl<H: Helper> Editor<H, DefaultHistory> {
         let Some(keys) = event.names() else {
             return Err(ReadlineError::refused("the event is no sequence of keys"));
         };
-        bind(&mut self.handle, &keys, &command)?;
-        let before = self.bound.iter().position(|(bound, _)| *bound == keys);
-        let before = before.map(|place| self.bound.remove(place).1);
-        self.bound.push((keys, command));
-        Ok(before.map(EventHandler::Simple))
+        let mut bound = self.bound.iter_mut();
+        match bound.find(|(bound, _)| *bound == keys) {
+            // The library would keep each binding, and look at all of them.
+            Some((_, before)) if *before == command => Ok(Some(EventHandler::Simple(command))),
+            Some((_, before)) => {
+                bind(&mut self.handle, &keys, &command)?;
+                let before = mem::replace(before, command);
+                Ok(Some(EventHandler::Simple(before)))
+            }
+            None => {
+                bind(&mut self.handle, &keys, &command)?;
+                self.bound.push((keys, command));
+                Ok(None)
+            }
+        }
     }
 
     /// Sets who is asked for words when the terminal sends a Tab. It is handed the line and the
@@ -239,6 +275,15 @@ impl<H: Helper> Editor<H, DefaultHistory> {
     #[must_use]
     pub fn dimensions(&mut self) -> Option<(usize, usize)> {
         terminal::size().map(|(columns, rows)| (columns.into(), rows.into()))
+    }
+
+    /// Returns the whole history as it goes into a file.
+    fn whole_text(&mut self) -> Result<String> {
+        if self.config.history_plain() {
+            Ok(self.history.plain_text())
+        } else {
+            self.handle.history_text(false)
+        }
     }
 
     /// Takes lines over that are new in the library's history, and returns whether there are any.
@@ -288,7 +333,7 @@ impl<H: Helper, I: History> fmt::Debug for Editor<H, I> {
 
 /// Makes an editor of the library, with keys bound to commands.
 fn make_handle(config: &Config, bound: &[(String, Cmd)]) -> Result<Handle> {
-    let colors = config.has_colors(terminal::is_there());
+    let colors = config.has_colors(terminal::is_output());
     let mut handle = Handle::new(&config.to_raw(terminal::size_or_usual(), colors))?;
     for (keys, command) in bound {
         bind(&mut handle, keys, command)?;
@@ -303,5 +348,41 @@ fn bind(handle: &mut Handle, keys: &str, command: &Cmd) -> Result<()> {
         None => Err(ReadlineError::refused(format!(
             "{command:?} has no readline name"
         ))),
+    }
+}
+
+#[cfg(test)]
+mod tests {
+    use super::*;
+    use crate::keys::{KeyCode, KeyEvent, Modifiers};
+    use std::time::{Duration, Instant};
+
+    /// Returns how long it takes to type some keys, when nothing comes in between.
+    fn time_of_keys(editor: &mut DefaultEditor) -> Result<Duration> {
+        let mut best = Duration::MAX;
+        for _ in 0..5 {
+            editor.handle.begin("> ", "> ", ("", ""))?;
+            let started = Instant::now();
+            for _ in 0..20 {
+                editor.handle.feed(b"a")?;
+            }
+            best = best.min(started.elapsed());
+            editor.handle.drop_line()?;
+        }
+        Ok(best)
+    }
+
+    #[test]
+    fn a_key_that_is_bound_again_takes_no_more_time() -> Result<()> {
+        let mut editor = DefaultEditor::new()?;
+        let before = time_of_keys(&mut editor)?;
+        let keys = [5, 6].map(|number| KeyEvent(KeyCode::F(number), Modifiers::NONE));
+        for _ in 0..50_000 {
+            editor.bind_sequence(keys[0], Cmd::Undo(1))?;
+            editor.bind_sequence(keys[1], Cmd::ClearScreen)?;
+        }
+        let after = time_of_keys(&mut editor)?;
+        assert!(after < 20 * before, "{before:?}, then {after:?}");
+        Ok(())
     }
 }

@@ -2,6 +2,8 @@
 
 use std::collections::VecDeque;
 
+use crate::history_file::Form;
+
 /// Lines that were entered before, the oldest first.
 pub trait History {
     /// Returns how many lines there are.
@@ -56,10 +58,26 @@ impl FileHistory {
         }
     }
 
-    /// Returns the lines that were not yet written, as they go into a file.
-    pub(crate) fn unwritten_text(&self) -> String {
-        let ended = |line: &String| format!("{line}\n");
-        self.unwritten.iter().map(ended).collect()
+    /// Says how many lines are kept, and drops the oldest where there are more.
+    pub(crate) fn set_most(&mut self, most: usize) {
+        self.most = most;
+        for lines in [&mut self.lines, &mut self.unwritten] {
+            lines.drain(..lines.len().saturating_sub(most));
+        }
+    }
+
+    /// Returns the lines that were not yet written, as they go into a file of a form.
+    pub(crate) fn unwritten_text(&self, form: Form) -> String {
+        let formed = |line: &String| match form {
+            Form::Escaped => ended(line),
+            Form::Plain => ended(unescape(line)),
+        };
+        self.unwritten.iter().map(formed).collect()
+    }
+
+    /// Returns all lines as they are.
+    pub(crate) fn plain_text(&self) -> String {
+        self.lines.iter().map(ended).collect()
     }
 
     /// Says that all lines were written.
@@ -82,6 +100,13 @@ impl History for FileHistory {
     fn is_empty(&self) -> bool {
         self.lines.is_empty()
     }
+}
+
+/// Returns a line with what ends it in a file.
+fn ended(line: impl AsRef<str>) -> String {
+    let mut line = line.as_ref().to_owned();
+    line.push('\n');
+    line
 }
 
 /// Puts a line behind others, and drops the oldest where there are too many.
@@ -124,10 +149,25 @@ mod tests {
         assert!(history.take_new("\\\\d\n"));
         assert!(!history.take_new(""));
         assert_eq!(lines(&history), ["b\nc", "\\d"]);
-        assert_eq!(history.unwritten_text(), "b\\nc\n\\\\d\n");
+        assert_eq!(history.unwritten_text(Form::Escaped), "b\\nc\n\\\\d\n");
         history.set_written();
-        assert_eq!(history.unwritten_text(), "");
+        assert_eq!(history.unwritten_text(Form::Escaped), "");
         assert_eq!(history.len(), 2);
+    }
+
+    #[test]
+    fn a_new_limit_drops_the_oldest_lines() {
+        let mut history = FileHistory::with_most(usize::MAX);
+        history.take_all("#V3\na\n");
+        history.take_new("b\nc\\nd\ne\\\\\n");
+        history.set_most(2);
+        assert_eq!(history.plain_text(), "c\nd\ne\\\n");
+        assert_eq!(history.unwritten_text(Form::Plain), "c\nd\ne\\\n");
+        history.set_most(3);
+        history.take_new("f\n");
+        assert_eq!(lines(&history), ["c\nd", "e\\", "f"]);
+        history.set_most(0);
+        assert!(!history.take_new("") && history.is_empty());
     }
 
     #[test]
@@ -136,7 +176,7 @@ mod tests {
         history.take_new("old\n");
         history.take_all("#V3\nold\nb\\r\n\\\\n\n");
         assert_eq!(lines(&history), ["old", "b\r", "\\n"]);
-        assert_eq!(history.unwritten_text(), "");
+        assert_eq!(history.unwritten_text(Form::Escaped), "");
     }
 
     #[test]

@@ -16,8 +16,9 @@
 //!
 //! The crate is for Linux. Places in a line are counted in bytes, sizes of a terminal in columns and
 //! rows, and times in milliseconds. While a line is read, the signals `WINCH` and `CONT` are
-//! caught, and where the program does not handle them itself `INT`, `TERM`, `HUP`, `QUIT` and
-//! `TSTP`, before which the terminal is set back.
+//! caught, and where the program does not handle them itself `TSTP` and those that end a process,
+//! before which the terminal is set back. So it is before `SEGV` and `BUS`, also where they have a
+//! handler, which is then called.
 #![warn(missing_docs)]
 #![warn(clippy::undocumented_unsafe_blocks)]
 
@@ -26,6 +27,7 @@ mod command;
 pub mod config;
 mod editor;
 pub mod error;
+mod faults;
 mod ffi;
 mod handle;
 pub mod history;
@@ -36,6 +38,7 @@ mod prompt;
 mod session;
 mod signals;
 mod terminal;
+mod turn;
 
 pub use binding::{Event, EventHandler};
 pub use command::{Anchor, At, CharSearch, Cmd, Movement, RepeatCount, Word};

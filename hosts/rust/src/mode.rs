@@ -1,24 +1,39 @@
 //! Raw mode: set and set back, also in handlers of signals.
 
+use std::cell::UnsafeCell;
 use std::io;
 use std::mem::MaybeUninit;
-use std::ptr;
-use std::sync::atomic::{AtomicBool, AtomicPtr, Ordering};
+use std::sync::atomic::{AtomicBool, AtomicI32, AtomicUsize, Ordering};
 
-use libc::{STDIN_FILENO, STDOUT_FILENO, termios};
+use libc::{STDIN_FILENO, STDOUT_FILENO, pollfd, termios};
+
+use crate::turn::{Turn, process};
 
 /// What ends a line that was broken off: what was drawn stays, and what comes next stands below.
-pub(crate) const BREAK_OFF: &[u8] = b"\x1b[?2026l\x1b[?2004l\x1b[m\r\n\x1b[J";
+const BREAK_OFF: &[u8] = b"\x1b[?2026l\x1b[?2004l\x1b[m\r\n\x1b[J";
 
-/// Whether the terminal is raw.
-static IS_RAW: AtomicBool = AtomicBool::new(false);
+/// The process that made the terminal raw; 0 where it is not raw. The child of a fork may end in
+/// the middle of its parent's line, which is none of its own.
+static RAW_BY: AtomicI32 = AtomicI32::new(0);
 
-/// The terminal's settings outside of a line; null before the first line. A handler of a signal may
-/// read them at any time, so they are never freed, and made anew only where they changed.
-static BEFORE: AtomicPtr<termios> = AtomicPtr::new(ptr::null_mut());
+/// The terminal's settings outside of a line.
+static BEFORE: Settings = Settings(UnsafeCell::new(MaybeUninit::uninit()));
+
+/// Settings that are read and written by who has the turn.
+struct Settings(UnsafeCell<MaybeUninit<termios>>);
+
+// SAFETY: one thread at a time has the turn.
+unsafe impl Sync for Settings {}
+
+/// How many threads do what may end or stop the process.
+static LEAVING: AtomicUsize = AtomicUsize::new(0);
+
+/// Whether a line was broken off since this was asked last.
+static IS_BROKEN_OFF: AtomicBool = AtomicBool::new(false);
 
 /// Makes the terminal raw: each key comes at once, is not shown, and is no signal. In the background
 /// the process stops, until it is in the foreground: before then the settings are another program's.
+/// Where the process ends or stops, the terminal stays as it is.
 ///
 /// # Errors
 /// Standard input is no terminal.
@@ -26,9 +41,15 @@ pub(crate) fn make_raw() -> io::Result<()> {
     // SAFETY: this call takes no pointer. It stops a process in the background; what it waits for
     // else, that all output is sent, need not come about.
     unsafe { libc::tcdrain(STDIN_FILENO) };
+    let _turn = Turn::take();
+    if is_leaving() {
+        return Ok(());
+    }
     let now = settings()?;
-    if !IS_RAW.load(Ordering::Acquire) {
-        keep(now);
+    let process = process();
+    if RAW_BY.load(Ordering::SeqCst) != process {
+        // SAFETY: this thread has the turn.
+        unsafe { (*BEFORE.0.get()).write(now) };
     }
     let mut raw = now;
     raw.c_iflag &= !(libc::BRKINT | libc::ICRNL | libc::INLCR | libc::IGNCR);
@@ -37,49 +58,91 @@ pub(crate) fn make_raw() -> io::Result<()> {
     raw.c_cflag |= libc::CS8;
     raw.c_cc[libc::VMIN] = 1;
     raw.c_cc[libc::VTIME] = 0;
-    IS_RAW.store(true, Ordering::Release);
+    RAW_BY.store(process, Ordering::SeqCst);
     set(&raw)
 }
 
-/// Writes bytes and sets the terminal back, if it is raw and no other program has it now. This may
-/// be called in a handler of a signal, also one that comes in the middle of this.
-pub(crate) fn set_back(text: &[u8]) {
-    if !IS_RAW.load(Ordering::Acquire) {
-        return;
+/// Writes bytes and sets the terminal back, if this process made it raw and no other program has it
+/// now. Returns whether it did. This may be called in a handler of a signal.
+pub(crate) fn set_back(text: &[u8]) -> bool {
+    let _turn = Turn::take();
+    if RAW_BY.load(Ordering::SeqCst) != process() {
+        return false;
     }
-    let before = BEFORE.load(Ordering::Acquire);
-    // SAFETY: these calls take no pointer.
-    let is_ours = unsafe { libc::tcgetpgrp(STDIN_FILENO) == libc::getpgrp() };
-    if is_ours && !before.is_null() {
-        // SAFETY: the text is as long as its length says, and the settings are never freed. Both
-        // calls may be made in a handler. That one of them fails, nobody can be told.
-        unsafe {
+    RAW_BY.store(0, Ordering::SeqCst);
+    if is_of_others() {
+        return false;
+    }
+    write_at_once(text);
+    // SAFETY: this thread has the turn, and the settings were kept before the terminal was made raw.
+    // The call may be made in a handler. That it fails, nobody can be told.
+    unsafe { libc::tcsetattr(STDIN_FILENO, libc::TCSANOW, (*BEFORE.0.get()).as_ptr()) };
+    true
+}
+
+/// Writes bytes, if there is room for them now: an output that takes none must keep no process from
+/// its end.
+fn write_at_once(text: &[u8]) {
+    let mut output = pollfd {
+        fd: STDOUT_FILENO,
+        events: libc::POLLOUT,
+        revents: 0,
+    };
+    // SAFETY: the pointer is that of one file, and the text is as long as its length says. Both
+    // calls may be made in a handler. That one of them fails, nobody can be told.
+    unsafe {
+        if libc::poll(&raw mut output, 1, 0) > 0 {
             libc::write(STDOUT_FILENO, text.as_ptr().cast(), text.len());
-            libc::tcsetattr(STDIN_FILENO, libc::TCSANOW, before);
         }
     }
-    IS_RAW.store(false, Ordering::Release);
+}
+
+/// Sets the terminal back in the middle of a line: what comes next stands below it.
+pub(crate) fn break_off() {
+    if set_back(BREAK_OFF) {
+        IS_BROKEN_OFF.store(true, Ordering::SeqCst);
+    }
+}
+
+/// Breaks the line off, and does what may end or stop the process. Meanwhile no thread makes the
+/// terminal raw.
+pub(crate) fn leave(act: impl FnOnce()) {
+    LEAVING.fetch_add(1, Ordering::SeqCst);
+    break_off();
+    act();
+    LEAVING.fetch_sub(1, Ordering::SeqCst);
+}
+
+/// Returns whether a thread does what may end or stop the process. Who has the turn knows that none
+/// begins to.
+pub(crate) fn is_leaving() -> bool {
+    LEAVING.load(Ordering::SeqCst) > 0
 }
 
 /// Sets the terminal back when the process exits in the middle of a line.
 pub(crate) extern "C" fn set_back_at_exit() {
-    set_back(BREAK_OFF);
+    LEAVING.fetch_add(1, Ordering::SeqCst);
+    break_off();
 }
 
-/// Keeps settings for `set_back`.
-fn keep(now: termios) {
-    let before = BEFORE.load(Ordering::Acquire);
-    // SAFETY: a pointer that is not null points to settings that are never freed or changed.
-    let is_kept = unsafe { before.as_ref() }.is_some_and(|before| are_same(before, &now));
-    if !is_kept {
-        BEFORE.store(Box::into_raw(Box::new(now)), Ordering::Release);
+/// Returns whether the line was broken off: its drawing stands above the cursor.
+pub(crate) fn is_broken_off() -> bool {
+    IS_BROKEN_OFF.load(Ordering::SeqCst)
+}
+
+/// Returns whether the line was broken off, which is over now.
+pub(crate) fn take_broken_off() -> bool {
+    IS_BROKEN_OFF.swap(false, Ordering::SeqCst)
+}
+
+/// Returns whether other programs have the terminal. One that does not control this process is
+/// nobody's.
+fn is_of_others() -> bool {
+    // SAFETY: these calls take no pointer.
+    unsafe {
+        let foreground = libc::tcgetpgrp(STDIN_FILENO);
+        foreground >= 0 && foreground != libc::getpgrp()
     }
-}
-
-/// Returns whether two settings are the same.
-fn are_same(one: &termios, other: &termios) -> bool {
-    let flags = |of: &termios| (of.c_iflag, of.c_oflag, of.c_cflag, of.c_lflag);
-    flags(one) == flags(other) && one.c_cc == other.c_cc
 }
 
 /// Returns the terminal's settings.

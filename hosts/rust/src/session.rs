@@ -1,6 +1,7 @@
 //! A line, from its prompt to its end.
 
 use std::io::{self, BufRead, Write};
+use std::ops::Range;
 
 use crate::error::{ReadlineError, Result};
 use crate::handle::{Handle, Progress};
@@ -9,8 +10,23 @@ use crate::terminal::{self, Terminal, Wake};
 /// How many bytes are read at once.
 const PIECE: usize = 4096;
 
+/// What asks the terminal to show what follows at once.
+const AT_ONCE: &[u8] = b"\x1b[?2026h";
+
+/// What clears the rows of a line, from the first one on, before it is drawn in full.
+const CLEAR: &[u8] = b"\r\x1b[J";
+
 /// The key at which words are completed.
 const TAB: u8 = b'\t';
+
+/// What begins most sequences, and is a key by itself.
+const ESC: u8 = b'\x1b';
+
+/// How many milliseconds a pause lasts behind the first one.
+const PAUSE: u16 = 50;
+
+/// How many pauses settle what has begun, whatever it is.
+const PAUSES: u16 = 20;
 
 /// Gives the words that may complete a line, which it is handed with the cursor's place in bytes.
 pub(crate) type Completer = Box<dyn FnMut(&str, usize) -> Vec<String>>;
@@ -35,8 +51,17 @@ pub(crate) struct Session<'a> {
     pub(crate) completer: Option<&'a mut Completer>,
     /// How many milliseconds the byte behind an Esc is waited for; `None` stands for without end.
     pub(crate) timeout: Option<u16>,
+    /// What came last.
+    pub(crate) last: Last,
     /// The terminal.
     pub(crate) terminal: Terminal,
+}
+
+/// What came last: a byte, and whether a pause came behind it.
+#[derive(Default)]
+pub(crate) struct Last {
+    byte: Option<u8>,
+    has_paused: bool,
 }
 
 impl Session<'_> {
@@ -74,34 +99,72 @@ impl Session<'_> {
         }
     }
 
-    /// Writes what was drawn.
+    /// Writes what was drawn, unless the line was broken off: then it is to be drawn anew.
     fn show(&mut self) -> Result<()> {
         let drawn = self.handle.take_output()?;
+        if self.terminal.is_broken_off() {
+            return Ok(());
+        }
         Ok(terminal::write_all(&drawn)?)
     }
 
-    /// Draws the line anew, for the size that the terminal has now.
+    /// Draws the line anew, for the size that the terminal has now. One that was broken off is drawn
+    /// where the cursor stands. What was typed behind the key that suspended the line is read.
     fn draw_anew(&mut self) -> Result<Progress> {
         let (columns, rows) = terminal::size_or_usual();
         self.handle.resize(columns, rows)?;
-        self.handle.feed(&[])
+        let first = self.handle.take_output()?;
+        let progress = self.handle.feed(&[]);
+        let again = self.handle.take_output()?;
+        let mut drawn = drawn_once(first, &again);
+        if self.terminal.take_broken_off() {
+            drawn.drain(way_up(&drawn));
+        }
+        terminal::write_all(&drawn)?;
+        progress
     }
 
     /// Waits for what comes next.
     fn await_more(&mut self) -> Result<Progress> {
         let limit = if self.handle.is_waiting()? {
-            self.timeout
+            self.pause_length()
         } else {
             None
         };
         match self.terminal.wait(limit)? {
             Wake::Input => self.take_input(),
-            Wake::Pause => self.handle.flush(),
+            Wake::Pause => self.settle(),
             Wake::Signal => {
                 self.terminal.take_again()?;
                 self.draw_anew()
             }
         }
+    }
+
+    /// Returns how many milliseconds what belongs to the bytes so far is waited for. Where an Esc may
+    /// last without end, what has begun otherwise is waited for until it is settled.
+    fn pause_length(&self) -> Option<u16> {
+        match self.timeout {
+            Some(_) if self.last.has_paused => Some(PAUSE),
+            None if self.last.byte != Some(ESC) => Some(PAUSE * PAUSES),
+            timeout => timeout,
+        }
+    }
+
+    /// Settles what has begun, as no byte came for a pause; or for so many, where a single one is not
+    /// looked at.
+    fn settle(&mut self) -> Result<Progress> {
+        self.last.has_paused = true;
+        let mut progress = self.handle.flush()?;
+        if self.timeout.is_none() {
+            for _ in 1..PAUSES {
+                if !matches!(progress, Progress::Reading) {
+                    break;
+                }
+                progress = self.handle.flush()?;
+            }
+        }
+        Ok(progress)
     }
 
     /// Reads what was typed, or finds that nothing will come any more.
@@ -121,6 +184,10 @@ impl Session<'_> {
     /// Hands what was typed over. Where there is a completer, what stands before a Tab goes first,
     /// so that the completer sees the line as it is at the Tab.
     fn feed_typed(&mut self) -> Result<Progress> {
+        self.last = Last {
+            byte: self.typed.last().copied(),
+            has_paused: false,
+        };
         let Some(completer) = &mut self.completer else {
             return self.handle.feed(&std::mem::take(self.typed));
         };
@@ -131,6 +198,40 @@ impl Session<'_> {
         }
         let piece: Vec<u8> = self.typed.drain(..piece_len(self.typed)).collect();
         self.handle.feed(&piece)
+    }
+}
+
+/// Returns one drawing for two, as the library draws a line at a new size and again before it reads.
+/// What leads to the line is that of the first one, and what follows that of the second.
+fn drawn_once(mut first: Vec<u8>, again: &[u8]) -> Vec<u8> {
+    let place_in = |drawn: &[u8]| drawn.windows(CLEAR.len()).position(|bytes| bytes == CLEAR);
+    match (place_in(&first), place_in(again)) {
+        (Some(lead), Some(rest)) => {
+            first.truncate(lead);
+            first.extend_from_slice(again.get(rest..).unwrap_or_default());
+        }
+        _ => first.extend_from_slice(again),
+    }
+    first
+}
+
+/// Returns which bytes of a drawing move the cursor from its row up to the first one. They come
+/// first, or behind what asks the terminal to show all at once.
+fn way_up(drawn: &[u8]) -> Range<usize> {
+    let begin = if drawn.starts_with(AT_ONCE) {
+        AT_ONCE.len()
+    } else {
+        0
+    };
+    let steps = drawn.get(begin..).unwrap_or_default();
+    let steps = steps.strip_prefix(b"\x1b[").unwrap_or_default();
+    let digits = steps
+        .iter()
+        .take_while(|byte| byte.is_ascii_digit())
+        .count();
+    match steps.get(digits) {
+        Some(b'A') => begin..begin + 3 + digits,
+        _ => begin..begin,
     }
 }
 
@@ -187,6 +288,28 @@ mod tests {
         assert_eq!(piece_len(b"\tc\td"), 2);
         assert_eq!(piece_len(b"\t\t"), 1);
         assert_eq!(piece_len(b"\tcd"), 3);
+    }
+
+    #[test]
+    fn the_way_up_begins_a_drawing() {
+        assert_eq!(way_up(b"\x1b[12A\r\x1b[J> a"), 0..5);
+        assert_eq!(way_up(b"\x1b[?2026h\x1b[1A\r\x1b[J> a"), 8..12);
+        assert_eq!(way_up(b"\x1b[?2026h\r\x1b[J> a\x1b[1A"), 8..8);
+        assert_eq!(way_up(b"\x1b[3B"), 0..0);
+        assert_eq!(way_up(b""), 0..0);
+    }
+
+    #[test]
+    fn two_drawings_are_shown_as_one() {
+        let once = |first: &str, again: &str| drawn_once(first.into(), again.as_bytes());
+        let first = "\x1b[?2026h\x1b[2A\r\x1b[J> a\x1b[?2026l";
+        let again = "\x1b[?2026h\x1b[1A\r\x1b[J> ab\x1b[?2026lc";
+        assert_eq!(
+            once(first, again),
+            b"\x1b[?2026h\x1b[2A\r\x1b[J> ab\x1b[?2026lc"
+        );
+        assert_eq!(once(first, "c"), [first.as_bytes(), b"c"].concat());
+        assert_eq!(once("", again), again.as_bytes());
     }
 
     #[test]

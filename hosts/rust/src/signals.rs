@@ -7,21 +7,36 @@ use std::ptr;
 use std::sync::OnceLock;
 use std::sync::atomic::{AtomicBool, AtomicI32, Ordering};
 
-use libc::{c_int, sigaction, sighandler_t};
+use libc::{c_int, sigaction, sighandler_t, sigset_t};
 
-use crate::mode;
+use crate::turn::Turn;
+use crate::{faults, mode};
 
 /// Behind these the terminal may have another size or other settings.
 const TELLING: [c_int; 2] = [libc::SIGWINCH, libc::SIGCONT];
 
 /// Before these end or stop the process, the terminal is set back. They are caught where the
 /// program does not handle or ignore them itself.
-const ENDING: [c_int; 5] = [
+const ENDING: [c_int; 19] = [
     libc::SIGINT,
     libc::SIGTERM,
     libc::SIGHUP,
     libc::SIGQUIT,
     libc::SIGTSTP,
+    libc::SIGALRM,
+    libc::SIGABRT,
+    libc::SIGSEGV,
+    libc::SIGBUS,
+    libc::SIGILL,
+    libc::SIGFPE,
+    libc::SIGSYS,
+    libc::SIGPIPE,
+    libc::SIGUSR1,
+    libc::SIGUSR2,
+    libc::SIGXCPU,
+    libc::SIGXFSZ,
+    libc::SIGVTALRM,
+    libc::SIGPROF,
 ];
 
 /// Whether a signal came since this was asked last.
@@ -57,14 +72,22 @@ impl Signals {
         Ok(signals)
     }
 
-    /// Catches those signals again that came and had their usual effect.
+    /// Catches those signals again that came and had their usual effect, unless one just has it: a
+    /// wait ends behind that.
     pub(crate) fn catch_again(&self) {
-        exchange_where(libc::SIG_DFL, on_ending as *const () as usize);
+        faults::keep();
+        let _turn = Turn::take();
+        if !mode::is_leaving() {
+            exchange_where(libc::SIG_DFL, on_ending as *const () as usize);
+            faults::catch();
+        }
     }
 
-    /// Leaves those signals to the system that end or stop the process.
+    /// Leaves those signals to the program or the system that end or stop the process.
     fn leave(&self) {
-        exchange_where(on_ending as *const () as usize, libc::SIG_DFL);
+        let _turn = Turn::take();
+        leave_endings();
+        faults::leave();
     }
 
     /// Stops the process, and those that were started with it, until it is told to go on.
@@ -110,25 +133,46 @@ impl Drop for Signals {
     }
 }
 
+/// Leaves those signals to the system that end or stop the process.
+pub(crate) fn leave_endings() {
+    exchange_where(on_ending as *const () as usize, libc::SIG_DFL);
+}
+
 /// Handles a signal behind which the terminal may have another size or other settings.
 extern "C" fn on_telling(_signal: c_int) {
     keeping_errno(wake);
 }
 
 /// Handles a signal that ends or stops the process: the terminal is set back, and the signal comes
-/// again when this returns, now with its usual effect.
+/// again, now with its usual effect. Where the process lives on, so does the line.
 extern "C" fn on_ending(signal: c_int) {
     keeping_errno(|| {
-        mode::set_back(mode::BREAK_OFF);
-        exchange(signal, libc::SIG_DFL);
-        // SAFETY: this call takes no pointer.
-        unsafe { libc::raise(signal) };
+        mode::leave(|| {
+            let turn = Turn::take();
+            exchange(signal, libc::SIG_DFL);
+            drop(turn);
+            raise_at_once(signal);
+        });
         wake();
     });
 }
 
+/// Sends a signal to this thread, where it has its effect although one such signal is handled.
+fn raise_at_once(signal: c_int) {
+    let mut raised = MaybeUninit::<sigset_t>::zeroed();
+    let mut before = MaybeUninit::<sigset_t>::zeroed();
+    // SAFETY: the pointers are those of variables, in which zero is a value, too.
+    unsafe {
+        libc::sigemptyset(raised.as_mut_ptr());
+        libc::sigaddset(raised.as_mut_ptr(), signal);
+        libc::raise(signal);
+        libc::pthread_sigmask(libc::SIG_UNBLOCK, raised.as_ptr(), before.as_mut_ptr());
+        libc::pthread_sigmask(libc::SIG_SETMASK, before.as_ptr(), ptr::null_mut());
+    }
+}
+
 /// Does something in a handler. What went on when the signal came finds `errno` as it was.
-fn keeping_errno(act: impl FnOnce()) {
+pub(crate) fn keeping_errno(act: impl FnOnce()) {
     // SAFETY: the place of `errno` is the thread's own, and there as long as the thread is.
     let place = unsafe { libc::__errno_location() };
     // SAFETY: as above.
@@ -138,9 +182,14 @@ fn keeping_errno(act: impl FnOnce()) {
     unsafe { *place = errno };
 }
 
-/// Ends a wait.
-fn wake() {
+/// Says that a signal came. A thread that waits goes on waiting.
+pub(crate) fn note() {
     IS_UPSET.store(true, Ordering::Release);
+}
+
+/// Ends a wait.
+pub(crate) fn wake() {
+    note();
     let (waking, byte) = (WAKING.load(Ordering::Acquire), 0_u8);
     // SAFETY: the byte is a variable. Where the pipe is full, a wait ends anyway.
     unsafe { libc::write(waking, (&raw const byte).cast(), 1) };
@@ -149,15 +198,25 @@ fn wake() {
 /// Gives the signals of `ENDING` that have one handler another one.
 fn exchange_where(from: sighandler_t, to: sighandler_t) {
     for signal in ENDING {
-        let mut now = MaybeUninit::<sigaction>::zeroed();
-        // SAFETY: the pointer is that of a variable, in which zero is a value, too.
-        let now = unsafe {
-            sigaction(signal, ptr::null(), now.as_mut_ptr());
-            now.assume_init()
-        };
-        if now.sa_sigaction == from {
+        if action_at(signal).sa_sigaction == from {
             exchange(signal, to);
         }
+    }
+}
+
+/// Returns whether a signal has no handler, or one of this file's that stands for none.
+pub(crate) fn is_without_handler(action: &sigaction) -> bool {
+    let ours = on_ending as *const () as usize;
+    [libc::SIG_DFL, libc::SIG_IGN, ours].contains(&action.sa_sigaction)
+}
+
+/// Returns what is done at a signal.
+pub(crate) fn action_at(signal: c_int) -> sigaction {
+    let mut now = MaybeUninit::<sigaction>::zeroed();
+    // SAFETY: the pointer is that of a variable, in which zero is a value, too.
+    unsafe {
+        sigaction(signal, ptr::null(), now.as_mut_ptr());
+        now.assume_init()
     }
 }
 
@@ -170,7 +229,7 @@ fn exchange(signal: c_int, handler: sighandler_t) -> sigaction {
     unsafe {
         (*action.as_mut_ptr()).sa_sigaction = handler;
         (*action.as_mut_ptr()).sa_flags = libc::SA_RESTART;
-        libc::sigemptyset(&raw mut (*action.as_mut_ptr()).sa_mask);
+        libc::sigfillset(&raw mut (*action.as_mut_ptr()).sa_mask);
         sigaction(signal, action.as_ptr(), before.as_mut_ptr());
         before.assume_init()
     }

@@ -34,9 +34,14 @@ pub(crate) enum Wake {
     Signal,
 }
 
-/// Returns whether standard input and output are a terminal.
+/// Returns whether standard input is a terminal, at which a line can be edited.
 pub(crate) fn is_there() -> bool {
-    io::stdin().is_terminal() && io::stdout().is_terminal()
+    io::stdin().is_terminal()
+}
+
+/// Returns whether standard output is a terminal.
+pub(crate) fn is_output() -> bool {
+    io::stdout().is_terminal()
 }
 
 /// Returns whether the terminal cannot move its cursor.
@@ -50,10 +55,15 @@ pub(crate) fn is_dumb() -> bool {
 
 /// Returns the columns and rows of the terminal, if standard output is one.
 pub(crate) fn size() -> Option<(u16, u16)> {
+    size_of(STDOUT_FILENO)
+}
+
+/// Returns the columns and rows of a file, if it is a terminal.
+fn size_of(file: c_int) -> Option<(u16, u16)> {
     let mut size = MaybeUninit::<libc::winsize>::zeroed();
     // SAFETY: the pointer is that of a variable of this type, in which zero is a value, too.
     let (done, size) = unsafe {
-        let done = libc::ioctl(STDOUT_FILENO, libc::TIOCGWINSZ, size.as_mut_ptr());
+        let done = libc::ioctl(file, libc::TIOCGWINSZ, size.as_mut_ptr());
         (done, size.assume_init())
     };
     let found = match (size.ws_col, size.ws_row) {
@@ -64,9 +74,11 @@ pub(crate) fn size() -> Option<(u16, u16)> {
     (done == 0).then_some(found)
 }
 
-/// Returns the columns and rows that a line is drawn for.
+/// Returns the columns and rows that a line is drawn for. Where output is no terminal, as a pipe to
+/// one, they are those of the terminal at which the line is typed.
 pub(crate) fn size_or_usual() -> (u16, u16) {
-    size().unwrap_or(USUAL_SIZE)
+    let size = size().or_else(|| size_of(STDIN_FILENO));
+    size.unwrap_or(USUAL_SIZE)
 }
 
 /// Writes all bytes to standard output, behind what the program wrote there.
@@ -121,6 +133,7 @@ impl Terminal {
             marks_pastes,
             _taken: taken,
         };
+        mode::take_broken_off();
         mode::make_raw()?;
         Ok(terminal)
     }
@@ -148,7 +161,17 @@ impl Terminal {
 
     /// Sets the terminal back in the middle of a line: what comes next stands below it.
     pub(crate) fn break_off(&self) {
-        mode::set_back(mode::BREAK_OFF);
+        mode::break_off();
+    }
+
+    /// Returns whether a signal broke the line off: what was drawn stands above the cursor.
+    pub(crate) fn is_broken_off(&self) -> bool {
+        mode::is_broken_off()
+    }
+
+    /// Returns whether a signal broke the line off, which is over now.
+    pub(crate) fn take_broken_off(&self) -> bool {
+        mode::take_broken_off()
     }
 
     /// Waits for input, for so many milliseconds or without end.
@@ -198,11 +221,11 @@ impl Terminal {
 
 impl Drop for Terminal {
     fn drop(&mut self) {
-        mode::set_back(if thread::panicking() {
-            mode::BREAK_OFF
+        if thread::panicking() {
+            mode::break_off();
         } else {
-            b""
-        });
+            mode::set_back(b"");
+        }
     }
 }
 
