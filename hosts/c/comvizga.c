@@ -115,17 +115,26 @@ static uint32_t suspend(void)
 
 /* ------------------------------------------------------------------------------------------- reading on */
 
-/* Hands over what was read: up to a byte that may end the line, so that what comes behind it is kept here. */
-static uint32_t feed_ahead(void)
+/* How much of what was read is handed over at once: up to a byte that may end the line, so that what comes behind that
+ * is kept here. */
+static size_t length_of_next(void)
 {
-    const char *from = ahead + ahead_at;
-    size_t length = 0;
-    while (ahead_at + length < ahead_end && !strchr("\r\n\x03\x04", from[length]))
+    size_t length = 1;
+    while (ahead_at + length < ahead_end && !strchr("\r\n\x03\x04", ahead[ahead_at + length - 1]))
         length++;
-    length += ahead_at + length < ahead_end;
-    ahead_at += length;
-    has_paused = 0;
-    return comvizga_feed(editor, from, length);
+    return length;
+}
+
+/* Hands over what was read, where the line goes on, for as long as it does. */
+static uint32_t feed_ahead(uint32_t status)
+{
+    while (status == COMVIZGA_OK && ahead_at < ahead_end) {
+        size_t from = ahead_at, length = length_of_next();
+        ahead_at += length;
+        has_paused = 0;
+        status = comvizga_feed(editor, ahead + from, length);
+    }
+    return status;
 }
 
 /* The input has ended. A last line of a file that lacks its newline is submitted. One that was being typed is not: what
@@ -150,7 +159,7 @@ static int pause_length(void)
     return has_paused ? 50 : comvizga_configure()->escape_milliseconds;
 }
 
-/* Waits for what comes next, and hands it over. */
+/* Waits for what comes next, and reads it. */
 static uint32_t read_on(void)
 {
     uint8_t is_waiting = 0;
@@ -158,8 +167,6 @@ static uint32_t read_on(void)
     int found;
     if (comvizga_tty_is_upset())
         return go_on();
-    if (ahead_at < ahead_end)
-        return feed_ahead();
     comvizga_is_waiting(editor, &is_waiting);
     found = comvizga_tty_wait(is_waiting ? pause_length() : -1);
     if (found == 0) {
@@ -173,7 +180,7 @@ static uint32_t read_on(void)
         return end();
     ahead_at = 0;
     ahead_end = (size_t)length;
-    return feed_ahead();
+    return COMVIZGA_OK;
 }
 
 /* Reads a line to its end. */
@@ -182,6 +189,7 @@ static uint32_t read_to_end(const char *prompt)
     uint32_t status = comvizga_begin(editor, prompt, strlen(prompt));
     for (;;) {
         errno = EIO; /* unless the system says another one */
+        status = feed_ahead(status);
         if (write_drawn() < 0)
             return COMVIZGA_FAILED;
         if (status == COMVIZGA_SUSPENDED)

@@ -37,8 +37,9 @@ static const int never_held[] = {SIGABRT, SIGSEGV, SIGBUS, SIGFPE, SIGILL, SIGSY
 
 static struct termios before;            /* the terminal's settings outside of a line */
 static struct sigaction actions[CAUGHT]; /* what the program does at the signals that are caught */
-static sigset_t outside;                 /* the signals that the program itself holds */
-static pid_t owner;                      /* the process that made the terminal raw, and not a child of it */
+static unsigned char is_caught[CAUGHT];
+static sigset_t outside; /* the signals that the program itself holds */
+static pid_t owner;      /* the process that made the terminal raw, and not a child of it */
 static volatile sig_atomic_t is_raw, is_upset, is_below;
 
 int comvizga_tty_is_there(void)
@@ -155,6 +156,7 @@ static void catch_signals(void)
         if (!is_to_be_caught(caught[i].kind, &theirs))
             continue;
         actions[i] = theirs;
+        is_caught[i] = 1;
         sigaction(caught[i].number, &ours, NULL);
     }
 }
@@ -206,13 +208,23 @@ int comvizga_tty_take(void)
     return make_raw();
 }
 
-void comvizga_tty_give_back(void)
+/* Gives a signal back, unless the program has taken it meanwhile. */
+static void give_signal_back(int place)
 {
     struct sigaction now;
+    if (!is_caught[place])
+        return;
+    is_caught[place] = 0;
+    sigaction(caught[place].number, &actions[place], &now);
+    if (now.sa_handler != on_signal)
+        sigaction(caught[place].number, &now, NULL);
+}
+
+void comvizga_tty_give_back(void)
+{
     set_back("\x1b[?2004l");
     for (int i = 0; i < CAUGHT; i++)
-        if (!sigaction(caught[i].number, NULL, &now) && now.sa_handler == on_signal)
-            sigaction(caught[i].number, &actions[i], NULL);
+        give_signal_back(i);
 }
 
 /* ----------------------------------------------------------------------- waiting, reading and writing */
@@ -276,6 +288,8 @@ int comvizga_tty_write(const void *bytes, size_t length)
 {
     ssize_t written = 0;
     int reason;
+    if (!length)
+        return 0;
     comvizga_tty_release();
     for (size_t at = 0; at < length && written >= 0 && !is_below; at += (size_t)written)
         written = write_some(STDOUT_FILENO, (const char *)bytes + at, length - at);
