@@ -8,7 +8,8 @@ pub(crate) struct RawHandle {
     pub(crate) at: *mut c_void,
 }
 
-/// What C code calls `comvizga_settings`.
+/// The settings as the proved library takes them, without the size that `comvizga_settings` of C
+/// begins with.
 #[repr(C)]
 #[derive(Clone, Debug, PartialEq, Eq)]
 pub(crate) struct RawSettings {
