@@ -5,10 +5,9 @@ use Rattle.std.specs.Cmp.Lexicographic.{pointwise}
 use Rattle.std.specs.Option.{option_or}
 use Rattle.line_keys.specs.declared.keys.KeyEvent.{KeyEvent}
 use Rattle.line_editor.specs.Event.{Chord, each_key, event_keys, keys, mouse, same_chord, same_key}
-use Rattle.line_editor.specs.Binding.{Bound, Handler, Rebinds, all_sure, bound_to, handled, handler_of, leads_on, node_count}
+use Rattle.line_editor.specs.Binding.{Bound, Handler, Rebinds, all_sure, bound_to, handler_of, leads_on, node_count}
 use Rattle.line_editor.specs.KeyTree.{Puts, beginning_count, value_of}
 use Rattle.line_editor.specs.Keymap.{key_handler}
-use Rattle.line_editor.specs.declared.binding.ConditionalEventHandler.{Ghosts}
 use Rattle.line_editor.specs.declared.binding.EventHandler.{EventHandler}
 
 false_and : (a b : Bool) → a ≡ false → (a && b) ≡ false
@@ -53,57 +52,57 @@ map-if : {A B : Type 0} (f : A → B) (b : Bool) (x : A) (o : Option A) → opti
 map-if f true x o = refl
 map-if f false x o = refl
 
-module _ {X : Type 0} {P : X → Type 0} (g : (v : X) → Ghosts (P v)) where
+module _ {X : Type 0} {P : X → Type 0} (value : EventHandler X P → Handler) where
   -- what is bound to each key, to the mouse and to sequences
   abbrev pub bound-by : Option (EventHandler X P) → Option (EventHandler X P) → List (List KeyEvent × EventHandler X P) → Bound
-  bound-by any click entries = bound_to g each_key any ++ bound_to g mouse click ++ map (λ entry. (keys entry.0, handled g entry.1)) entries
+  bound-by any click entries = bound_to value each_key any ++ bound_to value mouse click ++ map (λ entry. (keys entry.0, value entry.1)) entries
 
   -- a handler that is lent
-  pub shown : (lent : Option (Bor (EventHandler X P))) (own : Option (EventHandler X P)) → option_map (λ handler. handler.now) lent ≡ own → option_map (λ handler. handled g handler.now) lent ≡ option_map (handled g) own
-  shown None own is = ap (option_map (handled g)) is
-  shown (Some handler) own is = ap (option_map (handled g)) is
+  pub shown : (lent : Option (Bor (EventHandler X P))) (own : Option (EventHandler X P)) → option_map (λ handler. handler.now) lent ≡ own → option_map (λ handler. value handler.now) lent ≡ option_map value own
+  shown None own is = ap (option_map value) is
+  shown (Some handler) own is = ap (option_map value) is
 
   find-keys-by : (same : Bool) (entry : List KeyEvent × EventHandler X P) (bound : Option (Chord × Handler)) (held : Option (List KeyEvent × EventHandler X P))
-      → option_map (λ (b : Chord × Handler). b.1) bound ≡ option_map (handled g) (option_map (λ (e : List KeyEvent × EventHandler X P). e.1) held)
-      → option_map (λ (b : Chord × Handler). b.1) (cond same (Some (keys entry.0, handled g entry.1)) bound) ≡ option_map (handled g) (option_map (λ (e : List KeyEvent × EventHandler X P). e.1) (cond same (Some entry) held))
+      → option_map (λ (b : Chord × Handler). b.1) bound ≡ option_map value (option_map (λ (e : List KeyEvent × EventHandler X P). e.1) held)
+      → option_map (λ (b : Chord × Handler). b.1) (cond same (Some (keys entry.0, value entry.1)) bound) ≡ option_map value (option_map (λ (e : List KeyEvent × EventHandler X P). e.1) (cond same (Some entry) held))
   find-keys-by true entry bound held is = refl
   find-keys-by false entry bound held is = is
 
   find-keys : (entries : List (List KeyEvent × EventHandler X P)) (sequence : List KeyEvent)
-      → handler_of (map (λ entry. (keys entry.0, handled g entry.1)) entries) (keys sequence) ≡ option_map (handled g) (value_of entries sequence)
+      → handler_of (map (λ entry. (keys entry.0, value entry.1)) entries) (keys sequence) ≡ option_map value (value_of entries sequence)
   find-keys [] sequence = refl
   find-keys (entry ∷ entries) sequence =
-      find-keys-by (pointwise same_key entry.0 sequence) entry (find (λ b. same_chord b.0 (keys sequence)) (map (λ entry. (keys entry.0, handled g entry.1)) entries))
+      find-keys-by (pointwise same_key entry.0 sequence) entry (find (λ b. same_chord b.0 (keys sequence)) (map (λ entry. (keys entry.0, value entry.1)) entries))
       (find (λ e. pointwise same_key e.0 sequence) entries) (find-keys entries sequence)
 
-  find-each : (entries : List (List KeyEvent × EventHandler X P)) → handler_of (map (λ entry. (keys entry.0, handled g entry.1)) entries) each_key ≡ None
+  find-each : (entries : List (List KeyEvent × EventHandler X P)) → handler_of (map (λ entry. (keys entry.0, value entry.1)) entries) each_key ≡ None
   find-each [] = refl
   find-each (entry ∷ entries) = find-each entries
 
-  find-mouse : (entries : List (List KeyEvent × EventHandler X P)) → handler_of (map (λ entry. (keys entry.0, handled g entry.1)) entries) mouse ≡ None
+  find-mouse : (entries : List (List KeyEvent × EventHandler X P)) → handler_of (map (λ entry. (keys entry.0, value entry.1)) entries) mouse ≡ None
   find-mouse [] = refl
   find-mouse (entry ∷ entries) = find-mouse entries
 
   -- the handler of each event
-  pub each-handler : (any click : Option (EventHandler X P)) (entries : List (List KeyEvent × EventHandler X P)) → handler_of (bound-by any click entries) each_key ≡ option_map (handled g) any
+  pub each-handler : (any click : Option (EventHandler X P)) (entries : List (List KeyEvent × EventHandler X P)) → handler_of (bound-by any click entries) each_key ≡ option_map value any
   each-handler (Some handler) click entries = refl
   each-handler None (Some handler) entries = find-each entries
   each-handler None None entries = find-each entries
 
-  pub mouse-handler : (any click : Option (EventHandler X P)) (entries : List (List KeyEvent × EventHandler X P)) → handler_of (bound-by any click entries) mouse ≡ option_map (handled g) click
+  pub mouse-handler : (any click : Option (EventHandler X P)) (entries : List (List KeyEvent × EventHandler X P)) → handler_of (bound-by any click entries) mouse ≡ option_map value click
   mouse-handler (Some other) (Some handler) entries = refl
   mouse-handler (Some other) None entries = find-mouse entries
   mouse-handler None (Some handler) entries = refl
   mouse-handler None None entries = find-mouse entries
 
-  pub keys-handler : (any click : Option (EventHandler X P)) (entries : List (List KeyEvent × EventHandler X P)) (sequence : List KeyEvent) → handler_of (bound-by any click entries) (keys sequence) ≡ option_map (handled g) (value_of entries sequence)
+  pub keys-handler : (any click : Option (EventHandler X P)) (entries : List (List KeyEvent × EventHandler X P)) (sequence : List KeyEvent) → handler_of (bound-by any click entries) (keys sequence) ≡ option_map value (value_of entries sequence)
   keys-handler (Some other) (Some handler) entries sequence = find-keys entries sequence
   keys-handler (Some other) None entries sequence = find-keys entries sequence
   keys-handler None (Some handler) entries sequence = find-keys entries sequence
   keys-handler None None entries sequence = find-keys entries sequence
 
   keys-lead : (entries : List (List KeyEvent × EventHandler X P)) (front : List KeyEvent)
-      → leads_on (map (λ entry. (keys entry.0, handled g entry.1)) entries) front ≡ list_any (λ entry. starts_with same_key entry.0 front) entries
+      → leads_on (map (λ entry. (keys entry.0, value entry.1)) entries) front ≡ list_any (λ entry. starts_with same_key entry.0 front) entries
   keys-lead [] front = refl
   keys-lead (entry ∷ entries) front = ap (λ b. starts_with same_key entry.0 front || b) (keys-lead entries front)
 
@@ -116,7 +115,7 @@ module _ {X : Type 0} {P : X → Type 0} (g : (v : X) → Ghosts (P v)) where
   fronts None None entries front = keys-lead entries front
 
   keys-listed : (entries : List (List KeyEvent × EventHandler X P))
-      → map (λ (binding : Chord × Handler). event_keys binding.0) (map (λ (entry : List KeyEvent × EventHandler X P). (keys entry.0, handled g entry.1)) entries) ≡ map (λ (entry : List KeyEvent × EventHandler X P). entry.0) entries
+      → map (λ (binding : Chord × Handler). event_keys binding.0) (map (λ (entry : List KeyEvent × EventHandler X P). (keys entry.0, value entry.1)) entries) ≡ map (λ (entry : List KeyEvent × EventHandler X P). entry.0) entries
   keys-listed [] = refl
   keys-listed (entry ∷ entries) = ap (λ l. entry.0 ∷ l) (keys-listed entries)
 
@@ -127,43 +126,43 @@ module _ {X : Type 0} {P : X → Type 0} (g : (v : X) → Ghosts (P v)) where
   fronts-counted None (Some handler) entries = ap beginning_count (keys-listed entries)
   fronts-counted None None entries = ap beginning_count (keys-listed entries)
 
-  keys-sure : (entries : List (List KeyEvent × EventHandler X P)) → all_sure (map (λ entry. (keys entry.0, handled g entry.1)) entries) ≡ list_all (λ entry. (handled g entry.1).sure) entries
+  keys-sure : (entries : List (List KeyEvent × EventHandler X P)) → all_sure (map (λ entry. (keys entry.0, value entry.1)) entries) ≡ list_all (λ entry. (value entry.1).sure) entries
   keys-sure [] = refl
-  keys-sure (entry ∷ entries) = ap (λ b. (handled g entry.1).sure && b) (keys-sure entries)
+  keys-sure (entry ∷ entries) = ap (λ b. (value entry.1).sure && b) (keys-sure entries)
 
   -- whether a handler is sure, where there is one
   abbrev own_sure : Option (EventHandler X P) → Bool
   own_sure None = true
-  own_sure (Some handler) = (handled g handler).sure
+  own_sure (Some handler) = (value handler).sure
 
   sure-parts : (any click : Option (EventHandler X P)) (entries : List (List KeyEvent × EventHandler X P))
-      → all_sure (bound-by any click entries) ≡ (own_sure any && (own_sure click && list_all (λ entry. (handled g entry.1).sure) entries))
-  sure-parts (Some other) (Some handler) entries = ap (λ b. (handled g other).sure && ((handled g handler).sure && b)) (keys-sure entries)
-  sure-parts (Some other) None entries = ap (λ b. (handled g other).sure && b) (keys-sure entries)
-  sure-parts None (Some handler) entries = ap (λ b. (handled g handler).sure && b) (keys-sure entries)
+      → all_sure (bound-by any click entries) ≡ (own_sure any && (own_sure click && list_all (λ entry. (value entry.1).sure) entries))
+  sure-parts (Some other) (Some handler) entries = ap (λ b. (value other).sure && ((value handler).sure && b)) (keys-sure entries)
+  sure-parts (Some other) None entries = ap (λ b. (value other).sure && b) (keys-sure entries)
+  sure-parts None (Some handler) entries = ap (λ b. (value handler).sure && b) (keys-sure entries)
   sure-parts None None entries = keys-sure entries
 
   module _ (any click : Option (EventHandler X P)) (entries : List (List KeyEvent × EventHandler X P)) (handler : EventHandler X P) where
-    all-of : all_sure (bound-by any click entries) ≡ true → (own_sure any ≡ true) × (own_sure click ≡ true) × (list_all (λ entry. (handled g entry.1).sure) entries ≡ true)
+    all-of : all_sure (bound-by any click entries) ≡ true → (own_sure any ≡ true) × (own_sure click ≡ true) × (list_all (λ entry. (value entry.1).sure) entries ≡ true)
     all-of all =
-        let first = and-are (own_sure any) (own_sure click && list_all (λ entry. (handled g entry.1).sure) entries) (sym (sure-parts any click entries) ∙ all) in
-        let second = and-are (own_sure click) (list_all (λ entry. (handled g entry.1).sure) entries) first.1 in
+        let first = and-are (own_sure any) (own_sure click && list_all (λ entry. (value entry.1).sure) entries) (sym (sure-parts any click entries) ∙ all) in
+        let second = and-are (own_sure click) (list_all (λ entry. (value entry.1).sure) entries) first.1 in
         (first.0, second.0, second.1)
 
     module _ (after : List (List KeyEvent × EventHandler X P)) (sequence : List KeyEvent) (puts : Puts entries after sequence handler) where
-      keys-anew : (other : Chord) → handler_of (bound-by any click after) other ≡ (if same_chord (keys sequence) other then Some (handled g handler) else handler_of (bound-by any click entries) other)
+      keys-anew : (other : Chord) → handler_of (bound-by any click after) other ≡ (if same_chord (keys sequence) other then Some (value handler) else handler_of (bound-by any click entries) other)
       keys-anew each_key = each-handler any click after ∙ sym (each-handler any click entries)
       keys-anew (keys other) =
-          keys-handler any click after other ∙ ap (option_map (handled g)) (puts.values other)
-          ∙ map-if (handled g) (pointwise same_key sequence other) handler (value_of entries other)
-          ∙ ap (λ o. if pointwise same_key sequence other then Some (handled g handler) else o) (sym (keys-handler any click entries other))
+          keys-handler any click after other ∙ ap (option_map value) (puts.values other)
+          ∙ map-if value (pointwise same_key sequence other) handler (value_of entries other)
+          ∙ ap (λ o. if pointwise same_key sequence other then Some (value handler) else o) (sym (keys-handler any click entries other))
       keys-anew mouse = mouse-handler any click after ∙ sym (mouse-handler any click entries)
 
-      pub rebinds-keys : Rebinds (bound-by any click entries) (bound-by any click after) (keys sequence) (handled g handler)
+      pub rebinds-keys : Rebinds (bound-by any click entries) (bound-by any click after) (keys sequence) (value handler)
       rebinds-keys = record {
         handlers = keys-anew;
-        sure = λ all sure. sure-parts any click after ∙ and-is (own_sure any) (own_sure click && list_all (λ entry. (handled g entry.1).sure) after) (all-of all).0
-            (and-is (own_sure click) (list_all (λ entry. (handled g entry.1).sure) after) (all-of all).1 (puts.all (λ h. (handled g h).sure) (all-of all).2 sure));
+        sure = λ all sure. sure-parts any click after ∙ and-is (own_sure any) (own_sure click && list_all (λ entry. (value entry.1).sure) after) (all-of all).0
+            (and-is (own_sure click) (list_all (λ entry. (value entry.1).sure) after) (all-of all).1 (puts.all (λ h. (value h).sure) (all-of all).2 sure));
       }
 
 -- what holds where a call succeeds

@@ -180,14 +180,36 @@ impl<'out, 'prompt, W: Renderer, H: Helper, P: Prompt, S: History> State<
             (out.entry.ghost_name, option_map (λ h. h.ghost_name) helper.entry)) }
         ensures memory { MemoryOnly result }
     {
-        Ok(State {
+        let edited = EditedLine::with_line(alloc, text, cursor)?;
+        Ok(State::with_edited(alloc, out, prompt, helper, ctx, edited))
+    }
+
+    /// Returns the edit state of a line with its changes after the prompt, with nothing drawn yet. It takes no memory.
+    pub fn with_edited(
+        alloc: Global,
+        out: &'out mut W,
+        prompt: &'prompt P,
+        helper: Option<&'out mut H>,
+        ctx: Context<'out, S>,
+        edited: EditedLine,
+    ) -> Self
+        ensures { Begins ⟦<Self as EditorState>⟧ result
+            (record (empty_draft ctx.entry.index) { line = edited.line; changes = edited.changes })
+            (environment_by H.hint_at H.verdict_at H.lights H.Completer helper.entry
+            (S.lines ctx.entry.history))
+            (sure_by H.Hinter.sure H.Validator.sure (S.sure ctx.entry.history) helper.entry)
+            (never_drawn (W.surface out.old) (W.screen out.old) (P.raw_text prompt.now))
+            (W.failures out.old) (W.redraws out.old)
+            (out.entry.ghost_name, option_map (λ h. h.ghost_name) helper.entry) }
+    {
+        State {
             alloc,
-            edited: EditedLine::with_line(alloc, text, cursor)?,
+            edited,
             saved_line_for_history: LineBuffer::new(alloc),
             view: View::new(out, prompt),
             parties: Parties::new(helper, ctx),
             hint: None,
-        })
+        }
     }
 
     /// Returns the whole text.

@@ -1,6 +1,7 @@
 use Rattle.std.proofs.Common.{◌∙◌, sym}
+use Rattle.line_editor.specs.Binding.{handled}
 use Rattle.line_editor.proofs.BoundLemmas.{keys-handler, shown}
 use Rattle.line_editor.proofs.bindings.Bindings.of_keys.Goals as goal
 
 pub returns : goal.returns
-returns g c = shown _ c.get.result _ c.get.ensures ∙ sym (keys-handler _ c.args.self.now.any c.args.self.now.mouse c.args.self.now.sequences c.args.sequence.now)
+returns g c = shown (handled (λ v. (g.dyn-1.0.entry v).1)) c.get.result _ c.get.ensures ∙ sym (keys-handler (handled (λ v. (g.dyn-1.0.entry v).1)) c.args.self.now.any c.args.self.now.mouse c.args.self.now.sequences c.args.sequence.now)
