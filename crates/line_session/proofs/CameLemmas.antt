@@ -1,5 +1,5 @@
 -- Facts on what comes of a line.
-use Rattle.std.proofs.Common.{◌≡◌, ◌∙◌, ℕ, Bool, true, false, not, cond, List, ◌++◌, Option, Some, None, Result, Ok, Err, IfOk, OnOk, refl, sym, ap, subst, option_map, string_bytes, if◌then◌else◌}
+use Rattle.std.proofs.Common.{◌≡◌, ◌∙◌, ℕ, Bool, true, false, not, cond, List, ◌++◌, Option, Some, None, Result, Ok, Err, IfOk, OnErr, OnOk, inr, refl, sym, ap, subst, option_map, string_bytes, if◌then◌else◌}
 use Rattle.line_buffer.specs.KillRing.{other, with_last}
 use Rattle.line_buffer.specs.declared.layout.GraphemeClusterMode.TheVariants.{Unicode}
 use Rattle.line_buffer.specs.declared.layout.Position.{Position}
@@ -19,7 +19,7 @@ use Rattle.line_editor.specs.declared.run.Turned.{Turned}
 use Rattle.line_editor.specs.declared.run.Turned.TheVariants as turned
 use Rattle.line_term.specs.Decoder as decoding
 use Rattle.line_term.specs.Decoder.{Gives}
-use Rattle.line_session.specs.Sitting.{BegunLine, Came, CameBegun, CameFrom, EndsAs, Keeps, Sitting, StartsWith, begun_with, goes_on, rules_at, rules_for, standing_with, with_turn}
+use Rattle.line_session.specs.Sitting.{BeginsOrStays, BegunLine, Came, CameBegun, CameFrom, EndsAs, Keeps, LosesNothing, Sitting, StartsWith, begun_with, goes_on, rules_at, rules_for, standing_with, with_turn}
 use Rattle.line_session.specs.Steps.{Ends, Rules, Standing, starting}
 use Rattle.line_session.specs.Taken.{ComesTo}
 use Rattle.line_session.specs.declared.editor.Fed.{Fed}
@@ -110,6 +110,12 @@ module _ {H : Type 0} where
       columns = next.columns ∙ first.columns;
       rows = next.rows ∙ first.rows;
     }
+
+    -- a line that was begun and then failed
+    pub began_so : (prompt left right : List ℕ) (old mid new : Sitting H) (result : Result Fed ReadlineError) → StartsWith answers prompt left right old mid
+        → OnErr result (LosesNothing mid new) → OnErr result (BeginsOrStays answers prompt left right old new)
+    began_so prompt left right old mid new (Ok f) starts lost = tt
+    began_so prompt left right old mid new (Err error) starts lost = inr (mid, starts, lost)
 
     -- what came of a line that was begun
     pub came_begun : (bound : Bound) (prompt left right : List ℕ) (old mid new : Sitting H) (f : Fed) (starts : StartsWith answers prompt left right old mid)

@@ -2,6 +2,7 @@
 use Rattle.std.specs.Prelude.{◌≡◌, ◌⊎◌, ◌++◌, ℕ, Bool, true, false, if◌then◌else◌, List, length, Option, Some, None, is_some, option_map, unwrap_or, Result, Ok, string_bytes}
 use Rattle.line_buffer.specs.KillRing.{Ring, other, with_last}
 use Rattle.line_buffer.specs.declared.layout.GraphemeClusterMode.TheVariants.{Unicode}
+use Rattle.line_buffer.specs.Line.{Line}
 use Rattle.line_config.specs.Settings.{Settings}
 use Rattle.line_config.specs.declared.error.ReadlineError.{ReadlineError}
 use Rattle.line_keys.specs.Display.{corner}
@@ -104,11 +105,13 @@ standing_with draft input mode items kills = record {
   mode = mode;
 }
 
+-- a line with a text before the cursor and one after it
+abbrev pub line_with : List ℕ → List ℕ → Line
+line_with left right = record { text = left ++ right; cursor = length left }
+
 -- the draft of a line that begins with a text before the cursor and one after it
 abbrev pub begun_with : List ℕ → List ℕ → List (List ℕ) → Draft
-begun_with left right lines = record (empty_draft (length lines)) {
-  line = record { text = left ++ right; cursor = length left };
-}
+begun_with left right lines = record (empty_draft (length lines)) { line = line_with left right }
 
 -- where reading stands of a line that begins: nothing is remembered of keys, commands are read, and a kill joins none of those before
 abbrev pub first_standing : {H : Type 0} → List ℕ → List ℕ → Sitting H → Standing
@@ -197,3 +200,8 @@ module _ {H : Type 0} where
       pub kills : new.kills ≡ with_last old.kills other
       pub items : new.items ≡ old.items
       pub keeps : Keeps (record old { prompt = prompt }) new
+
+    -- where a line cannot begin all stays, but that the line before may be drawn anew; where it has begun nothing is lost
+    abbrev pub BeginsOrStays : List ℕ → List ℕ → List ℕ → Sitting H → Sitting H → Type 0
+    BeginsOrStays prompt left right old new = StaysOrDraws old new
+        ⊎ ((begun : Sitting H) × StartsWith prompt left right old begun × LosesNothing begun new)

@@ -4,6 +4,7 @@ ghost use Rattle.line_config.specs.Error.{FaultsOnly, MemoryOnly};
 ghost use Rattle.line_editor.specs.Binding.{bound_of};
 ghost use Rattle.line_editor.specs.Editor.{Begins};
 ghost use Rattle.line_editor.specs.Input.{first_input};
+ghost use Rattle.line_buffer.specs.Changes.{no_changes};
 ghost use Rattle.line_keys.specs.Frame.{Frame};
 ghost use Rattle.line_keys.specs.Item.{Item};
 ghost use Rattle.line_keys.specs.Display.{corner, never_drawn};
@@ -11,7 +12,7 @@ ghost use Rattle.line_keys.specs.Draft.{empty_draft};
 ghost use Rattle.line_parts.specs.Helped.{environment_by, sure_by};
 ghost use Rattle.line_screen.specs.KeyQueue.{queue_binding};
 ghost use Rattle.line_session.specs.Kept.{Fits, answers_of};
-ghost use Rattle.line_session.specs.Sitting.{begun_with, rules_for, standing_with};
+ghost use Rattle.line_session.specs.Sitting.{line_with, rules_for, standing_with};
 ghost use Rattle.line_session.specs.Steps.{starting, once_resized};
 ghost use Rattle.line_session.specs.Taken.{ComesTo, is_settled};
 
@@ -27,7 +28,7 @@ use line_editor::{Bindings, InputState, Turned};
 use line_keys::editor_state::EditorState;
 use line_parts::{Context, Helper, History};
 use line_screen::KeyQueue;
-use line_state::ScreenState;
+use line_state::{EditedLine, ScreenState};
 use line_term::Ansi;
 use std::alloc::Global;
 use std::io::Write;
@@ -122,52 +123,52 @@ fn is_to_be_drawn<'out, 'prompt, O: Write + Drop, H: Helper, P: Prompt, S: Histo
     }
 }
 
-/// Begins a line after the prompt, with these texts before and after the cursor. It is to be drawn.
+/// Returns a line without changes, with these texts before and after the cursor.
 ///
 /// # Errors
 /// `Memory`.
+pub(crate) fn line_of(alloc: Global, left: &str, right: &str) -> Result<EditedLine>
+    ensures line { IfOk result (λ edited. edited
+        ≡ record { line = line_with left.now right.now; changes = no_changes }) }
+    ensures memory { MemoryOnly result }
+{
+    let mut text = String::from_str(alloc, left)?;
+    text.push_str(right)?;
+    Ok(EditedLine::with_line(alloc, text.as_str(), left.len())?)
+}
+
+/// Begins a line after the prompt. It is to be drawn.
 pub(crate) fn begin<'out, 'prompt, O: Write + Drop, H: Helper, S: History>(
     alloc: Global,
     screen: &'out mut Ansi<O, KeyQueue>,
     prompt: &'prompt (String, String),
     helper: &'out mut H,
     history: &'out S,
-    left: &str,
-    right: &str,
+    edited: EditedLine,
     config: &Config,
-) -> Result<Begun<H>>
-    ensures fits { (items : List Item) → IfOk result (λ begun.
-        Fits begun.line begun.mode begun.draws items
+) -> Begun<H>
+    ensures fits { (items : List Item) → Fits result.line result.mode result.draws items
         (⟦<Ansi<O, KeyQueue> as ScreenState>⟧.surface screen.new)
         (⟦<Ansi<O, KeyQueue> as ScreenState>⟧.screen screen.new) (string_bytes prompt.now.0)
         (answers_of H.hint_at H.verdict_at H.lights H.Completer
-        helper.new (S.lines history.now))) }
-    ensures draft { IfOk result (λ begun.
-        begun.line.draft ≡ begun_with left.now right.now (S.lines history.now)) }
-    ensures input { IfOk result (λ begun. begun.input ≡ first_input config.now.edit_mode) }
-    ensures mode { IfOk result (λ begun. begun.mode ≡ Mode.Editing) }
-    ensures draws { IfOk result (λ begun. begun.draws ≡ true) }
-    ensures prompt { IfOk result (λ begun. begun.line.drawing.prompt_end
+        helper.new (S.lines history.now)) }
+    ensures draft { result.line.draft ≡ record (empty_draft (length (S.lines history.now))) {
+      line = edited.line;
+      changes = edited.changes;
+    } }
+    ensures input { result.input ≡ first_input config.now.edit_mode }
+    ensures mode { result.mode ≡ Mode.Editing }
+    ensures draws { result.draws ≡ true }
+    ensures prompt { result.line.drawing.prompt_end
         ≡ (⟦<Ansi<O, KeyQueue> as ScreenState>⟧.surface screen.old).measure
-        (string_bytes prompt.now.0) corner) }
-    ensures surface { IfOk result (λ _. ⟦<Ansi<O, KeyQueue> as ScreenState>⟧.surface screen.new
-        ≡ ⟦<Ansi<O, KeyQueue> as ScreenState>⟧.surface screen.old) }
-    ensures answers { IfOk result (λ _. (lines : List (List ℕ))
+        (string_bytes prompt.now.0) corner }
+    ensures surface { ⟦<Ansi<O, KeyQueue> as ScreenState>⟧.surface screen.new
+        ≡ ⟦<Ansi<O, KeyQueue> as ScreenState>⟧.surface screen.old }
+    ensures answers { (lines : List (List ℕ))
         → answers_of H.hint_at H.verdict_at H.lights H.Completer helper.new lines
-        ≡ answers_of H.hint_at H.verdict_at H.lights H.Completer helper.old lines) }
-    ensures memory { MemoryOnly result }
+        ≡ answers_of H.hint_at H.verdict_at H.lights H.Completer helper.old lines }
 {
-    let mut text = String::from_str(alloc, left)?;
-    text.push_str(right)?;
-    let state = state_of(
-        alloc,
-        screen,
-        prompt,
-        helper,
-        history,
-        text.as_str(),
-        left.len(),
-    )?;
+    let state = state_of(alloc, screen, prompt, helper, history, edited);
     let (line, out, lent) = state.release();
     let lent = lent.unwrap();
     let begun = Begun {
@@ -177,7 +178,7 @@ pub(crate) fn begin<'out, 'prompt, O: Write + Drop, H: Helper, S: History>(
         draws: true,
     };
     give_back(out, lent);
-    Ok(begun)
+    begun
 }
 
 /// Returns the state of a line that begins.
@@ -187,15 +188,14 @@ fn state_of<'out, 'prompt, O: Write + Drop, H: Helper, P: Prompt, S: History>(
     prompt: &'prompt P,
     helper: &'out mut H,
     history: &'out S,
-    text: &str,
-    cursor: usize,
-) -> Result<State<'out, 'prompt, Ansi<O, KeyQueue>, H, P, S>>
-    requires { IsCharBoundary text.now cursor }
-    ensures begins { let e = ⟦<State<'out, 'prompt, Ansi<O, KeyQueue>, H, P, S> as EditorState>⟧ in
+    edited: EditedLine,
+) -> State<'out, 'prompt, Ansi<O, KeyQueue>, H, P, S>
+    ensures { let e = ⟦<State<'out, 'prompt, Ansi<O, KeyQueue>, H, P, S> as EditorState>⟧ in
         let w = ⟦<Ansi<O, KeyQueue> as ScreenState>⟧ in
-        IfOk result (λ s. Begins e s
+        Begins e result
         (record (empty_draft (length (S.lines history.now))) {
-          line = record { text = text.now; cursor = cursor };
+          line = edited.line;
+          changes = edited.changes;
         })
         (environment_by H.hint_at H.verdict_at H.lights H.Completer
         (Some helper.entry) (S.lines history.now))
@@ -203,11 +203,10 @@ fn state_of<'out, 'prompt, O: Write + Drop, H: Helper, P: Prompt, S: History>(
         (never_drawn (w.surface screen.entry.now) (w.screen screen.entry.now)
         (P.raw_text prompt.now))
         (w.failures screen.entry.now) (w.redraws screen.entry.now)
-        (screen.entry.ghost_name, Some helper.entry.ghost_name)) }
-    ensures memory { MemoryOnly result }
+        (screen.entry.ghost_name, Some helper.entry.ghost_name) }
 {
     let ctx = Context::new(history);
-    State::with_line(alloc, screen, prompt, Some(helper), ctx, text, cursor)
+    State::with_edited(alloc, screen, prompt, Some(helper), ctx, edited)
 }
 
 impl<H: Helper> Begun<H> {

@@ -7,11 +7,11 @@ ghost use Rattle.line_parts.specs.History.{TellsTaken, added};
 ghost use Rattle.line_session.specs.Kept.{answers_of};
 ghost use Rattle.line_session.specs.OnTerminal.{ShowsBegun};
 ghost use Rattle.line_session.specs.Reading.{BindingsLookAtNoHint, HearsOnce, ReadsLine, answer_of};
-ghost use Rattle.line_session.specs.Sitting.{BegunLine, Came, CameBegun, EndsAs, Keeps, LosesNothing, StartsWith, StaysOrDraws, drawn_anew, suspends, with_turn, written_so_far};
+ghost use Rattle.line_session.specs.Sitting.{BeginsOrStays, BegunLine, Came, CameBegun, EndsAs, Keeps, LosesNothing, StartsWith, StaysOrDraws, drawn_anew, suspends, with_turn, written_so_far};
 ghost use Rattle.line_buffer.specs.KillRing.{empty_ring};
 ghost use Rattle.line_term.specs.Decoder.{finished, flushed, fresh, is_waiting, read};
 
-use crate::begun::{Begun, begin};
+use crate::begun::{Begun, begin, line_of};
 use line_buffer::{KillRing, Unit};
 use line_config::{ColorMode, Config, Prompt, ReadlineError, Result};
 use line_editor::binding::ConditionalEventHandler;
@@ -314,7 +314,7 @@ impl<O: Write + Drop, H: Helper + Drop, S: History + Drop> Editor<O, H, S> {
     ///
     /// # Errors
     /// `Io`, where the output, the helper or the history fails, and `Memory`. If the line had begun by then, `line` returns its text,
-    /// and it goes on at the next call. If it had not, the line before goes on, if there was one.
+    /// and it goes on at the next call. If it had not, the line before goes on unchanged, if there was one.
     pub fn begin_with<P: Prompt>(
         &mut self,
         prompt: &P,
@@ -328,7 +328,9 @@ impl<O: Write + Drop, H: Helper + Drop, S: History + Drop> Editor<O, H, S> {
         ensures keeps { OnOk result
             (Keeps (answers_of H.hint_at H.verdict_at H.lights H.Completer)
             (record self.old { prompt = P.raw_text prompt.now }) self.new) }
-        ensures lines { OnErr result (self.new.lines ≡ self.old.lines) }
+        ensures left { OnErr result
+            (BeginsOrStays (answers_of H.hint_at H.verdict_at H.lights H.Completer)
+            (P.raw_text prompt.now) initial.entry.0.now initial.entry.1.now self.old self.new) }
         ensures faults { FaultsOnly result }
     {
         self.start(prompt, initial)?;
@@ -346,7 +348,9 @@ impl<O: Write + Drop, H: Helper + Drop, S: History + Drop> Editor<O, H, S> {
         ensures keeps { OnOk result
             (Keeps (answers_of H.hint_at H.verdict_at H.lights H.Completer)
             (record self.old { prompt = P.raw_text prompt.now }) self.new) }
-        ensures lines { OnErr result (self.new.lines ≡ self.old.lines) }
+        ensures left { OnErr result
+            (BeginsOrStays (answers_of H.hint_at H.verdict_at H.lights H.Completer)
+            (P.raw_text prompt.now) [] [] self.old self.new) }
         ensures faults { FaultsOnly result }
     {
         self.begin_with(prompt, ("", ""), bindings)
@@ -591,11 +595,13 @@ impl<O: Write + Drop, H: Helper + Drop, S: History + Drop> Editor<O, H, S> {
         ensures starts { OnOk result
             (StartsWith (answers_of H.hint_at H.verdict_at H.lights H.Completer)
             (P.raw_text prompt.now) initial.entry.0.now initial.entry.1.now self.old self.new) }
-        ensures lines { OnErr result (self.new.lines ≡ self.old.lines) }
+        ensures stays { OnErr result (StaysOrDraws self.old self.new) }
         ensures faults { FaultsOnly result }
     {
+        let prompt = copied_prompt(self.alloc, prompt)?;
+        let edited = line_of(self.alloc, initial.0, initial.1)?;
         self.ask_for_paste_marks()?;
-        self.prompt = copied_prompt(self.alloc, prompt)?;
+        self.prompt = prompt;
         self.line = None;
         self.kill_ring.reset();
         let begun = begin(
@@ -604,10 +610,9 @@ impl<O: Write + Drop, H: Helper + Drop, S: History + Drop> Editor<O, H, S> {
             &self.prompt,
             &mut self.helper,
             &self.history,
-            initial.0,
-            initial.1,
+            edited,
             &self.config,
-        )?;
+        );
         self.line = Some(begun);
         Ok(())
     }
