@@ -1,7 +1,8 @@
 //! Brackets: their validation results, and what the highlighter remembers, forgets and shows.
 
-use crate::ready::{Asked, Case, is_text};
-use line_parts::{CmdKind, Highlighter, MatchingBracketHighlighter};
+use crate::ready::{Asked, Case, is_text, says};
+use line_config::Result;
+use line_parts::{CmdKind, Highlighter, MatchingBracketHighlighter, MatchingBracketValidator};
 use std::alloc::Global;
 use std::process::Abort;
 
@@ -49,6 +50,33 @@ pub(super) fn shows(
         right = right && shown.expect(rt, "no fault");
     }
     right
+}
+
+/// Whether this is the validation result for the brackets of a text; the unit takes each text.
+fn is_verdict(alloc: Global, text: &str, wanted: (&str, &str)) -> Result<bool> {
+    Ok(
+        says(alloc, &MatchingBracketValidator::new(), text, wanted)?
+            && says(alloc, &MatchingBracketValidator::default(), text, wanted)?
+            && says(alloc, &(), text, ("valid", ""))?,
+    )
+}
+
+/// Whether the answer about brackets is the right one.
+pub(super) fn is_right(
+    rt: &impl Abort,
+    alloc: Global,
+    text: &str,
+    asked: Asked<'_>,
+) -> Result<bool> {
+    let (told, line, shown) = match asked {
+        Asked::Verdict(name, message) => return is_verdict(alloc, text, (name, message)),
+        Asked::Remembered(pos, found) => return Ok(remembers(text, pos, found)),
+        Asked::Match(pos, shown) => ((text, pos, None), text, shown),
+        Asked::MatchIn(pos, line, shown) => ((text, pos, None), line, shown),
+        Asked::MatchAfter(kind, line, shown) => ((text, 0, Some((kind, line))), text, shown),
+        _ => return Ok(false),
+    };
+    Ok(shows(rt, alloc, told, line, shown))
 }
 
 /// Texts with a bracket at fault.

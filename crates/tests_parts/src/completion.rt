@@ -24,17 +24,14 @@ pub(super) fn is_right(
     asked: Asked<'_>,
 ) -> Result<bool> {
     match asked {
-        Asked::Word(pos, esc_char, start, word) => Ok(
-            text.is_char_boundary(pos)
-                && extract_word(text, pos, esc_char, breaks) == (start, word),
-        ),
+        Asked::Word(pos, esc_char, start, word) => {
+            Ok(is_last_word(text, pos, esc_char, (start, word)))
+        }
         Asked::Escaped(esc_char, quote, wanted) => {
-            let text = String::from_str(alloc, text)?;
-            Ok(escape(text, esc_char, breaks, quote)?.as_str() == wanted)
+            is_escaped(alloc, text, (esc_char, quote), wanted)
         }
         Asked::Unescaped(esc_char, wanted, same) => {
-            let found = unescape(alloc, text, esc_char)?;
-            Ok(found.as_str() == wanted && matches!(found, CowStr::Borrowed(_)) == same)
+            is_unescaped(alloc, text, esc_char, (wanted, same))
         }
         Asked::Alike(count, wanted) => Ok(begin_alike(rt, alloc, text, count, wanted)),
         Asked::Paired(replacement, other, common) => {
@@ -45,6 +42,33 @@ pub(super) fn is_right(
         }
         _ => Ok(false),
     }
+}
+
+/// Whether the word before a cursor begins there, and is this one.
+fn is_last_word(text: &str, pos: usize, esc_char: Option<char>, wanted: (usize, &str)) -> bool {
+    text.is_char_boundary(pos) && extract_word(text, pos, esc_char, breaks) == wanted
+}
+
+/// Whether the text with its escapes, by an escape character and the quotes in which it stands, is this one.
+fn is_escaped(
+    alloc: Global,
+    text: &str,
+    (esc_char, quote): (Option<char>, Quote),
+    wanted: &str,
+) -> Result<bool> {
+    let text = String::from_str(alloc, text)?;
+    Ok(escape(text, esc_char, breaks, quote)?.as_str() == wanted)
+}
+
+/// Whether the text without its escapes is this one, and the text itself where it is to be.
+fn is_unescaped(
+    alloc: Global,
+    text: &str,
+    esc_char: Option<char>,
+    (wanted, same): (&str, bool),
+) -> Result<bool> {
+    let found = unescape(alloc, text, esc_char)?;
+    Ok(found.as_str() == wanted && matches!(found, CowStr::Borrowed(_)) == same)
 }
 
 /// Whether the first of the texts between the strokes, so many of them, begin so in common: it is borrowed from the first.

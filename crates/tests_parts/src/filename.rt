@@ -18,7 +18,7 @@ use tests_parties::fault::{Fault, GONE};
 
 /// Which calls of a lister fail.
 #[derive(Clone, Copy)]
-pub(super) enum Broken {
+enum Broken {
     /// The one of this number, from 1 on; none where that is 0.
     Call(u64),
     /// Those for this folder.
@@ -104,7 +104,7 @@ fn folder_of(
 
 /// By which call names are asked for.
 #[derive(Clone, Copy)]
-pub(super) enum Way {
+enum Way {
     Sorted,
     Unsorted,
     ByTrait,
@@ -134,7 +134,7 @@ fn found(
 
 /// Where the path begins, and what completes it: an arrow stands between what is shown and what is put in, and a comma
 /// between candidates.
-pub(super) type Offered<'t> = (usize, &'t str);
+type Offered<'t> = (usize, &'t str);
 
 /// Whether this was found.
 fn is_offered(found: &(usize, Vec<Pair>), wanted: Offered<'_>) -> bool {
@@ -148,18 +148,18 @@ fn is_offered(found: &(usize, Vec<Pair>), wanted: Offered<'_>) -> bool {
 }
 
 /// By whom names are asked for in their order.
-pub(super) const IN_ORDER: &[Way] = &[Sorted, ByTrait, Boxed];
+const IN_ORDER: &[Way] = &[Sorted, ByTrait, Boxed];
 
 /// By whom they are asked for in that of the lister.
-pub(super) const AS_LISTED: &[Way] = &[Unsorted];
+const AS_LISTED: &[Way] = &[Unsorted];
 
 /// A line, its cursor, the folder that is asked for, its names, and what is found.
-pub(super) type Completed<'t> = (&'t str, usize, (&'t str, &'t str), Offered<'t>);
+type Completed<'t> = (&'t str, usize, (&'t str, &'t str), Offered<'t>);
 
-/// Whether the names of a folder complete a line so, or the fault comes where it is to.
-pub(super) fn completes(
+/// Whether the names of a folder, asked for by one call, complete a line so, or the fault comes where it is to.
+fn completes_by(
     alloc: Global,
-    ways: &[Way],
+    way: Way,
     case: Completed<'_>,
     broken: Broken,
     fault: Fault,
@@ -168,23 +168,42 @@ pub(super) fn completes(
     if !line.is_char_boundary(pos) {
         return Ok(false);
     }
+    let lister = folder_of(alloc, folder, broken, fault)?;
+    let outcome = found(alloc, way, lister, line, pos);
+    match broken {
+        Broken::Call(1) | Broken::At(_) => fault.is_answer(alloc, &outcome),
+        _ => Ok(is_offered(&outcome?, wanted)),
+    }
+}
+
+/// Whether they do so by each of these calls.
+fn completes(
+    alloc: Global,
+    ways: &[Way],
+    case: Completed<'_>,
+    broken: Broken,
+    fault: Fault,
+) -> Result<bool> {
     for way in ways {
-        let outcome = found(
-            alloc,
-            *way,
-            folder_of(alloc, folder, broken, fault)?,
-            line,
-            pos,
-        );
-        let right = match broken {
-            Broken::Call(1) | Broken::At(_) => fault.is_answer(alloc, &outcome)?,
-            _ => is_offered(&outcome?, wanted),
-        };
-        if !right {
+        if !completes_by(alloc, *way, case, broken, fault)? {
             return Ok(false);
         }
     }
     Ok(true)
+}
+
+/// Whether the answer about a path is the right one.
+pub(super) fn is_right(alloc: Global, text: &str, asked: Asked<'_>) -> Result<bool> {
+    let (ways, case) = match asked {
+        Asked::Path(pos, path, names, start, offers) => {
+            (IN_ORDER, (text, pos, (path, names), (start, offers)))
+        }
+        Asked::Listed(pos, path, names, start, offers) => {
+            (AS_LISTED, (text, pos, (path, names), (start, offers)))
+        }
+        _ => return Ok(false),
+    };
+    completes(alloc, ways, case, Broken::Call(0), GONE)
 }
 
 /// The names of most cases.
@@ -380,32 +399,55 @@ pub(super) const CASES: &[Case<'_>] = &[
     ),
 ];
 
-/// Of the numbers below 3,000 there are 1,111 that begin with 1: 1, 10, 100, 1000 and so on. In their order the last is 999.
-#[test]
-fn of_many_names(rt: HostRuntime) {
-    let alloc = rt.alloc();
+/// Folders `n 2999`, `n 2998` and so on, down to `n 0`.
+fn many_names(rt: &impl Abort, alloc: Global) -> String {
     let mut names = String::new(alloc);
     for number in (0..3_000).rev() {
-        let name = format!(in alloc; "n {number}/,").expect(&rt, "no fault");
-        names.push_str(name.as_str()).expect(&rt, "no fault");
+        let name = format!(in alloc; "n {number}/,").expect(rt, "no fault");
+        names.push_str(name.as_str()).expect(rt, "no fault");
     }
-    for (line, way, count, last) in [
-        ("", Sorted, 3_000, Some(("n 999", "n\\ 999/"))),
-        ("", Unsorted, 3_000, None),
-        ("n\\ 1", Sorted, 1_111, None),
-        ("n\\ 1", Unsorted, 1_111, None),
-        ("x", Sorted, 0, None),
-        ("x", Unsorted, 0, None),
-    ] {
-        assert!(rt; line.is_char_boundary(line.len()));
+    names
+}
+
+/// A line, a call, how many names complete it, and the last of them, as it is shown and put in, where it is told.
+type Many = (
+    &'static str,
+    Way,
+    usize,
+    Option<(&'static str, &'static str)>,
+);
+
+/// Of the numbers below 3,000 there are 1,111 that begin with 1: 1, 10, 100, 1000 and so on. In their order the last is 999.
+const MANY: &[Many] = &[
+    ("", Sorted, 3_000, Some(("n 999", "n\\ 999/"))),
+    ("", Unsorted, 3_000, None),
+    ("n\\ 1", Sorted, 1_111, None),
+    ("n\\ 1", Unsorted, 1_111, None),
+    ("x", Sorted, 0, None),
+    ("x", Unsorted, 0, None),
+];
+
+/// Whether so many of these names complete the line, and the last of them is the one that is told.
+fn are_many(rt: &impl Abort, alloc: Global, names: &str, (line, way, count, last): Many) -> bool {
+    if !line.is_char_boundary(line.len()) {
+        return false;
+    }
+    let folder = folder_of(alloc, ("", names), Broken::Call(0), GONE).expect(rt, "no fault");
+    let (_, pairs) = found(alloc, way, folder, line, line.len()).expect(rt, "no fault");
+    let is_last = match (last, pairs.last()) {
+        (Some((display, replacement)), Some(pair)) => {
+            pair.display.as_str() == display && pair.replacement.as_str() == replacement
+        }
+        (last, _) => last.is_none(),
+    };
+    pairs.len() == count && is_last
+}
+
+#[test]
+fn of_many_names(rt: HostRuntime) {
+    let names = many_names(&rt, rt.alloc());
+    for (index, row) in MANY.iter().enumerate() {
         let names = names.as_str().trim_end_matches(',');
-        let folder = folder_of(alloc, ("", names), Broken::Call(0), GONE).expect(&rt, "no fault");
-        let (_, pairs) = found(alloc, way, folder, line, line.len()).expect(&rt, "no fault");
-        let shown = match pairs.last() {
-            Some(pair) => (pair.display.as_str(), pair.replacement.as_str()),
-            None => ("", ""),
-        };
-        let found = pairs.len() == count && last.unwrap_or(shown) == shown;
-        holds(&rt, found, line, count);
+        holds(&rt, are_many(&rt, rt.alloc(), names, *row), row.0, index);
     }
 }

@@ -12,7 +12,9 @@ use tests_parties::fault::GONE;
 pub(super) enum Long {
     /// The name of the validation result for its brackets, and its message.
     Verdict(&'static str, &'static str),
-    /// How it is shown: with the cursor there, a bracket is remembered.
+    /// That a bracket is remembered, with the cursor there.
+    Remembered(usize),
+    /// How it is shown with the cursor there.
     Match(usize),
     /// It with its escapes, in quotes, and whether it has none.
     Escaped(Quote, bool),
@@ -37,65 +39,75 @@ pub(super) enum Long {
 /// A helper that takes each line, with a hint.
 const YES: (Option<&str>, Verdict) = (Some("!"), (true, true, None));
 
+/// The answer about a text is the right one.
+fn is_answered(rt: &impl Abort, alloc: Global, text: &str, asked: Asked<'_>) {
+    are_right(rt, alloc, &[(text, asked)], false);
+}
+
 /// Each answer about a text is the right one.
 pub(super) fn answers(rt: &impl Abort, alloc: Global, long: &Long, text: &str, wanted: &str) {
     let asked = match *long {
         Long::Verdict(name, message) => Asked::Verdict(name, message),
-        Long::Match(pos) => {
-            are_right(rt, alloc, &[(text, Asked::Remembered(pos, true))], false);
-            Asked::Match(pos, wanted)
-        }
-        // the escapes can be left out again; without an escape character both texts stay
-        Long::Escaped(quote, same) => {
-            let table = [
-                (text, Asked::Escaped(Some('\\'), quote, wanted)),
-                (wanted, Asked::Unescaped(Some('\\'), text, same)),
-                (text, Asked::Escaped(None, quote, text)),
-                (text, Asked::Unescaped(None, text, true)),
-                (wanted, Asked::Escaped(None, quote, wanted)),
-                (wanted, Asked::Unescaped(None, wanted, true)),
-            ];
-            return are_right(rt, alloc, &table, false);
-        }
+        Long::Remembered(pos) => Asked::Remembered(pos, true),
+        Long::Match(pos) => Asked::Match(pos, wanted),
         Long::Word(pos, start) => Asked::Word(pos, Some('\\'), start, wanted),
-        Long::Alike => {
-            let words = format!(in alloc; "{text}a|{text}b").expect(rt, "no fault");
-            return are_right(
-                rt,
-                alloc,
-                &[(words.as_str(), Asked::Alike(2, Some(text)))],
-                false,
-            );
-        }
-        Long::Hint(pos) => {
-            let line = text.get(..pos).expect(rt, "a line");
-            let rest = text.get(pos..).expect(rt, "its rest");
-            return are_right(
-                rt,
-                alloc,
-                &[(line, Asked::Hint(text, 1, pos, Some(rest)))],
-                false,
-            );
-        }
         Long::Plain => Asked::Plain,
         Long::Paired => Asked::Paired(wanted, wanted, wanted),
         Long::Put(pos, end) => {
             Asked::Elected(completion::Which::Plain, pos, wanted, (wanted, end, 1))
         }
-        Long::Helped => {
-            let hint = (YES, 0, parties::Answer::Hint(Some("!")), false);
-            let hinted = parties::helped(rt, alloc, &hint, text, GONE);
-            let verdict = (YES, 0, parties::Answer::Verdict("valid", ""), false);
-            let valid = parties::helped(rt, alloc, &verdict, text, GONE);
-            return holds(rt, hinted && valid, "helped", text.len());
-        }
-        Long::Path => {
-            let offers = format!(in alloc; "{wanted} → {text}{wanted}").expect(rt, "no fault");
-            let asked = Asked::Path(text.len(), text, wanted, 0, offers.as_str());
-            return are_right(rt, alloc, &[(text, asked)], false);
-        }
+        Long::Escaped(quote, same) => return are_escaped(rt, alloc, (text, wanted), quote, same),
+        Long::Alike => return begin_alike(rt, alloc, text),
+        Long::Hint(pos) => return is_hinted(rt, alloc, text, pos),
+        Long::Helped => return is_helped(rt, alloc, text),
+        Long::Path => return is_path(rt, alloc, text, wanted),
     };
-    are_right(rt, alloc, &[(text, asked)], false);
+    is_answered(rt, alloc, text, asked);
+}
+
+/// The escapes of a text can be left out again; without an escape character both texts stay.
+fn are_escaped(
+    rt: &impl Abort,
+    alloc: Global,
+    (text, wanted): (&str, &str),
+    quote: Quote,
+    same: bool,
+) {
+    is_answered(rt, alloc, text, Asked::Escaped(Some('\\'), quote, wanted));
+    is_answered(rt, alloc, wanted, Asked::Unescaped(Some('\\'), text, same));
+    is_answered(rt, alloc, text, Asked::Escaped(None, quote, text));
+    is_answered(rt, alloc, text, Asked::Unescaped(None, text, true));
+    is_answered(rt, alloc, wanted, Asked::Escaped(None, quote, wanted));
+    is_answered(rt, alloc, wanted, Asked::Unescaped(None, wanted, true));
+}
+
+/// Two words that begin with the text and go on in two ways begin alike with it.
+fn begin_alike(rt: &impl Abort, alloc: Global, text: &str) {
+    let words = format!(in alloc; "{text}a|{text}b").expect(rt, "no fault");
+    is_answered(rt, alloc, words.as_str(), Asked::Alike(2, Some(text)));
+}
+
+/// The hint for so many bytes of the text is its rest.
+fn is_hinted(rt: &impl Abort, alloc: Global, text: &str, pos: usize) {
+    let line = text.get(..pos).expect(rt, "a line");
+    let rest = text.get(pos..).expect(rt, "its rest");
+    is_answered(rt, alloc, line, Asked::Hint(text, 1, pos, Some(rest)));
+}
+
+/// An editor gets a helper's answers about the text.
+fn is_helped(rt: &impl Abort, alloc: Global, text: &str) {
+    let hint = (YES, 0, parties::Answer::Hint(Some("!")), false);
+    let verdict = (YES, 0, parties::Answer::Verdict("valid", ""), false);
+    let hinted = parties::helped(rt, alloc, &hint, text, GONE);
+    let valid = parties::helped(rt, alloc, &verdict, text, GONE);
+    holds(rt, hinted && valid, "helped", text.len());
+}
+
+/// The text is the path of a folder, of which another one is a name.
+fn is_path(rt: &impl Abort, alloc: Global, text: &str, name: &str) {
+    let offers = format!(in alloc; "{name} → {text}{name}").expect(rt, "no fault");
+    let asked = Asked::Path(text.len(), text, name, 0, offers.as_str());
+    is_answered(rt, alloc, text, asked);
 }
 
 /// What is asked, the text, and the answer that is a text, as they are built of pieces.
@@ -119,6 +131,9 @@ pub(super) const CASES: &[Case] = &[
         "2000*{+1999*}+1*)",
         NOTHING,
     ),
+    (Long::Remembered(0), "1*(+5000*a+1*)", NOTHING),
+    (Long::Remembered(6_000), "3000*(+3000*)", NOTHING),
+    (Long::Remembered(0), "3000*(", NOTHING),
     (
         Long::Match(0),
         "1*(+5000*a+1*)",

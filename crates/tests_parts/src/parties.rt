@@ -10,7 +10,7 @@ use line_parts::{Candidate, CmdKind, Context, Helper, Highlighter, Hint, History
 use std::alloc::Global;
 use std::process::Abort;
 use tests_parties::advisor::Advisor;
-use tests_parties::fault::FAULTS;
+use tests_parties::fault::{FAULTS, Fault};
 
 /// Whether a candidate and a hint stand for this text.
 fn stands<T: Candidate + Hint>(value: &T, text: &str) -> bool {
@@ -18,20 +18,25 @@ fn stands<T: Candidate + Hint>(value: &T, text: &str) -> bool {
     shown == (text, text) && value.replacement() == text && value.completion() == Some(text)
 }
 
-/// Whether a text stands for itself, and the unit and no helper at all leave it as it is.
-pub(super) fn stays(rt: &impl Abort, alloc: Global, text: &str) -> bool {
-    let owned = String::from_str(alloc, text).expect(rt, "no fault");
+/// Whether the unit shows a text as it is.
+fn shows_plain(rt: &impl Abort, alloc: Global, text: &str) -> bool {
     let unit = &mut ();
     let candidate = unit.highlight_candidate(alloc, text, CompletionType::List);
-    stands(&text, text)
-        && stands(&owned, text)
-        && is_text(candidate, text).expect(rt, "no fault")
+    is_text(candidate, text).expect(rt, "no fault")
         && is_text(unit.highlight(alloc, text, 0), text).expect(rt, "no fault")
         && is_text(unit.highlight_prompt(alloc, text, true), text).expect(rt, "no fault")
         && is_text(unit.highlight_hint(alloc, text), text).expect(rt, "no fault")
         && !unit.highlight_char(text, 0, CmdKind::Other)
+}
+
+/// Whether a text stands for itself, and the unit and no helper at all leave it as it is.
+pub(super) fn stays(rt: &impl Abort, alloc: Global, text: &str) -> bool {
+    let owned = String::from_str(alloc, text).expect(rt, "no fault");
+    stands(&text, text)
+        && stands(&owned, text)
+        && shows_plain(rt, alloc, text)
         && faults::asks_nothing(rt, alloc, None, text)
-        && faults::asks_nothing(rt, alloc, Some(unit), text)
+        && faults::asks_nothing(rt, alloc, Some(&mut ()), text)
 }
 
 pub(super) const CASES: &[Case<'_>] = &[
@@ -60,27 +65,35 @@ fn answers<H: Helper>(rt: &impl Abort, alloc: Global, helper: &mut H, wanted: An
     is_empty && is_lit == lit && is_hint(&hint, text) && is_said
 }
 
-/// A helper keeps its answers, and so does the unit. Each answer, and each error of a helper or a history, is handed
-/// on.
+/// A helper keeps its answers, and so does the unit.
 #[test]
 fn a_helper_keeps_its_answers(rt: HostRuntime) {
     let alloc = rt.alloc();
-    assert!(rt; answers(&rt, alloc, &mut (), (false, None, ("valid", ""))));
     let moved = Some(CmdKind::MoveCursor);
     let mut advisor = Advisor::new(Some("!"), (true, false, Some("no")), moved);
-    for _ in 0..2 {
-        let wanted = (true, Some("!"), ("invalid", "no"));
-        assert!(rt; answers(&rt, alloc, &mut advisor, wanted));
+    let wanted = (true, Some("!"), ("invalid", "no"));
+    let first = answers(&rt, alloc, &mut advisor, wanted);
+    let again = answers(&rt, alloc, &mut advisor, wanted);
+    let unit = answers(&rt, alloc, &mut (), (false, None, ("valid", "")));
+    let told = advisor.kinds() == (moved, moved, None, None);
+    assert!(rt; first && again && unit && told);
+}
+
+/// Each answer, and this error of a helper or a history, is handed on.
+fn hand_on(rt: &impl Abort, alloc: Global, fault: Fault) {
+    for (row, case) in faults::CASES.iter().enumerate() {
+        let found = helped(rt, alloc, case, "ab", fault);
+        holds(rt, found, fault.text, row);
     }
-    assert!(rt; advisor.kinds() == (moved, moved, None, None));
+    for (row, case) in history_hinter::FAULTY.iter().enumerate() {
+        let found = history_hinter::asks(rt, alloc, case, fault);
+        holds(rt, found, fault.text, row);
+    }
+}
+
+#[test]
+fn answers_and_errors_are_handed_on(rt: HostRuntime) {
     for fault in FAULTS {
-        for (row, case) in faults::CASES.iter().enumerate() {
-            let found = helped(&rt, alloc, case, "ab", *fault);
-            holds(&rt, found, fault.text, row);
-        }
-        for (row, case) in history_hinter::FAULTY.iter().enumerate() {
-            let found = history_hinter::asks(&rt, alloc, case, *fault);
-            holds(&rt, found, fault.text, row);
-        }
+        hand_on(&rt, rt.alloc(), *fault);
     }
 }

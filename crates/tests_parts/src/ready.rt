@@ -1,12 +1,11 @@
 //! The ready helpers: a case is a text, what is asked about it, and the right answer.
 
-use crate::filename::{AS_LISTED, Broken, IN_ORDER};
 use crate::history::built;
 use crate::{brackets, completion, filename, history_hinter, holds, large, parties};
 use line_config::{ReadlineError, Result};
 use line_parts::{
-    CmdKind, Highlighter, Hint, MatchingBracketHighlighter, MatchingBracketValidator, Quote,
-    ValidationContext, ValidationResult, Validator,
+    CmdKind, Highlighter, Hint, MatchingBracketHighlighter, Quote, ValidationContext,
+    ValidationResult, Validator,
 };
 use std::alloc::Global;
 use std::borrow::CowStr;
@@ -100,38 +99,18 @@ pub(super) fn broken_history(alloc: Global) -> Shelf {
 /// Whether the answer is the right one. What is also asked with an allocation refused hands its error on.
 fn is_right(rt: &impl Abort, alloc: Global, text: &str, asked: Asked<'_>) -> Result<bool> {
     match asked {
-        Asked::Verdict(name, message) => {
-            let wanted = (name, message);
-            Ok(
-                says(alloc, &MatchingBracketValidator::new(), text, wanted)?
-                    && says(alloc, &MatchingBracketValidator::default(), text, wanted)?
-                    && says(alloc, &(), text, ("valid", ""))?,
-            )
-        }
-        Asked::Remembered(pos, found) => Ok(brackets::remembers(text, pos, found)),
-        Asked::Match(pos, shown) => {
-            Ok(brackets::shows(rt, alloc, (text, pos, None), text, shown))
-        }
-        Asked::MatchIn(pos, line, shown) => {
-            Ok(brackets::shows(rt, alloc, (text, pos, None), line, shown))
-        }
-        Asked::MatchAfter(kind, line, shown) => {
-            let told = (text, 0, Some((kind, line)));
-            Ok(brackets::shows(rt, alloc, told, text, shown))
-        }
         Asked::Hint(lines, index, pos, wanted) => {
             history_hinter::hints(alloc, lines, index, (text, pos, wanted))
         }
         Asked::Plain => Ok(parties::stays(rt, alloc, text)),
-        Asked::Path(pos, path, names, start, offers) => {
-            let case = (text, pos, (path, names), (start, offers));
-            filename::completes(alloc, IN_ORDER, case, Broken::Call(0), GONE)
-        }
-        Asked::Listed(pos, path, names, start, offers) => {
-            let case = (text, pos, (path, names), (start, offers));
-            filename::completes(alloc, AS_LISTED, case, Broken::Call(0), GONE)
-        }
-        _ => completion::is_right(rt, alloc, text, asked),
+        Asked::Path(..) | Asked::Listed(..) => filename::is_right(alloc, text, asked),
+        Asked::Word(..)
+        | Asked::Escaped(..)
+        | Asked::Unescaped(..)
+        | Asked::Alike(..)
+        | Asked::Elected(..)
+        | Asked::Paired(..) => completion::is_right(rt, alloc, text, asked),
+        _ => brackets::is_right(rt, alloc, text, asked),
     }
 }
 
@@ -148,16 +127,17 @@ pub(super) fn are_right(rt: &impl Abort, alloc: Global, table: &[Case<'_>], may_
 
 #[test]
 fn answers_are_right(rt: HostRuntime) {
-    for table in [
-        brackets::AT_FAULT,
-        brackets::CASES,
-        parties::CASES,
-        completion::CASES,
-        history_hinter::CASES,
-        filename::CASES,
-    ] {
-        are_right(&rt, rt.alloc(), table, false);
-    }
+    let alloc = rt.alloc();
+    are_right(&rt, alloc, brackets::AT_FAULT, false);
+    are_right(&rt, alloc, brackets::CASES, false);
+    are_right(&rt, alloc, parties::CASES, false);
+    are_right(&rt, alloc, completion::CASES, false);
+    are_right(&rt, alloc, history_hinter::CASES, false);
+    are_right(&rt, alloc, filename::CASES, false);
+}
+
+#[test]
+fn answers_about_long_texts_are_right(rt: HostRuntime) {
     for (long, text, wanted) in large::CASES {
         let text = built(&rt, rt.alloc(), text);
         let wanted = built(&rt, rt.alloc(), wanted);
@@ -208,9 +188,8 @@ const REFUSED: &[Case<'_>] = &[
 /// Run with any one allocation refused, this passes: every answer is the right one, and the bracket is remembered.
 #[test]
 fn a_refused_allocation_has_no_answer(rt: HostRuntime) {
-    for table in [brackets::AT_FAULT, REFUSED] {
-        are_right(&rt, rt.alloc(), table, true);
-    }
+    are_right(&rt, rt.alloc(), brackets::AT_FAULT, true);
+    are_right(&rt, rt.alloc(), REFUSED, true);
     let mut highlighter = MatchingBracketHighlighter::new();
     assert!(rt; highlighter.highlight_char("日(é)", 3, CmdKind::MoveCursor));
     for _ in 0..3 {

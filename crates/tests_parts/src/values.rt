@@ -7,33 +7,46 @@ use std::borrow::CowStr;
 use std::fmt::Debug;
 use std::process::Abort;
 
+/// Both comparisons say whether two values are the same.
+fn compare<T: PartialEq>(one: &T, other: &T, same: bool) -> bool {
+    (*one == *other) == same && (*one != *other) != same
+}
+
 /// Each value is shown by its name, and equals what stands at its own place alone, a copy included.
-fn are_told_apart<T: Copy + PartialEq + Debug>(
+fn are_told_apart<T: Copy + Drop + PartialEq + Debug>(
     rt: &impl Abort,
     alloc: Global,
-    values: &[T],
-    names: &[&str],
+    values: &[(T, &str)],
 ) {
-    assert!(rt; values.len() == names.len());
-    for (index, (one, name)) in values.iter().zip(names).enumerate() {
+    for (index, (one, name)) in values.iter().enumerate() {
         let shown = format!(in alloc; "{one:?}").expect(rt, "no fault");
         let mut apart = shown.as_str() == *name;
-        for (place, other) in values.iter().enumerate() {
+        for (place, (other, _)) in values.iter().enumerate() {
             let copy = *other;
-            let same = index == place;
-            apart = apart && (*one == copy) == same && (*one != copy) != same;
+            apart = apart && compare(one, &copy, index == place);
         }
         holds(rt, apart, name, index);
     }
 }
 
-const KINDS: &[CmdKind] = &[CmdKind::MoveCursor, CmdKind::Other, CmdKind::ForcedRefresh];
+const KINDS: &[(CmdKind, &str)] = &[
+    (CmdKind::MoveCursor, "MoveCursor"),
+    (CmdKind::Other, "Other"),
+    (CmdKind::ForcedRefresh, "ForcedRefresh"),
+];
 
-const DIRECTIONS: &[SearchDirection] = &[SearchDirection::Forward, SearchDirection::Reverse];
+const DIRECTIONS: &[(SearchDirection, &str)] = &[
+    (SearchDirection::Forward, "Forward"),
+    (SearchDirection::Reverse, "Reverse"),
+];
 
-const QUOTES: &[Quote] = &[Quote::Double, Quote::Single, Quote::None];
+const QUOTES: &[(Quote, &str)] = &[
+    (Quote::Double, "Double"),
+    (Quote::Single, "Single"),
+    (Quote::None, "None"),
+];
 
-const ESCAPES: &[Escapes] = &[Escapes::V2, Escapes::V3];
+const ESCAPES: &[(Escapes, &str)] = &[(Escapes::V2, "V2"), (Escapes::V3, "V3")];
 
 /// A line, its index, and the place in it.
 type Found = (&'static str, usize, usize);
@@ -61,27 +74,32 @@ const RESULTS: &[Found] = &[
     ("ab", 1, 1),
 ];
 
+/// Whether two results are the same or not, as they are to be, also where one of them is copied or owns its line.
+fn are_apart(rt: &impl Abort, alloc: Global, one: &Found, other: &Found, same: bool) -> bool {
+    let mine = result_of(rt, alloc, one, false);
+    let theirs = result_of(rt, alloc, other, false);
+    let copy = mine.clone().expect(rt, "no fault");
+    let owned = result_of(rt, alloc, one, true)
+        .clone()
+        .expect(rt, "no fault");
+    compare(&mine, &theirs, same)
+        && (copy == result_of(rt, alloc, other, true)) == same
+        && (owned == theirs) == same
+}
+
 /// `Debug` names each. A result equals one of the same values alone, also where one of them owns its line; so does its
 /// copy.
 #[test]
 fn no_two_are_equal(rt: HostRuntime) {
     let alloc = rt.alloc();
-    are_told_apart(&rt, alloc, KINDS, &["MoveCursor", "Other", "ForcedRefresh"]);
-    are_told_apart(&rt, alloc, DIRECTIONS, &["Forward", "Reverse"]);
-    are_told_apart(&rt, alloc, QUOTES, &["Double", "Single", "None"]);
-    are_told_apart(&rt, alloc, ESCAPES, &["V2", "V3"]);
+    are_told_apart(&rt, alloc, KINDS);
+    are_told_apart(&rt, alloc, DIRECTIONS);
+    are_told_apart(&rt, alloc, QUOTES);
+    are_told_apart(&rt, alloc, ESCAPES);
     for (index, one) in RESULTS.iter().enumerate() {
         let mut apart = true;
         for (place, other) in RESULTS.iter().enumerate() {
-            let same = index == place;
-            let mine = result_of(&rt, alloc, one, false);
-            let theirs = result_of(&rt, alloc, other, false);
-            let compared = (mine == theirs) == same && (mine != theirs) != same;
-            let copy = mine.clone().expect(&rt, "no fault");
-            let copied = (copy == result_of(&rt, alloc, other, true)) == same;
-            let owned = result_of(&rt, alloc, one, true).clone();
-            let owned = (owned.expect(&rt, "no fault") == theirs) == same;
-            apart = apart && compared && copied && owned;
+            apart = apart && are_apart(&rt, alloc, one, other, index == place);
         }
         holds(&rt, apart, one.0, index);
     }

@@ -2,7 +2,9 @@
 
 use super::{Boxed, Broken, ByTrait, Completed, NAMES, Sorted, Unsorted, Way, completes};
 use crate::holds;
+use std::alloc::Global;
 use std::io::ErrorKind;
+use std::process::Abort;
 use tests_parties::fault::{CUT, Fault, GONE, USUAL};
 
 /// One candidate at most.
@@ -36,19 +38,22 @@ const LOST: Fault = Fault {
     text: "no such folder",
 };
 
+const FAULTS: &[Fault] = &[USUAL, GONE, CUT, LOST];
+
+/// By each call for names and each fault the line is completed, or the fault is handed on.
+fn breaks(rt: &impl Abort, alloc: Global, row: usize, case: &Completed<'static>, broken: Broken) {
+    for fault in FAULTS {
+        let found = completes(alloc, EACH_WAY, *case, broken, *fault);
+        holds(rt, found.expect(rt, "no fault"), fault.text, row);
+    }
+}
+
 #[test]
 fn of_a_lister(rt: HostRuntime) {
     for (row, case) in CASES.iter().enumerate() {
-        for fault in [USUAL, GONE, CUT, LOST] {
-            for broken in [
-                Broken::Call(1),
-                Broken::Call(2),
-                Broken::At(case.2.0),
-                Broken::ButAt(case.2.0),
-            ] {
-                let found = completes(rt.alloc(), EACH_WAY, *case, broken, fault);
-                holds(&rt, found.expect(&rt, "no fault"), fault.text, row);
-            }
-        }
+        breaks(&rt, rt.alloc(), row, case, Broken::Call(1));
+        breaks(&rt, rt.alloc(), row, case, Broken::Call(2));
+        breaks(&rt, rt.alloc(), row, case, Broken::At(case.2.0));
+        breaks(&rt, rt.alloc(), row, case, Broken::ButAt(case.2.0));
     }
 }

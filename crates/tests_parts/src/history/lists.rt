@@ -44,19 +44,38 @@ pub(super) enum Step {
 
 /// A call of any history.
 fn stepped<H: History>(rt: &impl Abort, alloc: Global, history: &mut H, step: &Step) {
-    let (line, owned, taken) = match step {
-        Add(line, taken) => (line, false, taken),
-        AddOwned(line, taken) => (line, true, taken),
-        Many(lines) => return fills(rt, alloc, history, lines_of(rt, alloc, *lines).as_str()),
-        Limit(len) => return history.set_max_len(*len).expect(rt, "no fault"),
-        IgnoreDups(yes) => return history.ignore_dups(*yes).expect(rt, "no fault"),
+    let outcome = match step {
+        Limit(len) => history.set_max_len(*len),
+        IgnoreDups(yes) => history.ignore_dups(*yes),
+        Clear => history.clear(),
         IgnoreSpace(yes) => return history.ignore_space(*yes),
-        Clear => return history.clear().expect(rt, "no fault"),
-        Has(lines) => return gives(rt, history, lines_of(rt, alloc, *lines).as_str()),
-        _ => panic!(rt; "a call of any history"),
+        Add(line, taken) => return adds(rt, alloc, history, line, false, *taken),
+        AddOwned(line, taken) => return adds(rt, alloc, history, line, true, *taken),
+        step => return has(rt, alloc, history, step),
     };
+    outcome.expect(rt, "no fault");
+}
+
+/// A line is added, with this answer.
+fn adds<H: History>(
+    rt: &impl Abort,
+    alloc: Global,
+    history: &mut H,
+    line: &str,
+    owned: bool,
+    taken: bool,
+) {
     let answer = added(alloc, history, line, owned).expect(rt, "no fault");
-    holds(rt, answer == *taken, line, 0);
+    holds(rt, answer == taken, line, 0);
+}
+
+/// Each of these lines is taken, or is there.
+fn has<H: History>(rt: &impl Abort, alloc: Global, history: &mut H, step: &Step) {
+    match step {
+        Many(lines) => fills(rt, alloc, history, lines_of(rt, alloc, *lines).as_str()),
+        Has(lines) => gives(rt, history, lines_of(rt, alloc, *lines).as_str()),
+        _ => holds(rt, false, "a call of any history", 0),
+    }
 }
 
 /// A call of a history that can be saved.
@@ -117,8 +136,8 @@ fn mem_gives(rt: &impl Abort, history: &MemHistory, lines: &str) {
     );
     holds(rt, come(entries.0, entries.1, entries.2, lines), lines, 0);
     for (index, line) in history.into_iter().enumerate() {
-        assert!(rt; index < history.len());
-        holds(rt, history.entry(index) == line.as_str(), lines, index);
+        let right = index < history.len() && history.entry(index) == line.as_str();
+        holds(rt, right, lines, index);
     }
 }
 
@@ -127,8 +146,8 @@ fn file_gives(rt: &impl Abort, history: &FileHistory, lines: &str) {
     let entries = (history.iter(), history.into_iter(), history.iter());
     holds(rt, come(entries.0, entries.1, entries.2, lines), lines, 0);
     for (index, line) in history.iter().enumerate() {
-        assert!(rt; index < history.len());
-        holds(rt, history.entry(index) == line.as_str(), lines, index);
+        let right = index < history.len() && history.entry(index) == line.as_str();
+        holds(rt, right, lines, index);
     }
 }
 
@@ -254,6 +273,15 @@ pub(super) const LISTS: &[Step] = &[
     Gives(""),
 ];
 
+/// Settings that keep so many lines, and leave out those that they are to.
+fn config_of(rt: &impl Abort, max_len: usize, dups: bool, space: bool) -> Config {
+    let mut config = Config::new(GraphemeClusterMode::Unicode);
+    config.set_max_history_size(max_len).expect(rt, "no fault");
+    config.set_history_ignore_dups(dups).expect(rt, "no fault");
+    config.set_history_ignore_space(space);
+    config
+}
+
 /// Each call of the table is answered so by a history that can be saved, and leaves these lines; and by one in memory
 /// alone, where it has all the calls.
 pub(super) fn are_kept(rt: &impl Abort, alloc: Global, table: &[Step], in_memory: bool) {
@@ -262,10 +290,7 @@ pub(super) fn are_kept(rt: &impl Abort, alloc: Global, table: &[Step], in_memory
     for step in table {
         match step {
             With(max_len, dups, space) => {
-                let mut config = Config::new(GraphemeClusterMode::Unicode);
-                config.set_max_history_size(*max_len).expect(rt, "no fault");
-                config.set_history_ignore_dups(*dups).expect(rt, "no fault");
-                config.set_history_ignore_space(*space);
+                let config = config_of(rt, *max_len, *dups, *space);
                 history = FileHistory::with_config(alloc, &config);
                 other = MemHistory::with_config(alloc, &config);
             }

@@ -16,6 +16,15 @@ use std::process::Abort;
 /// Lines that are all taken, and for which a list grows more than once.
 const LINES: &str = "a|b\n\\\rb|0123456789\n0123456789\n0123456789\n0123456789|c|d|e";
 
+/// Puts a line behind those that are kept, or alone where they are full, with a bar after it.
+fn keep(rt: &impl Abort, kept: &mut String, line: &str, full: bool) {
+    if full {
+        kept.clear();
+    }
+    kept.push_str(line).expect(rt, "no fault");
+    kept.push('|').expect(rt, "no fault");
+}
+
 /// A refused line leaves the list as it was: it does not drop the oldest of a full history, which keeps one line.
 fn adds<H: History>(rt: &impl Abort, alloc: Global, history: &mut H, owned: bool, full: bool) {
     let Ok(mut kept) = String::with_capacity(alloc, 100) else {
@@ -27,12 +36,8 @@ fn adds<H: History>(rt: &impl Abort, alloc: Global, history: &mut H, owned: bool
     for line in LINES.split_terminator('|') {
         let outcome = added(alloc, history, line, owned);
         if let Some(taken) = answer_of(rt, alloc, outcome, OutOfMemory, "") {
-            assert!(rt; taken);
-            if full {
-                kept.clear();
-            }
-            kept.push_str(line).expect(rt, "no fault");
-            kept.push('|').expect(rt, "no fault");
+            holds(rt, taken, line, 0);
+            keep(rt, &mut kept, line, full);
         }
         gives(rt, history, kept.as_str());
     }
