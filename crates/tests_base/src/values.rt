@@ -127,10 +127,21 @@ const POSITIONS: &[(Position, &str)] = &[
     ),
 ];
 
+/// Whether each comparison says of each of these positions on which side of this one it stands.
+fn is_in_order(positions: &[(Position, &str)], index: usize, one: &Position) -> bool {
+    let mut ordered = true;
+    for (place, (other, _)) in positions.iter().enumerate() {
+        let order = index.cmp(&place);
+        let same = one.cmp(other) == order && one.partial_cmp(other) == Some(order);
+        ordered = ordered && same && (*one < *other) == (index < place);
+    }
+    ordered
+}
+
 /// No two of a list are equal: what the line buffer has, and the settings. Positions are in order, by each comparison.
 #[test]
 fn no_two_are_equal(rt: HostRuntime) {
-    let alloc = rt.alloc();
+    let (alloc, positions) = (rt.alloc(), POSITIONS);
     are_distinct(&rt, alloc, WORDS);
     are_distinct(&rt, alloc, PLACES);
     are_distinct(&rt, alloc, SEARCHES);
@@ -138,7 +149,7 @@ fn no_two_are_equal(rt: HostRuntime) {
     are_distinct(&rt, alloc, CLUSTERS);
     are_distinct(&rt, alloc, ACTIONS);
     are_distinct(&rt, alloc, SIDES);
-    are_distinct(&rt, alloc, POSITIONS);
+    are_distinct(&rt, alloc, positions);
     are_distinct(&rt, alloc, &[(OutOfMemory, "OutOfMemory")]);
     are_distinct(&rt, alloc, BELLS);
     are_distinct(&rt, alloc, DUPLICATES);
@@ -146,21 +157,16 @@ fn no_two_are_equal(rt: HostRuntime) {
     are_distinct(&rt, alloc, STYLES);
     are_distinct(&rt, alloc, COLORS);
     are_distinct(&rt, alloc, BEHAVIORS);
-    for (index, (one, name)) in POSITIONS.iter().enumerate() {
-        let mut ordered = true;
-        for (place, (other, _)) in POSITIONS.iter().enumerate() {
-            let order = index.cmp(&place);
-            let same = one.cmp(other) == order && one.partial_cmp(other) == Some(order);
-            ordered = ordered && same && (*one < *other) == (index < place);
-        }
-        holds(&rt, ordered, name, index);
+    for (index, (one, name)) in positions.iter().enumerate() {
+        holds(&rt, is_in_order(positions, index, one), name, index);
     }
     // the defaults are looked at without a comparison of the type too
     let origin = Position::default();
     let is_first = origin.row == 0 && origin.col == 0 && origin == Position { row: 0, col: 0 };
     let (bell, behavior) = (BellStyle::default(), Behavior::default());
-    assert!(&rt; is_first && matches!(bell, BellStyle::Audible) && bell == BellStyle::Audible);
-    assert!(&rt; matches!(behavior, Behavior::Stdio) && behavior == Behavior::Stdio);
+    let is_audible = matches!(bell, BellStyle::Audible) && bell == BellStyle::Audible;
+    let is_plain = matches!(behavior, Behavior::Stdio) && behavior == Behavior::Stdio;
+    holds(&rt, is_first && is_audible && is_plain, "defaults", 0);
 }
 
 /// Movements, and how each is shown.
@@ -216,10 +222,11 @@ const MOVEMENTS: &[(Movement, &str)] = &[
 /// No two movements are equal, also where one of them is a clone.
 #[test]
 fn no_two_movements_are_equal(rt: HostRuntime) {
-    for (index, (one, name)) in MOVEMENTS.iter().enumerate() {
+    let movements = MOVEMENTS;
+    for (index, (one, name)) in movements.iter().enumerate() {
         let shown = debug_text(&rt, rt.alloc(), one);
         let mut apart = shown.as_str() == *name;
-        for (place, (other, _)) in MOVEMENTS.iter().enumerate() {
+        for (place, (other, _)) in movements.iter().enumerate() {
             let copy = other.clone().expect(&rt, "no fault");
             apart = apart && compare(one, &copy, index == place);
         }

@@ -108,9 +108,10 @@ fn copies(rt: &impl Abort, change: &Change) -> bool {
 
 #[test]
 fn no_two_are_equal(rt: HostRuntime) {
-    for (index, one) in CHANGES.iter().enumerate() {
+    let changes = CHANGES;
+    for (index, one) in changes.iter().enumerate() {
         let mut apart = copies(&rt, one);
-        for (place, other) in CHANGES.iter().enumerate() {
+        for (place, other) in changes.iter().enumerate() {
             let (first, second) = (built(&rt, one).build(), built(&rt, other).build());
             let same = index == place;
             let found = (settings(&first) == settings(&second)) == same;
