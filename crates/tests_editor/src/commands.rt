@@ -1,6 +1,7 @@
 //! Commands and calls of the edit state, executed one after another: where an allocation is refused, on long lines and
 //! histories, and on the last row; and what `Debug` writes.
 
+use crate::holds;
 use line_buffer::{GraphemeClusterMode, KillRing, Unit};
 use line_config::{Config, Prompt, ReadlineError, Result};
 use line_editor::Bindings;
@@ -72,11 +73,8 @@ fn on_the_last_row(rt: HostRuntime) {
         }
         let cursor = state.layout().cursor;
         let letters = letters(alloc, state.out().log(), 1).expect(&rt, "no fault");
-        assert_eq!(rt;
-            (cursor.row, cursor.col, letters.as_str()),
-            (65535, *column, *calls),
-            "{typed}"
-        );
+        let is_so = (cursor.row, cursor.col, letters.as_str()) == (65535, *column, *calls);
+        holds(&rt, is_so, typed, usize::from(cursor.col));
     }
 }
 
@@ -110,6 +108,6 @@ fn is_written(rt: HostRuntime) {
     assert!(rt; state.fmt(&mut formatter).is_ok());
     let written = formatter.into_inner();
     for piece in PIECES {
-        assert!(rt; written.as_str().contains(*piece), "{piece}");
+        holds(&rt, written.as_str().contains(*piece), piece, 0);
     }
 }

@@ -1,11 +1,12 @@
 //! The caller of the documents, run once.
 
 use crate::caller::type_in;
+use crate::holds;
 use line_buffer::{Changeset, LineBuffer};
 
 #[test]
 fn a_character_by_the_caller(rt: HostRuntime) {
     let mut buffer = LineBuffer::new(rt.alloc());
     type_in(&mut buffer, &mut Changeset::new(rt.alloc()), 'é').expect(&rt, "no fault");
-    assert_eq!(rt; buffer.as_str(), "é");
+    holds(&rt, buffer.as_str() == "é", buffer.as_str(), 0);
 }

@@ -2,11 +2,14 @@
 
 use self::Made::*;
 use self::With::*;
+use crate::holds;
 use bitflags::Flags;
+use line_config::Result;
 use line_editor::binding::{Event, EventHandler};
 use line_keys::cmd::Cmd;
 use line_keys::keys::{KeyCode as K, KeyEvent, Modifiers as M};
 use line_keys::refresher::Invoke;
+use std::alloc::Global;
 use std::collections::HashMap;
 
 /// Each set of modifiers; the same with Ctrl, with Shift and without Shift.
@@ -174,26 +177,37 @@ const EVENTS: &[(Made, K, With)] = &[
     (Plain('q'), K::Char('q'), Only(M::NONE, M::NONE)),
 ];
 
+/// The modifiers with which an event is made, and what they become.
+fn modifiers(with: &With, set: &(M, M, M, M)) -> (M, M) {
+    let (mods, and_ctrl, and_shift, not_shift) = *set;
+    match with {
+        Each => (mods, mods),
+        EachAndCtrl => (mods, and_ctrl),
+        EachAndShift => (mods, and_shift),
+        EachNotShift => (mods, not_shift),
+        Only(given, left) => (*given, *left),
+    }
+}
+
+/// The event that is made with these modifiers.
+fn event(made: &Made, mods: M) -> KeyEvent {
+    match made {
+        New(c) => KeyEvent::new(*c, mods),
+        Ctrl(c) => KeyEvent::ctrl(*c),
+        Alt(c) => KeyEvent::alt(*c),
+        Plain(c) => KeyEvent::from(*c),
+        Normal(code) => KeyEvent::normalize(KeyEvent(*code, mods)),
+    }
+}
+
 /// The event that is made, with each set of modifiers.
 #[test]
 fn are_made(rt: HostRuntime) {
-    for (made, code, with) in EVENTS {
-        for (mods, and_ctrl, and_shift, not_shift) in SETS {
-            let (given, left) = match with {
-                Each => (*mods, *mods),
-                EachAndCtrl => (*mods, *and_ctrl),
-                EachAndShift => (*mods, *and_shift),
-                EachNotShift => (*mods, *not_shift),
-                Only(given, left) => (*given, *left),
-            };
-            let event = match made {
-                New(c) => KeyEvent::new(*c, given),
-                Ctrl(c) => KeyEvent::ctrl(*c),
-                Alt(c) => KeyEvent::alt(*c),
-                Plain(c) => KeyEvent::from(*c),
-                Normal(code) => KeyEvent::normalize(KeyEvent(*code, given)),
-            };
-            assert_eq!(rt; event, KeyEvent(*code, left), "made with {given:?}");
+    for (row, (made, code, with)) in EVENTS.iter().enumerate() {
+        for set in SETS {
+            let (given, left) = modifiers(with, set);
+            let is_made = event(made, given) == KeyEvent(*code, left);
+            holds(&rt, is_made, "made of row", row);
         }
     }
 }
@@ -315,56 +329,72 @@ const COMBINED: &[Sets] = &[
     ),
 ];
 
+/// Whether two sets are combined so.
+fn are_combined(sets: &Sets) -> bool {
+    let (_, a, b, both, common, either, first, lacks) = *sets;
+    let is_joined = a | b == both && a & b == common && a ^ b == either;
+    is_joined && a - b == first && !a == lacks
+}
+
+/// Whether one set is put into the other, taken from it and changed round.
+fn are_changed(sets: &Sets) -> bool {
+    let (_, a, b, both, _, _, first, _) = *sets;
+    let mut set = a;
+    set.insert(b);
+    let inserted = set;
+    set.remove(b);
+    let removed = set;
+    set.toggle(both);
+    inserted == both && removed == first && set == both - first
+}
+
+/// Whether a set has the members and the bits that it is to have.
+fn is_known(sets: &Sets) -> bool {
+    let (bits, a, b, _, common, _, _, _) = *sets;
+    let has = a.contains(b) == (common == b) && a.intersects(b) == (common != M::NONE);
+    let is_made = M::from_bits(bits) == Some(a) && M::from_bits(bits | 1) == None;
+    has && a.is_empty() == (a == M::NONE) && a.bits() == bits && is_made
+}
+
 #[test]
 fn modifiers_are_sets(rt: HostRuntime) {
-    for case in COMBINED {
-        let (bits, a, b, both, common, either, first, lacks) = *case;
-        let mut set = a;
-        set.insert(b);
-        let inserted = set;
-        set.remove(b);
-        let removed = set;
-        set.toggle(both);
-        let found = [a | b, a & b, a ^ b, a - b, !a, inserted, removed, set];
-        let left = both - first;
-        assert_eq!(rt;
-            found,
-            [both, common, either, first, lacks, both, first, left]
-        );
-        let found = (a.contains(b), a.intersects(b), a.is_empty());
-        assert_eq!(rt; found, (common == b, common != M::NONE, a == M::NONE));
-        let found = (a.bits(), M::from_bits(bits), M::from_bits(bits | 1));
-        assert_eq!(rt; found, (bits, Some(a), None));
+    for (row, sets) in COMBINED.iter().enumerate() {
+        let is_so = are_combined(sets) && are_changed(sets) && is_known(sets);
+        holds(&rt, is_so, "sets of row", row);
     }
-    let found = (!M::from_bits_retain(0xf1), M::from_bits(16));
-    assert_eq!(rt; found, (M::CTRL_ALT_SHIFT, None));
-    assert_eq!(rt; (M::empty(), M::all()), (M::NONE, M::CTRL_ALT_SHIFT));
+    let retained = !M::from_bits_retain(0xf1) == M::CTRL_ALT_SHIFT && M::from_bits(16) == None;
+    let ends = M::empty() == M::NONE && M::all() == M::CTRL_ALT_SHIFT;
+    holds(&rt, retained && ends, "sets by their bits", 0);
+}
+
+/// What a map answers for two events, of which one equals a key of it.
+fn answers_of_a_map(alloc: Global) -> Result<(Option<u8>, Option<u8>)> {
+    let mut commands: HashMap<KeyEvent, u8> = HashMap::new(alloc);
+    let _ = commands.insert(KeyEvent::ctrl('A'), 1)?;
+    let _ = commands.insert(KeyEvent::alt('A'), 2)?;
+    let bound = commands.get(&KeyEvent::from('\u{1}')).copied();
+    Ok((bound, commands.get(&KeyEvent::from('A')).copied()))
+}
+
+/// The keys of an event are got by their places.
+fn has_its_key(alloc: Global, key: KeyEvent) -> Result<bool> {
+    let event = Event::from_key(alloc, key)?;
+    let (first, second) = (event.get(0).copied(), event.get(1).copied());
+    Ok(first == Some(key) && second.is_none() && Event::Any.get(0).is_none())
 }
 
 /// Equal events are one key of a map, and what is bound to one is its handler.
 #[test]
 fn of_maps_and_events(rt: HostRuntime) {
-    let found = {
-        let mut commands = HashMap::new(rt.alloc());
-        for (key, number) in [(KeyEvent::ctrl('A'), 1), (KeyEvent::alt('A'), 2)] {
-            let outcome: Result<_, _> = commands.insert(key, number);
-            let _ = outcome.expect(&rt, "no fault");
-        }
-        let bound = commands.get(&KeyEvent::from('\u{1}')).copied();
-        (bound, commands.get(&KeyEvent::from('A')).copied())
-    };
-    assert_eq!(rt; found, (Some(1), None));
+    let mapped = answers_of_a_map(rt.alloc()).expect(&rt, "no fault");
+    let is_mapped = mapped == (Some(1), None);
     let text = format!(in rt.alloc(); "{:?}", KeyEvent::ctrl('A')).expect(&rt, "no fault");
-    assert_eq!(rt; text.as_str(), "KeyEvent(Char('A'), Modifiers(8))");
+    let is_shown = text.as_str() == "KeyEvent(Char('A'), Modifiers(8))";
     let key = KeyEvent::ctrl('x');
-    let event = Event::from_key(rt.alloc(), key).expect(&rt, "no fault");
-    let found = (
-        event.get(0).copied(),
-        event.get(1).copied(),
-        Event::Any.get(0).copied(),
-    );
-    assert_eq!(rt; found, (Some(key), None, None));
+    let is_got = has_its_key(rt.alloc(), key).expect(&rt, "no fault");
     let handler = EventHandler::from(Cmd::Noop);
-    assert!(rt; matches!(handler, EventHandler::Simple(Cmd::Noop)));
-    assert_eq!(rt; (&"ab").input(), "ab");
+    let is_simple = matches!(handler, EventHandler::Simple(Cmd::Noop));
+    let is_input = (&"ab").input() == "ab";
+    let is_so = is_mapped && is_shown && is_got && is_simple && is_input;
+    holds(&rt, is_so, text.as_str(), 0);
 }

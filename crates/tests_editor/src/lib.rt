@@ -2,6 +2,9 @@
 //! documents.
 #![tactic(auto)]
 
+#[cfg(test)]
+use std::process::Abort;
+
 pub mod caller;
 #[cfg(test)]
 mod commands;
@@ -19,3 +22,9 @@ mod phrases;
 mod tables;
 #[cfg(test)]
 mod vi_phrases;
+
+/// It holds in this case, of which this number says more.
+#[cfg(test)]
+fn holds(rt: &impl Abort, is_so: bool, case: &str, number: usize) {
+    assert!(rt; is_so, "{case:?} {number}");
+}

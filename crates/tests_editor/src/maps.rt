@@ -5,6 +5,7 @@ mod pairs;
 
 use self::Does::{Binds, Finds, Starts};
 use self::On::{Each, Keys, Mouse};
+use crate::holds;
 use line_config::{ReadlineError, Result};
 use line_editor::Bindings;
 use line_editor::binding::{Event, EventHandler};
@@ -122,7 +123,7 @@ fn takes(rt: &impl Abort, alloc: Global, bindings: &mut Bindings, step: &Step) -
             match bindings.insert(event, handler) {
                 Ok(old) => (number(old.as_ref()), true),
                 Err(error) => {
-                    assert_eq!(rt; bindings.nodes(), before);
+                    holds(rt, bindings.nodes() == before, "nodes", before);
                     return Err(error);
                 }
             }
@@ -134,7 +135,8 @@ fn takes(rt: &impl Abort, alloc: Global, bindings: &mut Bindings, step: &Step) -
         }
     };
     let left = bindings.nodes();
-    assert_eq!(rt; (found, as_wanted, left), (*wanted, true, *nodes));
+    let is_so = found == *wanted && as_wanted && left == *nodes;
+    holds(rt, is_so, "nodes", left);
     Ok(())
 }
 
@@ -146,24 +148,27 @@ fn events_are_bound_and_found(rt: HostRuntime) {
     }
 }
 
-/// Each of the 500 keys after others, bound to a number of its own.
+/// Each of the 500 keys after these others is bound to a number of its own, and then found.
+fn share_a_node(rt: &impl Abort, alloc: Global, front: &'static str) {
+    let mut bindings = Bindings::new(alloc);
+    for i in 0..1000u16 {
+        let own = i % 500;
+        let (does, wanted) = if i < 500 {
+            (Binds(own), None)
+        } else {
+            (Finds(true), Some(own))
+        };
+        let nodes = front.len().saturating_add(usize::from(i.min(499)));
+        let on = Keys(front, usize::from(own), 1);
+        let step = (does, on, wanted, nodes.saturating_add(1));
+        takes(rt, alloc, &mut bindings, &step).expect(rt, "no fault");
+    }
+}
+
 #[test]
 fn five_hundred_keys_share_a_node(rt: HostRuntime) {
-    for front in ["", "X"] {
-        let mut bindings = Bindings::new(rt.alloc());
-        for i in 0..1000u16 {
-            let own = i % 500;
-            let (does, wanted) = if i < 500 {
-                (Binds(own), None)
-            } else {
-                (Finds(true), Some(own))
-            };
-            let nodes = front.len().saturating_add(usize::from(i.min(499)));
-            let on = Keys(front, usize::from(own), 1);
-            let step = (does, on, wanted, nodes.saturating_add(1));
-            takes(&rt, rt.alloc(), &mut bindings, &step).expect(&rt, "no fault");
-        }
-    }
+    share_a_node(&rt, rt.alloc(), "");
+    share_a_node(&rt, rt.alloc(), "X");
 }
 
 /// How many of forty keys are bound to 1, and how many to 2; or 0, where none are.
@@ -223,13 +228,18 @@ const COPIED: &[(On, On)] = &[
     (Mouse, Mouse),
 ];
 
+/// Whether the copy of an event is that event, and this is its normal form.
+fn is_copied(alloc: Global, on: &On, wanted: &On) -> Result<bool> {
+    let event_here = event(alloc, on)?;
+    let copy = event_here.clone(alloc)?;
+    let is_same = copy == event_here;
+    Ok(is_same && copy.normalize() == event(alloc, wanted)?)
+}
+
 #[test]
 fn events_are_copied_and_put_into_normal_form(rt: HostRuntime) {
-    for (on, wanted) in COPIED {
-        let event_here = event(rt.alloc(), on).expect(&rt, "no fault");
-        let copy = event_here.clone(rt.alloc()).expect(&rt, "no fault");
-        assert_eq!(rt; copy, event_here);
-        let wanted = event(rt.alloc(), wanted).expect(&rt, "no fault");
-        assert_eq!(rt; copy.normalize(), wanted);
+    for (row, (on, wanted)) in COPIED.iter().enumerate() {
+        let is_copied = is_copied(rt.alloc(), on, wanted).expect(&rt, "no fault");
+        holds(&rt, is_copied, "event of row", row);
     }
 }

@@ -1,6 +1,7 @@
 //! What is large fails for no reason of its own: 1,000 groups of changes, 1,000 lines of a history.
 
 use super::does;
+use crate::holds;
 use line_buffer::KillRing;
 use line_editor::edit::State;
 use line_keys::refresher::Refresher;
@@ -66,7 +67,7 @@ fn lasts(rt: &impl Abort, alloc: Global, case: &Case) {
         }
     }
     let found = (state.line().len(), state.pos(), state.place());
-    assert_eq!(rt; found, *left, "{steps} {behind}");
+    holds(rt, found == *left, steps, found.0);
 }
 
 /// One step after the other and one kill; and walks through a history of 1,100 lines of eight bytes.

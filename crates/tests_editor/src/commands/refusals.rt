@@ -2,6 +2,7 @@
 //! what is left, or the command was not reached.
 
 use super::does;
+use crate::holds;
 use line_buffer::{GraphemeClusterMode, KillRing};
 use line_config::{Config, ReadlineError, Result};
 use line_editor::Bindings;
@@ -65,7 +66,7 @@ fn tries(rt: &impl Abort, alloc: Global, case: &Case) -> Result<()> {
         Ok(mut state) => leaves(rt, alloc, case, &mut state),
         Err(error) => Err(error),
     };
-    assert_eq!(rt; history.len(), lines);
+    holds(rt, history.len() == lines, case.1, lines);
     outcome
 }
 
@@ -80,10 +81,10 @@ fn leaves(rt: &impl Abort, alloc: Global, case: &Case, state: &mut Editor<'_, '_
         Err(error) => Some(matches!(error, ReadlineError::Memory)),
     };
     if let Some(is_memory) = refused {
-        assert!(rt; is_memory);
+        holds(rt, is_memory, start, 0);
         return settled(rt, alloc, state, &mut kills);
     }
-    assert_eq!(rt; at(rt, state), halves(rt, after));
+    holds(rt, at(rt, state) == halves(rt, after), after, 0);
     Ok(())
 }
 
@@ -113,10 +114,10 @@ fn settled(
     let _ = at(rt, state);
     let len = state.line().len();
     let status = undone(alloc, state, kills)?;
-    assert_eq!(rt; status, Status::Proceed);
     let _ = at(rt, state);
     let left = state.line().len();
-    assert!(rt; left == 0 || left == len);
+    let is_so = status == Status::Proceed && (left == 0 || left == len);
+    holds(rt, is_so, "what was taken back", left);
     Ok(())
 }
 
@@ -273,7 +274,7 @@ fn is_made(rt: &impl Abort, alloc: Global, text: &str, cursor: usize) -> Result<
     let mut screen = Recorder::new(alloc, 80, false, 0);
     let context = Context::new(&history);
     match State::with_line(alloc, &mut screen, &prompt, None, context, text, cursor) {
-        Ok(state) => assert_eq!(rt; at(rt, &state), wanted),
+        Ok(state) => holds(rt, at(rt, &state) == wanted, text, cursor),
         Err(error) => return Err(error),
     }
     Ok(())

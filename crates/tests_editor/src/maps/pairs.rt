@@ -1,6 +1,7 @@
 //! The map of bindings beside a list of pairs that answers the same.
 
 use super::number;
+use crate::holds;
 use line_editor::Bindings;
 use line_editor::binding::{Event, EventHandler};
 use line_keys::cmd::Cmd;
@@ -52,6 +53,23 @@ fn drawn(rt: &impl Abort, alloc: Global, seed: u32) -> Event {
     Event::KeySeq(keys)
 }
 
+/// Gives an event a number in the map, which answers the one that it had.
+fn bind(
+    rt: &impl Abort,
+    alloc: Global,
+    bindings: &mut Bindings,
+    event: Event,
+    own: u16,
+) -> Option<u16> {
+    let handler = EventHandler::from(Cmd::SelfInsert(own, 'x'));
+    number(
+        bindings
+            .insert(event, handler)
+            .expect(rt, "no fault")
+            .as_ref(),
+    )
+}
+
 /// Both answer the same of an event. One time in three they give it a number, and answer the one that it had. Events
 /// and numbers come of the numbers of a linear congruence, whose upper bits look mixed.
 #[test]
@@ -60,21 +78,19 @@ fn a_list_of_pairs_answers_the_same(rt: HostRuntime) {
     let mut bindings = Bindings::new(alloc);
     let mut pairs: Pairs = Vec::new(alloc);
     let mut last = 7u32;
-    for _ in 0..2001 {
+    for round in 0..2001 {
         let next = last.wrapping_mul(1_664_525).wrapping_add(1_013_904_223);
         let event = drawn(&rt, alloc, next);
         let own = (last >> 16) as u16;
         last = next;
-        let wanted = looked_up(&pairs, &event);
         let found = number(bindings.get(&event));
-        let is_begun = bindings.begins(&event);
-        assert_eq!(rt; (found, is_begun), wanted, "{event:?}");
+        let is_same = looked_up(&pairs, &event) == (found, bindings.begins(&event));
+        holds(&rt, is_same, "a look-up", round);
         if own % 3 == 0 {
             let copy = event.clone(alloc).expect(&rt, "no fault");
             pairs.push((copy, own)).expect(&rt, "no fault");
-            let handler = EventHandler::from(Cmd::SelfInsert(own, 'x'));
-            let old = bindings.insert(event, handler).expect(&rt, "no fault");
-            assert_eq!(rt; number(old.as_ref()), found);
+            let old = bind(&rt, alloc, &mut bindings, event, own);
+            holds(&rt, old == found, "a number", round);
         }
     }
 }
