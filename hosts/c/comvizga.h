@@ -90,7 +90,7 @@ enum comvizga_status {
     COMVIZGA_ENDED = 2,       /* the input ended: C-d on an empty line, or comvizga_finish */
     COMVIZGA_INTERRUPTED = 3, /* C-c */
     COMVIZGA_SUSPENDED = 4,   /* the person asked to suspend the program; only where a key is bound to "suspend" */
-    COMVIZGA_NO_MEMORY = 16,  /* an allocation failed; a line that went on goes on, but see comvizga_begin */
+    COMVIZGA_NO_MEMORY = 16,  /* an allocation failed; a line that went on goes on, or of comvizga_begin the new one */
     COMVIZGA_FAILED = 17,     /* input or output failed; no call of a handle is known to answer this */
     COMVIZGA_NOT_TEXT = 18,   /* bytes that are not UTF-8 */
     COMVIZGA_NO_LINE = 19,    /* no line goes on; of comvizga_line: and none was submitted */
@@ -112,8 +112,8 @@ enum comvizga_status {
  * nothing else is said, a call sets what they point at where it answers COMVIZGA_OK, and else leaves it.
  *
  * COMVIZGA_NO_MEMORY may come of each call that makes an editor, or begins, reads, draws, drops, adds, loads, saves,
- * sets or binds. The handle stays usable and is to be freed as ever. A line that went on goes on, unless the call was
- * to begin another one, and is drawn anew before the next key is read; how many of the bytes of a comvizga_feed were
+ * sets or binds. The handle stays usable and is to be freed as ever. A line that went on goes on, or the new one where
+ * another was to begin, and is drawn anew before the next key is read; how many of the bytes of a comvizga_feed were
  * read is not told. COMVIZGA_FAILED is for errors of input or output. What a handle draws goes into memory, so no call
  * is known to answer it; what is said of COMVIZGA_NO_MEMORY would hold of it, too. */
 
@@ -142,8 +142,8 @@ uint32_t comvizga_free(comvizga *handle);
 /* Begins a line behind a prompt and draws it: the terminal's cursor has to stand in the first column. A line that went
  * on before is dropped. Keys that were typed behind the end of the line before are read, so this may answer all that
  * comvizga_feed does, COMVIZGA_SUSPENDED too. Lengths are bytes. COMVIZGA_NOT_TEXT: the prompt is not UTF-8, and
- * nothing has changed. After COMVIZGA_NO_MEMORY the new line goes on, or the one before, or no line goes on, which
- * comvizga_cursor tells. */
+ * nothing has changed. After COMVIZGA_NO_MEMORY the new line goes on, or the one before goes on unchanged, or there is
+ * none where none went on; comvizga_line tells. */
 uint32_t comvizga_begin(comvizga *handle, const char *prompt, size_t prompt_length);
 
 /* Begins a line as comvizga_begin does, with a prompt that is shown as styled, the same text with escape sequences for

@@ -145,7 +145,7 @@ static int is_going_on(struct slot *slot)
 }
 
 /* Checks whether a line goes on behind a call that begins one or reads keys, by its status, and notes it. Only a line
- * that ends is lost, and behind COMVIZGA_NO_MEMORY one that another was to take the place of. */
+ * that ends is lost. */
 static void note_line(struct slot *slot, uint32_t status, int begins)
 {
     int goes_on;
@@ -156,7 +156,9 @@ static void note_line(struct slot *slot, uint32_t status, int begins)
         must(goes_on, "no line goes on", status);
     else if (is_of(status, ENDS))
         must(!goes_on, "a line that ended goes on", status);
-    else if (!begins || status != COMVIZGA_NO_MEMORY)
+    else if (begins && status == COMVIZGA_NO_MEMORY)
+        must(goes_on || !slot->has_line, "the line before is lost", status);
+    else
         must(goes_on == slot->has_line, "a line is lost, or goes on that did not", status);
     slot->has_line = goes_on;
     slot->had_line |= status == COMVIZGA_SUBMITTED;
@@ -764,12 +766,70 @@ static int with_failure(long number, int for_the_call)
     return came;
 }
 
+/* Checks that the line that goes on is this one, or one of these two. */
+static void must_be(struct slot *slot, const char *one, const char *other)
+{
+    size_t length = 0;
+    uint32_t status = comvizga_line(&slot->handle, buffer, LONGEST, &length);
+    must(status == COMVIZGA_OK
+             && ((length == strlen(one) && !memcmp(buffer, one, length))
+                 || (length == strlen(other) && !memcmp(buffer, other, length))),
+         "another line goes on", status);
+}
+
+/* Begins a line while another one goes on, with the allocation of that number failing: the line before is there then,
+ * or the new one. Returns whether there was such an allocation. */
+static int begins_with_failure(long number)
+{
+    comvizga_settings settings = comvizga_defaults();
+    struct slot slot = {COMVIZGA_NOTHING, 1, 0, 0};
+    uint32_t status;
+    int came;
+    called = "begin where the allocation of that number fails";
+    call = number;
+    must(comvizga_new(&settings, &slot.handle) == COMVIZGA_OK, "no editor", 0);
+    check_begun(&slot, 0, comvizga_begin(&slot.handle, "> ", 2), 1);
+    check_read(&slot, 0, comvizga_feed(&slot.handle, "before", 6), READS);
+    until_failure = number;
+    status = comvizga_begin_with(&slot.handle, "new> ", 5, "new> ", 5, "be", 2, "hind", 4);
+    came = until_failure == 0;
+    until_failure = 0;
+    must(status == (came ? COMVIZGA_NO_MEMORY : COMVIZGA_OK), "another status", status);
+    has_failed = 0;
+    must_be(&slot, came ? "before" : "behind", "behind");
+    status = comvizga_feed(&slot.handle, "!", 1);
+    must(status == COMVIZGA_OK, "the line does not go on", status);
+    must_be(&slot, came ? "before!" : "be!hind", "be!hind");
+    comvizga_free(&slot.handle);
+    return came;
+}
+
+/* Checks that a key that is bound again takes no memory. */
+static void binds_once(void)
+{
+    comvizga_settings settings = comvizga_defaults();
+    struct slot slot = {COMVIZGA_NOTHING, 1, 0, 0};
+    long before = 0;
+    called = "bind";
+    must(comvizga_new(&settings, &slot.handle) == COMVIZGA_OK, "no editor", 0);
+    for (int i = 0; i < 1000; i++) {
+        check(&slot, 0, comvizga_bind(&slot.handle, "C-x b", 5, "complete", 8), BIT(COMVIZGA_OK));
+        before = i < 10 ? living : before;
+    }
+    must(living == before, "a key that is bound again takes memory", 0);
+    comvizga_free(&slot.handle);
+}
+
 int main(int count, char **words)
 {
     long number = 1, most = count > 2 ? atol(words[2]) : 100000;
     int fails = count > 3;
     state = (count > 1 ? strtoull(words[1], NULL, 10) : 1) * UINT64_C(0x9E3779B97F4A7C15) | 1;
     signal(SIGALRM, is_late);
+    binds_once();
+    while (fails && begins_with_failure(number))
+        number++;
+    number = 1;
     while (fails && with_failure(number, 0) && with_failure(number, 1))
         number++;
     for (call = 1; call <= most; call++)

@@ -1,12 +1,14 @@
 //! The map of a program's bindings.
-ghost use Rattle.std.specs.Prelude.{◌≡◌, [], IfOk, OnErr, OnOk, option_map};
+ghost use Rattle.std.specs.Prelude.{◌≡◌, [], IfOk, OnErr, OnOk, map, option_map};
 ghost use Rattle.line_config.specs.Error.{MemoryOnly};
-ghost use Rattle.line_editor.specs.Binding.{Inserts, begins, bound_of, handled, handler_of, leads_on, node_count};
+ghost use Rattle.line_editor.specs.Binding.{Rebinds, begins, bound_of, handled, handler_of, leads_on, node_count};
+ghost use Rattle.line_editor.specs.BoundCommands.{AreBound, bound_value};
 ghost use Rattle.line_editor.specs.Event.{chord_of, keys};
 ghost use Rattle.line_editor.specs.Keymap.{key_handler};
 
 use crate::binding::{ConditionalEventHandler, Event, EventHandler};
 use line_config::Result;
+use line_keys::cmd::Cmd;
 use line_keys::keys::KeyEvent;
 use std::alloc::Global;
 use tree::KeyTree;
@@ -39,12 +41,33 @@ impl Bindings {
         }
     }
 
+    /// Returns a map of commands: each input event is bound to its command, and of several to the last one.
+    ///
+    /// # Errors
+    /// That memory ran out.
+    pub fn of_commands(alloc: Global, commands: &[(Event, Cmd)]) -> Result<Bindings>
+        ensures bound { IfOk result (λ bindings. AreBound (map bound_value commands.now)
+            (bound_of ⟦<dyn ConditionalEventHandler as ConditionalEventHandler>⟧ bindings)) }
+        ensures memory { MemoryOnly result }
+    {
+        let mut bindings = Bindings::new(alloc);
+        for bound in commands {
+            let (event, command) = bound;
+            let event = event.clone(alloc)?;
+            let command = command.clone(alloc)?;
+            bindings.insert(event, EventHandler::from(command))?;
+        }
+        Ok(bindings)
+    }
+
     /// Binds an input event to a handler. Returns the handler that it was bound to before, if it was.
     ///
     /// # Errors
     /// That memory ran out. Then the map is as it was.
     pub fn insert(&mut self, event: Event, handler: EventHandler) -> Result<Option<EventHandler>>
-        ensures bound { OnOk result (Inserts self.old self.new (chord_of event) handler) }
+        ensures bound { let g = ⟦<dyn ConditionalEventHandler as ConditionalEventHandler>⟧ in
+            OnOk result (Rebinds (bound_of g self.old) (bound_of g self.new)
+            (chord_of event) (handled g handler)) }
         ensures old { let g = ⟦<dyn ConditionalEventHandler as ConditionalEventHandler>⟧ in
             IfOk result (λ old.
             option_map (handled g) old ≡ handler_of (bound_of g self.old) (chord_of event)) }

@@ -4,7 +4,7 @@ use Rattle.std.proofs.lemmas.Result.{IfOk-weaker}
 use Rattle.line_config.specs.declared.error.ReadlineError.{ReadlineError}
 use Rattle.line_parts.specs.Environment.{Environment}
 use Rattle.line_editor.specs.Binding.{Bound}
-use Rattle.line_session.specs.Sitting.{BegunLine, LosesNothing, Sitting, suspends}
+use Rattle.line_session.specs.Sitting.{BeginsOrStays, BegunLine, LosesNothing, Sitting, suspends}
 use Rattle.line_session.specs.declared.editor.Fed.{Fed}
 use Rattle.line_session.specs.declared.editor.Fed.TheVariants as feds
 use Rattle.line_editor.specs.BoundCommands.{AreBound, BoundCommands}
@@ -66,6 +66,15 @@ module _ {H : Type 0} (answers : H → List (List ℕ) → Environment) where
       (subst (λ l. IfOk told (Begins answers commands prompt l right' old new)) same_left
       (subst (λ r. IfOk told (Begins answers commands prompt left r old new)) same_right begins))
 
+  -- what is left of a line that was to begin is that of texts that are equal
+  pub stays_alike : (prompt prompt' left left' right right' : List ℕ) (old new : Sitting H) (told : Result Fed ReadlineError)
+      → prompt ≡ prompt' → left ≡ left' → right ≡ right' → OnErr told (BeginsOrStays answers prompt left right old new)
+      → OnErr told (BeginsOrStays answers prompt' left' right' old new)
+  stays_alike prompt prompt' left left' right right' old new told same_prompt same_left same_right stays =
+      subst (λ p. OnErr told (BeginsOrStays answers p left' right' old new)) same_prompt
+      (subst (λ l. OnErr told (BeginsOrStays answers prompt l right' old new)) same_left
+      (subst (λ r. OnErr told (BeginsOrStays answers prompt left r old new)) same_right stays))
+
   -- what a status tells of a line is what came of it
   pub tells_came : (Comes : Sitting H → Fed → Type 0) (Left : Sitting H → Type 0) (old mid new : Hosted H) (fed : Result Fed ReadlineError) (came : Status)
       → IfOk fed (Comes mid.editor) → mid ≡ with_editor mid.editor old → OnErr fed (Left mid.editor) → Tells fed mid new came
@@ -94,7 +103,7 @@ module _ {H : Type 0} (answers : H → List (List ℕ) → Environment) where
       by_fault _ fault = absurd fault
 
   -- of the terminal nothing is lost where it failed
-  pub loses_nothing : (heard : Heard) (old new : Sitting H) (told : Result Fed ReadlineError) → IsOfTerminal heard → OnErr told (Leaves heard old new)
+  pub loses_nothing : (heard : Heard) (old new : Sitting H) (told : Result Fed ReadlineError) → IsOfTerminal heard → OnErr told (Leaves answers heard old new)
       → OnErr told (LosesNothing old new)
   loses_nothing (heards.Line line) old new told is left = absurd is
   loses_nothing (heards.Bytes bytes) old new told is left = left
@@ -103,9 +112,9 @@ module _ {H : Type 0} (answers : H → List (List ℕ) → Environment) where
 
   -- what is left of an equal one that failed is left of the other
   pub leaves_alike : (heard heard' : Heard) (old old' new : Sitting H) (told : Result Fed ReadlineError) → heard' ≡ heard → old ≡ old'
-      → OnErr told (Leaves heard old new) → OnErr told (Leaves heard' old' new)
+      → OnErr told (Leaves answers heard old new) → OnErr told (Leaves answers heard' old' new)
   leaves_alike heard heard' old old' new told same_heard same left =
-      subst (λ h. OnErr told (Leaves h old' new)) (sym same_heard) (subst (λ o. OnErr told (Leaves heard o new)) same left)
+      subst (λ h. OnErr told (Leaves answers h old' new)) (sym same_heard) (subst (λ o. OnErr told (Leaves answers heard o new)) same left)
 
 -- what holds of an answer, and what holds where there is one
 pub both : {T E : Type 0} (P : T → Type 0) (Q : Type 0) (told : Result T E) → IfOk told P → OnOk told Q → IfOk told (λ t. P t × Q)

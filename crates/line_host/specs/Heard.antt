@@ -4,7 +4,7 @@ use Rattle.line_config.specs.declared.error.ReadlineError.{ReadlineError}
 use Rattle.line_parts.specs.Environment.{Environment}
 use Rattle.line_editor.specs.Binding.{Bound}
 use Rattle.line_term.specs.Decoder.{Standing, Turn, finished, flushed, read}
-use Rattle.line_session.specs.Sitting.{BegunLine, Came, CameBegun, Keeps, LosesNothing, Sitting, with_turn}
+use Rattle.line_session.specs.Sitting.{BeginsOrStays, BegunLine, Came, CameBegun, Keeps, LosesNothing, Sitting, with_turn}
 use Rattle.line_session.specs.declared.editor.Fed.{Fed}
 use Rattle.line_editor.specs.BoundCommands.{BoundCommands}
 use Rattle.line_host.specs.Hosted.{Begins, Turns}
@@ -23,12 +23,12 @@ turn_of (heard.Bytes bytes) standing = read standing bytes.now
 turn_of heard.Pause standing = flushed standing
 turn_of heard.End standing = finished standing
 
--- what is left where it failed: where a line was to begin, the lines of the history; else nothing is lost
-abbrev pub Leaves : {H : Type 0} → Heard → Sitting H → Sitting H → Type 0
-Leaves (heard.Line line) old new = new.lines ≡ old.lines
-Leaves other old new = LosesNothing old new
-
 module _ {H : Type 0} (answers : H → List (List ℕ) → Environment) where
+  -- what is left where it failed: of a line that was to begin, that one or the one before; else nothing is lost
+  abbrev pub Leaves : Heard → Sitting H → Sitting H → Type 0
+  Leaves (heard.Line line) old new = BeginsOrStays answers line.prompt.0.now line.initial.0.now line.initial.1.now old new
+  Leaves other old new = LosesNothing old new
+
   -- what became of it, by bindings
   abbrev pub HearsBy : Bound → Heard → Sitting H → Sitting H → Result Fed ReadlineError → Type 0
   HearsBy bound (heard.Line line) old new told =

@@ -13,7 +13,7 @@ use Rattle.line_parts.specs.HistoryText.{to_save}
 use Rattle.line_parts.specs.declared.escaped_line.Escapes.TheVariants.{V3}
 use Rattle.line_editor.specs.Event.{Chord}
 use Rattle.line_session.specs.Filed.{Files, LoadsText}
-use Rattle.line_session.specs.Sitting.{BegunLine, Came, CameBegun, Keeps, LosesNothing, Sitting, drawn_anew, suspends, text_of, with_turn, written_so_far}
+use Rattle.line_session.specs.Sitting.{BeginsOrStays, BegunLine, Came, CameBegun, Keeps, LosesNothing, Sitting, drawn_anew, suspends, text_of, with_turn, written_so_far}
 use Rattle.line_session.specs.declared.editor.Fed.{Fed}
 use Rattle.line_session.specs.declared.editor.Fed.TheVariants as fed
 use Rattle.line_editor.specs.BoundCommands.{AreBound, BoundCommands}
@@ -127,10 +127,10 @@ module _ {H : Type 0} where
     Begins commands prompt left right old new fed = (bound : Bound) × AreBound commands bound
         × CameBegun answers bound prompt left right old new fed × Keeps answers (record old { prompt = prompt }) new
 
-    -- a line began after a prompt, unless a text is none. After a fault the lines of the history are there
+    -- a line began after a prompt, unless a text is none. After a fault it has begun, or the line before is there unchanged
     pub record BeginsLine (prompt styled left right : List ℕ) (old new : Hosted H) (came : Status) : Type 0 where
       pub begins : AreTexts prompt styled left right → CameTo (Begins old.commands prompt left right old.editor new.editor)
-          (new.editor.lines ≡ old.editor.lines) old new came
+          (BeginsOrStays answers prompt left right old.editor new.editor) old new came
       pub no_text : ¬ (AreTexts prompt styled left right) → (came ≡ status.NotText) × (new ≡ old)
 
     -- items were read, and their turns taken. Where no line had begun nothing changes. After a fault nothing is lost

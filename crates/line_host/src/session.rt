@@ -132,7 +132,7 @@ impl Session {
     /// reads the keys that were typed ahead. A line that goes on is dropped.
     ///
     /// Returns `Done`, where the line goes on; `Suspended`; `Submitted`; `Ended`; `Interrupted`; or a fault, `NoMemory` or `Failed`: if
-    /// the line has begun by then, it goes on at the next call; if not, the line before goes on, if there was one. Returns `NotText`,
+    /// the line has begun by then, it goes on at the next call; if not, the line before goes on unchanged, if there was one. Returns `NotText`,
     /// where one of these texts is not UTF-8, and nothing changes then.
     pub fn begin(&mut self, prompt: &[u8], styled: &[u8], left: &[u8], right: &[u8]) -> Status
         ensures { BeginsLine answers prompt.now styled.now left.now right.now self.old self.new
@@ -221,7 +221,7 @@ impl Session {
         ensures hears { Hears answers self.old.commands heard.entry self.old.editor
             self.new.editor result }
         ensures stays { self.new ≡ with_editor self.new.editor self.old }
-        ensures left { OnErr result (Leaves heard.entry self.old.editor self.new.editor) }
+        ensures left { OnErr result (Leaves answers heard.entry self.old.editor self.new.editor) }
         ensures faults { FaultsOnly result }
     {
         let bindings = Bindings::of_commands(self.alloc, self.commands.as_slice())?;
@@ -234,7 +234,7 @@ impl Session {
             HearsBy answers (bound_of g bindings.now) heard.entry self.old.editor
             self.new.editor result }
         ensures stays { self.new ≡ with_editor self.new.editor self.old }
-        ensures left { OnErr result (Leaves heard.entry self.old.editor self.new.editor) }
+        ensures left { OnErr result (Leaves answers heard.entry self.old.editor self.new.editor) }
         ensures faults { FaultsOnly result }
     {
         match heard {

@@ -10,7 +10,7 @@ returns-in-Any-clause-old g c =
 pub returns-in-KeySeq-clause-bound : goal.returns-in-KeySeq-clause-bound
 returns-in-KeySeq-clause-bound g c =
     rw c.in-KeySeq.is (on-ok c.insert.result
-    (λ puts. λ value. rebinds-keys value c.args.self.now.any c.args.self.now.mouse c.args.self.now.sequences c.args.handler c.insert.new.self c.in-KeySeq.keys.items puts)
+    (λ puts. rebinds-keys (handled (λ v. (g.dyn-1.0.entry v).1)) c.args.self.now.any c.args.self.now.mouse c.args.self.now.sequences c.args.handler c.insert.new.self c.in-KeySeq.keys.items puts)
     (rw c.deref.ensures.value at c.insert.ensures.puts))
 
 pub returns-in-KeySeq-clause-old : goal.returns-in-KeySeq-clause-old

@@ -1,7 +1,8 @@
 use Rattle.std.proofs.Common.{◌≡◌}
+use Rattle.line_session.specs.Sitting.{BeginsOrStays}
 use Rattle.line_host.specs.Helped.{answers}
 use Rattle.line_host.specs.Hosted.{Begins}
-use Rattle.line_host.proofs.HostedLemmas.{begins_alike, tells_came}
+use Rattle.line_host.proofs.HostedLemmas.{begins_alike, stays_alike, tells_came}
 use Rattle.line_host.proofs.session.Session.begin.Goals as goal
 
 pub returns : goal.returns
@@ -14,9 +15,11 @@ returns c =
     record {
       begins = λ texts.
           tells_came answers (λ editor. Begins answers session.commands c.args.prompt.now c.args.left.now c.args.right.now session.editor editor)
-          (λ editor. editor.lines ≡ session.editor.lines) session
+          (λ editor. BeginsOrStays answers c.args.prompt.now c.args.left.now c.args.right.now session.editor editor) session
           c.try_hear-fed.new.self c.tell.new.self c.try_hear-fed.result c.tell.result
           (begins_alike answers session.commands _ _ _ _ _ _ session.editor c.try_hear-fed.new.self.editor _ prompt.0 left.0 right.0 c.try_hear-fed.ensures.hears)
-          c.try_hear-fed.ensures.stays c.try_hear-fed.ensures.left c.tell.ensures;
+          c.try_hear-fed.ensures.stays
+          (stays_alike answers _ _ _ _ _ _ session.editor c.try_hear-fed.new.self.editor _ prompt.0 left.0 right.0 c.try_hear-fed.ensures.left)
+          c.tell.ensures;
       no_text = λ wrong. absurd (wrong (prompt.1, styled.1, left.1, right.1));
     }

@@ -12,7 +12,7 @@ returns-in-Line-clause-hears g c =
 pub returns-in-Line-clause-left : goal.returns-in-Line-clause-left
 returns-in-Line-clause-left g c =
     leaves_alike answers (heard.Line c.in-Line.line) c.args.heard c.self.inside.editor _ c.begin_with.new.self c.begin_with.result c.in-Line.is
-    (ap (λ s. s.editor) c.self.view_is) c.begin_with.ensures.lines
+    (ap (λ s. s.editor) c.self.view_is) c.begin_with.ensures.left
 
 pub returns-in-Bytes-clause-hears : goal.returns-in-Bytes-clause-hears
 returns-in-Bytes-clause-hears g c =
