@@ -4,6 +4,7 @@ use crate::holds;
 use crate::parties::{Failing, NOBODY, Party};
 use line_buffer::{GraphemeClusterMode, Layout, LineBuffer, Position};
 use line_config::{ReadlineError, Result};
+use line_parts::{CmdKind, Highlighter};
 use line_screen::KeyQueue;
 use line_session::dim_hints::DimHints;
 use line_state::Renderer;
@@ -82,18 +83,20 @@ fn redraw(alloc: Global, terminal: &mut Terminal, failing: Failing) -> Result<()
     )
 }
 
-/// Draws a line in full with a styled prompt and a hint that has colors.
+/// Draws a line in full with a styled prompt, a bracket whose match is lit, and a hint that has colors.
 fn redraw_with_colors(alloc: Global, terminal: &mut Terminal) -> Result<()> {
-    let line = LineBuffer::init(alloc, "ab", 2)?;
+    let line = LineBuffer::init(alloc, "()", 0)?;
     let begin = terminal.calculate_position("> ", Position { row: 0, col: 0 });
     let layout = terminal.compute_layout(begin, true, &line, Some("c"));
+    let mut highlighter = DimHints::new(true);
+    let _ = highlighter.highlight_char("()", 0, CmdKind::Other);
     terminal.refresh_line(
         &("> ", "\x1b[1m> "),
         &line,
         Some("c"),
         None,
         &layout,
-        Some(&DimHints::new(false)),
+        Some(&highlighter),
     )
 }
 
@@ -119,7 +122,7 @@ const CALLS: &[(&str, &str)] = &[
     ),
     (
         "colors",
-        "\x1b[?2026h\r\x1b[J\x0f\x1b[1m> \x1b[0m\x0fab\x0f\x1b[2mc\x1b[0m\x1b[0m\x0f\r\x1b[4C\x1b[?2026l",
+        "\x1b[?2026h\r\x1b[J\x0f\x1b[1m> \x1b[0m\x0f\x0f(\x1b[1;34m)\x1b[0m\x1b[0m\x0f\x0f\x1b[2mc\x1b[0m\x1b[0m\x0f\r\x1b[2C\x1b[?2026l",
     ),
     ("a long text", LONG),
     (
