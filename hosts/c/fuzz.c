@@ -40,6 +40,7 @@ struct allocated rattle_realloc(void *at, size_t old_size, size_t size, size_t a
 void rattle_dealloc(void *at, size_t size, size_t align);
 
 static long living;        /* blocks that are not freed */
+static long taken;         /* how often memory was taken, or a block grew */
 static int may_fail;       /* whether allocations may fail now */
 static int has_failed;     /* whether one did since the last call was checked */
 static int lasts;          /* whether behind a failure all allocations of the same call fail */
@@ -52,6 +53,7 @@ static struct allocated allocated(void *before, size_t size)
     int fails = until_failure ? --until_failure == 0 : (lasts && has_failed) || (may_fail && chance(40) == 0);
     struct allocated block = {1, fails ? NULL : realloc(before, size ? size : 1)};
     has_failed |= fails;
+    taken++;
     living += block.at && !before;
     return block.at ? block : none;
 }
@@ -820,6 +822,27 @@ static void binds_once(void)
     comvizga_free(&slot.handle);
 }
 
+/* Returns how often memory is taken to read a character while that many keys are bound. */
+static long taken_with(int keys)
+{
+    comvizga_settings settings = comvizga_defaults();
+    struct slot slot = {COMVIZGA_NOTHING, 1, 0, 0};
+    long before;
+    called = "feed while keys are bound";
+    must(comvizga_new(&settings, &slot.handle) == COMVIZGA_OK, "no editor", 0);
+    for (int i = 0; i < keys; i++) {
+        char name[] = {'C', '-', 'x', ' ', (char)('a' + i / 26), ' ', (char)('a' + i % 26)};
+        check(&slot, 0, comvizga_bind(&slot.handle, name, sizeof name, "complete", 8), BIT(COMVIZGA_OK));
+    }
+    check_begun(&slot, 0, comvizga_begin(&slot.handle, "> ", 2), 1);
+    check_read(&slot, 0, comvizga_feed(&slot.handle, "before", 6), READS);
+    before = taken;
+    check_read(&slot, 0, comvizga_feed(&slot.handle, "!", 1), READS);
+    before = taken - before;
+    comvizga_free(&slot.handle);
+    return before;
+}
+
 int main(int count, char **words)
 {
     long number = 1, most = count > 2 ? atol(words[2]) : 100000;
@@ -827,6 +850,7 @@ int main(int count, char **words)
     state = (count > 1 ? strtoull(words[1], NULL, 10) : 1) * UINT64_C(0x9E3779B97F4A7C15) | 1;
     signal(SIGALRM, is_late);
     binds_once();
+    must(taken_with(0) == taken_with(100), "a character takes more memory where more keys are bound", 0);
     while (fails && begins_with_failure(number))
         number++;
     number = 1;

@@ -52,104 +52,104 @@ map-if : {A B : Type 0} (f : A → B) (b : Bool) (x : A) (o : Option A) → opti
 map-if f true x o = refl
 map-if f false x o = refl
 
-module _ {X : Type 0} {P : X → Type 0} (value : EventHandler X P → Handler) where
+module _ {C : Type 0} (value : EventHandler C → Handler) where
   -- what is bound to each key, to the mouse and to sequences
-  abbrev pub bound-by : Option (EventHandler X P) → Option (EventHandler X P) → List (List KeyEvent × EventHandler X P) → Bound
+  abbrev pub bound-by : Option (EventHandler C) → Option (EventHandler C) → List (List KeyEvent × EventHandler C) → Bound
   bound-by any click entries = bound_to value each_key any ++ bound_to value mouse click ++ map (λ entry. (keys entry.0, value entry.1)) entries
 
   -- a handler that is lent
-  pub shown : (lent : Option (Bor (EventHandler X P))) (own : Option (EventHandler X P)) → option_map (λ handler. handler.now) lent ≡ own → option_map (λ handler. value handler.now) lent ≡ option_map value own
+  pub shown : (lent : Option (Bor (EventHandler C))) (own : Option (EventHandler C)) → option_map (λ handler. handler.now) lent ≡ own → option_map (λ handler. value handler.now) lent ≡ option_map value own
   shown None own is = ap (option_map value) is
   shown (Some handler) own is = ap (option_map value) is
 
-  find-keys-by : (same : Bool) (entry : List KeyEvent × EventHandler X P) (bound : Option (Chord × Handler)) (held : Option (List KeyEvent × EventHandler X P))
-      → option_map (λ (b : Chord × Handler). b.1) bound ≡ option_map value (option_map (λ (e : List KeyEvent × EventHandler X P). e.1) held)
-      → option_map (λ (b : Chord × Handler). b.1) (cond same (Some (keys entry.0, value entry.1)) bound) ≡ option_map value (option_map (λ (e : List KeyEvent × EventHandler X P). e.1) (cond same (Some entry) held))
+  find-keys-by : (same : Bool) (entry : List KeyEvent × EventHandler C) (bound : Option (Chord × Handler)) (held : Option (List KeyEvent × EventHandler C))
+      → option_map (λ (b : Chord × Handler). b.1) bound ≡ option_map value (option_map (λ (e : List KeyEvent × EventHandler C). e.1) held)
+      → option_map (λ (b : Chord × Handler). b.1) (cond same (Some (keys entry.0, value entry.1)) bound) ≡ option_map value (option_map (λ (e : List KeyEvent × EventHandler C). e.1) (cond same (Some entry) held))
   find-keys-by true entry bound held is = refl
   find-keys-by false entry bound held is = is
 
-  find-keys : (entries : List (List KeyEvent × EventHandler X P)) (sequence : List KeyEvent)
+  find-keys : (entries : List (List KeyEvent × EventHandler C)) (sequence : List KeyEvent)
       → handler_of (map (λ entry. (keys entry.0, value entry.1)) entries) (keys sequence) ≡ option_map value (value_of entries sequence)
   find-keys [] sequence = refl
   find-keys (entry ∷ entries) sequence =
       find-keys-by (pointwise same_key entry.0 sequence) entry (find (λ b. same_chord b.0 (keys sequence)) (map (λ entry. (keys entry.0, value entry.1)) entries))
       (find (λ e. pointwise same_key e.0 sequence) entries) (find-keys entries sequence)
 
-  find-each : (entries : List (List KeyEvent × EventHandler X P)) → handler_of (map (λ entry. (keys entry.0, value entry.1)) entries) each_key ≡ None
+  find-each : (entries : List (List KeyEvent × EventHandler C)) → handler_of (map (λ entry. (keys entry.0, value entry.1)) entries) each_key ≡ None
   find-each [] = refl
   find-each (entry ∷ entries) = find-each entries
 
-  find-mouse : (entries : List (List KeyEvent × EventHandler X P)) → handler_of (map (λ entry. (keys entry.0, value entry.1)) entries) mouse ≡ None
+  find-mouse : (entries : List (List KeyEvent × EventHandler C)) → handler_of (map (λ entry. (keys entry.0, value entry.1)) entries) mouse ≡ None
   find-mouse [] = refl
   find-mouse (entry ∷ entries) = find-mouse entries
 
   -- the handler of each event
-  pub each-handler : (any click : Option (EventHandler X P)) (entries : List (List KeyEvent × EventHandler X P)) → handler_of (bound-by any click entries) each_key ≡ option_map value any
+  pub each-handler : (any click : Option (EventHandler C)) (entries : List (List KeyEvent × EventHandler C)) → handler_of (bound-by any click entries) each_key ≡ option_map value any
   each-handler (Some handler) click entries = refl
   each-handler None (Some handler) entries = find-each entries
   each-handler None None entries = find-each entries
 
-  pub mouse-handler : (any click : Option (EventHandler X P)) (entries : List (List KeyEvent × EventHandler X P)) → handler_of (bound-by any click entries) mouse ≡ option_map value click
+  pub mouse-handler : (any click : Option (EventHandler C)) (entries : List (List KeyEvent × EventHandler C)) → handler_of (bound-by any click entries) mouse ≡ option_map value click
   mouse-handler (Some other) (Some handler) entries = refl
   mouse-handler (Some other) None entries = find-mouse entries
   mouse-handler None (Some handler) entries = refl
   mouse-handler None None entries = find-mouse entries
 
-  pub keys-handler : (any click : Option (EventHandler X P)) (entries : List (List KeyEvent × EventHandler X P)) (sequence : List KeyEvent) → handler_of (bound-by any click entries) (keys sequence) ≡ option_map value (value_of entries sequence)
+  pub keys-handler : (any click : Option (EventHandler C)) (entries : List (List KeyEvent × EventHandler C)) (sequence : List KeyEvent) → handler_of (bound-by any click entries) (keys sequence) ≡ option_map value (value_of entries sequence)
   keys-handler (Some other) (Some handler) entries sequence = find-keys entries sequence
   keys-handler (Some other) None entries sequence = find-keys entries sequence
   keys-handler None (Some handler) entries sequence = find-keys entries sequence
   keys-handler None None entries sequence = find-keys entries sequence
 
-  keys-lead : (entries : List (List KeyEvent × EventHandler X P)) (front : List KeyEvent)
+  keys-lead : (entries : List (List KeyEvent × EventHandler C)) (front : List KeyEvent)
       → leads_on (map (λ entry. (keys entry.0, value entry.1)) entries) front ≡ list_any (λ entry. starts_with same_key entry.0 front) entries
   keys-lead [] front = refl
   keys-lead (entry ∷ entries) front = ap (λ b. starts_with same_key entry.0 front || b) (keys-lead entries front)
 
   -- the keys that begin a bound sequence
-  pub fronts : (any click : Option (EventHandler X P)) (entries : List (List KeyEvent × EventHandler X P)) (front : List KeyEvent)
+  pub fronts : (any click : Option (EventHandler C)) (entries : List (List KeyEvent × EventHandler C)) (front : List KeyEvent)
       → leads_on (bound-by any click entries) front ≡ list_any (λ entry. starts_with same_key entry.0 front) entries
   fronts (Some other) (Some handler) entries front = keys-lead entries front
   fronts (Some other) None entries front = keys-lead entries front
   fronts None (Some handler) entries front = keys-lead entries front
   fronts None None entries front = keys-lead entries front
 
-  keys-listed : (entries : List (List KeyEvent × EventHandler X P))
-      → map (λ (binding : Chord × Handler). event_keys binding.0) (map (λ (entry : List KeyEvent × EventHandler X P). (keys entry.0, value entry.1)) entries) ≡ map (λ (entry : List KeyEvent × EventHandler X P). entry.0) entries
+  keys-listed : (entries : List (List KeyEvent × EventHandler C))
+      → map (λ (binding : Chord × Handler). event_keys binding.0) (map (λ (entry : List KeyEvent × EventHandler C). (keys entry.0, value entry.1)) entries) ≡ map (λ (entry : List KeyEvent × EventHandler C). entry.0) entries
   keys-listed [] = refl
   keys-listed (entry ∷ entries) = ap (λ l. entry.0 ∷ l) (keys-listed entries)
 
   -- the beginnings of the bound sequences
-  pub fronts-counted : (any click : Option (EventHandler X P)) (entries : List (List KeyEvent × EventHandler X P)) → node_count (bound-by any click entries) ≡ beginning_count (map (λ (entry : List KeyEvent × EventHandler X P). entry.0) entries)
+  pub fronts-counted : (any click : Option (EventHandler C)) (entries : List (List KeyEvent × EventHandler C)) → node_count (bound-by any click entries) ≡ beginning_count (map (λ (entry : List KeyEvent × EventHandler C). entry.0) entries)
   fronts-counted (Some other) (Some handler) entries = ap beginning_count (keys-listed entries)
   fronts-counted (Some other) None entries = ap beginning_count (keys-listed entries)
   fronts-counted None (Some handler) entries = ap beginning_count (keys-listed entries)
   fronts-counted None None entries = ap beginning_count (keys-listed entries)
 
-  keys-sure : (entries : List (List KeyEvent × EventHandler X P)) → all_sure (map (λ entry. (keys entry.0, value entry.1)) entries) ≡ list_all (λ entry. (value entry.1).sure) entries
+  keys-sure : (entries : List (List KeyEvent × EventHandler C)) → all_sure (map (λ entry. (keys entry.0, value entry.1)) entries) ≡ list_all (λ entry. (value entry.1).sure) entries
   keys-sure [] = refl
   keys-sure (entry ∷ entries) = ap (λ b. (value entry.1).sure && b) (keys-sure entries)
 
   -- whether a handler is sure, where there is one
-  abbrev own_sure : Option (EventHandler X P) → Bool
+  abbrev own_sure : Option (EventHandler C) → Bool
   own_sure None = true
   own_sure (Some handler) = (value handler).sure
 
-  sure-parts : (any click : Option (EventHandler X P)) (entries : List (List KeyEvent × EventHandler X P))
+  sure-parts : (any click : Option (EventHandler C)) (entries : List (List KeyEvent × EventHandler C))
       → all_sure (bound-by any click entries) ≡ (own_sure any && (own_sure click && list_all (λ entry. (value entry.1).sure) entries))
   sure-parts (Some other) (Some handler) entries = ap (λ b. (value other).sure && ((value handler).sure && b)) (keys-sure entries)
   sure-parts (Some other) None entries = ap (λ b. (value other).sure && b) (keys-sure entries)
   sure-parts None (Some handler) entries = ap (λ b. (value handler).sure && b) (keys-sure entries)
   sure-parts None None entries = keys-sure entries
 
-  module _ (any click : Option (EventHandler X P)) (entries : List (List KeyEvent × EventHandler X P)) (handler : EventHandler X P) where
+  module _ (any click : Option (EventHandler C)) (entries : List (List KeyEvent × EventHandler C)) (handler : EventHandler C) where
     all-of : all_sure (bound-by any click entries) ≡ true → (own_sure any ≡ true) × (own_sure click ≡ true) × (list_all (λ entry. (value entry.1).sure) entries ≡ true)
     all-of all =
         let first = and-are (own_sure any) (own_sure click && list_all (λ entry. (value entry.1).sure) entries) (sym (sure-parts any click entries) ∙ all) in
         let second = and-are (own_sure click) (list_all (λ entry. (value entry.1).sure) entries) first.1 in
         (first.0, second.0, second.1)
 
-    module _ (after : List (List KeyEvent × EventHandler X P)) (sequence : List KeyEvent) (puts : Puts entries after sequence handler) where
+    module _ (after : List (List KeyEvent × EventHandler C)) (sequence : List KeyEvent) (puts : Puts entries after sequence handler) where
       keys-anew : (other : Chord) → handler_of (bound-by any click after) other ≡ (if same_chord (keys sequence) other then Some (value handler) else handler_of (bound-by any click entries) other)
       keys-anew each_key = each-handler any click after ∙ sym (each-handler any click entries)
       keys-anew (keys other) =

@@ -11,7 +11,6 @@ pub mod Moment
 pub mod Info
 pub mod KeyTree
 pub mod Binding
-pub mod BoundCommands
 pub mod Reading
 pub mod Reads
 pub mod Input

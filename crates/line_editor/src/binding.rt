@@ -1,5 +1,5 @@
 //! The keys that a program gives commands of its own.
-ghost use Rattle.std.specs.Prelude.{◌≡◌, Bool, false, ◌∷◌, [], IfOk, None, Option, is_some, map, option_and_then, option_copied, option_map, slice_get};
+ghost use Rattle.std.specs.Prelude.{◌≡◌, Bool, false, true, ◌∷◌, [], IfOk, None, Option, is_some, map, option_and_then, option_copied, option_map, slice_get};
 ghost use Rattle.line_config.specs.Error.{FaultsOnly, IoOnlyIf, MemoryOnly};
 ghost use Rattle.line_editor.specs.Asked.{Asked};
 ghost use Rattle.line_editor.specs.declared.binding.EventHandler.TheVariants.{Simple};
@@ -202,19 +202,61 @@ pub trait ConditionalEventHandler: Drop {
         ensures faults { FaultsOnly result };
 }
 
-/// What an input event is bound to.
+/// A handler in a box answers as the one that it holds.
+impl ConditionalEventHandler for Box<dyn ConditionalEventHandler> {
+    ghost sure = { λ b. (ConditionalEventHandler-box b).sure b.value };
+
+    ghost answer = { λ b. (ConditionalEventHandler-box b).answer b.value };
+
+    fn handle(
+        &self,
+        alloc: Global,
+        evt: &Event,
+        n: RepeatCount,
+        positive: bool,
+        ctx: &EventContext<'_>,
+    ) -> Result<Option<Cmd>> {
+        (**self).handle(alloc, evt, n, positive, ctx)
+    }
+}
+
+/// A handler that has no command for any key: for bindings of nothing but commands.
 #[derive(Drop)]
-pub enum EventHandler {
+pub struct NoHandler;
+
+impl ConditionalEventHandler for NoHandler {
+    ghost sure = { λ handler. true };
+
+    ghost answer = { λ handler asked. None };
+
+    fn handle(
+        &self,
+        _alloc: Global,
+        _evt: &Event,
+        _n: RepeatCount,
+        _positive: bool,
+        _ctx: &EventContext<'_>,
+    ) -> Result<Option<Cmd>> {
+        Ok(None)
+    }
+}
+
+/// What an input event is bound to.
+///
+/// Handlers are of any types, each in a box. A program whose handlers are all of one type can name it instead, and one that
+/// binds commands alone names `NoHandler`.
+#[derive(Drop)]
+pub enum EventHandler<C = Box<dyn ConditionalEventHandler>> {
     /// The same command at each moment.
     Simple(Cmd),
     /// A command that may depend on the moment.
-    Conditional(Box<dyn ConditionalEventHandler>),
+    Conditional(C),
 }
 
-impl From<Cmd> for EventHandler {
+impl<C> From<Cmd> for EventHandler<C> {
     ghost from_gives = { λ command handler. handler ≡ Simple command };
 
-    fn from(command: Cmd) -> EventHandler {
+    fn from(command: Cmd) -> EventHandler<C> {
         EventHandler::Simple(command)
     }
 }

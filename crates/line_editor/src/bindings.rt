@@ -1,14 +1,12 @@
 //! The map of a program's bindings.
-ghost use Rattle.std.specs.Prelude.{◌≡◌, [], IfOk, OnErr, OnOk, map, option_map};
+ghost use Rattle.std.specs.Prelude.{◌≡◌, [], IfOk, OnErr, OnOk, option_map};
 ghost use Rattle.line_config.specs.Error.{MemoryOnly};
 ghost use Rattle.line_editor.specs.Binding.{Rebinds, begins, bound_of, handled, handler_of, leads_on, node_count};
-ghost use Rattle.line_editor.specs.BoundCommands.{AreBound, bound_value};
 ghost use Rattle.line_editor.specs.Event.{chord_of, keys};
 ghost use Rattle.line_editor.specs.Keymap.{key_handler};
 
 use crate::binding::{ConditionalEventHandler, Event, EventHandler};
 use line_config::Result;
-use line_keys::cmd::Cmd;
 use line_keys::keys::KeyEvent;
 use std::alloc::Global;
 use tree::KeyTree;
@@ -22,17 +20,36 @@ mod tree;
 ///
 /// Key sequences are kept as a tree, in which those that begin with the same keys share the nodes of these keys. A look-up
 /// walks from node to node by its keys, and looks at no more than the children of each.
-#[derive(Drop)]
-pub struct Bindings {
-    any: Option<EventHandler>,
-    mouse: Option<EventHandler>,
-    sequences: KeyTree<EventHandler>,
+pub struct Bindings<C = Box<dyn ConditionalEventHandler>> {
+    any: Option<EventHandler<C>>,
+    mouse: Option<EventHandler<C>>,
+    sequences: KeyTree<EventHandler<C>>,
+}
+
+impl<C: Drop> Drop for Bindings<C> {
+    fn drop(self) {
+        let Bindings {
+            any: _,
+            mouse: _,
+            sequences: _,
+        } = self;
+    }
 }
 
 impl Bindings {
-    /// Returns a map without a binding. It grows from `alloc`.
+    /// Returns a map without a binding, for handlers in boxes. It grows from `alloc`.
     pub fn new(alloc: Global) -> Bindings
-        ensures { bound_of ⟦<dyn ConditionalEventHandler as ConditionalEventHandler>⟧ result ≡ [] }
+        ensures { bound_of ⟦<Box<dyn ConditionalEventHandler> as ConditionalEventHandler>⟧ result
+            ≡ [] }
+    {
+        Bindings::of_handlers(alloc)
+    }
+}
+
+impl<C: ConditionalEventHandler> Bindings<C> {
+    /// Returns a map without a binding, for handlers of one type. It grows from `alloc`.
+    pub fn of_handlers(alloc: Global) -> Bindings<C>
+        ensures { bound_of C.ConditionalEventHandler result ≡ [] }
     {
         Bindings {
             any: None,
@@ -41,35 +58,19 @@ impl Bindings {
         }
     }
 
-    /// Returns a map of commands: each input event is bound to its command, and of several to the last one.
-    ///
-    /// # Errors
-    /// That memory ran out.
-    pub fn of_commands(alloc: Global, commands: &[(Event, Cmd)]) -> Result<Bindings>
-        ensures bound { IfOk result (λ bindings. AreBound (map bound_value commands.now)
-            (bound_of ⟦<dyn ConditionalEventHandler as ConditionalEventHandler>⟧ bindings)) }
-        ensures memory { MemoryOnly result }
-    {
-        let mut bindings = Bindings::new(alloc);
-        for bound in commands {
-            let (event, command) = bound;
-            let event = event.clone(alloc)?;
-            let command = command.clone(alloc)?;
-            bindings.insert(event, EventHandler::from(command))?;
-        }
-        Ok(bindings)
-    }
-
     /// Binds an input event to a handler. Returns the handler that it was bound to before, if it was.
     ///
     /// # Errors
     /// That memory ran out. Then the map is as it was.
-    pub fn insert(&mut self, event: Event, handler: EventHandler) -> Result<Option<EventHandler>>
-        ensures bound { let g = ⟦<dyn ConditionalEventHandler as ConditionalEventHandler>⟧ in
-            OnOk result (Rebinds (bound_of g self.old) (bound_of g self.new)
-            (chord_of event) (handled g handler)) }
-        ensures old { let g = ⟦<dyn ConditionalEventHandler as ConditionalEventHandler>⟧ in
-            IfOk result (λ old.
+    pub fn insert(
+        &mut self,
+        event: Event,
+        handler: EventHandler<C>,
+    ) -> Result<Option<EventHandler<C>>>
+        ensures bound { let g = C.ConditionalEventHandler in OnOk result
+            (Rebinds (bound_of g self.old) (bound_of g self.new) (chord_of event)
+            (handled g handler)) }
+        ensures old { let g = C.ConditionalEventHandler in IfOk result (λ old.
             option_map (handled g) old ≡ handler_of (bound_of g self.old) (chord_of event)) }
         ensures err { OnErr result (self.new ≡ self.old) }
         ensures memory { MemoryOnly result }
@@ -82,8 +83,8 @@ impl Bindings {
     }
 
     /// Returns the handler that an input event is bound to, if it is.
-    pub fn get(&self, event: &Event) -> Option<&EventHandler>
-        ensures { let g = ⟦<dyn ConditionalEventHandler as ConditionalEventHandler>⟧ in
+    pub fn get(&self, event: &Event) -> Option<&EventHandler<C>>
+        ensures { let g = C.ConditionalEventHandler in
             option_map (λ handler. handled g handler.now) result
             ≡ handler_of (bound_of g self.now) (chord_of event.now) }
     {
@@ -96,7 +97,7 @@ impl Bindings {
 
     /// Returns whether an input event is bound, or is keys that a bound sequence begins with.
     pub fn begins(&self, event: &Event) -> bool
-        ensures { let g = ⟦<dyn ConditionalEventHandler as ConditionalEventHandler>⟧ in
+        ensures { let g = C.ConditionalEventHandler in
             result ≡ begins (bound_of g self.now) (chord_of event.now) }
     {
         match event {
@@ -108,7 +109,7 @@ impl Bindings {
     /// Returns the number of different beginnings of the key sequences that are bound. A sequence is one of its own
     /// beginnings, and the empty one is not counted.
     pub fn nodes(&self) -> usize
-        ensures { let g = ⟦<dyn ConditionalEventHandler as ConditionalEventHandler>⟧ in
+        ensures { let g = C.ConditionalEventHandler in
             result ≡ node_count (bound_of g self.now) }
     {
         self.sequences.beginnings()
@@ -116,15 +117,15 @@ impl Bindings {
 
     // Returns whether a bound sequence is these keys, or begins with them.
     pub(crate) fn leads_on(&self, front: &[KeyEvent]) -> bool
-        ensures { let g = ⟦<dyn ConditionalEventHandler as ConditionalEventHandler>⟧ in
+        ensures { let g = C.ConditionalEventHandler in
             result ≡ leads_on (bound_of g self.now) front.now }
     {
         self.sequences.leads_on(front)
     }
 
     // Returns the handler of a key sequence.
-    pub(crate) fn of_keys(&self, sequence: &[KeyEvent]) -> Option<&EventHandler>
-        ensures { let g = ⟦<dyn ConditionalEventHandler as ConditionalEventHandler>⟧ in
+    pub(crate) fn of_keys(&self, sequence: &[KeyEvent]) -> Option<&EventHandler<C>>
+        ensures { let g = C.ConditionalEventHandler in
             option_map (λ handler. handled g handler.now) result
             ≡ handler_of (bound_of g self.now) (keys sequence.now) }
     {
@@ -132,8 +133,8 @@ impl Bindings {
     }
 
     // Returns the handler of a key: that of its own, or else that of each key.
-    pub(crate) fn of_key(&self, key: KeyEvent) -> Option<&EventHandler>
-        ensures { let g = ⟦<dyn ConditionalEventHandler as ConditionalEventHandler>⟧ in
+    pub(crate) fn of_key(&self, key: KeyEvent) -> Option<&EventHandler<C>>
+        ensures { let g = C.ConditionalEventHandler in
             option_map (λ handler. handled g handler.now) result
             ≡ key_handler (bound_of g self.now) key }
     {

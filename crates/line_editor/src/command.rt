@@ -10,6 +10,7 @@ ghost use Rattle.line_keys.specs.Command.{command_of};
 ghost use Rattle.line_keys.specs.Drawing.{Does};
 ghost use Rattle.line_parts.specs.Verdict.{verdict_of};
 
+use crate::binding::ConditionalEventHandler;
 use crate::edit::State;
 use crate::input_state::InputState;
 use line_buffer::{KillRing, WordAction};
@@ -43,10 +44,18 @@ pub enum Status {
 /// there are no changes, the saved line and the history index are those of one moment, and the text, the cursor and the hint
 /// may be any; the kill ring is the one that the command leaves, the one from before, or that one with a kill as its last
 /// action.
-pub fn execute<'out, 'prompt, W: Renderer, H: Helper, P: Prompt, S: History>(
+pub fn execute<
+    'out,
+    'prompt,
+    W: Renderer,
+    H: Helper,
+    P: Prompt,
+    S: History,
+    C: ConditionalEventHandler,
+>(
     cmd: Cmd,
     state: &mut State<'out, 'prompt, W, H, P, S>,
-    input_state: &InputState<'_>,
+    input_state: &InputState<'_, C>,
     kill_ring: &mut KillRing,
     config: &Config,
 ) -> Result<Status>
@@ -110,7 +119,12 @@ impl<'out, 'prompt, W: Renderer, H: Helper, P: Prompt, S: History> State<
     S,
 > {
     // Does what a command says that neither ends the run nor looks at the kill ring.
-    fn edit_by(&mut self, cmd: Cmd, input_state: &InputState<'_>, indent_size: u8) -> Result<()>
+    fn edit_by<C: ConditionalEventHandler>(
+        &mut self,
+        cmd: Cmd,
+        input_state: &InputState<'_, C>,
+        indent_size: u8,
+    ) -> Result<()>
         ensures { DoesCommandBy ⟦<Self as EditorState>⟧ result self.old self.new indent_size
             (input_of input_state.now) (command_of cmd) }
     {
@@ -176,7 +190,10 @@ impl<'out, 'prompt, W: Renderer, H: Helper, P: Prompt, S: History> State<
     }
 
     // Ends the input on an empty line; submits another line in Vi mode.
-    fn end_of_file(&mut self, input_state: &InputState<'_>) -> Result<Status>
+    fn end_of_file<C: ConditionalEventHandler>(
+        &mut self,
+        input_state: &InputState<'_, C>,
+    ) -> Result<Status>
         ensures { let e = ⟦<Self as EditorState>⟧ in (indent : ℕ) → (kills : Ring)
             → Executes e result self.old (input_of input_state.now) indent kills
             commands.end_of_file self.new kills }

@@ -28,20 +28,31 @@ use phrases::Read;
 
 /// Reads keys as commands, by the program's bindings, the reader's own and the tables, and remembers what the next
 /// commands depend on.
-#[derive(Drop)]
-pub struct InputState<'b> {
+pub struct InputState<'b, C = Box<dyn ConditionalEventHandler>> {
     mode: EditMode,
-    bindings: &'b Bindings,
+    bindings: &'b Bindings<C>,
     input_mode: InputMode,
     last_cmd: Option<Cmd>,
     last_char_search: Option<CharSearch>,
 }
 
-impl<'b> InputState<'b> {
+impl<C> Drop for InputState<'_, C> {
+    fn drop(self) {
+        let InputState {
+            mode: _,
+            bindings: _,
+            input_mode: _,
+            last_cmd: _,
+            last_char_search: _,
+        } = self;
+    }
+}
+
+impl<'b, C: ConditionalEventHandler> InputState<'b, C> {
     /// Returns the state before the first key, in the configured edit mode; Vi begins in insert mode.
-    pub fn new(config: &Config, bindings: &'b Bindings) -> Self
+    pub fn new(config: &Config, bindings: &'b Bindings<C>) -> Self
         ensures input { input_of result ≡ first_input config.now.edit_mode }
-        ensures bindings { let g = ⟦<dyn ConditionalEventHandler as ConditionalEventHandler>⟧ in
+        ensures bindings { let g = C.ConditionalEventHandler in
             (keys_of g result).bound ≡ bound_of g bindings.now }
     {
         InputState {
@@ -86,7 +97,7 @@ impl<'b> InputState<'b> {
         wrt: &mut W,
         single_esc_abort: bool,
     ) -> Result<Cmd>
-        ensures { let k = keys_of ⟦<dyn ConditionalEventHandler as ConditionalEventHandler>⟧ in
+        ensures { let k = keys_of C.ConditionalEventHandler in
             ReadsCommand W.EditorState R.RawReader (λ command draft. draft) result
             wrt.old (k self.old) rdr.old wrt.new (k self.new) rdr.new }
     {
@@ -102,10 +113,10 @@ impl<'b> InputState<'b> {
     #[inline(always)]
     pub(crate) fn remember(&mut self, read: Read) -> Result<Cmd>
         ensures command { IfOk result (λ c. command_of c ≡ command_of read.command) }
-        ensures keys { let k = keys_of ⟦<dyn ConditionalEventHandler as ConditionalEventHandler>⟧ in
+        ensures keys { let k = keys_of C.ConditionalEventHandler in
             OnOk result (k self.new
             ≡ record (k self.old) { input = read_input read (input_of self.old) }) }
-        ensures err { let k = keys_of ⟦<dyn ConditionalEventHandler as ConditionalEventHandler>⟧ in
+        ensures err { let k = keys_of C.ConditionalEventHandler in
             OnErr result (k self.new ≡ k self.old) }
         ensures memory { MemoryOnly result }
     {

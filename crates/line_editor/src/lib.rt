@@ -10,7 +10,7 @@ pub mod laws;
 pub mod left;
 pub mod run;
 
-pub use binding::{ConditionalEventHandler, Event, EventContext, EventHandler};
+pub use binding::{ConditionalEventHandler, Event, EventContext, EventHandler, NoHandler};
 pub use bindings::Bindings;
 pub use command::{Status, execute};
 pub use edit::State;

@@ -58,14 +58,22 @@ fn reset_kills(command: &Cmd, kill_ring: &mut KillRing)
 /// may fail; or that memory ran out. Either reading failed: the line and its cursor, what is remembered of the keys and the
 /// kill ring are as they were, and no item past the phrase that was begun is read. Or the command failed: its phrase is read
 /// and no item more, and the line and the kill ring are left as `execute` leaves them. The error does not say which.
-pub fn advance<'out, 'prompt, W: Renderer, H: Helper, P: Prompt, S: History>(
+pub fn advance<
+    'out,
+    'prompt,
+    W: Renderer,
+    H: Helper,
+    P: Prompt,
+    S: History,
+    C: ConditionalEventHandler,
+>(
     state: &mut State<'out, 'prompt, W, H, P, S>,
-    input_state: &mut InputState<'_>,
+    input_state: &mut InputState<'_, C>,
     rdr: &mut W::Reader,
     kill_ring: &mut KillRing,
     config: &Config,
 ) -> Result<Turned>
-    ensures advances { let k = keys_of ⟦<dyn ConditionalEventHandler as ConditionalEventHandler>⟧ in
+    ensures advances { let k = keys_of C.ConditionalEventHandler in
         Advances ⟦<State<'out, 'prompt, W, H, P, S> as EditorState>⟧ W.Reader.RawReader
         config.now.indent_size result
         (session state.old (k input_state.old) rdr.old kill_ring.old)
@@ -81,19 +89,27 @@ pub fn advance<'out, 'prompt, W: Renderer, H: Helper, P: Prompt, S: History>(
 ///
 /// # Errors
 /// Those of `advance`.
-pub fn take_turn<'out, 'prompt, W: Renderer, H: Helper, P: Prompt, S: History>(
+pub fn take_turn<
+    'out,
+    'prompt,
+    W: Renderer,
+    H: Helper,
+    P: Prompt,
+    S: History,
+    C: ConditionalEventHandler,
+>(
     state: &mut State<'out, 'prompt, W, H, P, S>,
-    input_state: &mut InputState<'_>,
+    input_state: &mut InputState<'_, C>,
     rdr: &mut W::Reader,
     kill_ring: &mut KillRing,
     config: &Config,
 ) -> Result<(Turned, Option<Left>)>
-    ensures advances { let k = keys_of ⟦<dyn ConditionalEventHandler as ConditionalEventHandler>⟧ in
+    ensures advances { let k = keys_of C.ConditionalEventHandler in
         Advances ⟦<State<'out, 'prompt, W, H, P, S> as EditorState>⟧ W.Reader.RawReader
         config.now.indent_size (ended_so result)
         (session state.old (k input_state.old) rdr.old kill_ring.old)
         (session state.new (k input_state.new) rdr.new kill_ring.new) }
-    ensures left { let k = keys_of ⟦<dyn ConditionalEventHandler as ConditionalEventHandler>⟧ in
+    ensures left { let k = keys_of C.ConditionalEventHandler in
         TellsLeft ⟦<State<'out, 'prompt, W, H, P, S> as EditorState>⟧ W.Reader.RawReader result
         (session state.old (k input_state.old) rdr.old kill_ring.old)
         (session state.new (k input_state.new) rdr.new kill_ring.new) }
@@ -113,21 +129,29 @@ pub fn take_turn<'out, 'prompt, W: Renderer, H: Helper, P: Prompt, S: History>(
 }
 
 // Takes a turn whose first key was read.
-fn take_turn_from<'out, 'prompt, W: Renderer, H: Helper, P: Prompt, S: History>(
+fn take_turn_from<
+    'out,
+    'prompt,
+    W: Renderer,
+    H: Helper,
+    P: Prompt,
+    S: History,
+    C: ConditionalEventHandler,
+>(
     first: KeyEvent,
     state: &mut State<'out, 'prompt, W, H, P, S>,
-    input_state: &mut InputState<'_>,
+    input_state: &mut InputState<'_, C>,
     rdr: &mut W::Reader,
     kill_ring: &mut KillRing,
     config: &Config,
 ) -> Result<(Turned, Option<Left>)>
-    ensures advances { let k = keys_of ⟦<dyn ConditionalEventHandler as ConditionalEventHandler>⟧ in
+    ensures advances { let k = keys_of C.ConditionalEventHandler in
         BeforeKey W.Reader.RawReader first rdr.old (λ reader.
         Advances ⟦<State<'out, 'prompt, W, H, P, S> as EditorState>⟧ W.Reader.RawReader
         config.now.indent_size (ended_so result)
         (session state.old (k input_state.old) reader kill_ring.old)
         (session state.new (k input_state.new) rdr.new kill_ring.new)) }
-    ensures left { let k = keys_of ⟦<dyn ConditionalEventHandler as ConditionalEventHandler>⟧ in
+    ensures left { let k = keys_of C.ConditionalEventHandler in
         BeforeKey W.Reader.RawReader first rdr.old (λ reader.
         TellsLeft ⟦<State<'out, 'prompt, W, H, P, S> as EditorState>⟧ W.Reader.RawReader result
         (session state.old (k input_state.old) reader kill_ring.old)
@@ -159,14 +183,22 @@ fn take_turn_from<'out, 'prompt, W: Renderer, H: Helper, P: Prompt, S: History>(
 /// or where the helper, the history or a handler may fail; or that memory ran out. Then either the first drawing failed, and
 /// nothing was read and the line is as it was; or turns were taken up to one that failed, and all is left as `advance` leaves
 /// it.
-pub fn run<'out, 'prompt, W: Renderer, H: Helper, P: Prompt, S: History>(
+pub fn run<
+    'out,
+    'prompt,
+    W: Renderer,
+    H: Helper,
+    P: Prompt,
+    S: History,
+    C: ConditionalEventHandler,
+>(
     state: &mut State<'out, 'prompt, W, H, P, S>,
-    input_state: &mut InputState<'_>,
+    input_state: &mut InputState<'_, C>,
     rdr: &mut W::Reader,
     kill_ring: &mut KillRing,
     config: &Config,
 ) -> Result<()>
-    ensures runs { let k = keys_of ⟦<dyn ConditionalEventHandler as ConditionalEventHandler>⟧ in
+    ensures runs { let k = keys_of C.ConditionalEventHandler in
         Runs ⟦<State<'out, 'prompt, W, H, P, S> as EditorState>⟧ W.Reader.RawReader
         config.now.indent_size result
         (session state.old (k input_state.old) rdr.old kill_ring.old)

@@ -1,40 +1,56 @@
--- The command that an event was bound to is left out.
-use Rattle.std.proofs.Common.{◌≡◌, sym, ◌∙◌, ap, ap₂, subst, arith, ℕ, suc, ◌<◌, true, List, [], ◌∷◌, ◌++◌, length, map, take, drop, get_or, append_assoc, if◌then◌else◌}
-use Rattle.std.specs.List.{remove}
-use Rattle.std.proofs.Math.Seq.{drop-cons}
-use Rattle.std.proofs.lemmas.List.{drop-append-le, map-append, take-append-le}
-use Rattle.line_editor.specs.BoundCommands.{BoundCommands, bound_value}
-use Rattle.line_editor.specs.Event.{Chord, chord_of, same_chord}
-use Rattle.line_editor.specs.declared.binding.Event.{Event}
-use Rattle.line_host.specs.Bound.{without}
-use Rattle.line_keys.specs.declared.cmd.Cmd.{Cmd}
+-- Facts on commands that are bound to keys.
+use Rattle.std.proofs.Common.{◌≡◌, List, [], ◌∷◌, ◌++◌, Option, Some, None, refl, sym, subst, ◌∙◌, ap, map}
+use Rattle.std.proofs.lemmas.List.{map-append}
+use Rattle.line_keys.specs.Command.{Command}
+use Rattle.line_keys.specs.declared.keys.KeyEvent.{KeyEvent}
+use Rattle.line_editor.specs.Binding.{Rebinds, answers, bound_of, bound_to, handled}
+use Rattle.line_editor.specs.Event.{Chord, each_key, keys, mouse}
+use Rattle.line_editor.specs.declared.binding.ConditionalEventHandler as handlers
+use Rattle.line_editor.specs.declared.binding.EventHandler.{EventHandler}
+use Rattle.line_editor.specs.declared.binding.EventHandler.TheVariants.{Conditional, Simple}
+use Rattle.line_editor.specs.declared.binding.NoHandler.{NoHandler}
+use Rattle.line_editor.specs.declared.bindings.Bindings.{Bindings}
+use Rattle.line_host.specs.Bound.{BoundCommands, bound, command_at, command_in, commands_in}
 
--- none of the first so many is bound to this event
-abbrev pub NoneBefore : Chord → List (Event × Cmd) → ℕ → Type 0
-NoneBefore chord commands i = without chord (map bound_value commands) ≡ map bound_value (take i commands) ++ without chord (map bound_value (drop i commands))
+-- commands that are bound as nothing are none
+pub none_bound : (commands : BoundCommands) → bound commands ≡ [] → commands ≡ []
+none_bound [] none = refl
+none_bound (pair ∷ pairs) none = absurd (cc)
 
--- the next one is
-pub found_there : (chord : Chord) (commands : List (Event × Cmd)) (i : ℕ) (d x : Event × Cmd) → i < length commands → x ≡ get_or commands i d
-    → true ≡ same_chord (chord_of x.0) chord → NoneBefore chord commands i → map bound_value (remove commands i) ≡ without chord (map bound_value commands)
-found_there chord commands i d x within is same before =
-    map-append bound_value (take i commands) (drop (suc i) commands)
-    ∙ sym (before ∙ ap (λ xs. map bound_value (take i commands) ++ without chord (map bound_value xs)) (drop-cons commands i d within ∙ ap (λ y. y ∷ drop (suc i) commands) (sym is))
-    ∙ ap (λ b. map bound_value (take i commands) ++ (if b then map bound_value (drop (suc i) commands) else bound_value x ∷ without chord (map bound_value (drop (suc i) commands)))) (sym same))
+module _ (g : handlers.Ghosts NoHandler) (no_command : (handler : NoHandler) → handled g (Conditional handler) ≡ answers None) where
+  handled_is : (handler : EventHandler NoHandler) → handled g handler ≡ answers (command_in handler)
+  handled_is (Simple command) = refl
+  handled_is (Conditional handler) = no_command handler
 
--- one is left out in front of what was put behind
-pub removed_before : (xs ys : List (Event × Cmd)) (i : ℕ) → i < length xs → remove (xs ++ ys) i ≡ remove xs i ++ ys
-removed_before xs ys i within =
-    ap₂ (λ a b. a ++ b) (take-append-le i xs ys (omega arith)) (drop-append-le (suc i) xs ys (omega arith))
-    ∙ sym (append_assoc (take i xs) (drop (suc i) xs) ys)
+  at_is : (chord : Chord) (handler : Option (EventHandler NoHandler)) → bound_to (handled g) chord handler ≡ bound (command_at chord handler)
+  at_is chord None = refl
+  at_is chord (Some handler) = ap (λ h. (chord, h) ∷ []) (handled_is handler)
 
--- so it is where the command was put behind first
-pub bound_behind : (old : BoundCommands) (xs ys zs ws : List (Event × Cmd)) (chord : Chord) (i : ℕ) (pair : Event × Cmd) → map bound_value xs ≡ old → ys ≡ xs
-    → zs ≡ xs ++ pair ∷ [] → ws ≡ remove zs i → i < length ys → map bound_value (remove ys i) ≡ without chord (map bound_value ys)
-    → map bound_value ws ≡ without chord old ++ bound_value pair ∷ []
-bound_behind old xs ys zs ws chord i pair view same pushed removed within left_out =
-    let inside : i < length xs = subst (λ l. i < length l) same within in
-    let out : map bound_value (remove xs i) ≡ without chord (map bound_value xs) =
-    subst (λ l. map bound_value (remove l i) ≡ without chord (map bound_value l)) same left_out in
-    ap (map bound_value) (removed ∙ ap (λ l. remove l i) pushed ∙ removed_before xs (pair ∷ []) i inside)
-    ∙ map-append bound_value (remove xs i) (pair ∷ [])
-    ∙ ap (λ l. l ++ bound_value pair ∷ []) (out ∙ ap (without chord) view)
+  sequences_are : (entries : List (List KeyEvent × EventHandler NoHandler))
+      → map (λ entry. (keys entry.0, handled g entry.1)) entries ≡ bound (map (λ entry. (keys entry.0, command_in entry.1)) entries)
+  sequences_are [] = refl
+  sequences_are (entry ∷ entries) =
+      ap (λ h. (keys entry.0, h) ∷ map (λ (e : List KeyEvent × EventHandler NoHandler). (keys e.0, handled g e.1)) entries) (handled_is entry.1)
+      ∙ ap (λ bs. (keys entry.0, answers (command_in entry.1)) ∷ bs) (sequences_are entries)
+
+  bound_parts : (one two three : BoundCommands) → bound (one ++ two ++ three) ≡ bound one ++ bound two ++ bound three
+  bound_parts one two three = map-append _ (one ++ two) three ∙ ap (λ bs. bs ++ bound three) (map-append _ one two)
+
+  -- bindings of commands alone are those of their commands
+  pub commands_bound : (bindings : Bindings NoHandler) → bound_of g bindings ≡ bound (commands_in bindings)
+  commands_bound bindings =
+      ap (λ bs. bs ++ bound_to (handled g) mouse bindings.mouse ++ map (λ (e : List KeyEvent × EventHandler NoHandler). (keys e.0, handled g e.1)) bindings.sequences)
+      (at_is each_key bindings.any)
+      ∙ ap (λ bs. bound (command_at each_key bindings.any) ++ bs ++ map (λ (e : List KeyEvent × EventHandler NoHandler). (keys e.0, handled g e.1)) bindings.sequences)
+      (at_is mouse bindings.mouse)
+      ∙ ap (λ bs. bound (command_at each_key bindings.any) ++ bound (command_at mouse bindings.mouse) ++ bs) (sequences_are bindings.sequences)
+      ∙ sym (bound_parts (command_at each_key bindings.any) (command_at mouse bindings.mouse) (map (λ entry. (keys entry.0, command_in entry.1)) bindings.sequences))
+
+  -- what was bound anew in bindings was bound anew in their commands
+  pub rebinds_commands : (old new : Bindings NoHandler) (before : BoundCommands) (chord : Chord) (handler : EventHandler NoHandler) (command : Command)
+      → commands_in old ≡ before → handled g handler ≡ answers (Some command) → Rebinds (bound_of g old) (bound_of g new) chord (handled g handler)
+      → Rebinds (bound before) (bound (commands_in new)) chord (answers (Some command))
+  rebinds_commands old new before chord handler command was is rebinds =
+      subst (λ b. Rebinds b (bound (commands_in new)) chord (answers (Some command))) (commands_bound old ∙ ap bound was)
+      (subst (λ b. Rebinds (bound_of g old) b chord (answers (Some command))) (commands_bound new)
+      (subst (λ h. Rebinds (bound_of g old) (bound_of g new) chord h) is rebinds))

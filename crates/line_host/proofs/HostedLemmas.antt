@@ -1,16 +1,18 @@
 -- Facts on what comes of a session's line.
-use Rattle.std.proofs.Common.{◌≡◌, ℕ, Bool, true, false, if◌then◌else◌, List, Option, Some, None, is_some, option_map, Result, Ok, Err, IfOk, MatchResult, is_ok, OnErr, OnOk, ap, refl, string_bytes, subst, sym}
-use Rattle.std.proofs.lemmas.Result.{IfOk-weaker}
+use Rattle.std.proofs.Common.{◌≡◌, ℕ, Bool, true, false, if◌then◌else◌, List, Option, Some, None, is_some, option_map, Result, Ok, Err, IfOk, MatchResult, is_ok, OnErr, OnOk, ◌∙◌, ap, refl, string_bytes, subst, sym}
 use Rattle.line_config.specs.declared.error.ReadlineError.{ReadlineError}
 use Rattle.line_parts.specs.Environment.{Environment}
-use Rattle.line_editor.specs.Binding.{Bound}
+use Rattle.std.specs.Str.{IsUtf8}
+use Rattle.line_keys.specs.Command.{Command}
+use Rattle.line_editor.specs.Binding.{Bound, Rebinds, answers}
+use Rattle.line_editor.specs.Event.{Chord}
+use Rattle.line_host.specs.Bound.{BoundCommands, bound}
 use Rattle.line_session.specs.Sitting.{BeginsOrStays, BegunLine, LosesNothing, Sitting, suspends}
 use Rattle.line_session.specs.declared.editor.Fed.{Fed}
 use Rattle.line_session.specs.declared.editor.Fed.TheVariants as feds
-use Rattle.line_editor.specs.BoundCommands.{AreBound, BoundCommands}
-use Rattle.line_host.specs.Heard.{Hears, HearsBy, IsOfTerminal, Leaves, turn_of}
-use Rattle.line_host.specs.Hosted.{Begins, CameTo, Hosted, Tells, Turns, with_editor}
-use Rattle.line_host.specs.Status.{IsDoneOrFault, IsFault}
+use Rattle.line_host.specs.Heard.{Hears, IsOfTerminal, Leaves, turn_of}
+use Rattle.line_host.specs.Hosted.{Begins, BindsKeys, CameTo, Hosted, Tells, Turns, with_editor}
+use Rattle.line_host.specs.Status.{IsDoneOrFault, IsFault, MayBind}
 use Rattle.line_host.specs.declared.status.Status.{Status}
 use Rattle.line_host.specs.declared.status.Status.TheVariants as status
 use Rattle.line_host.specs.declared.session.Heard.{Heard}
@@ -34,37 +36,30 @@ none_mapped f None none = refl
 none_mapped f (Some x) none = cc
 
 module _ {H : Type 0} (answers : H → List (List ℕ) → Environment) where
-  -- what came by bindings that are those of the commands
-  pub hears_under : (commands : BoundCommands) (bound : Bound) (heard : Heard) (old new : Sitting H) (told : Result Fed ReadlineError) → AreBound commands bound
-      → HearsBy answers bound heard old new told → Hears answers commands heard old new told
-  hears_under commands bound (heards.Line line) old new told are came = IfOk-weaker told _ _ (λ fed begins. (bound, are, begins.0, begins.1)) came
-  hears_under commands bound (heards.Bytes bytes) old new told are came = λ begun line. IfOk-weaker told _ _ (λ fed turns. (bound, are, turns.0, turns.1)) (came begun line)
-  hears_under commands bound heards.Pause old new told are came = λ begun line. IfOk-weaker told _ _ (λ fed turns. (bound, are, turns.0, turns.1)) (came begun line)
-  hears_under commands bound heards.End old new told are came = λ begun line. IfOk-weaker told _ _ (λ fed turns. (bound, are, turns.0, turns.1)) (came begun line)
-
   -- the same of what is equal to it
-  pub hears_alike : (bound : Bound) (heard heard' : Heard) (old old' new : Sitting H) (told : Result Fed ReadlineError) → heard' ≡ heard → old ≡ old'
-      → HearsBy answers bound heard old new told → HearsBy answers bound heard' old' new told
-  hears_alike bound heard heard' old old' new told same_heard same came =
-      subst (λ h. HearsBy answers bound h old' new told) (sym same_heard) (subst (λ o. HearsBy answers bound heard o new told) same came)
+  pub hears_alike : (bound bound' : Bound) (heard heard' : Heard) (old old' new : Sitting H) (told : Result Fed ReadlineError) → bound ≡ bound' → heard' ≡ heard → old ≡ old'
+      → Hears answers bound heard old new told → Hears answers bound' heard' old' new told
+  hears_alike bound bound' heard heard' old old' new told same_bound same_heard same came =
+      subst (λ b. Hears answers b heard' old' new told) same_bound
+      (subst (λ h. Hears answers bound h old' new told) (sym same_heard) (subst (λ o. Hears answers bound heard o new told) same came))
 
   -- of the terminal turns are taken
-  pub hears_turns : (commands : BoundCommands) (heard : Heard) (old new : Sitting H) (told : Result Fed ReadlineError) → IsOfTerminal heard
-      → Hears answers commands heard old new told → (begun : BegunLine) → old.line ≡ Some begun
-      → IfOk told (Turns answers commands (turn_of heard old.decoder) old begun new)
-  hears_turns commands (heards.Line line) old new told is hears = absurd is
-  hears_turns commands (heards.Bytes bytes) old new told is hears = hears
-  hears_turns commands heards.Pause old new told is hears = hears
-  hears_turns commands heards.End old new told is hears = hears
+  pub hears_turns : (bound : Bound) (heard : Heard) (old new : Sitting H) (told : Result Fed ReadlineError) → IsOfTerminal heard
+      → Hears answers bound heard old new told → (begun : BegunLine) → old.line ≡ Some begun
+      → IfOk told (Turns answers bound (turn_of heard old.decoder) old begun new)
+  hears_turns bound (heards.Line line) old new told is hears = absurd is
+  hears_turns bound (heards.Bytes bytes) old new told is hears = hears
+  hears_turns bound heards.Pause old new told is hears = hears
+  hears_turns bound heards.End old new told is hears = hears
 
   -- what came of a line that began is that of texts that are equal
-  pub begins_alike : (commands : BoundCommands) (prompt prompt' left left' right right' : List ℕ) (old new : Sitting H) (told : Result Fed ReadlineError)
-      → prompt ≡ prompt' → left ≡ left' → right ≡ right' → IfOk told (Begins answers commands prompt left right old new)
-      → IfOk told (Begins answers commands prompt' left' right' old new)
-  begins_alike commands prompt prompt' left left' right right' old new told same_prompt same_left same_right begins =
-      subst (λ p. IfOk told (Begins answers commands p left' right' old new)) same_prompt
-      (subst (λ l. IfOk told (Begins answers commands prompt l right' old new)) same_left
-      (subst (λ r. IfOk told (Begins answers commands prompt left r old new)) same_right begins))
+  pub begins_alike : (bound : Bound) (prompt prompt' left left' right right' : List ℕ) (old new : Sitting H) (told : Result Fed ReadlineError)
+      → prompt ≡ prompt' → left ≡ left' → right ≡ right' → IfOk told (Begins answers bound prompt left right old new)
+      → IfOk told (Begins answers bound prompt' left' right' old new)
+  begins_alike bound prompt prompt' left left' right right' old new told same_prompt same_left same_right begins =
+      subst (λ p. IfOk told (Begins answers bound p left' right' old new)) same_prompt
+      (subst (λ l. IfOk told (Begins answers bound prompt l right' old new)) same_left
+      (subst (λ r. IfOk told (Begins answers bound prompt left r old new)) same_right begins))
 
   -- what is left of a line that was to begin is that of texts that are equal
   pub stays_alike : (prompt prompt' left left' right right' : List ℕ) (old new : Sitting H) (told : Result Fed ReadlineError)
@@ -127,3 +122,29 @@ done_or_fault (Ok t) came is fault = subst IsDoneOrFault (sym is) tt
 done_or_fault (Err e) status.NoMemory is fault = tt
 done_or_fault (Err e) status.Failed is fault = tt
 done_or_fault (Err e) _ is fault = absurd fault
+
+module _ {H : Type 0} where
+  -- keys that were bound
+  pub binds_done : (keys command : List ℕ) (before old : Hosted H) (left : BoundCommands) (came : Status) (chord : Chord) (bound_to : Command)
+      → IsUtf8 keys → IsUtf8 command → came ≡ status.Done → before ≡ old → Rebinds (bound before.commands) (bound left) chord (answers (Some bound_to))
+      → BindsKeys keys command old (record before { commands = left }) came
+  binds_done keys command before old left came chord bound_to one other done is rebinds = record {
+    stays = ap (λ (s : Hosted H). record s { commands = left }) is;
+    no_text = λ wrong. absurd (wrong (one, other));
+    answers = λ _ _. subst MayBind (sym done) tt;
+    binds = λ _. ((chord, bound_to), subst (λ (s : Hosted H). Rebinds (bound s.commands) (bound left) chord (answers (Some bound_to))) is rebinds);
+    kept = λ failed. absurd (failed done);
+  }
+
+  -- keys that were not bound, for want of memory
+  pub binds_not : (keys command : List ℕ) (before old : Hosted H) (left : BoundCommands) (came : Status) → IsUtf8 keys → IsUtf8 command
+      → came ≡ status.NoMemory → before ≡ old → left ≡ before.commands → BindsKeys keys command old (record before { commands = left }) came
+  binds_not keys command before old left came one other wants is kept =
+      let same : record before { commands = left } ≡ old = ap (λ commands. record before { commands = commands }) kept ∙ is in
+      record {
+        stays = subst (λ (s : Hosted H). s ≡ record old { commands = s.commands }) (sym same) refl;
+        no_text = λ wrong. absurd (wrong (one, other));
+        answers = λ _ _. subst MayBind (sym wants) tt;
+        binds = λ done. cc;
+        kept = λ _. same;
+      }

@@ -1,2 +1,2 @@
-pub mod BoundLemmas
+mod BoundLemmas
 mod HostedLemmas

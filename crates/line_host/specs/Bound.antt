@@ -1,14 +1,32 @@
--- Commands that are bound again.
-use Rattle.std.specs.Prelude.{◌++◌, ◌∷◌, [], if◌then◌else◌}
-use Rattle.line_keys.specs.Command.{Command}
-use Rattle.line_editor.specs.BoundCommands.{BoundCommands}
-use Rattle.line_editor.specs.Event.{Chord, same_chord}
+-- Commands that are bound to keys.
+use Rattle.std.specs.Prelude.{List, [], ◌∷◌, ◌++◌, Option, None, Some, map}
+use Rattle.line_keys.specs.Command.{Command, command_of}
+use Rattle.line_editor.specs.Binding.{Bound, answers}
+use Rattle.line_editor.specs.Event.{Chord, each_key, keys, mouse}
+use Rattle.line_editor.specs.declared.binding.EventHandler.{EventHandler}
+use Rattle.line_editor.specs.declared.binding.EventHandler.TheVariants.{Conditional, Simple}
+use Rattle.line_editor.specs.declared.binding.NoHandler.{NoHandler}
+use Rattle.line_editor.specs.declared.bindings.Bindings.{Bindings}
 
--- the commands without the one that an event is bound to, if it is
-abbrev pub without : Chord → BoundCommands → BoundCommands
-without chord [] = []
-without chord (pair ∷ pairs) = if same_chord pair.0 chord then pairs else pair ∷ without chord pairs
+-- events with their commands, of which the first one of an event counts; one without a command is what it is unbound
+abbrev pub BoundCommands : Type 0
+BoundCommands = List (Chord × Option Command)
 
--- an event is bound to a command, in place of the one that it was bound to
-abbrev pub bound_again : Chord → Command → BoundCommands → BoundCommands
-bound_again chord command commands = without chord commands ++ (chord, command) ∷ []
+-- commands as what handlers answer
+abbrev pub bound : BoundCommands → Bound
+bound commands = map (λ pair. (pair.0, answers pair.1)) commands
+
+-- the command that an event is bound to
+abbrev pub command_in : EventHandler NoHandler → Option Command
+command_in (Simple command) = Some (command_of command)
+command_in (Conditional handler) = None
+
+-- the command of an event, where it has one
+abbrev pub command_at : Chord → Option (EventHandler NoHandler) → BoundCommands
+command_at chord None = []
+command_at chord (Some handler) = (chord, command_in handler) ∷ []
+
+-- the commands that bindings hold
+abbrev pub commands_in : Bindings NoHandler → BoundCommands
+commands_in bindings = command_at each_key bindings.any ++ command_at mouse bindings.mouse
+    ++ map (λ entry. (keys entry.0, command_in entry.1)) bindings.sequences

@@ -4,9 +4,8 @@ use Rattle.line_config.specs.declared.error.ReadlineError.{ReadlineError}
 use Rattle.line_parts.specs.Environment.{Environment}
 use Rattle.line_editor.specs.Binding.{Bound}
 use Rattle.line_term.specs.Decoder.{Standing, Turn, finished, flushed, read}
-use Rattle.line_session.specs.Sitting.{BeginsOrStays, BegunLine, Came, CameBegun, Keeps, LosesNothing, Sitting, with_turn}
+use Rattle.line_session.specs.Sitting.{BeginsOrStays, BegunLine, LosesNothing, Sitting}
 use Rattle.line_session.specs.declared.editor.Fed.{Fed}
-use Rattle.line_editor.specs.BoundCommands.{BoundCommands}
 use Rattle.line_host.specs.Hosted.{Begins, Turns}
 use Rattle.line_host.specs.declared.session.Heard.{Heard}
 use Rattle.line_host.specs.declared.session.Heard.TheVariants as heard
@@ -30,17 +29,8 @@ module _ {H : Type 0} (answers : H → List (List ℕ) → Environment) where
   Leaves other old new = LosesNothing old new
 
   -- what became of it, by bindings
-  abbrev pub HearsBy : Bound → Heard → Sitting H → Sitting H → Result Fed ReadlineError → Type 0
-  HearsBy bound (heard.Line line) old new told =
-      IfOk told (λ fed. CameBegun answers bound line.prompt.0.now line.initial.0.now line.initial.1.now old new fed
-      × Keeps answers (record old { prompt = line.prompt.0.now }) new)
-  HearsBy bound other old new told = (begun : BegunLine) → old.line ≡ Some begun
-      → IfOk told (λ fed. Came answers bound (with_turn (turn_of other old.decoder) old) begun new fed
-      × Keeps answers (with_turn (turn_of other old.decoder) old) new)
-
-  -- the same, under bindings of the commands
-  abbrev pub Hears : BoundCommands → Heard → Sitting H → Sitting H → Result Fed ReadlineError → Type 0
-  Hears commands (heard.Line line) old new told =
-      IfOk told (Begins answers commands line.prompt.0.now line.initial.0.now line.initial.1.now old new)
-  Hears commands other old new told = (begun : BegunLine) → old.line ≡ Some begun
-      → IfOk told (Turns answers commands (turn_of other old.decoder) old begun new)
+  abbrev pub Hears : Bound → Heard → Sitting H → Sitting H → Result Fed ReadlineError → Type 0
+  Hears bound (heard.Line line) old new told =
+      IfOk told (Begins answers bound line.prompt.0.now line.initial.0.now line.initial.1.now old new)
+  Hears bound other old new told = (begun : BegunLine) → old.line ≡ Some begun
+      → IfOk told (Turns answers bound (turn_of other old.decoder) old begun new)

@@ -5,7 +5,8 @@ use Rattle.std.specs.declared.alloc.Global.{Global}
 use Rattle.line_config.specs.declared.error.ReadlineError.{ReadlineError}
 use Rattle.std.specs.Str.{IsUtf8}
 use Rattle.line_parts.specs.Environment.{Environment}
-use Rattle.line_editor.specs.Binding.{Bound}
+use Rattle.line_editor.specs.Binding.{Bound, Rebinds}
+use Rattle.line_editor.specs.Binding as binding
 use Rattle.line_term.specs.Decoder.{Turn}
 use Rattle.line_keys.specs.Command.{Command}
 use Rattle.line_parts.specs.History.{added, settled}
@@ -16,8 +17,7 @@ use Rattle.line_session.specs.Filed.{Files, LoadsText}
 use Rattle.line_session.specs.Sitting.{BeginsOrStays, BegunLine, Came, CameBegun, Keeps, LosesNothing, Sitting, drawn_anew, suspends, text_of, with_turn, written_so_far}
 use Rattle.line_session.specs.declared.editor.Fed.{Fed}
 use Rattle.line_session.specs.declared.editor.Fed.TheVariants as fed
-use Rattle.line_editor.specs.BoundCommands.{AreBound, BoundCommands}
-use Rattle.line_host.specs.Bound.{bound_again}
+use Rattle.line_host.specs.Bound.{BoundCommands, bound}
 use Rattle.line_host.specs.Status.{IsDoneOrFault, IsFault, MayBind}
 use Rattle.line_host.specs.declared.status.Status.{Status}
 use Rattle.line_host.specs.declared.status.Status.TheVariants as status
@@ -105,7 +105,7 @@ module _ {H : Type 0} where
     pub stays : new ≡ record old { commands = new.commands }
     pub no_text : ¬ (IsUtf8 keys × IsUtf8 command) → came ≡ status.NotText
     pub answers : IsUtf8 keys → IsUtf8 command → MayBind came
-    pub binds : came ≡ status.Done → (pair : Chord × Command) × (new.commands ≡ bound_again pair.0 pair.1 old.commands)
+    pub binds : came ≡ status.Done → (pair : Chord × Command) × Rebinds (bound old.commands) (bound new.commands) pair.0 (binding.answers (Some pair.1))
     pub kept : came ≢ status.Done → new ≡ old
 
   -- what becomes of a line is reported by a status, and the text of one that was submitted is kept
@@ -117,19 +117,17 @@ module _ {H : Type 0} where
   Tells (Err error) old new came = IsFault came × (new ≡ old)
 
   module _ (answers : H → List (List ℕ) → Environment) where
-    -- what became of a line that had begun, under bindings of the commands
-    abbrev pub Turns : BoundCommands → Turn → Sitting H → BegunLine → Sitting H → Fed → Type 0
-    Turns commands turn old begun new fed = (bound : Bound) × AreBound commands bound
-        × Came answers bound (with_turn turn old) begun new fed × Keeps answers (with_turn turn old) new
+    -- what became of a line that had begun, by bindings
+    abbrev pub Turns : Bound → Turn → Sitting H → BegunLine → Sitting H → Fed → Type 0
+    Turns by turn old begun new fed = Came answers by (with_turn turn old) begun new fed × Keeps answers (with_turn turn old) new
 
     -- what became of a line that began after a prompt, with these texts before and after the cursor
-    abbrev pub Begins : BoundCommands → List ℕ → List ℕ → List ℕ → Sitting H → Sitting H → Fed → Type 0
-    Begins commands prompt left right old new fed = (bound : Bound) × AreBound commands bound
-        × CameBegun answers bound prompt left right old new fed × Keeps answers (record old { prompt = prompt }) new
+    abbrev pub Begins : Bound → List ℕ → List ℕ → List ℕ → Sitting H → Sitting H → Fed → Type 0
+    Begins by prompt left right old new fed = CameBegun answers by prompt left right old new fed × Keeps answers (record old { prompt = prompt }) new
 
     -- a line began after a prompt, unless a text is none. After a fault it has begun, or the line before is there unchanged
     pub record BeginsLine (prompt styled left right : List ℕ) (old new : Hosted H) (came : Status) : Type 0 where
-      pub begins : AreTexts prompt styled left right → CameTo (Begins old.commands prompt left right old.editor new.editor)
+      pub begins : AreTexts prompt styled left right → CameTo (Begins (bound old.commands) prompt left right old.editor new.editor)
           (BeginsOrStays answers prompt left right old.editor new.editor) old new came
       pub no_text : ¬ (AreTexts prompt styled left right) → (came ≡ status.NotText) × (new ≡ old)
 
@@ -137,7 +135,7 @@ module _ {H : Type 0} where
     pub record TakesTurns (turn : Turn) (old new : Hosted H) (came : Status) : Type 0 where
       pub no_line : old.editor.line ≡ None → (came ≡ status.NoLine) × (new ≡ old)
       pub comes : (begun : BegunLine) → old.editor.line ≡ Some begun
-          → CameTo (Turns old.commands turn old.editor begun new.editor) (LosesNothing old.editor new.editor) old new came
+          → CameTo (Turns (bound old.commands) turn old.editor begun new.editor) (LosesNothing old.editor new.editor) old new came
 
     -- the end of all bytes was read, and turns taken; a line that would go on ends
     pub record Finishes (turn : Turn) (old new : Hosted H) (came : Status) : Type 0 where

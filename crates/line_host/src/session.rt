@@ -1,12 +1,12 @@
 //! A session over bytes.
 ghost use Rattle.std.specs.Prelude.{◌≡◌, ◌≢◌, ◌∷◌, ◌++◌, [], None, Some, Err, map, option_map, string_bytes, IfOk, MatchResult, OnErr};
 ghost use Rattle.line_config.specs.Error.{FaultsOnly, MemoryOnly};
+ghost use Rattle.line_host.specs.Bound.{bound};
 ghost use Rattle.line_host.specs.Copied.{CopiesIfAny, Takes, TakesOutput};
 ghost use Rattle.line_host.specs.Helped.{SetsWords, answers, words_in};
 ghost use Rattle.line_host.specs.Hosted.{Abandons, AddsLine, BeginsLine, Drops, Finishes, BindsKeys, LoadsHistory, ResizesTo, SavesHistory, TakesTurns, Tells, TellsCursor, line_of, with_editor};
-ghost use Rattle.line_host.specs.Heard.{Hears, HearsBy, IsOfTerminal, Leaves, turn_of};
+ghost use Rattle.line_host.specs.Heard.{Hears, IsOfTerminal, Leaves, turn_of};
 ghost use Rattle.line_host.specs.New.{IsNew, Refuses};
-ghost use Rattle.line_editor.specs.Binding.{bound_of};
 ghost use Rattle.line_term.specs.Decoder.{finished, flushed, is_waiting, read};
 
 use crate::bound::BoundCommands;
@@ -17,8 +17,6 @@ use crate::settings::{Settings, is_yes};
 use crate::status::Status;
 use line_buffer::Unit;
 use line_config::{ReadlineError, Result};
-use line_editor::Bindings;
-use line_editor::binding::ConditionalEventHandler;
 use line_parts::FileHistory;
 use line_script::ScriptHelper;
 use line_session::dim_hints::DimHints;
@@ -216,27 +214,15 @@ impl Session {
         self.tell(fed)
     }
 
-    /// Does what is heard, by bindings of the commands.
+    /// Does what is heard.
     fn try_hear(&mut self, heard: Heard<'_>) -> Result<Fed>
-        ensures hears { Hears answers self.old.commands heard.entry self.old.editor
+        ensures hears { Hears answers (bound self.old.commands) heard.entry self.old.editor
             self.new.editor result }
         ensures stays { self.new ≡ with_editor self.new.editor self.old }
         ensures left { OnErr result (Leaves answers heard.entry self.old.editor self.new.editor) }
         ensures faults { FaultsOnly result }
     {
-        let bindings = Bindings::of_commands(self.alloc, self.commands.as_slice())?;
-        self.read(heard, &bindings)
-    }
-
-    /// Does what is heard, by these bindings.
-    fn read(&mut self, heard: Heard<'_>, bindings: &Bindings) -> Result<Fed>
-        ensures hears { let g = ⟦<dyn ConditionalEventHandler as ConditionalEventHandler>⟧ in
-            HearsBy answers (bound_of g bindings.now) heard.entry self.old.editor
-            self.new.editor result }
-        ensures stays { self.new ≡ with_editor self.new.editor self.old }
-        ensures left { OnErr result (Leaves answers heard.entry self.old.editor self.new.editor) }
-        ensures faults { FaultsOnly result }
-    {
+        let bindings = self.commands.bindings();
         match heard {
             Heard::Line(line) => self.editor.begin_with(&line.prompt, line.initial, bindings),
             Heard::Bytes(bytes) => self.editor.feed(bytes, bindings),

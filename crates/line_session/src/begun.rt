@@ -1,5 +1,5 @@
 //! A line that has begun, and is kept between two calls.
-ghost use Rattle.std.specs.Prelude.{IsCharBoundary, ◌≡◌, ◌<◌, ℕ, List, Ok, Some, false, true, length, not, IfOk, string_bytes};
+ghost use Rattle.std.specs.Prelude.{IsCharBoundary, ◌≡◌, ◌<◌, ℕ, List, None, Ok, Some, false, true, length, not, IfOk, OnErr, OnOk, if◌then◌else◌, string_bytes};
 ghost use Rattle.line_config.specs.Error.{FaultsOnly, MemoryOnly};
 ghost use Rattle.line_editor.specs.Binding.{bound_of};
 ghost use Rattle.line_editor.specs.Editor.{Begins};
@@ -10,6 +10,7 @@ ghost use Rattle.line_keys.specs.Item.{Item};
 ghost use Rattle.line_keys.specs.Display.{corner, never_drawn};
 ghost use Rattle.line_keys.specs.Draft.{empty_draft};
 ghost use Rattle.line_parts.specs.Helped.{environment_by, sure_by};
+ghost use Rattle.line_parts.specs.History.{added};
 ghost use Rattle.line_screen.specs.KeyQueue.{queue_binding};
 ghost use Rattle.line_session.specs.Kept.{Fits, answers_of};
 ghost use Rattle.line_session.specs.Sitting.{line_with, rules_for, standing_with};
@@ -267,14 +268,14 @@ impl<H: Helper> Begun<H> {
     }
 
     /// Takes turns of a line, as `take_turns` does, and keeps it again.
-    pub(crate) fn go_on<'out, 'prompt, O: Write + Drop, S: History>(
+    pub(crate) fn go_on<'out, 'prompt, O: Write + Drop, S: History, C: ConditionalEventHandler>(
         self,
         alloc: Global,
         screen: &'out mut Ansi<O, KeyQueue>,
         prompt: &'prompt (String, String),
         helper: &'out mut H,
         history: &'out S,
-        bindings: &Bindings,
+        bindings: &Bindings<C>,
         keys: &mut KeyQueue,
         kill_ring: &mut KillRing,
         config: &Config,
@@ -289,7 +290,7 @@ impl<H: Helper> Begun<H> {
             (⟦<Ansi<O, KeyQueue> as ScreenState>⟧.screen screen.new) (string_bytes prompt.now.0)
             (answers_of H.hint_at H.verdict_at H.lights H.Completer
             helper.new (S.lines history.now)) }
-        ensures comes { let g = ⟦<dyn ConditionalEventHandler as ConditionalEventHandler>⟧ in
+        ensures comes { let g = C.ConditionalEventHandler in
             let lines = S.lines history.now in
             let asked = answers_of H.hint_at H.verdict_at H.lights H.Completer helper.old lines in
             IfOk result.1 (ComesTo (not result.0.draws)
@@ -340,4 +341,40 @@ impl<H: Helper> Begun<H> {
         give_back(out, lent);
         (begun, turned)
     }
+}
+
+/// Has a line drawn before its next key is read, if one has begun.
+pub(crate) fn draw_anew<H: Helper>(line: &mut Option<Begun<H>>)
+    ensures none { line.old ≡ None → line.new ≡ None }
+    ensures some { (begun : _) → line.old ≡ Some begun
+        → line.new ≡ Some (record begun { draws = true }) }
+{
+    if let Some(begun) = line {
+        begun.draws = true;
+    }
+}
+
+/// Returns a copy of a prompt's texts, without styles and with them.
+pub(crate) fn copied_prompt<P: Prompt>(alloc: Global, prompt: &P) -> Result<(String, String)>
+    ensures raw { IfOk result (λ copy. string_bytes copy.0 ≡ P.raw_text prompt.now) }
+    ensures memory { MemoryOnly result }
+{
+    let raw = String::from_str(alloc, prompt.raw())?;
+    let styled = String::from_str(alloc, prompt.styled())?;
+    Ok((raw, styled))
+}
+
+/// Adds a line to a history where `adds` says so.
+pub(crate) fn add<S: History>(adds: bool, line: &str, history: &mut S) -> Result<()>
+    ensures added { OnOk result (S.lines history.new ≡
+        (if adds then added (S.rules history.old) (S.lines history.old) line.now
+        else S.lines history.old)) }
+    ensures kept { OnErr result (S.lines history.new ≡ S.lines history.old) }
+    ensures rules { S.rules history.new ≡ S.rules history.old }
+    ensures faults { FaultsOnly result }
+{
+    if adds {
+        history.add(line)?;
+    }
+    Ok(())
 }

@@ -1,5 +1,5 @@
 //! An editor that reads lines from a terminal: what is kept between two lines, and between two pieces of one.
-ghost use Rattle.std.specs.Prelude.{◌≡◌, ◌<◌, ◌↔◌, true, false, [], length, None, Some, Ok, is_some, option_map, IfSome, if◌then◌else◌, IfOk, OnOk, OnErr, string_bytes};
+ghost use Rattle.std.specs.Prelude.{◌≡◌, ◌<◌, ◌↔◌, true, false, [], length, None, Some, Ok, is_some, option_map, IfSome, IfOk, OnOk, OnErr, string_bytes};
 ghost use Rattle.std.specs.Io.KnownBytes.{IsAtEnd};
 ghost use Rattle.line_config.specs.Error.{FaultsOnly, MemoryOnly, UnlessFault};
 ghost use Rattle.line_editor.specs.Binding.{bound_of};
@@ -11,7 +11,7 @@ ghost use Rattle.line_session.specs.Sitting.{BeginsOrStays, BegunLine, Came, Cam
 ghost use Rattle.line_buffer.specs.KillRing.{empty_ring};
 ghost use Rattle.line_term.specs.Decoder.{finished, flushed, fresh, is_waiting, read};
 
-use crate::begun::{Begun, begin, line_of};
+use crate::begun::{Begun, add, begin, copied_prompt, draw_anew, line_of};
 use line_buffer::{KillRing, Unit};
 use line_config::{ColorMode, Config, Prompt, ReadlineError, Result};
 use line_editor::binding::ConditionalEventHandler;
@@ -315,13 +315,13 @@ impl<O: Write + Drop, H: Helper + Drop, S: History + Drop> Editor<O, H, S> {
     /// # Errors
     /// `Io`, where the output, the helper or the history fails, and `Memory`. If the line had begun by then, `line` returns its text,
     /// and it goes on at the next call. If it had not, the line before goes on unchanged, if there was one.
-    pub fn begin_with<P: Prompt>(
+    pub fn begin_with<P: Prompt, C: ConditionalEventHandler>(
         &mut self,
         prompt: &P,
         initial: (&str, &str),
-        bindings: &Bindings,
+        bindings: &Bindings<C>,
     ) -> Result<Fed>
-        ensures came { let g = ⟦<dyn ConditionalEventHandler as ConditionalEventHandler>⟧ in
+        ensures came { let g = C.ConditionalEventHandler in
             IfOk result (CameBegun (answers_of H.hint_at H.verdict_at H.lights H.Completer)
             (bound_of g bindings.now) (P.raw_text prompt.now)
             initial.entry.0.now initial.entry.1.now self.old self.new) }
@@ -341,8 +341,12 @@ impl<O: Write + Drop, H: Helper + Drop, S: History + Drop> Editor<O, H, S> {
     ///
     /// # Errors
     /// Those of `begin_with`.
-    pub fn begin<P: Prompt>(&mut self, prompt: &P, bindings: &Bindings) -> Result<Fed>
-        ensures came { let g = ⟦<dyn ConditionalEventHandler as ConditionalEventHandler>⟧ in
+    pub fn begin<P: Prompt, C: ConditionalEventHandler>(
+        &mut self,
+        prompt: &P,
+        bindings: &Bindings<C>,
+    ) -> Result<Fed>
+        ensures came { let g = C.ConditionalEventHandler in
             IfOk result (CameBegun (answers_of H.hint_at H.verdict_at H.lights H.Completer)
             (bound_of g bindings.now) (P.raw_text prompt.now) [] [] self.old self.new) }
         ensures keeps { OnOk result
@@ -361,9 +365,13 @@ impl<O: Write + Drop, H: Helper + Drop, S: History + Drop> Editor<O, H, S> {
     /// # Errors
     /// `Io`, where the output, the helper or the history fails, and `Memory`. The line, whose text `line` returns, goes on at the next
     /// call.
-    pub fn feed(&mut self, bytes: &[u8], bindings: &Bindings) -> Result<Fed>
+    pub fn feed<C: ConditionalEventHandler>(
+        &mut self,
+        bytes: &[u8],
+        bindings: &Bindings<C>,
+    ) -> Result<Fed>
         ensures came { (begun : BegunLine) → self.old.line ≡ Some begun →
-            let g = ⟦<dyn ConditionalEventHandler as ConditionalEventHandler>⟧ in
+            let g = C.ConditionalEventHandler in
             IfOk result (Came (answers_of H.hint_at H.verdict_at H.lights H.Completer)
             (bound_of g bindings.now)
             (with_turn (read self.old.decoder bytes.now) self.old) begun self.new) }
@@ -383,9 +391,9 @@ impl<O: Write + Drop, H: Helper + Drop, S: History + Drop> Editor<O, H, S> {
     ///
     /// # Errors
     /// Those of `feed`.
-    pub fn flush(&mut self, bindings: &Bindings) -> Result<Fed>
+    pub fn flush<C: ConditionalEventHandler>(&mut self, bindings: &Bindings<C>) -> Result<Fed>
         ensures came { (begun : BegunLine) → self.old.line ≡ Some begun →
-            let g = ⟦<dyn ConditionalEventHandler as ConditionalEventHandler>⟧ in
+            let g = C.ConditionalEventHandler in
             IfOk result (Came (answers_of H.hint_at H.verdict_at H.lights H.Completer)
             (bound_of g bindings.now)
             (with_turn (flushed self.old.decoder) self.old) begun self.new) }
@@ -404,9 +412,9 @@ impl<O: Write + Drop, H: Helper + Drop, S: History + Drop> Editor<O, H, S> {
     ///
     /// # Errors
     /// Those of `feed`.
-    pub fn finish(&mut self, bindings: &Bindings) -> Result<Fed>
+    pub fn finish<C: ConditionalEventHandler>(&mut self, bindings: &Bindings<C>) -> Result<Fed>
         ensures came { (begun : BegunLine) → self.old.line ≡ Some begun →
-            let g = ⟦<dyn ConditionalEventHandler as ConditionalEventHandler>⟧ in
+            let g = C.ConditionalEventHandler in
             IfOk result (Came (answers_of H.hint_at H.verdict_at H.lights H.Completer)
             (bound_of g bindings.now)
             (with_turn (finished self.old.decoder) self.old) begun self.new) }
@@ -475,14 +483,14 @@ impl<O: Write + Drop, H: Helper + Drop, S: History + Drop> Editor<O, H, S> {
     /// `Eof`, where the input ends, or by a command on an empty line; `Interrupted`, where the person interrupts: no line goes on
     /// then. `Io`, where the input, the output, the helper or the history fails, and `Memory`: `line` and `pos` then return the line,
     /// which can be handed to `begin_with`.
-    pub fn readline<R: Read, P: Prompt>(
+    pub fn readline<R: Read, P: Prompt, C: ConditionalEventHandler>(
         &mut self,
         input: &mut R,
         pauses: bool,
         prompt: &P,
-        bindings: &Bindings,
+        bindings: &Bindings<C>,
     ) -> Result<String>
-        ensures reads { let g = ⟦<dyn ConditionalEventHandler as ConditionalEventHandler>⟧ in
+        ensures reads { let g = C.ConditionalEventHandler in
             BindingsLookAtNoHint (bound_of g bindings.now) → UnlessFault result
             (ReadsLine (answers_of H.hint_at H.verdict_at H.lights H.Completer)
             (bound_of g bindings.now)
@@ -496,15 +504,15 @@ impl<O: Write + Drop, H: Helper + Drop, S: History + Drop> Editor<O, H, S> {
     ///
     /// # Errors
     /// Those of `readline`.
-    pub fn readline_with_initial<R: Read, P: Prompt>(
+    pub fn readline_with_initial<R: Read, P: Prompt, C: ConditionalEventHandler>(
         &mut self,
         input: &mut R,
         pauses: bool,
         prompt: &P,
         initial: (&str, &str),
-        bindings: &Bindings,
+        bindings: &Bindings<C>,
     ) -> Result<String>
-        ensures reads { let g = ⟦<dyn ConditionalEventHandler as ConditionalEventHandler>⟧ in
+        ensures reads { let g = C.ConditionalEventHandler in
             BindingsLookAtNoHint (bound_of g bindings.now) → UnlessFault result
             (ReadsLine (answers_of H.hint_at H.verdict_at H.lights H.Completer)
             (bound_of g bindings.now)
@@ -562,18 +570,18 @@ impl<O: Write + Drop, H: Helper + Drop, S: History + Drop> Editor<O, H, S> {
     ///
     /// # Errors
     /// `Io`, where the input, the output, the helper or the history fails, and `Memory`.
-    fn hear<R: Read>(
+    fn hear<R: Read, C: ConditionalEventHandler>(
         &mut self,
         input: &mut R,
         goes_on: bool,
         pauses: bool,
         buffer: &mut [u8],
-        bindings: &Bindings,
+        bindings: &Bindings<C>,
     ) -> Result<(Fed, bool)>
         requires buffer { 0 < length buffer.old }
         requires end { goes_on ≡ false → IsAtEnd (R.remaining input.old) }
         ensures hears { (begun : BegunLine) → self.old.line ≡ Some begun →
-            let g = ⟦<dyn ConditionalEventHandler as ConditionalEventHandler>⟧ in
+            let g = C.ConditionalEventHandler in
             IfOk result (λ told. HearsOnce (answers_of H.hint_at H.verdict_at H.lights H.Completer)
             (bound_of g bindings.now) pauses (R.remaining input.old) (R.remaining input.new)
             self.old begun self.new told.0) }
@@ -684,9 +692,9 @@ impl<O: Write + Drop, H: Helper + Drop, S: History + Drop> Editor<O, H, S> {
     }
 
     /// Takes turns of the line that has begun, if one has.
-    fn take_turns(&mut self, bindings: &Bindings) -> Result<Fed>
+    fn take_turns<C: ConditionalEventHandler>(&mut self, bindings: &Bindings<C>) -> Result<Fed>
         ensures came { (begun : BegunLine) → self.old.line ≡ Some begun →
-            let g = ⟦<dyn ConditionalEventHandler as ConditionalEventHandler>⟧ in
+            let g = C.ConditionalEventHandler in
             IfOk result (Came (answers_of H.hint_at H.verdict_at H.lights H.Completer)
             (bound_of g bindings.now)
             self.old begun self.new) }
@@ -769,17 +777,6 @@ impl<O: Write + Drop, H: Helper + Drop, S: History + Drop> Editor<O, H, S> {
     }
 }
 
-/// Has a line drawn before its next key is read, if one has begun.
-fn draw_anew<H: Helper>(line: &mut Option<Begun<H>>)
-    ensures none { line.old ≡ None → line.new ≡ None }
-    ensures some { (begun : _) → line.old ≡ Some begun
-        → line.new ≡ Some (record begun { draws = true }) }
-{
-    if let Some(begun) = line {
-        begun.draws = true;
-    }
-}
-
 /// Returns what a line is answered with.
 fn answer_of(fed: Fed) -> Result<String>
     ensures { result ≡ answer_of fed }
@@ -789,29 +786,4 @@ fn answer_of(fed: Fed) -> Result<String>
         Fed::Interrupted => Err(ReadlineError::Interrupted),
         Fed::Ended | Fed::More => Err(ReadlineError::Eof),
     }
-}
-
-/// Returns a copy of a prompt's texts, without styles and with them.
-fn copied_prompt<P: Prompt>(alloc: Global, prompt: &P) -> Result<(String, String)>
-    ensures raw { IfOk result (λ copy. string_bytes copy.0 ≡ P.raw_text prompt.now) }
-    ensures memory { MemoryOnly result }
-{
-    let raw = String::from_str(alloc, prompt.raw())?;
-    let styled = String::from_str(alloc, prompt.styled())?;
-    Ok((raw, styled))
-}
-
-/// Adds a line to a history where `adds` says so.
-fn add<S: History>(adds: bool, line: &str, history: &mut S) -> Result<()>
-    ensures added { OnOk result (S.lines history.new ≡
-        (if adds then added (S.rules history.old) (S.lines history.old) line.now
-        else S.lines history.old)) }
-    ensures kept { OnErr result (S.lines history.new ≡ S.lines history.old) }
-    ensures rules { S.rules history.new ≡ S.rules history.old }
-    ensures faults { FaultsOnly result }
-{
-    if adds {
-        history.add(line)?;
-    }
-    Ok(())
 }

@@ -3,23 +3,37 @@ ghost use Rattle.std.specs.Iterator.{at_most};
 
 use crate::editor::Editor;
 use line_config::{Prompt, ReadlineError, Result};
-use line_editor::Bindings;
+use line_editor::{Bindings, ConditionalEventHandler};
 use line_parts::{Helper, History};
 use std::io::{Read, Write};
 
 /// Reads a line of an input each time, as `readline` does, until the input ends.
-pub struct Iter<'a, O: Write + Drop, H: Helper + Drop, S: History + Drop, R: Read, P: Prompt> {
+pub struct Iter<
+    'a,
+    O: Write + Drop,
+    H: Helper + Drop,
+    S: History + Drop,
+    R: Read,
+    P: Prompt,
+    C: ConditionalEventHandler,
+> {
     editor: &'a mut Editor<O, H, S>,
     input: &'a mut R,
     pauses: bool,
     prompt: &'a P,
-    bindings: &'a Bindings,
+    bindings: &'a Bindings<C>,
     /// How many lines are read at most.
     turns: u64,
 }
 
-impl<O: Write + Drop, H: Helper + Drop, S: History + Drop, R: Read, P: Prompt> Drop
-    for Iter<'_, O, H, S, R, P> {
+impl<
+    O: Write + Drop,
+    H: Helper + Drop,
+    S: History + Drop,
+    R: Read,
+    P: Prompt,
+    C: ConditionalEventHandler,
+> Drop for Iter<'_, O, H, S, R, P, C> {
     fn drop(self) {
         let Iter {
             editor: _,
@@ -34,13 +48,13 @@ impl<O: Write + Drop, H: Helper + Drop, S: History + Drop, R: Read, P: Prompt> D
 
 impl<O: Write + Drop, H: Helper + Drop, S: History + Drop> Editor<O, H, S> {
     /// Returns the lines of an input, each of which is read, with the prompt before it, when it is asked for.
-    pub fn iter<'a, R: Read, P: Prompt>(
+    pub fn iter<'a, R: Read, P: Prompt, C: ConditionalEventHandler>(
         &'a mut self,
         input: &'a mut R,
         pauses: bool,
         prompt: &'a P,
-        bindings: &'a Bindings,
-    ) -> Iter<'a, O, H, S, R, P> {
+        bindings: &'a Bindings<C>,
+    ) -> Iter<'a, O, H, S, R, P, C> {
         Iter {
             editor: self,
             input,
@@ -52,8 +66,15 @@ impl<O: Write + Drop, H: Helper + Drop, S: History + Drop> Editor<O, H, S> {
     }
 }
 
-impl<'a, O: Write + Drop, H: Helper + Drop, S: History + Drop, R: Read, P: Prompt> Iterator
-    for Iter<'a, O, H, S, R, P> {
+impl<
+    'a,
+    O: Write + Drop,
+    H: Helper + Drop,
+    S: History + Drop,
+    R: Read,
+    P: Prompt,
+    C: ConditionalEventHandler,
+> Iterator for Iter<'a, O, H, S, R, P, C> {
     type Item = Result<String>;
 
     ghost remaining = { λ s. at_most s.turns };

@@ -1,6 +1,7 @@
 //! Turns that are taken one after another, for as long as there are items.
-ghost use Rattle.std.specs.Prelude.{◌≡◌, ◌⊎◌, ◌<◌, true, false, List, length, IfOk, None, OnErr, OnOk, option_map};
+ghost use Rattle.std.specs.Prelude.{◌≡◌, ◌⊎◌, ◌<◌, true, false, List, length, IfOk, None, OnErr, OnOk, Some, option_map};
 ghost use Rattle.line_config.specs.Error.{FaultsOnly};
+ghost use Rattle.line_config.specs.Settings.{Settings};
 ghost use Rattle.line_editor.specs.InputState.{input_of, keys_of};
 ghost use Rattle.line_editor.specs.Keymap.{Keymap};
 ghost use Rattle.line_editor.specs.Outcomes.{editor_of, session};
@@ -46,19 +47,27 @@ use std::mem;
 /// # Errors
 /// Those of `take_turn`, of the helper and of drawing the line. An item that was taken is not taken again; and unless drawing the
 /// line failed at the first, commands are read next: a completion, a list, a search and a quoted insert have ended.
-pub(crate) fn take_turns<'out, 'prompt, O: Write + Drop, H: Helper, P: Prompt, S: History>(
+pub(crate) fn take_turns<
+    'out,
+    'prompt,
+    O: Write + Drop,
+    H: Helper,
+    P: Prompt,
+    S: History,
+    C: ConditionalEventHandler,
+>(
     alloc: Global,
     draws: bool,
     mode: &mut Mode,
     state: &mut State<'out, 'prompt, Ansi<O, KeyQueue>, H, P, S>,
-    input_state: &mut InputState<'_>,
+    input_state: &mut InputState<'_, C>,
     keys: &mut KeyQueue,
     kill_ring: &mut KillRing,
     config: &Config,
 ) -> Result<Turned>
     requires shown { let e = ⟦<State<'out, 'prompt, Ansi<O, KeyQueue>, H, P, S> as EditorState>⟧ in
         draws ≡ false → IsShownWith e mode.old keys.old.rest state.old }
-    ensures comes { let k = keys_of ⟦<dyn ConditionalEventHandler as ConditionalEventHandler>⟧ in
+    ensures comes { let k = keys_of C.ConditionalEventHandler in
         let e = ⟦<State<'out, 'prompt, Ansi<O, KeyQueue>, H, P, S> as EditorState>⟧ in
         let r = ⟦<KeyQueue as RawReader>⟧ in
         let before = session state.old (k input_state.old) keys.old kill_ring.old in
@@ -68,7 +77,7 @@ pub(crate) fn take_turns<'out, 'prompt, O: Write + Drop, H: Helper, P: Prompt, S
         (start_of e r draws mode.old before) (standing_of e r mode.new after)) }
     ensures drawn { let e = ⟦<State<'out, 'prompt, Ansi<O, KeyQueue>, H, P, S> as EditorState>⟧ in
         IfOk result (λ turned. DrawnOnce e mode.new keys.new.rest turned state.new) }
-    ensures keeps { let k = keys_of ⟦<dyn ConditionalEventHandler as ConditionalEventHandler>⟧ in
+    ensures keeps { let k = keys_of C.ConditionalEventHandler in
         KeepsRules ⟦<State<'out, 'prompt, Ansi<O, KeyQueue>, H, P, S> as EditorState>⟧
         ⟦<KeyQueue as RawReader>⟧
         (session state.old (k input_state.old) keys.old kill_ring.old)
@@ -132,18 +141,26 @@ fn draw<'out, 'prompt, O: Write + Drop, H: Helper, P: Prompt, S: History>(
 }
 
 /// Takes turns as `take_turns` does, of a line that is shown. After an error commands are read.
-fn turns<'out, 'prompt, O: Write + Drop, H: Helper, P: Prompt, S: History>(
+fn turns<
+    'out,
+    'prompt,
+    O: Write + Drop,
+    H: Helper,
+    P: Prompt,
+    S: History,
+    C: ConditionalEventHandler,
+>(
     alloc: Global,
     mode: &mut Mode,
     state: &mut State<'out, 'prompt, Ansi<O, KeyQueue>, H, P, S>,
-    input_state: &mut InputState<'_>,
+    input_state: &mut InputState<'_, C>,
     keys: &mut KeyQueue,
     kill_ring: &mut KillRing,
     config: &Config,
 ) -> Result<Turned>
     requires { let e = ⟦<State<'out, 'prompt, Ansi<O, KeyQueue>, H, P, S> as EditorState>⟧ in
         IsShownWith e mode.old keys.old.rest state.old }
-    ensures comes { let k = keys_of ⟦<dyn ConditionalEventHandler as ConditionalEventHandler>⟧ in
+    ensures comes { let k = keys_of C.ConditionalEventHandler in
         let e = ⟦<State<'out, 'prompt, Ansi<O, KeyQueue>, H, P, S> as EditorState>⟧ in
         let r = ⟦<KeyQueue as RawReader>⟧ in
         let before = session state.old (k input_state.old) keys.old kill_ring.old in
@@ -153,7 +170,7 @@ fn turns<'out, 'prompt, O: Write + Drop, H: Helper, P: Prompt, S: History>(
         (standing_of e r mode.old before) (standing_of e r mode.new after)) }
     ensures drawn { let e = ⟦<State<'out, 'prompt, Ansi<O, KeyQueue>, H, P, S> as EditorState>⟧ in
         IfOk result (λ turned. DrawnOnce e mode.new keys.new.rest turned state.new) }
-    ensures keeps { let k = keys_of ⟦<dyn ConditionalEventHandler as ConditionalEventHandler>⟧ in
+    ensures keeps { let k = keys_of C.ConditionalEventHandler in
         KeepsRules ⟦<State<'out, 'prompt, Ansi<O, KeyQueue>, H, P, S> as EditorState>⟧
         ⟦<KeyQueue as RawReader>⟧
         (session state.old (k input_state.old) keys.old kill_ring.old)
@@ -219,11 +236,19 @@ fn next_as_it_is(mode: &Mode, keys: &mut KeyQueue) -> Result<Option<AsItIs>>
 ///
 /// # Errors
 /// Those of `take_turn`, of the helper, the history and the output.
-fn turn<'out, 'prompt, O: Write + Drop, H: Helper, P: Prompt, S: History>(
+fn turn<
+    'out,
+    'prompt,
+    O: Write + Drop,
+    H: Helper,
+    P: Prompt,
+    S: History,
+    C: ConditionalEventHandler,
+>(
     alloc: Global,
     mode: Mode,
     state: &mut State<'out, 'prompt, Ansi<O, KeyQueue>, H, P, S>,
-    input_state: &mut InputState<'_>,
+    input_state: &mut InputState<'_, C>,
     keys: &mut KeyQueue,
     kill_ring: &mut KillRing,
     config: &Config,
@@ -231,7 +256,7 @@ fn turn<'out, 'prompt, O: Write + Drop, H: Helper, P: Prompt, S: History>(
     requires reads { reads_no_command mode ≡ false }
     requires shown { let e = ⟦<State<'out, 'prompt, Ansi<O, KeyQueue>, H, P, S> as EditorState>⟧ in
         IsShownWith e mode keys.old.rest state.old }
-    ensures takes { let k = keys_of ⟦<dyn ConditionalEventHandler as ConditionalEventHandler>⟧ in
+    ensures takes { let k = keys_of C.ConditionalEventHandler in
         let e = ⟦<State<'out, 'prompt, Ansi<O, KeyQueue>, H, P, S> as EditorState>⟧ in
         let r = ⟦<KeyQueue as RawReader>⟧ in
         IfOk result (λ done. TakesOne e r config.now mode
@@ -241,7 +266,7 @@ fn turn<'out, 'prompt, O: Write + Drop, H: Helper, P: Prompt, S: History>(
         IfOk result (λ done. DrawnBehind e keys.old.rest done.1 done.0 state.new) }
     ensures fewer { IfOk result (λ done. done.0 ≡ Turned.Proceeds
         → length keys.new.rest < length keys.old.rest) }
-    ensures keeps { let k = keys_of ⟦<dyn ConditionalEventHandler as ConditionalEventHandler>⟧ in
+    ensures keeps { let k = keys_of C.ConditionalEventHandler in
         KeepsReading ⟦<State<'out, 'prompt, Ansi<O, KeyQueue>, H, P, S> as EditorState>⟧
         ⟦<KeyQueue as RawReader>⟧ state.old (k input_state.old) keys.old
         state.new (k input_state.new) keys.new }
@@ -263,11 +288,19 @@ fn turn<'out, 'prompt, O: Write + Drop, H: Helper, P: Prompt, S: History>(
 }
 
 /// Takes one turn outside of a search: reads a command, executes it, and answers what it left to the program.
-fn edit_turn<'out, 'prompt, O: Write + Drop, H: Helper, P: Prompt, S: History>(
+fn edit_turn<
+    'out,
+    'prompt,
+    O: Write + Drop,
+    H: Helper,
+    P: Prompt,
+    S: History,
+    C: ConditionalEventHandler,
+>(
     alloc: Global,
     mode: Mode,
     state: &mut State<'out, 'prompt, Ansi<O, KeyQueue>, H, P, S>,
-    input_state: &mut InputState<'_>,
+    input_state: &mut InputState<'_, C>,
     keys: &mut KeyQueue,
     kill_ring: &mut KillRing,
     config: &Config,
@@ -276,7 +309,7 @@ fn edit_turn<'out, 'prompt, O: Write + Drop, H: Helper, P: Prompt, S: History>(
     requires edits { shows_line mode ≡ true }
     requires shown { let e = ⟦<State<'out, 'prompt, Ansi<O, KeyQueue>, H, P, S> as EditorState>⟧ in
         IsShown e state.old }
-    ensures takes { let k = keys_of ⟦<dyn ConditionalEventHandler as ConditionalEventHandler>⟧ in
+    ensures takes { let k = keys_of C.ConditionalEventHandler in
         let e = ⟦<State<'out, 'prompt, Ansi<O, KeyQueue>, H, P, S> as EditorState>⟧ in
         let r = ⟦<KeyQueue as RawReader>⟧ in
         IfOk result (λ done. TakesOne e r config.now mode
@@ -286,7 +319,7 @@ fn edit_turn<'out, 'prompt, O: Write + Drop, H: Helper, P: Prompt, S: History>(
         IfOk result (λ done. DrawnBehind e keys.old.rest done.1 done.0 state.new) }
     ensures fewer { IfOk result (λ done. done.0 ≡ Turned.Proceeds
         → length keys.new.rest < length keys.old.rest) }
-    ensures keeps { let k = keys_of ⟦<dyn ConditionalEventHandler as ConditionalEventHandler>⟧ in
+    ensures keeps { let k = keys_of C.ConditionalEventHandler in
         KeepsReading ⟦<State<'out, 'prompt, Ansi<O, KeyQueue>, H, P, S> as EditorState>⟧
         ⟦<KeyQueue as RawReader>⟧ state.old (k input_state.old) keys.old
         state.new (k input_state.new) keys.new }
@@ -305,11 +338,19 @@ fn edit_turn<'out, 'prompt, O: Write + Drop, H: Helper, P: Prompt, S: History>(
 }
 
 /// Takes one turn in a search: reads a command, and does what it says to the search. Another command ends it, and is executed.
-fn search_turn<'out, 'prompt, O: Write + Drop, H: Helper, P: Prompt, S: History>(
+fn search_turn<
+    'out,
+    'prompt,
+    O: Write + Drop,
+    H: Helper,
+    P: Prompt,
+    S: History,
+    C: ConditionalEventHandler,
+>(
     alloc: Global,
     searching: Searching,
     state: &mut State<'out, 'prompt, Ansi<O, KeyQueue>, H, P, S>,
-    input_state: &mut InputState<'_>,
+    input_state: &mut InputState<'_, C>,
     keys: &mut KeyQueue,
     kill_ring: &mut KillRing,
     config: &Config,
@@ -317,7 +358,7 @@ fn search_turn<'out, 'prompt, O: Write + Drop, H: Helper, P: Prompt, S: History>
     requires reads { reads_no_command (Mode.Searching searching) ≡ false }
     requires shown { let e = ⟦<State<'out, 'prompt, Ansi<O, KeyQueue>, H, P, S> as EditorState>⟧ in
         IsShownWith e (Mode.Searching searching) keys.old.rest state.old }
-    ensures takes { let k = keys_of ⟦<dyn ConditionalEventHandler as ConditionalEventHandler>⟧ in
+    ensures takes { let k = keys_of C.ConditionalEventHandler in
         let e = ⟦<State<'out, 'prompt, Ansi<O, KeyQueue>, H, P, S> as EditorState>⟧ in
         let r = ⟦<KeyQueue as RawReader>⟧ in
         IfOk result (λ done. TakesOne e r config.now (Mode.Searching searching)
@@ -327,7 +368,7 @@ fn search_turn<'out, 'prompt, O: Write + Drop, H: Helper, P: Prompt, S: History>
         IfOk result (λ done. DrawnBehind e keys.old.rest done.1 done.0 state.new) }
     ensures fewer { IfOk result (λ done. done.0 ≡ Turned.Proceeds
         → length keys.new.rest < length keys.old.rest) }
-    ensures keeps { let k = keys_of ⟦<dyn ConditionalEventHandler as ConditionalEventHandler>⟧ in
+    ensures keeps { let k = keys_of C.ConditionalEventHandler in
         KeepsReading ⟦<State<'out, 'prompt, Ansi<O, KeyQueue>, H, P, S> as EditorState>⟧
         ⟦<KeyQueue as RawReader>⟧ state.old (k input_state.old) keys.old
         state.new (k input_state.new) keys.new }
@@ -364,12 +405,20 @@ fn reset_kills(command: &Cmd, kill_ring: &mut KillRing)
 
 /// Does what a command says to a search; another one ends it, and is executed. Returns how the turn ended, and what the next items
 /// are read as.
-fn do_in_search<'out, 'prompt, O: Write + Drop, H: Helper, P: Prompt, S: History>(
+fn do_in_search<
+    'out,
+    'prompt,
+    O: Write + Drop,
+    H: Helper,
+    P: Prompt,
+    S: History,
+    C: ConditionalEventHandler,
+>(
     alloc: Global,
     searching: Searching,
     command: Cmd,
     state: &mut State<'out, 'prompt, Ansi<O, KeyQueue>, H, P, S>,
-    input_state: &InputState<'_>,
+    input_state: &InputState<'_, C>,
     kill_ring: &mut KillRing,
     config: &Config,
 ) -> Result<(Turned, Mode)>
@@ -428,37 +477,103 @@ fn answer<'out, 'prompt, O: Write + Drop, H: Helper, P: Prompt, S: History>(
         Frame e state.old state.new }
     ensures faults { FaultsOnly result }
 {
-    match (left, mode) {
-        (Some(Left::QuotedInsert), _) => Ok(Mode::Quoting),
-        (Some(Left::Complete), Mode::Completing(going)) => going.show_next(state),
-        (Some(Left::Complete), Mode::Offering(candidates)) => list(candidates, state, config),
-        (Some(Left::Complete), _) => complete(state, config),
-        (Some(Left::CompleteBackward), Mode::Completing(going)) => going.show_previous(state),
-        (Some(Left::Abort), Mode::Completing(going)) => going.give_up(state),
-        (Some(Left::Abort), _) => {
-            state.beep()?;
-            Ok(Mode::Editing)
-        }
-        (Some(Left::ReverseSearchHistory), _) => search(alloc, SearchDirection::Reverse, state),
-        (Some(Left::ForwardSearchHistory), _) => search(alloc, SearchDirection::Forward, state),
-        (Some(Left::Suspend), _) => {
-            state.move_cursor_to_end()?;
-            state.move_cursor_at_leftmost(&mut KeyQueue::new(alloc))?;
-            Ok(Mode::Suspended)
-        }
-        _ => Ok(Mode::Editing),
+    let Some(left) = left else {
+        return Ok(Mode::Editing);
+    };
+    match left {
+        Left::QuotedInsert => Ok(Mode::Quoting),
+        Left::Complete => complete_on(mode, state, config),
+        Left::CompleteBackward => match mode {
+            Mode::Completing(going) => going.show_previous(state),
+            _ => Ok(Mode::Editing),
+        },
+        Left::Abort => give_up(mode, state),
+        Left::ReverseSearchHistory => search(alloc, SearchDirection::Reverse, state),
+        Left::ForwardSearchHistory => search(alloc, SearchDirection::Forward, state),
+        Left::Suspend => suspend(alloc, state),
     }
+}
+
+/// Begins a completion, or goes on with one: shows its next candidate, or lists the candidates that it offered.
+fn complete_on<'out, 'prompt, O: Write + Drop, H: Helper, P: Prompt, S: History>(
+    mode: Mode,
+    state: &mut State<'out, 'prompt, Ansi<O, KeyQueue>, H, P, S>,
+    config: &Config,
+) -> Result<Mode>
+    requires { let e = ⟦<State<'out, 'prompt, Ansi<O, KeyQueue>, H, P, S> as EditorState>⟧ in
+        IsShown e state.old }
+    ensures answers { let e = ⟦<State<'out, 'prompt, Ansi<O, KeyQueue>, H, P, S> as EditorState>⟧ in
+        IfOk result (Answers config.now (e.environment state.old) (Some Left.Complete) mode
+        (e.draft state.old) (e.draft state.new)) }
+    ensures shown { let e = ⟦<State<'out, 'prompt, Ansi<O, KeyQueue>, H, P, S> as EditorState>⟧ in
+        IfOk result (λ mode. IsShownIn e mode state.new) }
+    ensures frame { let e = ⟦<State<'out, 'prompt, Ansi<O, KeyQueue>, H, P, S> as EditorState>⟧ in
+        Frame e state.old state.new }
+    ensures faults { FaultsOnly result }
+{
+    match mode {
+        Mode::Completing(going) => going.show_next(state),
+        Mode::Offering(candidates) => list(candidates, state, config),
+        _ => complete(state, config),
+    }
+}
+
+/// Gives a completion up, or beeps where there is none.
+fn give_up<'out, 'prompt, O: Write + Drop, H: Helper, P: Prompt, S: History>(
+    mode: Mode,
+    state: &mut State<'out, 'prompt, Ansi<O, KeyQueue>, H, P, S>,
+) -> Result<Mode>
+    requires { let e = ⟦<State<'out, 'prompt, Ansi<O, KeyQueue>, H, P, S> as EditorState>⟧ in
+        IsShown e state.old }
+    ensures answers { let e = ⟦<State<'out, 'prompt, Ansi<O, KeyQueue>, H, P, S> as EditorState>⟧ in
+        (settings : Settings) → IfOk result (Answers settings (e.environment state.old)
+        (Some Left.Abort) mode (e.draft state.old) (e.draft state.new)) }
+    ensures shown { let e = ⟦<State<'out, 'prompt, Ansi<O, KeyQueue>, H, P, S> as EditorState>⟧ in
+        IfOk result (λ mode. IsShownIn e mode state.new) }
+    ensures frame { let e = ⟦<State<'out, 'prompt, Ansi<O, KeyQueue>, H, P, S> as EditorState>⟧ in
+        Frame e state.old state.new }
+    ensures faults { FaultsOnly result }
+{
+    if let Mode::Completing(going) = mode {
+        return going.give_up(state);
+    }
+    state.beep()?;
+    Ok(Mode::Editing)
+}
+
+/// Takes the cursor below the line, where a program writes that goes on in its place.
+fn suspend<'out, 'prompt, O: Write + Drop, H: Helper, P: Prompt, S: History>(
+    alloc: Global,
+    state: &mut State<'out, 'prompt, Ansi<O, KeyQueue>, H, P, S>,
+) -> Result<Mode>
+    ensures draft { let e = ⟦<State<'out, 'prompt, Ansi<O, KeyQueue>, H, P, S> as EditorState>⟧ in
+        IfOk result (λ mode. (e.draft state.new ≡ e.draft state.old) × (mode ≡ Mode.Suspended)) }
+    ensures frame { let e = ⟦<State<'out, 'prompt, Ansi<O, KeyQueue>, H, P, S> as EditorState>⟧ in
+        Frame e state.old state.new }
+    ensures faults { FaultsOnly result }
+{
+    state.move_cursor_to_end()?;
+    state.move_cursor_at_leftmost(&mut KeyQueue::new(alloc))?;
+    Ok(Mode::Suspended)
 }
 
 /// Takes an item by itself: it answers a list, or is put in as it is. Returns what the next items are read as.
 ///
 /// # Errors
 /// Those of `execute`, and those of the output: `Io` and `Memory`.
-fn take_item<'out, 'prompt, O: Write + Drop, H: Helper, P: Prompt, S: History>(
+fn take_item<
+    'out,
+    'prompt,
+    O: Write + Drop,
+    H: Helper,
+    P: Prompt,
+    S: History,
+    C: ConditionalEventHandler,
+>(
     mode: Mode,
     item: AsItIs,
     state: &mut State<'out, 'prompt, Ansi<O, KeyQueue>, H, P, S>,
-    input_state: &InputState<'_>,
+    input_state: &InputState<'_, C>,
     kill_ring: &mut KillRing,
     config: &Config,
 ) -> Result<Mode>
@@ -493,10 +608,18 @@ fn take_item<'out, 'prompt, O: Write + Drop, H: Helper, P: Prompt, S: History>(
 ///
 /// # Errors
 /// Those of `execute`.
-fn put_in<'out, 'prompt, O: Write + Drop, H: Helper, P: Prompt, S: History>(
+fn put_in<
+    'out,
+    'prompt,
+    O: Write + Drop,
+    H: Helper,
+    P: Prompt,
+    S: History,
+    C: ConditionalEventHandler,
+>(
     item: AsItIs,
     state: &mut State<'out, 'prompt, Ansi<O, KeyQueue>, H, P, S>,
-    input_state: &InputState<'_>,
+    input_state: &InputState<'_, C>,
     kill_ring: &mut KillRing,
     config: &Config,
 ) -> Result<()>

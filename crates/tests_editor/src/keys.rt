@@ -5,7 +5,7 @@ use self::With::*;
 use crate::holds;
 use bitflags::Flags;
 use line_config::Result;
-use line_editor::binding::{Event, EventHandler};
+use line_editor::binding::{Event, EventHandler, NoHandler};
 use line_keys::cmd::Cmd;
 use line_keys::keys::{KeyCode as K, KeyEvent, Modifiers as M};
 use line_keys::refresher::Invoke;
@@ -392,7 +392,7 @@ fn of_maps_and_events(rt: HostRuntime) {
     let is_shown = text.as_str() == "KeyEvent(Char('A'), Modifiers(8))";
     let key = KeyEvent::ctrl('x');
     let is_got = has_its_key(rt.alloc(), key).expect(&rt, "no fault");
-    let handler = EventHandler::from(Cmd::Noop);
+    let handler: EventHandler<NoHandler> = EventHandler::from(Cmd::Noop);
     let is_simple = matches!(handler, EventHandler::Simple(Cmd::Noop));
     let is_input = (&"ab").input() == "ab";
     let is_so = is_mapped && is_shown && is_got && is_simple && is_input;

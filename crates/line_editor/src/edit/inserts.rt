@@ -8,6 +8,7 @@ ghost use Rattle.line_keys.specs.Drawing.{Does, drawn_if, edit_drawn};
 ghost use Rattle.line_keys.specs.Plainly.{is_bare, takes_char};
 ghost use Rattle.line_state.specs.Edited.{pops_text};
 
+use crate::binding::ConditionalEventHandler;
 use crate::edit::State;
 use crate::input_state::InputState;
 use line_buffer::{RepeatCount, is_printable};
@@ -113,9 +114,9 @@ impl<'out, 'prompt, W: Renderer, H: Helper, P: Prompt, S: History> State<
     ///
     /// # Errors
     /// Those of the helper, the history and the renderer, and that memory ran out.
-    pub fn edit_yank(
+    pub fn edit_yank<C: ConditionalEventHandler>(
         &mut self,
-        input_state: &InputState<'_>,
+        input_state: &InputState<'_, C>,
         text: &str,
         anchor: Anchor,
         n: RepeatCount,

@@ -11,6 +11,7 @@ ghost use Rattle.line_keys.specs.Drawing.{nothing};
 ghost use Rattle.line_keys.specs.Plainly.{gives_end};
 ghost use Rattle.line_state.specs.Edited.{bracket_range};
 
+use crate::binding::ConditionalEventHandler;
 use crate::edit::State;
 use crate::input_state::InputState;
 use line_buffer::{KillRing, Mode, Movement, RepeatCount, is_printable_text};
@@ -89,9 +90,9 @@ impl<'out, 'prompt, W: Renderer, H: Helper, P: Prompt, S: History> State<
     }
 
     // Yanks the current text of the kill ring, if there is one.
-    pub(crate) fn yank_killed(
+    pub(crate) fn yank_killed<C: ConditionalEventHandler>(
         &mut self,
-        input_state: &InputState<'_>,
+        input_state: &InputState<'_, C>,
         anchor: Anchor,
         n: RepeatCount,
         kill_ring: &mut KillRing,

@@ -37,13 +37,13 @@ impl<'out, 'prompt, W: Renderer, H: Helper, P: Prompt, S: History> State<
     /// more items after it. Another error is one of input or output, or that memory ran out. After an error the line, its
     /// cursor, the history index and what is remembered of the keys stay as they were, and no item past the phrase that was
     /// begun is read.
-    pub fn next_cmd(
+    pub fn next_cmd<C: ConditionalEventHandler>(
         &mut self,
-        input_state: &mut InputState<'_>,
+        input_state: &mut InputState<'_, C>,
         rdr: &mut W::Reader,
         single_esc_abort: bool,
     ) -> Result<Cmd>
-        ensures { let k = keys_of ⟦<dyn ConditionalEventHandler as ConditionalEventHandler>⟧ in
+        ensures { let k = keys_of C.ConditionalEventHandler in
             ReadsCommand ⟦<Self as EditorState>⟧ W.Reader.RawReader grouped result
             self.old (k input_state.old) rdr.old self.new (k input_state.new) rdr.new }
     {
@@ -52,13 +52,13 @@ impl<'out, 'prompt, W: Renderer, H: Helper, P: Prompt, S: History> State<
     }
 
     // Reads the rest of the next command, whose first key was read.
-    pub(crate) fn cmd_from(
+    pub(crate) fn cmd_from<C: ConditionalEventHandler>(
         &mut self,
-        input_state: &mut InputState<'_>,
+        input_state: &mut InputState<'_, C>,
         rdr: &mut W::Reader,
         first: KeyEvent,
     ) -> Result<Cmd>
-        ensures { let k = keys_of ⟦<dyn ConditionalEventHandler as ConditionalEventHandler>⟧ in
+        ensures { let k = keys_of C.ConditionalEventHandler in
             BeforeKey W.Reader.RawReader first rdr.old (λ reader.
             ReadsCommand ⟦<Self as EditorState>⟧ W.Reader.RawReader grouped result
             self.old (k input_state.old) reader self.new (k input_state.new) rdr.new) }

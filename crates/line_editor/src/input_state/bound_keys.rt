@@ -21,7 +21,7 @@ use line_keys::raw_reader::RawReader;
 use line_keys::refresher::{InputMode, Refresher};
 use std::alloc::Global;
 
-impl InputState<'_> {
+impl<C: ConditionalEventHandler> InputState<'_, C> {
     /// Returns the command that the program's bindings have for a key of a mode under the count that was typed, done again
     /// where it can be.
     #[inline(always)]
@@ -32,12 +32,11 @@ impl InputState<'_> {
         key: KeyEvent,
         typed: Option<Count>,
     ) -> Result<Option<Cmd>>
-        ensures command { let k =
-            keys_of ⟦<dyn ConditionalEventHandler as ConditionalEventHandler>⟧ in
+        ensures command { let k = keys_of C.ConditionalEventHandler in
             (own : KeyEvent → Option Command) → IfOk result (λ c. option_map command_of c
             ≡ bound_command (keymap_of (k self.now) own) (W.draft wrt.now)
             (in_mode mode (input_of self.now)) typed key) }
-        ensures io { let k = keys_of ⟦<dyn ConditionalEventHandler as ConditionalEventHandler>⟧ in
+        ensures io { let k = keys_of C.ConditionalEventHandler in
             IoOnlyIf result (all_sure (k self.now).bound ≡ false) }
         ensures faults { FaultsOnly result }
     {
@@ -53,18 +52,17 @@ impl InputState<'_> {
         &self,
         wrt: &W,
         mode: InputMode,
-        handler: &EventHandler,
+        handler: &EventHandler<C>,
         key: KeyEvent,
         typed: Option<Count>,
     ) -> Result<Option<Cmd>>
-        requires { let g = ⟦<dyn ConditionalEventHandler as ConditionalEventHandler>⟧ in
+        requires { let g = C.ConditionalEventHandler in
             key_handler (keys_of g self.now).bound key ≡ Some (handled g handler.now) }
-        ensures command { let k =
-            keys_of ⟦<dyn ConditionalEventHandler as ConditionalEventHandler>⟧ in
+        ensures command { let k = keys_of C.ConditionalEventHandler in
             (own : KeyEvent → Option Command) → IfOk result (λ c. option_map command_of c
             ≡ bound_command (keymap_of (k self.now) own) (W.draft wrt.now)
             (in_mode mode (input_of self.now)) typed key) }
-        ensures io { let g = ⟦<dyn ConditionalEventHandler as ConditionalEventHandler>⟧ in
+        ensures io { let g = C.ConditionalEventHandler in
             IoOnlyIf result ((handled g handler.now).sure ≡ false) }
         ensures faults { FaultsOnly result }
     {
@@ -80,17 +78,17 @@ impl InputState<'_> {
         &self,
         wrt: &W,
         mode: InputMode,
-        handler: &EventHandler,
+        handler: &EventHandler<C>,
         sequence: &[KeyEvent],
         count: Count,
     ) -> Result<Option<Cmd>>
-        ensures command { let g = ⟦<dyn ConditionalEventHandler as ConditionalEventHandler>⟧ in
+        ensures command { let g = C.ConditionalEventHandler in
             IfOk result (λ c. option_map command_of c ≡ (handled g handler.now).answer (record {
               event = keys sequence.now;
               count = count;
               moment = moment_in (W.draft wrt.now) (in_mode mode (input_of self.now));
             })) }
-        ensures io { let g = ⟦<dyn ConditionalEventHandler as ConditionalEventHandler>⟧ in
+        ensures io { let g = C.ConditionalEventHandler in
             IoOnlyIf result ((handled g handler.now).sure ≡ false) }
         ensures faults { FaultsOnly result }
     {
@@ -100,32 +98,10 @@ impl InputState<'_> {
             EventHandler::Conditional(handler) => {
                 let event = Event::of_keys(alloc, sequence)?;
                 let context = EventContext::new(self.mode, mode, wrt);
-                handle(alloc, handler, &event, count, &context)
+                handler.handle(alloc, &event, count.n, count.positive, &context)
             }
         }
     }
-}
-
-// Returns what a handler answers to an input event under a count.
-fn handle(
-    alloc: Global,
-    handler: &Box<dyn ConditionalEventHandler>,
-    event: &Event,
-    count: Count,
-    context: &EventContext<'_>,
-) -> Result<Option<Cmd>>
-    ensures command { let g = ⟦<dyn ConditionalEventHandler as ConditionalEventHandler>⟧ in
-        let value = handled g (EventHandler.Conditional handler.now) in
-        IfOk result (λ c. option_map command_of c ≡ value.answer (record {
-          event = chord_of event.now;
-          count = record { n = count.n; positive = count.positive };
-          moment = moment_of context.now;
-        })) }
-    ensures io { let g = ⟦<dyn ConditionalEventHandler as ConditionalEventHandler>⟧ in
-        IoOnlyIf result ((handled g (EventHandler.Conditional handler.now)).sure ≡ false) }
-    ensures faults { FaultsOnly result }
-{
-    handler.handle(alloc, event, count.n, count.positive, context)
 }
 
 /// Returns the command that the reader itself has for the key; `EndOfFile` counts on an empty line alone.

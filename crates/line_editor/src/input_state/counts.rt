@@ -5,6 +5,7 @@ ghost use Rattle.line_editor.specs.Keymap.{handed, new_count};
 ghost use Rattle.line_editor.specs.Reading.{ReadsCount, ReadsUnderCount};
 ghost use Rattle.line_keys.specs.declared.keys.KeyEvent.{KeyEvent};
 
+use crate::binding::ConditionalEventHandler;
 use crate::input_state::InputState;
 use line_buffer::RepeatCount;
 use line_config::{EditMode, Result};
@@ -14,7 +15,7 @@ use line_keys::keys::KeyEvent;
 use line_keys::raw_reader::RawReader;
 use line_keys::refresher::{InputMode, Refresher};
 
-impl InputState<'_> {
+impl<C: ConditionalEventHandler> InputState<'_, C> {
     /// Reads the rest of a count of an edit mode that began with a key, and the key that ends it, and draws the line again.
     /// Returns the count and that key.
     pub(crate) fn read_count<R: RawReader, W: Refresher>(

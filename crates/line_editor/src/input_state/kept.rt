@@ -51,7 +51,7 @@ impl KeptInput {
     }
 }
 
-impl<'b> InputState<'b> {
+impl<'b, C: ConditionalEventHandler> InputState<'b, C> {
     /// Returns what is remembered, which `resume` takes up again.
     pub fn release(self) -> KeptInput
         ensures { result ≡ input_of self.entry }
@@ -72,9 +72,9 @@ impl<'b> InputState<'b> {
     }
 
     /// Returns the state that remembers what was kept, and reads keys by these bindings.
-    pub fn resume(kept: KeptInput, bindings: &'b Bindings) -> Self
+    pub fn resume(kept: KeptInput, bindings: &'b Bindings<C>) -> Self
         ensures input { input_of result ≡ kept }
-        ensures bindings { let g = ⟦<dyn ConditionalEventHandler as ConditionalEventHandler>⟧ in
+        ensures bindings { let g = C.ConditionalEventHandler in
             (keys_of g result).bound ≡ bound_of g bindings.now }
     {
         let KeptInput {

@@ -24,7 +24,7 @@ use line_keys::raw_reader::RawReader;
 use line_keys::refresher::{InputMode, Refresher};
 use line_keys::tables::{Motion, Operator, motion_of_key, multiplied};
 
-impl InputState<'_> {
+impl<C: ConditionalEventHandler> InputState<'_, C> {
     /// Reads the motion of an operator with a count, and returns the operator's command. Without a motion it is unknown.
     pub(crate) fn read_motion<R: RawReader, W: Refresher>(
         &self,
@@ -35,7 +35,7 @@ impl InputState<'_> {
     ) -> Result<Read>
         ensures { ReadsMotion W.EditorState R.RawReader operator n [] result
             wrt.old rdr.old wrt.new rdr.new
-            (keys_of ⟦<dyn ConditionalEventHandler as ConditionalEventHandler>⟧ self.now) }
+            (keys_of C.ConditionalEventHandler self.now) }
     {
         let first = rdr.next_key(false)?;
         self.read_motion_from(rdr, wrt, operator, n, first)
@@ -52,7 +52,7 @@ impl InputState<'_> {
     ) -> Result<Read>
         ensures { ReadsMotion W.EditorState R.RawReader operator n (key first ∷ []) result
             wrt.old rdr.old wrt.new rdr.new
-            (keys_of ⟦<dyn ConditionalEventHandler as ConditionalEventHandler>⟧ self.now) }
+            (keys_of C.ConditionalEventHandler self.now) }
     {
         if !begins_count(EditMode::Vi, InputMode::Command, first) {
             return self.reach(rdr, operator, motion_at_once(operator, first, n));
@@ -65,7 +65,7 @@ impl InputState<'_> {
     // Reads what belongs to the key of a motion, and returns the operator's command.
     fn reach<R: RawReader>(&self, rdr: &mut R, operator: Operator, motion: Motion) -> Result<Read>
         ensures reads { let k =
-            keys_of ⟦<dyn ConditionalEventHandler as ConditionalEventHandler>⟧ self.now in
+            keys_of C.ConditionalEventHandler self.now in
             (draft : Draft) (i : Input) → i.last_search ≡ k.input.last_search →
             let Comes = Reaches draft i operator (motion_value motion) in
             OnRead result (λ b. GivesQuietly R.RawReader Comes draft (behind_input b i)
@@ -73,7 +73,7 @@ impl InputState<'_> {
             (EndsQuietly R.RawReader Comes rdr.old rdr.new) }
         ensures kept { OnErr result (R.rest rdr.new ≡ R.rest rdr.old) }
         ensures items { TakesItems R.RawReader
-            (keys_of ⟦<dyn ConditionalEventHandler as ConditionalEventHandler>⟧ self.now).bound
+            (keys_of C.ConditionalEventHandler self.now).bound
             result rdr.old rdr.new }
     {
         let last = self.last_char_search;

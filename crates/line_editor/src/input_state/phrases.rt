@@ -37,7 +37,7 @@ pub(crate) struct Read {
     pub(crate) last_char_search: Option<CharSearch>,
 }
 
-impl InputState<'_> {
+impl<C: ConditionalEventHandler> InputState<'_, C> {
     /// Reads the rest of a phrase that began with a key.
     #[inline(always)]
     pub(crate) fn read_phrase<R: RawReader, W: Refresher>(
@@ -48,7 +48,7 @@ impl InputState<'_> {
     ) -> Result<Read>
         ensures { ReadsPhrase W.EditorState R.RawReader first result
             wrt.old rdr.old wrt.new rdr.new
-            (keys_of ⟦<dyn ConditionalEventHandler as ConditionalEventHandler>⟧ self.now) }
+            (keys_of C.ConditionalEventHandler self.now) }
     {
         match stands_for(self.mode, self.input_mode, first) {
             Some(plain) => self.read_alt(rdr, wrt, first, plain),
@@ -69,7 +69,7 @@ impl InputState<'_> {
         requires { let i = input_of self.now in stands_for i.style i.mode first ≡ Some plain }
         ensures { ReadsPhrase W.EditorState R.RawReader first result
             wrt.old rdr.old wrt.new rdr.new
-            (keys_of ⟦<dyn ConditionalEventHandler as ConditionalEventHandler>⟧ self.now) }
+            (keys_of C.ConditionalEventHandler self.now) }
     {
         if let Some(command) = self.custom_binding(wrt, self.input_mode, first, None)? {
             return Ok(self.at_once(self.input_mode, command));
@@ -95,7 +95,7 @@ impl InputState<'_> {
         requires { stands_for (input_of self.now).style mode first ≡ None }
         ensures { ReadsSpelled W.EditorState R.RawReader mode first result
             wrt.old rdr.old wrt.new rdr.new
-            (keys_of ⟦<dyn ConditionalEventHandler as ConditionalEventHandler>⟧ self.now) }
+            (keys_of C.ConditionalEventHandler self.now) }
     {
         if begins_count(self.mode, mode, first) {
             return self.read_counted(rdr, wrt, mode, first);
@@ -115,7 +115,7 @@ impl InputState<'_> {
         requires { begins_count (input_of self.now).style mode first ≡ true }
         ensures { ReadsSpelled W.EditorState R.RawReader mode first result
             wrt.old rdr.old wrt.new rdr.new
-            (keys_of ⟦<dyn ConditionalEventHandler as ConditionalEventHandler>⟧ self.now) }
+            (keys_of C.ConditionalEventHandler self.now) }
     {
         let (count, key) = self.read_count(rdr, wrt, self.mode, first)?;
         self.read_behind(rdr, wrt, mode, key, Some(count))
@@ -138,7 +138,7 @@ impl InputState<'_> {
         requires { stands_for (input_of self.now).style mode key ≡ None }
         ensures { ReadsKeyed W.EditorState R.RawReader mode typed key result
             wrt.old rdr.old wrt.new rdr.new
-            (keys_of ⟦<dyn ConditionalEventHandler as ConditionalEventHandler>⟧ self.now) }
+            (keys_of C.ConditionalEventHandler self.now) }
     {
         if let Some(command) = self.custom_binding(wrt, mode, key, typed)? {
             return Ok(self.at_once(mode, command));

@@ -28,7 +28,7 @@ pub(crate) enum Sequence {
     InVain(Option<KeyEvent>),
 }
 
-impl InputState<'_> {
+impl<C: ConditionalEventHandler> InputState<'_, C> {
     /// Reads the keys of a bound sequence that begins with a key, up to one that completes a command, or after which no
     /// bound sequence goes on.
     pub(crate) fn custom_seq_binding<R: RawReader, W: Refresher>(
@@ -41,12 +41,12 @@ impl InputState<'_> {
     ) -> Result<Sequence>
         ensures reads { ReadsSequence W.EditorState R.RawReader mode first count result
             wrt.now rdr.old rdr.new
-            (keys_of ⟦<dyn ConditionalEventHandler as ConditionalEventHandler>⟧ self.now) }
+            (keys_of C.ConditionalEventHandler self.now) }
         ensures within { OnErr result (StopsInSequence R.RawReader rdr.old rdr.new
             (sequences_here W.EditorState wrt.now mode count
-            (keys_of ⟦<dyn ConditionalEventHandler as ConditionalEventHandler>⟧ self.now)) first) }
+            (keys_of C.ConditionalEventHandler self.now)) first) }
         ensures items { TakesItems R.RawReader
-            (keys_of ⟦<dyn ConditionalEventHandler as ConditionalEventHandler>⟧ self.now).bound
+            (keys_of C.ConditionalEventHandler self.now).bound
             result rdr.old rdr.new }
     {
         if !self.bindings.leads_on(&[first]) {
@@ -74,11 +74,11 @@ impl InputState<'_> {
         sequence: &[KeyEvent],
         count: Count,
     ) -> Result<Option<Cmd>>
-        ensures command { let g = ⟦<dyn ConditionalEventHandler as ConditionalEventHandler>⟧ in
+        ensures command { let g = C.ConditionalEventHandler in
             let bound = (keys_of g self.now).bound in let i = in_mode mode (input_of self.now) in
             IfOk result (λ c. option_map command_of c
             ≡ (sequences_of bound (W.draft wrt.now) i count).command sequence.now) }
-        ensures io { let k = keys_of ⟦<dyn ConditionalEventHandler as ConditionalEventHandler>⟧ in
+        ensures io { let k = keys_of C.ConditionalEventHandler in
             IoOnlyIf result (all_sure (k self.now).bound ≡ false) }
         ensures faults { FaultsOnly result }
     {

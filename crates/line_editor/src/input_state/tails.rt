@@ -28,7 +28,7 @@ use line_keys::raw_reader::RawReader;
 use line_keys::refresher::{InputMode, Refresher};
 use line_keys::tables::{Meaning, replaced_by, second_key};
 
-impl InputState<'_> {
+impl<C: ConditionalEventHandler> InputState<'_, C> {
     /// Reads what belongs to a key of a mode, which has this meaning, under the count that the tables took.
     #[inline(always)]
     pub(crate) fn read_tail<R: RawReader, W: Refresher>(
@@ -42,7 +42,7 @@ impl InputState<'_> {
     ) -> Result<Read>
         ensures { ReadsTail W.EditorState R.RawReader mode key count (meaning_of meaning) result
             wrt.old rdr.old wrt.new rdr.new
-            (keys_of ⟦<dyn ConditionalEventHandler as ConditionalEventHandler>⟧ self.now) }
+            (keys_of C.ConditionalEventHandler self.now) }
     {
         match meaning {
             Meaning::Command(command) => Ok(self.behind(command)),
@@ -66,12 +66,12 @@ impl InputState<'_> {
         ensures reads { FindsTail W.EditorState R.RawReader
             (λ b. command_of b.command) (λ b i. behind_input b i)
             mode key count (meaning_of meaning) result wrt.now rdr.old rdr.new
-            (keys_of ⟦<dyn ConditionalEventHandler as ConditionalEventHandler>⟧ self.now) }
+            (keys_of C.ConditionalEventHandler self.now) }
         ensures within { StopsInTail W.EditorState R.RawReader mode key count
             (meaning_of meaning) result wrt.now rdr.old rdr.new
-            (keys_of ⟦<dyn ConditionalEventHandler as ConditionalEventHandler>⟧ self.now) }
+            (keys_of C.ConditionalEventHandler self.now) }
         ensures items { TakesItems R.RawReader
-            (keys_of ⟦<dyn ConditionalEventHandler as ConditionalEventHandler>⟧ self.now).bound
+            (keys_of C.ConditionalEventHandler self.now).bound
             result rdr.old rdr.new }
     {
         let last = self.last_char_search;
@@ -112,12 +112,12 @@ impl InputState<'_> {
     ) -> Result<Cmd>
         ensures reads { FindsTail W.EditorState R.RawReader (λ c. command_of c) (λ c i. i)
             mode key count (has_second (second_at by)) result wrt.now rdr.old rdr.new
-            (keys_of ⟦<dyn ConditionalEventHandler as ConditionalEventHandler>⟧ self.now) }
+            (keys_of C.ConditionalEventHandler self.now) }
         ensures within { StopsInTail W.EditorState R.RawReader mode key count
             (has_second (second_at by)) result wrt.now rdr.old rdr.new
-            (keys_of ⟦<dyn ConditionalEventHandler as ConditionalEventHandler>⟧ self.now) }
+            (keys_of C.ConditionalEventHandler self.now) }
         ensures items { TakesItems R.RawReader
-            (keys_of ⟦<dyn ConditionalEventHandler as ConditionalEventHandler>⟧ self.now).bound
+            (keys_of C.ConditionalEventHandler self.now).bound
             result rdr.old rdr.new }
     {
         match self.custom_seq_binding(rdr, wrt, mode, key, count)? {
@@ -138,12 +138,12 @@ impl InputState<'_> {
     ) -> Result<Cmd>
         ensures reads { FindsTail W.EditorState R.RawReader (λ c. command_of c) (λ c i. i)
             mode key count unlisted result wrt.now rdr.old rdr.new
-            (keys_of ⟦<dyn ConditionalEventHandler as ConditionalEventHandler>⟧ self.now) }
+            (keys_of C.ConditionalEventHandler self.now) }
         ensures within { StopsInTail W.EditorState R.RawReader mode key count unlisted result
             wrt.now rdr.old rdr.new
-            (keys_of ⟦<dyn ConditionalEventHandler as ConditionalEventHandler>⟧ self.now) }
+            (keys_of C.ConditionalEventHandler self.now) }
         ensures items { TakesItems R.RawReader
-            (keys_of ⟦<dyn ConditionalEventHandler as ConditionalEventHandler>⟧ self.now).bound
+            (keys_of C.ConditionalEventHandler self.now).bound
             result rdr.old rdr.new }
     {
         match self.custom_seq_binding(rdr, wrt, mode, key, count)? {

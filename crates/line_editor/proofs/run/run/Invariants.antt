@@ -44,7 +44,7 @@ editor_state g = record {
 
 abbrev pub invariant-turns : goal.invariant-turns
 invariant-turns g l =
-    let k = keys_of (λ v. (g.dyn-1.0.entry v).1) in
+    let k = keys_of g.C.ConditionalEventHandler in
     Underway (editor_state g) g.W.Reader.RawReader l.fn.config.indent_size
     (session l.fn.state (k l.fn.input_state) l.fn.rdr l.fn.kill_ring) (session l.state (k l.input_state) l.rdr l.kill_ring)
     × (l.kill_ring.size ≡ l.fn.kill_ring.size)

@@ -4,4 +4,4 @@ use Rattle.line_editor.proofs.BoundLemmas.{fronts-counted}
 use Rattle.line_editor.proofs.bindings.Bindings.nodes.Goals as goal
 
 pub returns : goal.returns
-returns g c = c.beginnings.ensures ∙ sym (fronts-counted (handled (λ v. (g.dyn-1.0.entry v).1)) c.args.self.now.any c.args.self.now.mouse c.args.self.now.sequences)
+returns g c = c.beginnings.ensures ∙ sym (fronts-counted (handled g.C.ConditionalEventHandler) c.args.self.now.any c.args.self.now.mouse c.args.self.now.sequences)

@@ -4,4 +4,4 @@ use Rattle.line_editor.proofs.BoundLemmas.{keys-handler, shown}
 use Rattle.line_editor.proofs.bindings.Bindings.of_keys.Goals as goal
 
 pub returns : goal.returns
-returns g c = shown (handled (λ v. (g.dyn-1.0.entry v).1)) c.get.result _ c.get.ensures ∙ sym (keys-handler (handled (λ v. (g.dyn-1.0.entry v).1)) c.args.self.now.any c.args.self.now.mouse c.args.self.now.sequences c.args.sequence.now)
+returns g c = shown (handled g.C.ConditionalEventHandler) c.get.result _ c.get.ensures ∙ sym (keys-handler (handled g.C.ConditionalEventHandler) c.args.self.now.any c.args.self.now.mouse c.args.self.now.sequences c.args.sequence.now)

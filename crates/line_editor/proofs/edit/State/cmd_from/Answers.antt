@@ -9,7 +9,7 @@ use Rattle.line_editor.proofs.edit.State.cmd_from.Goals as goal
 
 pub returns : goal.returns
 returns g c = λ reader took.
-    let k = keys_of (λ v. (g.dyn-1.0.entry v).1) c.args.input_state.now in
+    let k = keys_of g.C.ConditionalEventHandler c.args.input_state.now in
     let group = c.in_ok-begin_group.ensures in
     let told = c.remember.ensures in
     remembered _ g.W.Reader.RawReader (λ (x : Read). command_of x.command) (λ x. read_input x k.input) _ _ c.args.self.now _ _ k _ reader _ told.memory told.command told.keys told.err group.undrawn group.line.0 group.line.1 group.draft.0 group.draft.1
@@ -17,14 +17,14 @@ returns g c = λ reader took.
 
 pub returns-in_err-read : goal.returns-in_err-read
 returns-in_err-read g c = λ reader took.
-    let k = keys_of (λ v. (g.dyn-1.0.entry v).1) c.args.input_state.now in
+    let k = keys_of g.C.ConditionalEventHandler c.args.input_state.now in
     let p = err_from_is_err_and c.from_residual.result c.from_residual.ensures.1 in
     rw (p.1, p.2) (command_failed _ g.W.Reader.RawReader grouped (λ (x : Read). command_of x.command) (λ x. read_input x k.input) _ c.args.self.now k reader _ _ (was_read g.W.Reader.RawReader c.args.first reader c.args.rdr.now took.took)
     (command_part _ g.W.Reader.RawReader (λ (x : Read). command_of x.command) (λ x. read_input x k.input) c.args.self.now k reader c.args.rdr.now _ _ _ _ took.took took.own took.stays c.in_err-read.ensures))
 
 pub returns-in_err-begin_group : goal.returns-in_err-begin_group
 returns-in_err-begin_group g c = λ reader took.
-    let k = keys_of (λ v. (g.dyn-1.0.entry v).1) c.args.input_state.now in
+    let k = keys_of g.C.ConditionalEventHandler c.args.input_state.now in
     let group = c.in_err-begin_group.ensures in
     let p = err_from_is_err_and c.from_residual-in_err-begin_group.result c.from_residual-in_err-begin_group.ensures.1 in
     rw (p.1, p.2) (group_fails _ g.W.Reader.RawReader grouped (λ (x : Read). command_of x.command) (λ x. read_input x k.input) _ _ c.args.self.now _ _ k reader _ group.memory group.undrawn group.line.0

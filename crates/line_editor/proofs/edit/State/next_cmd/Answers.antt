@@ -11,7 +11,7 @@ returns g c =
 
 pub returns-in_err-first : goal.returns-in_err-first
 returns-in_err-first g c =
-    let k = keys_of (λ v. (g.dyn-1.0.entry v).1) c.args.input_state.now in
+    let k = keys_of g.C.ConditionalEventHandler c.args.input_state.now in
     let first = c.in_err-first.ensures in
     let p = err_from_is_err_and c.from_residual.result c.from_residual.ensures.1 in
     rw (p.1, p.2) (none_read _ _ c.args.self.now k c.args.rdr.now grouped _ _ first.fault first.kept first.stays first.counts)

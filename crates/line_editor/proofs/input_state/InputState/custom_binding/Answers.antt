@@ -6,4 +6,4 @@ use Rattle.line_editor.proofs.input_state.InputState.custom_binding.Goals as goa
 
 pub returns-in-Some-clause-io : goal.returns-in-Some-clause-io
 returns-in-Some-clause-io g c =
-    io_only c.bound.result (key_unsure (bound_of (λ v. (g.dyn-1.0.entry v).1) c.args.self.now.bindings.now) c.args.key _ (sym c.in-Some.ensures)) c.bound.ensures.io
+    io_only c.bound.result (key_unsure (bound_of g.C.ConditionalEventHandler c.args.self.now.bindings.now) c.args.key _ (sym c.in-Some.ensures)) c.bound.ensures.io

@@ -9,7 +9,7 @@ use Rattle.line_editor.proofs.input_state.InputState.custom_seq_binding.Given as
 abbrev pub invariant-keys : goal.invariant-keys
 invariant-keys g l =
     InSequence g.R.RawReader
-    (sequences_of (bound_of (λ v. (g.dyn-1.0.entry v).1) l.fn.self.bindings.now) (g.W.EditorState.draft l.fn.wrt) (in_mode l.fn.mode (input_of l.fn.self)) l.fn.count)
+    (sequences_of (bound_of g.C.ConditionalEventHandler l.fn.self.bindings.now) (g.W.EditorState.draft l.fn.wrt) (in_mode l.fn.mode (input_of l.fn.self)) l.fn.count)
     l.fn.first l.fn.rdr l.keys.items l.rdr
 
 abbrev pub decreases-keys : goal.decreases-keys

@@ -16,7 +16,7 @@ use Rattle.line_editor.proofs.input_state.InputState.read_alt.Goals as goal
 
 pub returns-in-Some : goal.returns-in-Some
 returns-in-Some g c =
-    let k = keys_of (λ v. (g.dyn-1.0.entry v).1) c.args.self.now in
+    let k = keys_of g.C.ConditionalEventHandler c.args.self.now in
     let i = input_of c.args.self.now in
     let keymap = keymap_of k (g.R.RawReader.own_binding (g.R.RawReader.kept c.args.rdr.now)) in
     let draft = g.W.EditorState.draft c.args.wrt.now in
@@ -27,7 +27,7 @@ returns-in-Some g c =
 
 pub returns-in-Some-own_command : goal.returns-in-Some-own_command
 returns-in-Some-own_command g c =
-    let k = keys_of (λ v. (g.dyn-1.0.entry v).1) c.args.self.now in
+    let k = keys_of g.C.ConditionalEventHandler c.args.self.now in
     let i = input_of c.args.self.now in
     let own = g.R.RawReader.own_binding (g.R.RawReader.kept c.args.rdr.now) in
     let keymap = keymap_of k own in
@@ -40,7 +40,7 @@ returns-in-Some-own_command g c =
 
 pub returns-in_err-read : goal.returns-in_err-read
 returns-in_err-read g c =
-    let k = keys_of (λ v. (g.dyn-1.0.entry v).1) c.args.self.now in
+    let k = keys_of g.C.ConditionalEventHandler c.args.self.now in
     let i = input_of c.args.self.now in
     let own = g.R.RawReader.own_binding (g.R.RawReader.kept c.args.rdr.now) in
     let unbound = ap (λ o. option_map command_of o) (sym c.in_default.is) ∙ c.in_ok-command.ensures.command own in
@@ -52,7 +52,7 @@ returns-in_err-read g c =
 
 pub returns : goal.returns
 returns g c =
-    let k = keys_of (λ v. (g.dyn-1.0.entry v).1) c.args.self.now in
+    let k = keys_of g.C.ConditionalEventHandler c.args.self.now in
     let i = input_of c.args.self.now in
     let own = g.R.RawReader.own_binding (g.R.RawReader.kept c.args.rdr.now) in
     let unbound = ap (λ o. option_map command_of o) (sym c.in_default.is) ∙ c.in_ok-command.ensures.command own in
@@ -63,7 +63,7 @@ returns g c =
 
 pub returns-in_err-command : goal.returns-in_err-command
 returns-in_err-command g c =
-    let k = keys_of (λ v. (g.dyn-1.0.entry v).1) c.args.self.now in
+    let k = keys_of g.C.ConditionalEventHandler c.args.self.now in
     let i = input_of c.args.self.now in
     let keymap = keymap_of k (g.R.RawReader.own_binding (g.R.RawReader.kept c.args.rdr.now)) in
     let draft = g.W.EditorState.draft c.args.wrt.now in
@@ -75,7 +75,7 @@ returns-in_err-command g c =
 
 pub returns-in_err-done_inserting : goal.returns-in_err-done_inserting
 returns-in_err-done_inserting g c =
-    let k = keys_of (λ v. (g.dyn-1.0.entry v).1) c.args.self.now in
+    let k = keys_of g.C.ConditionalEventHandler c.args.self.now in
     let i = input_of c.args.self.now in
     let keymap = keymap_of k (g.R.RawReader.own_binding (g.R.RawReader.kept c.args.rdr.now)) in
     let draft = g.W.EditorState.draft c.args.wrt.now in

@@ -6,15 +6,15 @@ use Rattle.line_editor.proofs.input_state.InputState.read_motion_from.Goals as g
 
 pub returns-then-not-begins_count : goal.returns-then-not-begins_count
 returns-then-not-begins_count g c = λ i same.
-    motion_plain _ _ c.args.wrt.now (keys_of (λ v. (g.dyn-1.0.entry v).1) c.args.self.now) c.args.rdr.now i _ _ c.args.first _ _ _ (sym c.if-not-begins_count.ensures) c.motion_at_once.ensures
+    motion_plain _ _ c.args.wrt.now (keys_of g.C.ConditionalEventHandler c.args.self.now) c.args.rdr.now i _ _ c.args.first _ _ _ (sym c.if-not-begins_count.ensures) c.motion_at_once.ensures
     (c.reach.ensures.reads _ i same) c.reach.ensures.items c.reach.ensures.kept
 
 pub returns : goal.returns
 returns g c = λ i same.
-    motion_counted _ _ c.args.wrt.now (keys_of (λ v. (g.dyn-1.0.entry v).1) c.args.self.now) c.args.rdr.now i _ _ c.args.first _ _ _ _ c.in_ok-count.ensures (sym c.if-not-begins_count.ensures)
+    motion_counted _ _ c.args.wrt.now (keys_of g.C.ConditionalEventHandler c.args.self.now) c.args.rdr.now i _ _ c.args.first _ _ _ _ c.in_ok-count.ensures (sym c.if-not-begins_count.ensures)
     _ _ _ _ c.multiplied.ensures c.motion_of_key-motion.ensures (c.reach-2.ensures.reads _ i same) c.reach-2.ensures.items c.reach-2.ensures.kept
 
 pub returns-in_err-count : goal.returns-in_err-count
 returns-in_err-count g c = λ i same.
     let p = err_from_is_err_and c.from_residual.result c.from_residual.ensures.1 in
-    rw (p.1, p.2) (motion_count _ _ c.args.wrt.now (keys_of (λ v. (g.dyn-1.0.entry v).1) c.args.self.now) c.args.rdr.now i _ _ c.args.first _ _ _ (sym c.if-not-begins_count.ensures) c.in_err-count.ensures)
+    rw (p.1, p.2) (motion_count _ _ c.args.wrt.now (keys_of g.C.ConditionalEventHandler c.args.self.now) c.args.rdr.now i _ _ c.args.first _ _ _ (sym c.if-not-begins_count.ensures) c.in_err-count.ensures)

@@ -9,7 +9,7 @@ use Rattle.line_editor.proofs.input_state.InputState.read_phrase.Goals as goal
 
 pub returns-in-None : goal.returns-in-None
 returns-in-None g c =
-    let k = keys_of (λ v. (g.dyn-1.0.entry v).1) c.args.self.now in
+    let k = keys_of g.C.ConditionalEventHandler c.args.self.now in
     let i = input_of c.args.self.now in
     let keymap = keymap_of k (g.R.RawReader.own_binding (g.R.RawReader.kept c.args.rdr.now)) in
     let stays = none-entered keymap (g.W.EditorState.environment c.args.wrt.now) (g.W.EditorState.draft c.args.wrt.now) i None c.args.first (sym c.in-None.is ∙ c.stands_for.ensures) in

@@ -77,19 +77,19 @@ returns-in_ok-again-in-Again-clause-reads g c =
 
 pub returns-in_err-next_key-in-Search-clause-within : goal.returns-in_err-next_key-in-Search-clause-within
 returns-in_err-next_key-in-Search-clause-within g c =
-    on_err c.from_residual.result (rw c.in-Search.is (tail_stops _ (bound_of (λ v. (g.dyn-1.0.entry v).1) c.args.self.now.bindings.now) (g.W.EditorState.environment c.args.wrt.now) (g.W.EditorState.draft c.args.wrt.now) (in_mode c.args.mode (input_of c.args.self.now)) c.args.count _ _ _ _ c.in_err-next_key-in-Search.ensures.kept))
+    on_err c.from_residual.result (rw c.in-Search.is (tail_stops _ (bound_of g.C.ConditionalEventHandler c.args.self.now.bindings.now) (g.W.EditorState.environment c.args.wrt.now) (g.W.EditorState.draft c.args.wrt.now) (in_mode c.args.mode (input_of c.args.self.now)) c.args.count _ _ _ _ c.in_err-next_key-in-Search.ensures.kept))
 
 pub returns-in_err-read_pasted_text-in-Paste-clause-within : goal.returns-in_err-read_pasted_text-in-Paste-clause-within
 returns-in_err-read_pasted_text-in-Paste-clause-within g c =
-    on_err c.from_residual-in_err-read_pasted_text-in-Paste.result (rw c.in-Paste.is (tail_stops _ (bound_of (λ v. (g.dyn-1.0.entry v).1) c.args.self.now.bindings.now) (g.W.EditorState.environment c.args.wrt.now) (g.W.EditorState.draft c.args.wrt.now) (in_mode c.args.mode (input_of c.args.self.now)) c.args.count _ _ _ _ c.in_err-read_pasted_text-in-Paste.ensures.kept))
+    on_err c.from_residual-in_err-read_pasted_text-in-Paste.result (rw c.in-Paste.is (tail_stops _ (bound_of g.C.ConditionalEventHandler c.args.self.now.bindings.now) (g.W.EditorState.environment c.args.wrt.now) (g.W.EditorState.draft c.args.wrt.now) (in_mode c.args.mode (input_of c.args.self.now)) c.args.count _ _ _ _ c.in_err-read_pasted_text-in-Paste.ensures.kept))
 
 pub returns-in_err-next_key-in-ReplaceChar-clause-within : goal.returns-in_err-next_key-in-ReplaceChar-clause-within
 returns-in_err-next_key-in-ReplaceChar-clause-within g c =
-    on_err c.from_residual-in_err-next_key-in-ReplaceChar.result (rw c.in-ReplaceChar.is (tail_stops _ (bound_of (λ v. (g.dyn-1.0.entry v).1) c.args.self.now.bindings.now) (g.W.EditorState.environment c.args.wrt.now) (g.W.EditorState.draft c.args.wrt.now) (in_mode c.args.mode (input_of c.args.self.now)) c.args.count _ _ _ _ c.in_err-next_key-in-ReplaceChar.ensures.kept))
+    on_err c.from_residual-in_err-next_key-in-ReplaceChar.result (rw c.in-ReplaceChar.is (tail_stops _ (bound_of g.C.ConditionalEventHandler c.args.self.now.bindings.now) (g.W.EditorState.environment c.args.wrt.now) (g.W.EditorState.draft c.args.wrt.now) (in_mode c.args.mode (input_of c.args.self.now)) c.args.count _ _ _ _ c.in_err-next_key-in-ReplaceChar.ensures.kept))
 
 pub returns-in_err-again-in-Again-clause-within : goal.returns-in_err-again-in-Again-clause-within
 returns-in_err-again-in-Again-clause-within g c =
-    on_err c.from_residual-in_err-again-in-Again.result (rw c.in-Again.is (tail_stops _ (bound_of (λ v. (g.dyn-1.0.entry v).1) c.args.self.now.bindings.now) (g.W.EditorState.environment c.args.wrt.now) (g.W.EditorState.draft c.args.wrt.now) (in_mode c.args.mode (input_of c.args.self.now)) c.args.count _ c.args.rdr.now c.args.rdr.now _ refl))
+    on_err c.from_residual-in_err-again-in-Again.result (rw c.in-Again.is (tail_stops _ (bound_of g.C.ConditionalEventHandler c.args.self.now.bindings.now) (g.W.EditorState.environment c.args.wrt.now) (g.W.EditorState.draft c.args.wrt.now) (in_mode c.args.mode (input_of c.args.self.now)) c.args.count _ c.args.rdr.now c.args.rdr.now _ refl))
 
 pub returns-in_ok-next_key-in-Search-clause-items : goal.returns-in_ok-next_key-in-Search-clause-items
 returns-in_ok-next_key-in-Search-clause-items g c =

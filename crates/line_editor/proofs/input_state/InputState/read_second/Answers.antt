@@ -12,7 +12,7 @@ returns-in_err-command-clause-reads g c =
     let p = err_from_is_err_and c.from_residual.result c.from_residual.ensures.1 in
     rw (p.1, p.2) (λ no.
     let cut = c.in_err-command.ensures.reads no in
-    (cut.0, seconds_end _ (bound_of (λ v. (g.dyn-1.0.entry v).1) c.args.self.now.bindings.now) (g.W.EditorState.environment c.args.wrt.now) (g.W.EditorState.draft c.args.wrt.now) (in_mode c.args.mode (input_of c.args.self.now)) c.args.count _ _ _ cut.1 _))
+    (cut.0, seconds_end _ (bound_of g.C.ConditionalEventHandler c.args.self.now.bindings.now) (g.W.EditorState.environment c.args.wrt.now) (g.W.EditorState.draft c.args.wrt.now) (in_mode c.args.mode (input_of c.args.self.now)) c.args.count _ _ _ cut.1 _))
 
 pub returns-in_err-next_key-in-InVain-None-clause-reads : goal.returns-in_err-next_key-in-InVain-None-clause-reads
 returns-in_err-next_key-in-InVain-None-clause-reads g c =
@@ -39,7 +39,7 @@ returns-in-InVain-Some-clause-reads g c =
     vain_read _ _ _ _ _ _ _ _ _ _ _ vain c.second_key.ensures
 
 pub returns-in_err-command-clause-within : goal.returns-in_err-command-clause-within
-returns-in_err-command-clause-within g c = on_err c.from_residual.result (seconds_stop _ (bound_of (λ v. (g.dyn-1.0.entry v).1) c.args.self.now.bindings.now) (g.W.EditorState.environment c.args.wrt.now) (g.W.EditorState.draft c.args.wrt.now) (in_mode c.args.mode (input_of c.args.self.now)) c.args.count _ _ _ _ c.in_err-command.ensures.within)
+returns-in_err-command-clause-within g c = on_err c.from_residual.result (seconds_stop _ (bound_of g.C.ConditionalEventHandler c.args.self.now.bindings.now) (g.W.EditorState.environment c.args.wrt.now) (g.W.EditorState.draft c.args.wrt.now) (in_mode c.args.mode (input_of c.args.self.now)) c.args.count _ _ _ _ c.in_err-command.ensures.within)
 
 pub returns-in_err-next_key-in-InVain-None-clause-within : goal.returns-in_err-next_key-in-InVain-None-clause-within
 returns-in_err-next_key-in-InVain-None-clause-within g c =

@@ -8,6 +8,6 @@ use Rattle.line_editor.proofs.input_state.InputState.read_spelled.Goals as goal
 
 pub returns : goal.returns
 returns g c =
-    let k = keys_of (λ v. (g.dyn-1.0.entry v).1) c.args.self.now in
+    let k = keys_of g.C.ConditionalEventHandler c.args.self.now in
     plain_part g.W.EditorState g.R.RawReader (λ (x : Read). command_of x.command) (λ x. read_input x k.input) c.args.wrt.now k c.args.rdr.now (in_mode c.args.mode (input_of c.args.self.now)) c.args.first _ _ _
     (sym c.if-begins_count.ensures) c.read_behind.ensures

@@ -11,12 +11,12 @@ use Rattle.line_editor.proofs.input_state.InputState.read_tail.Goals as goal
 pub returns-in-Operator : goal.returns-in-Operator
 returns-in-Operator g c =
     let i = in_mode c.args.mode (input_of c.args.self.now) in
-    rw c.in-Operator.is (part_mapped g.W.EditorState g.R.RawReader _ _ [] _ _ (λ c d. d) _ _ _ c.args.wrt.now (keys_of (λ v. (g.dyn-1.0.entry v).1) c.args.self.now) c.args.rdr.now _ _
+    rw c.in-Operator.is (part_mapped g.W.EditorState g.R.RawReader _ _ [] _ _ (λ c d. d) _ _ _ c.args.wrt.now (keys_of g.C.ConditionalEventHandler c.args.self.now) c.args.rdr.now _ _
     (λ items read motion. by_motion _ _ items read motion) refl (c.read_motion.ensures i refl))
 
 pub returns-in-Command : goal.returns-in-Command
 returns-in-Command g c =
-    let k = keys_of (λ v. (g.dyn-1.0.entry v).1) c.args.self.now in
+    let k = keys_of g.C.ConditionalEventHandler c.args.self.now in
     let i = in_mode c.args.mode (input_of c.args.self.now) in
     rw c.in-Command.is (at_once_part g.W.EditorState g.R.RawReader _ (λ c d. d) (λ (b : Read). command_of b.command) (λ b. behind_input b i) _ i c.args.wrt.now k c.args.rdr.now
     (rw c.behind.ensures.command (alone (command_of c.in-Command.command))) (ap (λ s. record i { last_search = s }) c.behind.ensures.search))
@@ -24,5 +24,5 @@ returns-in-Command g c =
 pub returns-in_default : goal.returns-in_default
 returns-in_default g c =
     let i = in_mode c.args.mode (input_of c.args.self.now) in
-    (quiet_part g.W.EditorState g.R.RawReader _ c.args.wrt.now (keys_of (λ v. (g.dyn-1.0.entry v).1) c.args.self.now) c.args.rdr.now _
+    (quiet_part g.W.EditorState g.R.RawReader _ c.args.wrt.now (keys_of g.C.ConditionalEventHandler c.args.self.now) c.args.rdr.now _
     (λ (b : Read). command_of b.command) (λ b. behind_input b i) _ c.read_quietly.ensures.items c.read_quietly.ensures.reads c.read_quietly.ensures.within)

@@ -12,7 +12,7 @@ returns-in_err-command-clause-reads g c =
     let p = err_from_is_err_and c.from_residual.result c.from_residual.ensures.1 in
     rw (p.1, p.2) (λ no.
     let cut = c.in_err-command.ensures.reads no in
-    (cut.0, sequence_ends _ (bound_of (λ v. (g.dyn-1.0.entry v).1) c.args.self.now.bindings.now) (g.W.EditorState.environment c.args.wrt.now) (g.W.EditorState.draft c.args.wrt.now) (in_mode c.args.mode (input_of c.args.self.now)) c.args.count _ _ _ cut.1))
+    (cut.0, sequence_ends _ (bound_of g.C.ConditionalEventHandler c.args.self.now.bindings.now) (g.W.EditorState.environment c.args.wrt.now) (g.W.EditorState.draft c.args.wrt.now) (in_mode c.args.mode (input_of c.args.self.now)) c.args.count _ _ _ cut.1))
 
 pub returns-in-Command-clause-reads : goal.returns-in-Command-clause-reads
 returns-in-Command-clause-reads g c = answered_read _ _ _ _ _ _ _ _ _ _ refl (rw c.in-Command.is at c.in_ok-command.ensures.reads)
@@ -21,4 +21,4 @@ pub returns-in-InVain-clause-reads : goal.returns-in-InVain-clause-reads
 returns-in-InVain-clause-reads g c = unlisted_read _ _ _ _ _ _ _ _ _ (rw c.in-InVain.is at c.in_ok-command.ensures.reads)
 
 pub returns-in_err-command-clause-within : goal.returns-in_err-command-clause-within
-returns-in_err-command-clause-within g c = on_err c.from_residual.result (unlisted_stops _ (bound_of (λ v. (g.dyn-1.0.entry v).1) c.args.self.now.bindings.now) (g.W.EditorState.environment c.args.wrt.now) (g.W.EditorState.draft c.args.wrt.now) (in_mode c.args.mode (input_of c.args.self.now)) c.args.count _ _ _ c.in_err-command.ensures.within)
+returns-in_err-command-clause-within g c = on_err c.from_residual.result (unlisted_stops _ (bound_of g.C.ConditionalEventHandler c.args.self.now.bindings.now) (g.W.EditorState.environment c.args.wrt.now) (g.W.EditorState.draft c.args.wrt.now) (in_mode c.args.mode (input_of c.args.self.now)) c.args.count _ _ _ c.in_err-command.ensures.within)

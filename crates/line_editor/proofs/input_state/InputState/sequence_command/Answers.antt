@@ -7,5 +7,5 @@ use Rattle.line_editor.proofs.input_state.InputState.sequence_command.Goals as g
 
 pub returns-in-Some-clause-io : goal.returns-in-Some-clause-io
 returns-in-Some-clause-io g c =
-    let bound = bound_of (λ v. (g.dyn-1.0.entry v).1) c.args.self.now.bindings.now in
+    let bound = bound_of g.C.ConditionalEventHandler c.args.self.now.bindings.now in
     io_only _ (λ unsure. among_unsure bound (keys c.args.sequence.now) _ (sym c.in-Some.ensures) unsure) c.answer.ensures.io

@@ -7,7 +7,7 @@ use Rattle.line_editor.proofs.input_state.InputState.typed_by.Goals as goal
 
 pub returns-else-is_some-2 : goal.returns-else-is_some-2
 returns-else-is_some-2 g c =
-    let k = keys_of (λ v. (g.dyn-1.0.entry v).1) c.args.self.now in
+    let k = keys_of g.C.ConditionalEventHandler c.args.self.now in
     let own = g.R.RawReader.own_binding (g.R.RawReader.kept c.args.rdr.now) in
     let same : plain_key c.in-Char.c ≡ c.args.key = search rules in
     subst (λ typed. TypesChar (keymap_of k own) (input_of c.args.self.now) typed c.in-Char.c) same

@@ -1,9 +1,11 @@
+use Rattle.std.proofs.Common.{ap, refl}
+use Rattle.line_editor.specs.Binding.{handled}
 use Rattle.line_editor.specs.Event.{chord_of}
-use Rattle.line_host.proofs.BoundLemmas.{bound_behind}
+use Rattle.line_keys.specs.Command.{command_of}
+use Rattle.line_host.proofs.BoundLemmas.{rebinds_commands}
 use Rattle.line_host.proofs.bound.BoundCommands.bind.Goals as goal
 
-pub returns-in-Some-clause-bound : goal.returns-in-Some-clause-bound
-returns-in-Some-clause-bound c =
-    bound_behind c.args.self.now c.self.inside.commands.items c.as_slice.result.now c.push.new.self.items c.remove.new.self.items (chord_of c.args.event)
-    c.in-Some.place (c.args.event, c.args.command) c.self.view_is c.as_slice.ensures.value c.in_ok-push.ensures.items c.remove.ensures.items
-    c.in-Some.ensures.found.0 c.in-Some.ensures.found.1
+pub returns-clause-bound : goal.returns-clause-bound
+returns-clause-bound c =
+    rebinds_commands _ (λ handler. refl) c.self.inside.bindings c.insert.new.self c.args.self.now (chord_of c.args.event) c.from.result (command_of c.args.command)
+    c.self.view_is (ap (handled _) c.from.ensures) c.in_ok-insert.ensures.bound

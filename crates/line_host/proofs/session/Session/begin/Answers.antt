@@ -1,5 +1,5 @@
-use Rattle.std.proofs.Common.{◌≡◌}
 use Rattle.line_session.specs.Sitting.{BeginsOrStays}
+use Rattle.line_host.specs.Bound.{bound}
 use Rattle.line_host.specs.Helped.{answers}
 use Rattle.line_host.specs.Hosted.{Begins}
 use Rattle.line_host.proofs.HostedLemmas.{begins_alike, stays_alike, tells_came}
@@ -14,10 +14,10 @@ returns c =
     let right = c.in-Ok-Ok-2.ensures'.cases in
     record {
       begins = λ texts.
-          tells_came answers (λ editor. Begins answers session.commands c.args.prompt.now c.args.left.now c.args.right.now session.editor editor)
+          tells_came answers (λ editor. Begins answers (bound session.commands) c.args.prompt.now c.args.left.now c.args.right.now session.editor editor)
           (λ editor. BeginsOrStays answers c.args.prompt.now c.args.left.now c.args.right.now session.editor editor) session
           c.try_hear-fed.new.self c.tell.new.self c.try_hear-fed.result c.tell.result
-          (begins_alike answers session.commands _ _ _ _ _ _ session.editor c.try_hear-fed.new.self.editor _ prompt.0 left.0 right.0 c.try_hear-fed.ensures.hears)
+          (begins_alike answers (bound session.commands) _ _ _ _ _ _ session.editor c.try_hear-fed.new.self.editor _ prompt.0 left.0 right.0 c.try_hear-fed.ensures.hears)
           c.try_hear-fed.ensures.stays
           (stays_alike answers _ _ _ _ _ _ session.editor c.try_hear-fed.new.self.editor _ prompt.0 left.0 right.0 c.try_hear-fed.ensures.left)
           c.tell.ensures;

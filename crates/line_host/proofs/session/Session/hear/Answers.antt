@@ -1,6 +1,7 @@
 use Rattle.std.proofs.Common.{ap, ◌∙◌}
 use Rattle.line_host.specs.Heard.{turn_of}
 use Rattle.line_session.specs.Sitting.{LosesNothing}
+use Rattle.line_host.specs.Bound.{bound}
 use Rattle.line_host.specs.Helped.{answers}
 use Rattle.line_host.specs.Hosted.{Turns}
 use Rattle.line_host.proofs.HostedLemmas.{hears_turns, loses_nothing, not_none, tells_came}
@@ -12,9 +13,9 @@ returns c =
     record {
       no_line = λ none. absurd (not_none _ _ _ _ c.line.ensures c.if-is_none.ensures (ap (λ s. s.editor.line) c.self.view_is ∙ none));
       comes = λ begun line.
-          tells_came answers (λ editor. Turns answers session.commands (turn_of c.args.heard session.editor.decoder) session.editor begun editor) (λ editor. LosesNothing session.editor editor) session
+          tells_came answers (λ editor. Turns answers (bound session.commands) (turn_of c.args.heard session.editor.decoder) session.editor begun editor) (λ editor. LosesNothing session.editor editor) session
           c.try_hear-fed.new.self c.tell.new.self c.try_hear-fed.result c.tell.result
-          (hears_turns answers session.commands c.args.heard session.editor c.try_hear-fed.new.self.editor c.try_hear-fed.result c.requires c.try_hear-fed.ensures.hears begun line)
+          (hears_turns answers (bound session.commands) c.args.heard session.editor c.try_hear-fed.new.self.editor c.try_hear-fed.result c.requires c.try_hear-fed.ensures.hears begun line)
           c.try_hear-fed.ensures.stays
           (loses_nothing answers c.args.heard session.editor c.try_hear-fed.new.self.editor c.try_hear-fed.result c.requires c.try_hear-fed.ensures.left)
           c.tell.ensures;

@@ -7,7 +7,7 @@ use Rattle.line_session.proofs.editor.Editor.flush.Goals as goal
 pub returns-clause-came : goal.returns-clause-came
 returns-clause-came g c =
     let asked = answers_of g.H.Hinter.hint_at g.H.Validator.verdict_at g.H.Highlighter.lights g.H.Completer in
-    let bound = bound_of (λ vtable. (g.dyn-1.0.entry vtable).1) c.args.bindings.now in
+    let bound = bound_of g.C.ConditionalEventHandler c.args.bindings.now in
     fed_so asked bound c.args.self.now _ _ (flushed c.args.self.now.decoder) _ c.in_ok-read_pause.ensures.reads c.take_turns.ensures.came
 
 pub returns-clause-keeps : goal.returns-clause-keeps

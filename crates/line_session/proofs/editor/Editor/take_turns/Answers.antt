@@ -10,7 +10,7 @@ use Rattle.line_session.proofs.editor.Editor.take_turns.Goals as goal
 pub returns-clause-came : goal.returns-clause-came
 returns-clause-came g c =
     let asked = answers_of g.H.Hinter.hint_at g.H.Validator.verdict_at g.H.Highlighter.lights g.H.Completer in
-    let bound = bound_of (λ vtable. (g.dyn-1.0.entry vtable).1) c.args.bindings.now in
+    let bound = bound_of g.C.ConditionalEventHandler c.args.bindings.now in
     let old : Sitting g.row.H.Denot = record {
       line = option_map (λ b. record { kept = b.line; input = b.input; mode = b.mode; draws = b.draws }) c.self.inside.line;
       prompt = string_bytes c.self.inside.prompt.0;
