@@ -16,16 +16,28 @@ pub fn edit_by_keys<O: Write>(
     typed: &[KeyEvent],
     terminal: &mut O,
 ) -> Result<String> {
-    let mut keys = KeyQueue::new(alloc);
     let mut screen = Plain::new(alloc, 80);
-    let config = Config::new(GraphemeClusterMode::Unicode);
     let bindings = Bindings::new(alloc);
     let history = MemHistory::new(alloc);
-    let mut input = InputState::new(&config, &bindings);
+    edit_on(alloc, &mut screen, &bindings, &history, typed, terminal)
+}
+
+/// The same on this screen, by these bindings and with this history.
+fn edit_on<O: Write>(
+    alloc: Global,
+    screen: &mut Plain<KeyQueue>,
+    bindings: &Bindings,
+    history: &MemHistory,
+    typed: &[KeyEvent],
+    terminal: &mut O,
+) -> Result<String> {
+    let mut keys = KeyQueue::new(alloc);
+    let config = Config::new(GraphemeClusterMode::Unicode);
+    let mut input = InputState::new(&config, bindings);
     let mut kill_ring = KillRing::new(alloc, 60);
     let mut helper = ();
-    let context = Context::new(&history);
-    let mut state = State::new(alloc, &mut screen, &"> ", Some(&mut helper), context)?;
+    let context = Context::new(history);
+    let mut state = State::new(alloc, screen, &"> ", Some(&mut helper), context)?;
     state.refresh_line()?;
     for key in typed {
         keys.press(*key)?;

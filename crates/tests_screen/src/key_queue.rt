@@ -39,43 +39,104 @@ enum Call {
     BindsNot(KeyEvent),
 }
 
+/// Whether a read that gives nothing ends so: at the end of what is there so far, or by a failure.
+fn is_so(error: &ReadlineError, at_end: bool) -> bool {
+    match error {
+        ReadlineError::Eof => at_end,
+        ReadlineError::Io(_) => !at_end,
+        _ => false,
+    }
+}
+
+/// Whether this key is read, or none, since the read ends so.
+fn key(
+    queue: &mut KeyQueue,
+    single_esc_abort: bool,
+    wanted: Option<KeyEvent>,
+    at_end: bool,
+) -> bool {
+    let outcome = queue.next_key(single_esc_abort);
+    match &outcome {
+        Ok(read) => Some(*read) == wanted,
+        Err(error) => wanted.is_none() && is_so(error, at_end),
+    }
+}
+
+/// The same of a character.
+fn character(queue: &mut KeyQueue, wanted: Option<char>, at_end: bool) -> bool {
+    let outcome = queue.next_char();
+    match &outcome {
+        Ok(read) => Some(*read) == wanted,
+        Err(error) => wanted.is_none() && is_so(error, at_end),
+    }
+}
+
+/// The same of a pasted text.
+fn pasted(queue: &mut KeyQueue, wanted: Option<&str>, at_end: bool) -> bool {
+    let outcome = queue.read_pasted_text();
+    match &outcome {
+        Ok(read) => Some(read.as_str()) == wanted,
+        Err(error) => wanted.is_none() && is_so(error, at_end),
+    }
+}
+
+/// Whether this pasted text stands alone next, or none.
+fn is_next(queue: &mut KeyQueue, wanted: Option<&str>) -> bool {
+    let outcome = queue.next_paste();
+    let is_next = matches!(&outcome, Ok(next) if next.as_deref() == wanted);
+    is_next
+}
+
+/// Whether what a key is bound to is what the call says.
+fn is_said(bound: &Option<Cmd>, call: &Call) -> bool {
+    match call {
+        Call::Interrupts(_) => matches!(bound, Some(Cmd::Interrupt)),
+        Call::EndsInput(_) => matches!(bound, Some(Cmd::EndOfFile)),
+        Call::BindsNot(_) => bound.is_none(),
+        _ => false,
+    }
+}
+
+/// Whether a key is bound as the call says.
+fn is_bound(queue: &KeyQueue, key: &KeyEvent, call: &Call) -> bool {
+    let bound = queue.find_binding(key);
+    is_said(&bound, call)
+}
+
 /// Makes a call. Whether it reads, fails or has what is wanted.
 fn called(queue: &mut KeyQueue, call: &Call) -> bool {
     match call {
-        Call::Press(key) => queue.press(*key).is_ok(),
-        Call::Type(text) => queue.type_text(text).is_ok(),
-        Call::Paste(text) => queue.paste(text).is_ok(),
-        Call::Mark => {
-            queue.mark();
-            true
-        }
-        Call::Rewind => {
-            queue.rewind();
-            true
-        }
-        Call::ReadsKey(key) => matches!(queue.next_key(false), Ok(read) if read == *key),
-        Call::ReadsChar(c) => matches!(queue.next_char(), Ok(read) if read == *c),
-        Call::ReadsPasted(text) => match queue.read_pasted_text() {
-            Ok(pasted) => pasted.as_str() == *text,
-            Err(_) => false,
-        },
-        Call::HasPasteNext(text) => match queue.next_paste() {
-            Ok(Some(pasted)) => pasted.as_str() == *text,
-            _ => false,
-        },
-        Call::HasNoPasteNext => matches!(queue.next_paste(), Ok(None)),
-        Call::FailsKey => matches!(queue.next_key(true), Err(ReadlineError::Io(_))),
-        Call::FailsChar => matches!(queue.next_char(), Err(ReadlineError::Io(_))),
-        Call::FailsPasted => matches!(queue.read_pasted_text(), Err(ReadlineError::Io(_))),
+        Call::Press(key) => return queue.press(*key).is_ok(),
+        Call::Type(text) => return queue.type_text(text).is_ok(),
+        Call::Paste(text) => return queue.paste(text).is_ok(),
+        Call::Mark => queue.mark(),
+        Call::Rewind => queue.rewind(),
+        call => return reads(queue, call),
+    }
+    true
+}
+
+/// The same of a call that reads, or asks for what is there.
+fn reads(queue: &mut KeyQueue, call: &Call) -> bool {
+    match call {
+        Call::ReadsKey(wanted) => key(queue, false, Some(*wanted), false),
+        Call::ReadsChar(wanted) => character(queue, Some(*wanted), false),
+        Call::ReadsPasted(wanted) => pasted(queue, Some(*wanted), false),
+        Call::HasPasteNext(wanted) => is_next(queue, Some(*wanted)),
+        Call::HasNoPasteNext => is_next(queue, None),
+        Call::FailsKey => key(queue, true, None, false),
+        Call::FailsChar => character(queue, None, false),
+        Call::FailsPasted => pasted(queue, None, false),
         Call::Ends => {
-            matches!(queue.next_key(false), Err(ReadlineError::Eof))
-                && matches!(queue.next_char(), Err(ReadlineError::Eof))
-                && matches!(queue.read_pasted_text(), Err(ReadlineError::Eof))
+            key(queue, false, None, true)
+                && character(queue, None, true)
+                && pasted(queue, None, true)
         }
         Call::Has(len) => queue.len() == *len && queue.is_empty() == (*len == 0),
-        Call::Interrupts(key) => matches!(queue.find_binding(key), Some(Cmd::Interrupt)),
-        Call::EndsInput(key) => matches!(queue.find_binding(key), Some(Cmd::EndOfFile)),
-        Call::BindsNot(key) => queue.find_binding(key).is_none(),
+        Call::Interrupts(key) | Call::EndsInput(key) | Call::BindsNot(key) => {
+            is_bound(queue, key, call)
+        }
+        _ => false,
     }
 }
 

@@ -2,6 +2,7 @@
 
 use crate::by_keys::edit_by_keys;
 use crate::caller::type_in;
+use crate::holds;
 use crate::read_line::read_line;
 use line_config::ReadlineError;
 use line_editor::State;
@@ -13,7 +14,7 @@ use line_screen::{KeyQueue, Plain};
 #[test]
 fn give_what_is_typed(rt: HostRuntime) {
     let line = read_line(rt.alloc(), "caf\u{e9}").expect(&rt, "no fault");
-    assert_eq!(rt; line.as_str(), "caf\u{e9}");
+    holds(&rt, line.as_str() == "caf\u{e9}", "a line", 0);
     let mut screen: Plain<KeyQueue> = Plain::new(rt.alloc(), 80);
     let history = MemHistory::new(rt.alloc());
     let mut helper = ();
@@ -22,7 +23,7 @@ fn give_what_is_typed(rt: HostRuntime) {
         &rt, "no fault",
     );
     type_in(&mut state, 'x').expect(&rt, "no fault");
-    assert_eq!(rt; state.line(), "x");
+    holds(&rt, state.line() == "x", "a character", 0);
 }
 
 const A: KeyEvent = KeyEvent(KeyCode::Char('a'), Modifiers::NONE);
@@ -50,11 +51,13 @@ const CASES: &[Case] = &[
 fn edit_by_each_key(rt: HostRuntime) {
     for (keys, wanted, shown) in CASES {
         let mut terminal = Vec::new(rt.alloc());
-        match edit_by_keys(rt.alloc(), keys, &mut terminal) {
-            Ok(line) => assert_eq!(rt; Some(line.as_str()), *wanted),
-            Err(ReadlineError::Eof) => assert!(rt; wanted.is_none()),
-            Err(_) => panic!(rt; "no line and no end"),
-        }
-        assert_eq!(rt; terminal.as_slice(), shown.as_bytes());
+        let outcome = edit_by_keys(rt.alloc(), keys, &mut terminal);
+        let is_line = match &outcome {
+            Ok(line) => Some(line.as_str()) == *wanted,
+            Err(ReadlineError::Eof) => wanted.is_none(),
+            Err(_) => false,
+        };
+        let is_so = is_line && terminal.as_slice() == shown.as_bytes();
+        holds(&rt, is_so, shown, keys.len());
     }
 }

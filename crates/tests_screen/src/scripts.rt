@@ -60,12 +60,17 @@ const COMPLAINTS: &[(&str, &str)] = &[
     ("type a\n", ""),
 ];
 
+/// Plays a script, whose streams do not fail. Its status.
+fn played(alloc: Global, script: &str, out: &mut Vec<u8>, errors: &mut Vec<u8>) -> u8 {
+    play(alloc, script.as_bytes(), out, errors)
+}
+
 #[test]
 fn says_why_a_line_is_bad(rt: HostRuntime) {
     for (script, said) in COMPLAINTS {
         let mut out = Vec::new(rt.alloc());
         let mut errors = Vec::new(rt.alloc());
-        let ended = play(rt.alloc(), script.as_bytes(), &mut out, &mut errors);
+        let ended = played(rt.alloc(), script, &mut out, &mut errors);
         let is_so = errors.as_slice() == said.as_bytes() && (ended == 4) != said.is_empty();
         holds(&rt, is_so, script, usize::from(ended));
     }
@@ -436,7 +441,7 @@ fn ends_by_a_fault_alone_where_memory_is_refused(rt: HostRuntime) {
     for (script, whole, status) in GOOD {
         let mut out = Vec::new(rt.alloc());
         let mut errors = Vec::new(rt.alloc());
-        let ended = play(rt.alloc(), script.as_bytes(), &mut out, &mut errors);
+        let ended = played(rt.alloc(), script, &mut out, &mut errors);
         let shown = str::from_utf8(&out).unwrap_or("no text");
         let is_good = ended < 4 && !shown.starts_with("bad") && shown != "no text";
         let is_right = if whole.is_empty() {

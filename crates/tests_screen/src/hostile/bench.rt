@@ -2,7 +2,8 @@
 
 use super::handler::Handler;
 use line_buffer::{
-    GraphemeClusterMode, KillRing, LineBuffer, Mode as Side, Movement, Position, RepeatCount, Unit,
+    GraphemeClusterMode, KillRing, Layout, LineBuffer, Mode as Side, Movement, Position,
+    RepeatCount, Unit,
 };
 use line_config::{Config, EditMode, ReadlineError, Result};
 use line_editor::binding::{Event, EventHandler};
@@ -120,31 +121,48 @@ pub(crate) enum To {
     Asks(bool, u64, Fault),
 }
 
-/// The map of what keys are bound to, each one or a sequence. No keys stand for every key.
-pub(crate) fn bindings(alloc: Global, bound: &[(&[KeyEvent], To)]) -> Result<Bindings> {
-    let mut bindings = Bindings::new(alloc);
-    for (keys, to) in bound {
-        let mut sequence = Vec::new(alloc);
-        sequence.extend_from_slice(keys)?;
-        let handler = match to {
-            To::Moves => EventHandler::Simple(Cmd::Move(Movement::BeginningOfLine)),
-            To::PutsAgain => EventHandler::Simple(Cmd::Replace(Movement::ForwardChar(0), None)),
-            To::Undoes(n) => EventHandler::Simple(Cmd::Undo(*n)),
-            To::Yanks(n) => EventHandler::Simple(Cmd::Yank(*n, Anchor::After)),
-            To::Asks(moves, failing, fault) => {
-                let countdown = Countdown::with(*failing, *fault);
-                let moves = *moves;
-                EventHandler::Conditional(Box::new(alloc, Handler { moves, countdown })?)
-            }
-        };
-        let event = if keys.is_empty() {
-            Event::Any
-        } else {
-            Event::KeySeq(sequence)
-        };
-        let _ = bindings.insert(event, handler)?;
+/// What calls a handler: the keys, each one or a sequence. No keys stand for every key.
+fn event(alloc: Global, keys: &[KeyEvent]) -> Result<Event> {
+    if keys.is_empty() {
+        return Ok(Event::Any);
     }
-    Ok(bindings)
+    let mut sequence = Vec::new(alloc);
+    sequence.extend_from_slice(keys)?;
+    Ok(Event::KeySeq(sequence))
+}
+
+/// What is done by the keys that are bound so.
+fn handler(alloc: Global, to: To) -> Result<EventHandler> {
+    Ok(match to {
+        To::Moves => EventHandler::Simple(Cmd::Move(Movement::BeginningOfLine)),
+        To::PutsAgain => EventHandler::Simple(Cmd::Replace(Movement::ForwardChar(0), None)),
+        To::Undoes(n) => EventHandler::Simple(Cmd::Undo(n)),
+        To::Yanks(n) => EventHandler::Simple(Cmd::Yank(n, Anchor::After)),
+        To::Asks(moves, failing, fault) => {
+            let countdown = Countdown::with(failing, fault);
+            EventHandler::Conditional(Box::new(alloc, Handler { moves, countdown })?)
+        }
+    })
+}
+
+/// Binds keys.
+fn bind(alloc: Global, bindings: &mut Bindings, keys: &[KeyEvent], to: To) -> Result<()> {
+    let event = event(alloc, keys)?;
+    let handler = handler(alloc, to)?;
+    let _ = bindings.insert(event, handler)?;
+    Ok(())
+}
+
+/// Binds keys, each one or a sequence, in a map of bindings.
+pub(crate) fn bind_all(
+    alloc: Global,
+    bindings: &mut Bindings,
+    bound: &[(&[KeyEvent], To)],
+) -> Result<()> {
+    for (keys, to) in bound {
+        bind(alloc, bindings, keys, *to)?;
+    }
+    Ok(())
 }
 
 /// What an editor stands on: its edit mode and whether it is in Vi's command mode, the screen's columns, the prompt,
@@ -203,11 +221,18 @@ pub(crate) enum Way {
     CutAt(usize),
 }
 
-/// What an editor does: it reads items, or executes commands, as many as there are, none of which submits.
+/// What is executed beside a command: two characters that are typed before it, or a yank behind it.
 #[derive(Clone, Copy)]
+pub(crate) enum Beside {
+    Nothing,
+    Typed,
+    Yanked,
+}
+
+/// What an editor does: it reads items, or executes a command that does not submit, with what is beside it.
 pub(crate) enum Work<'w> {
     Reads(Way, &'w [Item]),
-    Executes(&'w [Option<&'w Cmd>]),
+    Executes(Cmd, Beside),
 }
 
 /// What is left: the line and its cursor, the history index, what a yank would give, where the cursor is drawn, how
@@ -241,6 +266,36 @@ pub(crate) fn ended(outcome: &Result<()>) -> &'static str {
 /// An editor of which a call may fail.
 pub(crate) type Editor<'out, 'prompt, W> = State<'out, 'prompt, W, Guide, &'static str, Shelf>;
 
+/// What an editor has: the line with its cursor, the history index, and the kept layout.
+#[derive(Clone, Copy)]
+pub(crate) struct Seen<'s> {
+    pub(crate) line: &'s str,
+    pub(crate) pos: usize,
+    pub(crate) place: usize,
+    pub(crate) layout: &'s Layout,
+}
+
+/// What an editor has.
+pub(crate) fn look<'s, W: Renderer>(state: &'s Editor<'_, '_, W>) -> Seen<'s> {
+    Seen {
+        line: state.line(),
+        pos: state.pos(),
+        place: state.place(),
+        layout: state.layout(),
+    }
+}
+
+/// The line with its cursor, the history index, what a yank would give, and how it ended.
+type Told<'l> = (&'l str, usize, usize, Option<&'l str>, &'static str);
+
+impl Left {
+    /// What is the same whichever way items are read.
+    fn told(&self) -> Told<'_> {
+        let yanked = self.yanked.as_deref();
+        (self.line.as_str(), self.pos, self.place, yanked, self.end)
+    }
+}
+
 /// Reads items in one way and in others, and returns how that ended where nothing is amiss, each way leaves the same,
 /// and a run draws as often as the first.
 pub(crate) fn agree(
@@ -252,20 +307,11 @@ pub(crate) fn agree(
     others: &[Way],
 ) -> Option<&'static str> {
     let left = left_by(rt, alloc, desk, Work::Reads(first, items));
-    let yanked = left.yanked.as_deref();
-    let seen = (left.line.as_str(), left.pos, left.place, yanked, left.end);
     let mut is_well = left.amiss.is_empty();
     for way in others {
         let other = left_by(rt, alloc, desk, Work::Reads(*way, items));
-        let yanked = other.yanked.as_deref();
-        let is_same = (
-            other.line.as_str(),
-            other.pos,
-            other.place,
-            yanked,
-            other.end,
-        ) == seen;
         let draws_alike = !matches!(way, Way::Run) || other.redraws == left.redraws;
+        let is_same = other.told() == left.told();
         is_well = is_well && is_same && draws_alike && other.amiss.is_empty();
     }
     is_well.then_some(left.end)
@@ -302,7 +348,8 @@ fn sits(
     state: Editor<'_, '_, Plain<KeyQueue>>,
     work: Work<'_>,
 ) -> Left {
-    let bindings = bindings(alloc, desk.bound).expect(rt, "no fault");
+    let mut bindings = Bindings::new(alloc);
+    bind_all(alloc, &mut bindings, desk.bound).expect(rt, "no fault");
     let config = Config::builder(GraphemeClusterMode::Unicode)
         .edit_mode(desk.style)
         .build();
@@ -345,6 +392,16 @@ struct Bench<'b, 'out, 'prompt> {
 }
 
 impl Bench<'_, '_, '_> {
+    /// What the editor has.
+    fn seen(&self) -> Seen<'_> {
+        look(&self.state)
+    }
+
+    /// The screen, as the last drawing left it.
+    fn screen(&self) -> &Plain<KeyQueue> {
+        self.state.out()
+    }
+
     /// Does its work, and returns what is left. The Esc that leads to Vi's command mode is read first, where that is
     /// wanted, and the move that it stands for is not executed. Before a run nothing is drawn.
     fn does(&mut self, rt: &impl Abort, work: Work<'_>) -> Left {
@@ -359,7 +416,7 @@ impl Bench<'_, '_, '_> {
             let _ = read.expect(rt, "no fault");
             self.keys.mark();
         }
-        if !matches!(work, Work::Reads(Way::Run, _)) {
+        if !matches!(&work, Work::Reads(Way::Run, _)) {
             self.state.refresh_line().expect(rt, "no fault");
             if !self.is_drawn(rt) {
                 self.amiss = UNDRAWN;
@@ -367,7 +424,7 @@ impl Bench<'_, '_, '_> {
         }
         let end = match work {
             Work::Reads(way, items) => self.reads(rt, way, items),
-            Work::Executes(commands) => self.executes(rt, commands),
+            Work::Executes(command, beside) => self.executes(rt, command, beside),
         };
         self.leaves(rt, end)
     }
@@ -406,7 +463,7 @@ impl Bench<'_, '_, '_> {
         }
         self.keys.rewind();
         for _ in 0..70 {
-            let before = (self.state.out().redraws(), self.keys.len());
+            let before = (self.screen().redraws(), self.keys.len());
             let (input, keys, kills) = (&mut self.input, &mut self.keys, &mut self.kills);
             let end = match advance(&mut self.state, input, keys, kills, &self.config) {
                 Ok(Turned::Proceeds) => "proceeds",
@@ -430,56 +487,70 @@ impl Bench<'_, '_, '_> {
 
     /// What is amiss after a turn that began with so many redraws and so many items unread.
     fn sees(&self, before: (u64, usize)) -> &'static str {
+        let Seen {
+            line,
+            pos,
+            place,
+            ..
+        } = self.seen();
         let read = before.1.saturating_sub(self.keys.len()) as u64;
-        let drawn = self.state.out().redraws().saturating_sub(before.0);
+        let drawn = self.screen().redraws().saturating_sub(before.0);
         if drawn > read.saturating_add(3) {
             "the number of redraws"
-        } else if self.state.place() > self.desk.entries.len() {
+        } else if place > self.desk.entries.len() {
             "the place in the history"
-        } else if !self.state.line().is_char_boundary(self.state.pos()) {
+        } else if !line.is_char_boundary(pos) {
             "the cursor"
         } else {
             self.amiss
         }
     }
 
-    /// Executes commands that proceed.
-    fn executes(&mut self, rt: &impl Abort, commands: &[Option<&Cmd>]) -> &'static str {
-        for command in commands {
-            let Some(command) = *command else {
-                continue;
-            };
-            let command = command.clone(self.alloc).expect(rt, "no fault");
-            let (input, kills) = (&self.input, &mut self.kills);
-            let status = execute(command, &mut self.state, input, kills, &self.config);
-            if status.expect(rt, "no fault") == Status::Submit {
-                return "submits";
-            }
-            if !self.is_drawn(rt) {
-                self.amiss = UNDRAWN;
+    /// Executes a command. Whether it proceeds.
+    fn makes(&mut self, rt: &impl Abort, command: Cmd) -> bool {
+        let (input, kills) = (&self.input, &mut self.kills);
+        let status = execute(command, &mut self.state, input, kills, &self.config);
+        matches!(status.expect(rt, "no fault"), Status::Proceed)
+    }
+
+    /// The same, and looks at what is drawn then.
+    fn proceeds(&mut self, rt: &impl Abort, command: Cmd) -> bool {
+        let proceeds = self.makes(rt, command);
+        if proceeds && !self.is_drawn(rt) {
+            self.amiss = UNDRAWN;
+        }
+        proceeds
+    }
+
+    /// Executes commands that proceed: one with what is beside it.
+    fn executes(&mut self, rt: &impl Abort, command: Cmd, beside: Beside) -> &'static str {
+        let mut proceed = true;
+        if matches!(beside, Beside::Typed) {
+            for _ in 0..2 {
+                proceed = self.proceeds(rt, Cmd::SelfInsert(1, '-')) && proceed;
             }
         }
-        "proceeds"
+        proceed = self.proceeds(rt, command) && proceed;
+        if matches!(beside, Beside::Yanked) {
+            proceed = self.proceeds(rt, Cmd::Yank(1, Anchor::Before)) && proceed;
+        }
+        if proceed { "proceeds" } else { "submits" }
     }
 
     /// Whether the layout is a full redraw's with what stands after the line, and the screen shows the line after the prompt,
     /// with its cursor there.
     fn is_drawn(&self, rt: &impl Abort) -> bool {
-        let (text, pos, kept) = (self.state.line(), self.state.pos(), self.state.layout());
-        if !text.is_char_boundary(pos) {
+        let Seen {
+            line,
+            pos,
+            layout,
+            ..
+        } = self.seen();
+        if !line.is_char_boundary(pos) {
             return false;
         }
-        let (screen, prompt) = (self.state.out(), self.desk.prompt);
-        let (prompt_end, hint) = (screen.calculate_position(prompt, ORIGIN), screen.hint());
-        let shows_so = screen.prompt() == prompt && screen.text() == text;
-        let is_placed = screen.cursor() == kept.cursor && kept.prompt_size == prompt_end;
-        let (cursor, end, has_info) = {
-            let line = LineBuffer::init(self.alloc, text, pos).expect(rt, "no fault");
-            let layout = screen.compute_layout(prompt_end, true, &line, hint);
-            (layout.cursor, layout.end, layout.has_info)
-        };
-        let is_laid = kept.cursor == cursor && kept.end == end && kept.has_info == has_info;
-        shows_so && is_placed && is_laid
+        let line = LineBuffer::init(self.alloc, line, pos).expect(rt, "no fault");
+        is_drawn_so(self.screen(), self.desk.prompt, &line, layout)
     }
 
     /// What is left after this end. Then all is taken back. What proceeded was looked at last.
@@ -488,18 +559,17 @@ impl Bench<'_, '_, '_> {
             self.amiss = "a failure of the reader";
         }
         let is_drawn = end == "proceeds" || self.is_drawn(rt);
-        let (pos, place, redraws) = (
-            self.state.pos(),
-            self.state.place(),
-            self.state.out().redraws(),
-        );
-        let cursor = self.state.layout().cursor;
-        let line = String::from_str(self.alloc, self.state.line()).expect(rt, "no fault");
-        let (input, kills) = (&self.input, &mut self.kills);
-        let undo = Cmd::Undo(65535);
-        let undone = execute(undo, &mut self.state, input, kills, &self.config);
-        let _ = undone.expect(rt, "no fault");
-        if self.state.line() != self.desk.start.0 {
+        let redraws = self.screen().redraws();
+        let Seen {
+            line,
+            pos,
+            place,
+            layout,
+        } = self.seen();
+        let at = (layout.cursor.row, layout.cursor.col);
+        let line = String::from_str(self.alloc, line).expect(rt, "no fault");
+        let _ = self.makes(rt, Cmd::Undo(65535));
+        if self.seen().line != self.desk.start.0 {
             self.amiss = "what was taken back";
         }
         let yanked = match self.kills.yank() {
@@ -511,7 +581,7 @@ impl Bench<'_, '_, '_> {
             pos,
             place,
             yanked,
-            at: (cursor.row, cursor.col),
+            at,
             redraws,
             end,
             given: self.given,
@@ -519,4 +589,14 @@ impl Bench<'_, '_, '_> {
             amiss: self.amiss,
         }
     }
+}
+
+/// Whether a screen shows a line after the prompt, and the layout that is kept of it is a full redraw's.
+fn is_drawn_so(screen: &Plain<KeyQueue>, prompt: &str, line: &LineBuffer, kept: &Layout) -> bool {
+    let prompt_end = screen.calculate_position(prompt, ORIGIN);
+    let layout = screen.compute_layout(prompt_end, true, line, screen.hint());
+    let shows_so = screen.prompt() == prompt && screen.text() == line.as_str();
+    let is_placed = screen.cursor() == kept.cursor && kept.prompt_size == prompt_end;
+    let is_laid = kept.cursor == layout.cursor && kept.end == layout.end;
+    shows_so && is_placed && is_laid && kept.has_info == layout.has_info
 }

@@ -2,8 +2,9 @@
 //! own, with these: on an empty line and at the start, in the middle and at the end of two texts, in both edit modes
 //! and in Vi's command mode.
 
-use super::bench::{Desk, PLAIN, Work, left_by};
+use super::bench::{Beside, Desk, PLAIN, Work, left_by};
 use super::movements::{Cell, OF_LONG, OF_TWO, Row};
+use crate::holds;
 use line_buffer::Movement::{self, *};
 use line_buffer::RepeatCount;
 use line_config::EditMode;
@@ -11,10 +12,10 @@ use line_keys::cmd::{Anchor, Cmd};
 use std::alloc::Global;
 use std::process::Abort;
 
-/// Where two words change places: where the text begins that differs, how it goes on, and the cursor then.
-type Swap = (usize, &'static str, usize);
+/// Where two words change places by a count: where the text begins that differs, how it goes on, and the cursor then.
+type Swap = (RepeatCount, (usize, &'static str, usize));
 
-/// A text, a cursor in it, and the words that change places by each count.
+/// A text, a cursor in it, and each count with the words that change places by it.
 type Place = (&'static str, usize, &'static [Swap]);
 
 /// A text, a cursor in it, what was killed before, a movement with its cell, and a count with the words that change
@@ -26,7 +27,6 @@ struct Case<'m> {
     killed: &'static str,
     movement: &'m Movement,
     cell: Cell,
-    n: RepeatCount,
     swap: Swap,
 }
 
@@ -74,25 +74,31 @@ const WITH_COUNTS: &[Op] = &[
     Op::Transposes,
 ];
 
-const COUNTS: [RepeatCount; 3] = [0, 1, 65535];
-
 /// What was killed before a command with a count.
 const KILLED: &str = "é";
 
+/// The movement of a case.
+fn movement(rt: &impl Abort, case: Case<'_>) -> Movement {
+    case.movement.clone().expect(rt, "no fault")
+}
+
+/// A text of its own.
+fn owned(rt: &impl Abort, alloc: Global, text: &str) -> String {
+    String::from_str(alloc, text).expect(rt, "no fault")
+}
+
 /// The command of an operation.
 fn command(rt: &impl Abort, alloc: Global, case: Case<'_>, op: Op) -> Cmd {
-    let (movement, n) = (case.movement.clone().expect(rt, "no fault"), case.n);
-    let text = if matches!(op, Op::Puts) { "e" } else { "x" };
-    let text = String::from_str(alloc, text).expect(rt, "no fault");
+    let n = case.swap.0;
     match op {
-        Op::Moves => Cmd::Move(movement),
-        Op::Kills => Cmd::Kill(movement),
-        Op::Replaces => Cmd::Replace(movement, Some(text)),
-        Op::Copies => Cmd::ViYankTo(movement),
-        Op::Indents => Cmd::Indent(movement),
-        Op::Dedents => Cmd::Dedent(movement),
+        Op::Moves => Cmd::Move(movement(rt, case)),
+        Op::Kills => Cmd::Kill(movement(rt, case)),
+        Op::Replaces => Cmd::Replace(movement(rt, case), Some(owned(rt, alloc, "x"))),
+        Op::Copies => Cmd::ViYankTo(movement(rt, case)),
+        Op::Indents => Cmd::Indent(movement(rt, case)),
+        Op::Dedents => Cmd::Dedent(movement(rt, case)),
         Op::Types => Cmd::SelfInsert(n, '-'),
-        Op::Puts => Cmd::Insert(n, text),
+        Op::Puts => Cmd::Insert(n, owned(rt, alloc, "e")),
         Op::PutsOver => Cmd::ReplaceChar(n, 'x'),
         Op::Yanks => Cmd::Yank(n, Anchor::Before),
         Op::YanksBehind => Cmd::Yank(n, Anchor::After),
@@ -149,7 +155,10 @@ fn wanted(case: Case<'_>, op: Op, takes_commands: bool) -> Splice {
             (start, start, "  ", cursor.saturating_add(2))
         }
         (Op::Dedents, _) => (0, 0, "", cursor),
-        (Op::Transposes, _) => (case.swap.0, text.len(), case.swap.1, case.swap.2),
+        (Op::Transposes, _) => {
+            let (from, by, pos) = case.swap.1;
+            (from, text.len(), by, pos)
+        }
         _ => return counted(case, op, takes_commands),
     };
     Splice {
@@ -163,7 +172,7 @@ fn wanted(case: Case<'_>, op: Op, takes_commands: bool) -> Splice {
 
 /// The same of one with a count.
 fn counted(case: Case<'_>, op: Op, takes_commands: bool) -> Splice {
-    let (text, cursor, n) = (case.text, case.cursor, usize::from(case.n));
+    let (text, cursor, n) = (case.text, case.cursor, usize::from(case.swap.0));
     let rest = text.get(cursor..).unwrap_or("");
     let behind_next = match rest.chars().next() {
         Some(c) => cursor.saturating_add(c.len_utf8()),
@@ -220,10 +229,10 @@ fn behind(takes_commands: bool, text: &str, end: usize) -> usize {
     }
 }
 
-/// Executes commands: they leave what is wanted, and nothing is amiss. Copies are alike where each is as the one
-/// before.
-fn leaves(rt: &impl Abort, alloc: Global, desk: &Desk, commands: &[Option<&Cmd>], wanted: Splice) {
-    let left = left_by(rt, alloc, desk, Work::Executes(commands));
+/// Executes a command with what is beside it: that leaves what is wanted, and nothing is amiss. Copies are alike where
+/// each is as the one before.
+fn leaves(rt: &impl Abort, alloc: Global, desk: &Desk, work: Work<'_>, wanted: Splice) {
+    let left = left_by(rt, alloc, desk, work);
     let (text, by) = (desk.start.0, wanted.by);
     let before = text.get(..wanted.from).unwrap_or("?");
     let behind = text.get(wanted.to..).unwrap_or("?");
@@ -234,26 +243,22 @@ fn leaves(rt: &impl Abort, alloc: Global, desk: &Desk, commands: &[Option<&Cmd>]
         || (copies.starts_with(by) && copies.get(by.len()..) == copies.get(..first));
     let are_all = copies.len() == by.len().saturating_mul(wanted.count) && are_alike;
     let is_well = (left.pos, left.end, left.amiss) == (wanted.pos, "proceeds", "");
-    assert!(rt;
-        are_all && is_well,
-        "{commands:?} {:?} {:?}",
-        desk.start,
-        desk.style
-    );
+    holds(rt, are_all && is_well, text, desk.start.1);
 }
 
 /// In each of these operations and each mode. What makes a long line is executed in command mode alone, where the
 /// cursor steps back.
 fn in_each(rt: &impl Abort, alloc: Global, case: Case<'_>, ops: &[Op]) {
-    let (dash, yank) = (Cmd::SelfInsert(1, '-'), Cmd::Yank(1, Anchor::Before));
     for op in ops {
-        let command = command(rt, alloc, case, *op);
-        let typed = matches!(op, Op::Undoes).then_some(&dash);
-        let yanked = matches!(op, Op::Kills | Op::Copies).then_some(&yank);
+        let beside = match op {
+            Op::Undoes => Beside::Typed,
+            Op::Kills | Op::Copies => Beside::Yanked,
+            _ => Beside::Nothing,
+        };
         let makes_long = matches!(op, Op::Types | Op::Puts | Op::Yanks | Op::YanksBehind);
         for (style, takes_commands) in MODES {
             let takes_commands = *takes_commands;
-            if makes_long && case.n == 65535 && !takes_commands {
+            if makes_long && case.swap.0 == 65535 && !takes_commands {
                 continue;
             }
             let desk = Desk {
@@ -263,14 +268,8 @@ fn in_each(rt: &impl Abort, alloc: Global, case: Case<'_>, ops: &[Op]) {
                 killed: case.killed,
                 ..PLAIN
             };
-            let commands = &[typed, typed, Some(&command), yanked];
-            leaves(
-                rt,
-                alloc,
-                &desk,
-                commands,
-                wanted(case, *op, takes_commands),
-            );
+            let work = Work::Executes(command(rt, alloc, case, *op), beside);
+            leaves(rt, alloc, &desk, work, wanted(case, *op, takes_commands));
         }
     }
 }
@@ -282,25 +281,22 @@ const MODES: &[(EditMode, bool)] = &[
     (EditMode::Vi, true),
 ];
 
-/// Each movement, from each of these cursors. On an empty line it leads nowhere.
-fn by_movements(
-    rt: &impl Abort,
-    alloc: Global,
-    text: &'static str,
-    cursors: &[usize],
-    rows: &[Row],
-) {
+/// A text, a cursor in it, and which of a movement's cells is that of this cursor. On an empty line there is none, since
+/// each movement leads nowhere.
+type Spot = (&'static str, usize, usize);
+
+/// Each movement, from each of these cursors.
+fn by_movements(rt: &impl Abort, alloc: Global, spots: &[Spot], rows: &[Row]) {
     for (movement, first, second, third) in rows {
-        let cells = [*first, *second, *third];
-        for (cursor, cell) in cursors.iter().zip(cells.iter()) {
+        let cells = &[*first, *second, *third];
+        for (text, cursor, index) in spots {
             let case = Case {
                 text,
                 cursor: *cursor,
                 killed: "",
                 movement,
-                cell: if text.is_empty() { (0, 0, 0) } else { *cell },
-                n: 0,
-                swap: (0, "", 0),
+                cell: *cells.get(*index).unwrap_or(&(0, 0, 0)),
+                swap: (0, (0, "", 0)),
             };
             in_each(rt, alloc, case, WITH_MOVEMENTS);
         }
@@ -309,16 +305,14 @@ fn by_movements(
 
 /// Each command with a count, with each count, at each of these places.
 fn by_counts(rt: &impl Abort, alloc: Global, places: &[Place]) {
-    let movement = &WholeLine;
     for (text, cursor, swaps) in places {
-        for (n, swap) in COUNTS.iter().zip(swaps.iter()) {
+        for swap in *swaps {
             let case = Case {
                 text,
                 cursor: *cursor,
                 killed: KILLED,
-                movement,
+                movement: &WholeLine,
                 cell: (0, 0, 0),
-                n: *n,
                 swap: *swap,
             };
             in_each(rt, alloc, case, WITH_COUNTS);
@@ -339,38 +333,75 @@ const SWAPPED: &str =
      ab, ab, ab, ab, ab, ab, ab, ab, ab, ab, ab, ab, ab, ab, ab, ab, ab, ab, ab, ab, ab, ab, ab, ab, ab, ab";
 
 const STARTS: &[Place] = &[
-    ("é日\n", 0, &[(6, "", 5), (6, "", 5), (6, "", 5)]),
-    (LONG, 0, &[(300, "", 2), (300, "", 2), (0, SWAPPED, 300)]),
+    (
+        "é日\n",
+        0,
+        &[(0, (6, "", 5)), (1, (6, "", 5)), (65535, (6, "", 5))],
+    ),
+    (
+        LONG,
+        0,
+        &[
+            (0, (300, "", 2)),
+            (1, (300, "", 2)),
+            (65535, (0, SWAPPED, 300)),
+        ],
+    ),
 ];
 
 const MIDDLES: &[Place] = &[
-    ("é日\n", 2, &[(6, "", 5), (6, "", 5), (6, "", 5)]),
+    (
+        "é日\n",
+        2,
+        &[(0, (6, "", 5)), (1, (6, "", 5)), (65535, (6, "", 5))],
+    ),
     (
         LONG,
         150,
-        &[(300, "", 150), (300, "", 154), (0, SWAPPED, 300)],
+        &[
+            (0, (300, "", 150)),
+            (1, (300, "", 154)),
+            (65535, (0, SWAPPED, 300)),
+        ],
     ),
 ];
 
 const ENDS: &[Place] = &[
-    ("", 0, &[(0, "", 0), (0, "", 0), (0, "", 0)]),
-    ("é日\n", 6, &[(6, "", 5), (6, "", 5), (6, "", 5)]),
+    (
+        "",
+        0,
+        &[(0, (0, "", 0)), (1, (0, "", 0)), (65535, (0, "", 0))],
+    ),
+    (
+        "é日\n",
+        6,
+        &[(0, (6, "", 5)), (1, (6, "", 5)), (65535, (6, "", 5))],
+    ),
     (
         LONG,
         300,
-        &[(300, "", 298), (292, "ab, , ab", 300), (0, SWAPPED, 300)],
+        &[
+            (0, (300, "", 298)),
+            (1, (292, "ab, , ab", 300)),
+            (65535, (0, SWAPPED, 300)),
+        ],
     ),
 ];
 
+/// At the start, in the middle and at the end of a text of two lines, and on an empty line.
+const IN_SHORT_LINES: &[Spot] = &[("é日\n", 0, 0), ("é日\n", 2, 1), ("é日\n", 6, 2), ("", 0, 3)];
+
+/// The same places of a long line.
+const IN_A_LONG_LINE: &[Spot] = &[(LONG, 0, 0), (LONG, 150, 1), (LONG, 300, 2)];
+
 #[test]
 fn move_in_short_lines(rt: HostRuntime) {
-    by_movements(&rt, rt.alloc(), "é日\n", &[0, 2, 6], OF_TWO);
-    by_movements(&rt, rt.alloc(), "", &[0], OF_TWO);
+    by_movements(&rt, rt.alloc(), IN_SHORT_LINES, OF_TWO);
 }
 
 #[test]
 fn move_in_a_long_line(rt: HostRuntime) {
-    by_movements(&rt, rt.alloc(), LONG, &[0, 150, 300], OF_LONG);
+    by_movements(&rt, rt.alloc(), IN_A_LONG_LINE, OF_LONG);
 }
 
 #[test]

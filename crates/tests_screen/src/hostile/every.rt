@@ -2,6 +2,7 @@
 //! key.
 
 use super::bench::{CODES, Desk, Item, PLAIN, SETS, Way, agree, items};
+use crate::holds;
 use line_config::EditMode::{self, Emacs, Vi};
 use line_keys::keys::{KeyCode as K, KeyEvent, Modifiers as M};
 use std::alloc::Global;
@@ -66,39 +67,42 @@ fn end_of(style: EditMode, key: KeyEvent) -> &'static str {
 }
 
 /// Types each key after what is typed before it, all at once and one by one: both leave the same, by the end that is
-/// wanted.
+/// wanted. A failure has the key's number: eight sets of modifiers for each code.
 fn end_as_they_must(rt: &impl Abort, alloc: Global, (style, before, alone): Row) {
     let desk = Desk { style, ..PLAIN };
     let mut typed = items(alloc, before).expect(rt, "no fault");
+    let mut number = 0_usize;
     for code in CODES {
         for mods in SETS {
             let key = KeyEvent(*code, *mods);
             typed.push(Item::Key(key)).expect(rt, "no fault");
             let end = agree(rt, alloc, &desk, &typed, Way::Run, &[Way::OneByOne]);
             let wanted = if alone { end_of(style, key) } else { "eof" };
-            assert!(rt; end == Some(wanted), "{style:?} {before:?}, then {key:?}");
+            holds(rt, end == Some(wanted), before, number);
             let _ = typed.pop();
+            number = number.saturating_add(1);
         }
+    }
+}
+
+/// The keys after what is typed before them in each of these rows.
+fn end_in_each(rt: &impl Abort, alloc: Global, rows: &[Row]) {
+    for row in rows {
+        end_as_they_must(rt, alloc, *row);
     }
 }
 
 #[test]
 fn behind_keys_of_emacs(rt: HostRuntime) {
-    for row in IN_EMACS {
-        end_as_they_must(&rt, rt.alloc(), *row);
-    }
+    end_in_each(&rt, rt.alloc(), IN_EMACS);
 }
 
 #[test]
 fn behind_keys_of_vi(rt: HostRuntime) {
-    for row in IN_VI {
-        end_as_they_must(&rt, rt.alloc(), *row);
-    }
+    end_in_each(&rt, rt.alloc(), IN_VI);
 }
 
 #[test]
 fn behind_more_keys_of_vi(rt: HostRuntime) {
-    for row in OF_MORE_KEYS {
-        end_as_they_must(&rt, rt.alloc(), *row);
-    }
+    end_in_each(&rt, rt.alloc(), OF_MORE_KEYS);
 }

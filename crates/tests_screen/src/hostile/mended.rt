@@ -1,19 +1,19 @@
 //! Each call of those who are asked fails once, and each run answers the error of the one that failed. Once nothing fails,
 //! what is left is drawn as an editor that is made of it draws it.
 
-use super::bench::{self, Desk, Item, PLAIN, To, VI, bindings, ended, items, shelf};
+use super::bench::{self, Desk, Item, PLAIN, Seen, To, VI, bind_all, ended, items, look, shelf};
 use crate::holds;
 use line_buffer::{GraphemeClusterMode, KillRing, Unit};
 use line_config::{Config, ReadlineError, Result};
 use line_editor::run::run;
-use line_editor::{InputState, State};
+use line_editor::{Bindings, InputState, State};
 use line_keys::keys::{KeyCode as K, KeyEvent, Modifiers as M};
 use line_keys::refresher::Refresher;
 use line_parts::{Context, History};
 use std::alloc::Global;
 use std::io::ErrorKind;
 use std::process::Abort;
-use tests_parties::fault::Fault;
+use tests_parties::fault::{Fault, USUAL};
 use tests_parties::guide::Guide;
 use tests_stand_ins::recorder::{self, Recorder};
 use tests_stand_ins::typist::{self, Typist};
@@ -170,27 +170,31 @@ struct Take<'s> {
 }
 
 impl Take<'_> {
-    /// Which of its calls fails.
-    fn failing(&self, party: usize) -> u64 {
-        if self.party == party { self.call } else { 0 }
+    /// Which of the calls of one who is asked fails, and by which fault.
+    fn failing(&self, party: usize) -> (u64, Fault) {
+        let call = if self.party == party { self.call } else { 0 };
+        (call, *FAULTS.get(party).unwrap_or(&USUAL))
     }
 }
 
-/// Plays a scene, and looks at what is left.
-fn plays(rt: &impl Abort, alloc: Global, take: Take<'_>) -> Result<()> {
+/// Plays a scene, and returns whether what is left is right.
+fn plays(alloc: Global, take: Take<'_>) -> Result<bool> {
     let scene = take.scene;
     let mut history = shelf(alloc, scene.desk.entries)?;
-    history.fail_by(take.failing(OF_HISTORY), FAULTS[OF_HISTORY]);
+    let (call, fault) = take.failing(OF_HISTORY);
+    history.fail_by(call, fault);
     let mut screen = Recorder::new(alloc, 80, false, 0);
-    screen.cut_at(take.failing(OF_SCREEN));
+    screen.cut_at(take.failing(OF_SCREEN).0);
     let mut helper = Guide::new(scene.desk.hints, false);
-    helper.fail_by(take.failing(OF_HELPER), FAULTS[OF_HELPER]);
+    let (call, fault) = take.failing(OF_HELPER);
+    helper.fail_by(call, fault);
     let context = Context::new(&history);
-    let mut state = State::new(alloc, &mut screen, &"> ", Some(&mut helper), context)?;
-    let outcome = runs(alloc, take, &mut state)?;
-    let is_right = is_right(alloc, take, &outcome, &mut state)?;
-    holds(rt, is_right, scene.typed, take.call as usize);
-    Ok(())
+    // What is alive is dropped here once, and not in each arm.
+    let is_right = match State::new(alloc, &mut screen, &"> ", Some(&mut helper), context) {
+        Ok(state) => is_right(alloc, take, state),
+        Err(error) => Err(error),
+    };
+    is_right
 }
 
 /// The keys of the sequence that is bound.
@@ -199,88 +203,154 @@ const BEHIND_X: &[KeyEvent] = &[
     KeyEvent(K::Char('a'), M::NONE),
 ];
 
-/// Runs on what is typed. How that ended.
-fn runs(alloc: Global, take: Take<'_>, state: &mut Editor<'_, '_>) -> Result<Result<()>> {
-    let scene = take.scene;
+/// Binds the handlers of the sequence and of each key.
+fn bind_handlers(alloc: Global, take: Take<'_>, bindings: &mut Bindings) -> Result<()> {
+    let (call, fault) = take.failing(OF_SEQUENCE);
+    let sequence = To::Asks(true, call, fault);
+    let (call, fault) = take.failing(OF_EACH_KEY);
+    let each_key = To::Asks(false, call, fault);
+    bind_all(alloc, bindings, &[(BEHIND_X, sequence), (&[], each_key)])
+}
+
+/// A reader of what is typed.
+fn reader(alloc: Global, take: Take<'_>) -> Result<Typist> {
     let mut typist = Typist::new(alloc);
-    for item in items(alloc, scene.typed)?.as_slice() {
+    for item in items(alloc, take.scene.typed)?.as_slice() {
         if let Item::Key(key) = item {
             typist.press(&[*key])?;
         }
     }
-    typist.cut_at(take.failing(OF_READER));
-    let sequence = To::Asks(true, take.failing(OF_SEQUENCE), FAULTS[OF_SEQUENCE]);
-    let each_key = To::Asks(false, take.failing(OF_EACH_KEY), FAULTS[OF_EACH_KEY]);
-    let bindings = bindings(alloc, &[(BEHIND_X, sequence), (&[], each_key)])?;
+    typist.cut_at(take.failing(OF_READER).0);
+    Ok(typist)
+}
+
+/// What is to be looked at after a run: all that the scene has, with how the run ended; or whether the line is mended. Or
+/// the run ended as it was not to end.
+enum Then {
+    IsLeft(&'static str),
+    IsMended,
+    IsWrong,
+}
+
+/// What is to be looked at after this outcome, which is that of a fault where one who is asked failed.
+fn judged(alloc: Global, take: Take<'_>, outcome: &Result<()>) -> Result<Then> {
+    Ok(match (take.ending, outcome) {
+        (Ending::Fails, _) if take.failing(take.party).1.is_answer(alloc, outcome)? =>
+            Then::IsMended,
+        (Ending::Fails, _) => Then::IsWrong,
+        (Ending::WellOrByMemory, Err(ReadlineError::Memory)) => Then::IsMended,
+        _ => Then::IsLeft(ended(outcome)),
+    })
+}
+
+/// Runs on what is typed.
+fn runs(alloc: Global, take: Take<'_>, state: &mut Editor<'_, '_>) -> Result<Then> {
+    let mut typist = reader(alloc, take)?;
+    let mut bindings = Bindings::new(alloc);
+    let then = match bind_handlers(alloc, take, &mut bindings) {
+        Ok(()) => runs_by(alloc, take, state, &bindings, &mut typist),
+        Err(error) => Err(error),
+    };
+    then
+}
+
+/// Runs by these bindings on what a reader has.
+fn runs_by(
+    alloc: Global,
+    take: Take<'_>,
+    state: &mut Editor<'_, '_>,
+    bindings: &Bindings,
+    typist: &mut Typist,
+) -> Result<Then> {
     let config = Config::builder(GraphemeClusterMode::Unicode)
-        .edit_mode(scene.desk.style)
+        .edit_mode(take.scene.desk.style)
         .build();
-    let mut input = InputState::new(&config, &bindings);
+    let mut input = InputState::new(&config, bindings);
     let mut kills = KillRing::new(alloc, 60);
-    Ok(run(state, &mut input, &mut typist, &mut kills, &config))
+    let outcome = run(state, &mut input, typist, &mut kills, &config);
+    judged(alloc, take, &outcome)
 }
 
 /// Whether the run ended as it is to end: by the fault of the one that failed, or as it does where nothing fails, and
 /// left what the scene has.
-fn is_right(
-    alloc: Global,
-    take: Take<'_>,
-    outcome: &Result<()>,
-    state: &mut Editor<'_, '_>,
-) -> Result<bool> {
-    let scene = take.scene;
-    match (take.ending, outcome) {
-        (Ending::Fails, _) => {
-            let Some(fault) = FAULTS.get(take.party) else {
-                return Ok(false);
-            };
-            Ok(fault.is_answer(alloc, outcome)? && is_mended(alloc, scene, state)?)
-        }
-        (Ending::WellOrByMemory, Err(ReadlineError::Memory)) => is_mended(alloc, scene, state),
-        _ => {
-            let at = state.layout().cursor;
-            let is_drawn = (at.row, at.col, state.out().redraws())
-                == (scene.at.0, scene.at.1, scene.redraws);
-            let line = state.line().split_at_checked(state.pos());
-            let is_line = line.is_some() && line == scene.left.split_once('|');
-            let ends_so = (state.place(), ended(outcome)) == (scene.place, scene.end);
-            Ok(is_drawn && is_line && ends_so)
-        }
-    }
+fn is_right(alloc: Global, take: Take<'_>, mut state: Editor<'_, '_>) -> Result<bool> {
+    let is_right = match runs(alloc, take, &mut state) {
+        Ok(Then::IsLeft(end)) => Ok(is_left(take.scene, &state, end)),
+        Ok(Then::IsMended) => is_mended(alloc, take.scene, &mut state),
+        Ok(Then::IsWrong) => Ok(false),
+        Err(error) => Err(error),
+    };
+    is_right
+}
+
+/// Whether a run that ended so left what the scene has.
+fn is_left(scene: &Scene, state: &Editor<'_, '_>, end: &str) -> bool {
+    let Seen {
+        line,
+        pos,
+        place,
+        layout,
+    } = look(state);
+    let at = (layout.cursor.row, layout.cursor.col);
+    let is_drawn = (at, state.out().redraws()) == (scene.at, scene.redraws);
+    let line = line.split_at_checked(pos);
+    let is_line = line.is_some() && line == scene.left.split_once('|');
+    is_drawn && is_line && (place, end) == (scene.place, scene.end)
 }
 
 /// Whether the place is within the history, and the line is drawn again as an editor that is made of it draws it.
 fn is_mended(alloc: Global, scene: &Scene, state: &mut Editor<'_, '_>) -> Result<bool> {
     state.refresh_line()?;
-    let (text, pos, place) = (state.line(), state.pos(), state.place());
-    if place > scene.desk.entries.len() || !text.is_char_boundary(pos) {
+    let Seen {
+        line,
+        pos,
+        place,
+        ..
+    } = look(state);
+    let history = state.history();
+    if place > scene.desk.entries.len() || place > history.len() || !line.is_char_boundary(pos) {
         return Ok(false);
     }
     let mut screen = Recorder::new(alloc, 80, false, 0);
     let mut helper = Guide::new(scene.desk.hints, false);
-    let mut context = Context::new(state.history());
+    let mut context = Context::new(history);
     context.set_history_index(place);
     let advisor = Some(&mut helper);
-    let mut anew = State::with_line(alloc, &mut screen, &"> ", advisor, context, text, pos)?;
+    let is_mended = match State::with_line(alloc, &mut screen, &"> ", advisor, context, line, pos) {
+        Ok(anew) => draws_alike(anew, state),
+        Err(error) => Err(error),
+    };
+    is_mended
+}
+
+/// Whether an editor that has drawn nothing draws what another one shows.
+fn draws_alike(mut anew: Editor<'_, '_>, state: &Editor<'_, '_>) -> Result<bool> {
     anew.refresh_line()?;
     Ok(shows_alike(&anew, state))
 }
 
-/// Whether two editors that have drawn their lines show the same, on their screens too, which were handed the same
-/// last.
+/// Whether two editors that have drawn their lines show the same, on their screens too.
 fn shows_alike(one: &Editor<'_, '_>, other: &Editor<'_, '_>) -> bool {
-    let (kept, second) = (one.layout(), other.layout());
-    let is_placed = (kept.prompt_size, kept.cursor, kept.end)
-        == (second.prompt_size, second.cursor, second.end)
-        && (kept.has_info, kept.default_prompt) == (second.has_info, second.default_prompt)
-        && kept.grapheme_cluster_mode == second.grapheme_cluster_mode;
-    let is_line = (one.line(), one.pos(), one.place())
-        == (other.line(), other.pos(), other.place());
     let is_hinted = (one.has_hint(), one.hint_text()) == (other.has_hint(), other.hint_text());
-    let is_shown = one.out().shows() == other.out().shows();
-    let handed = handed_last(one.out().log());
-    let is_handed = handed.is_some() && handed == handed_last(other.out().log());
-    is_placed && is_line && is_hinted && is_shown && is_handed
+    is_hinted && is_alike(look(one), look(other)) && is_drawn_alike(one.out(), other.out())
+}
+
+/// Whether two editors have the same line, place and layout.
+fn is_alike(one: Seen<'_>, other: Seen<'_>) -> bool {
+    let (kept, second) = (one.layout, other.layout);
+    let is_placed = (kept.prompt_size, kept.cursor, kept.end)
+        == (second.prompt_size, second.cursor, second.end);
+    let is_told = (kept.has_info, kept.default_prompt) == (second.has_info, second.default_prompt)
+        && kept.grapheme_cluster_mode == second.grapheme_cluster_mode;
+    let is_line = (one.line, one.pos, one.place) == (other.line, other.pos, other.place);
+    is_placed && is_told && is_line
+}
+
+/// Whether two screens show the same, and were handed the same last.
+fn is_drawn_alike(one: &Recorder, other: &Recorder) -> bool {
+    let handed = handed_last(one.log());
+    let is_handed = handed.is_some() && handed == handed_last(other.log());
+    is_handed && one.shows() == other.shows()
 }
 
 /// What a screen was handed last, before and after the old layout. A line of its log can miss its end, where memory ran
@@ -300,42 +370,57 @@ const SCENES: &[Scene] = &[
     TO_THE_MATCH,
 ];
 
-/// Fails each call of those who are asked in turn, and the one after the last of each, which is never made.
-#[test]
-fn after_each_fault(rt: HostRuntime) {
-    for scene in SCENES {
-        for (party, calls) in scene.calls.iter().enumerate() {
-            for call in 1..=calls.saturating_add(1) {
-                let ending = if call > *calls {
-                    Ending::Well
-                } else {
-                    Ending::Fails
-                };
-                let take = Take {
-                    scene,
-                    party,
-                    call,
-                    ending,
-                };
-                plays(&rt, rt.alloc(), take).expect(&rt, "no fault");
-            }
+/// Fails each call of those who are asked in a scene in turn, and the one after the last of each, which is never made.
+fn fails_each(rt: &impl Abort, alloc: Global, scene: &Scene) {
+    for (party, calls) in scene.calls.iter().enumerate() {
+        for call in 1..calls.saturating_add(2) {
+            let ending = if call > *calls {
+                Ending::Well
+            } else {
+                Ending::Fails
+            };
+            let take = Take {
+                scene,
+                party,
+                call,
+                ending,
+            };
+            let is_right = plays(alloc, take).expect(rt, "no fault");
+            holds(rt, is_right, scene.typed, call as usize);
         }
     }
 }
 
-/// Nothing fails: each scene ends well, and where an allocation is refused, by `Memory` alone.
-#[test]
-fn scenes_or_memory(rt: HostRuntime) {
+/// Nothing fails in a scene: it ends well, and where an allocation is refused, by `Memory` alone.
+fn fails_none(rt: &impl Abort, alloc: Global, scene: &Scene) {
+    let take = Take {
+        scene,
+        party: OF_SCREEN,
+        call: 0,
+        ending: Ending::WellOrByMemory,
+    };
+    let outcome = plays(alloc, take);
+    let is_so = matches!(&outcome, Ok(true) | Err(ReadlineError::Memory));
+    holds(rt, is_so, scene.typed, 0);
+}
+
+/// Plays each scene, where one of those who are asked fails or none does.
+fn play_each(rt: &impl Abort, alloc: Global, fails: bool) {
     for scene in SCENES {
-        let take = Take {
-            scene,
-            party: OF_SCREEN,
-            call: 0,
-            ending: Ending::WellOrByMemory,
-        };
-        match plays(&rt, rt.alloc(), take) {
-            Ok(()) | Err(ReadlineError::Memory) => {}
-            Err(error) => panic!(&rt; "{error}"),
+        if fails {
+            fails_each(rt, alloc, scene);
+        } else {
+            fails_none(rt, alloc, scene);
         }
     }
+}
+
+#[test]
+fn after_each_fault(rt: HostRuntime) {
+    play_each(&rt, rt.alloc(), true);
+}
+
+#[test]
+fn scenes_or_memory(rt: HostRuntime) {
+    play_each(&rt, rt.alloc(), false);
 }

@@ -223,30 +223,29 @@ fn plays(rt: &impl Abort, alloc: Global, style: EditMode, seed: usize) {
     holds(rt, end.is_some(), "the list", seed);
 }
 
+/// The lists of the numbers from the first to before the last.
+fn play_all(rt: &impl Abort, alloc: Global, style: EditMode, first: usize, last: usize) {
+    for seed in first..last {
+        plays(rt, alloc, style, seed);
+    }
+}
+
 #[test]
 fn keep_what_is_promised_in_emacs(rt: HostRuntime) {
-    for seed in 0..500 {
-        plays(&rt, rt.alloc(), EditMode::Emacs, seed);
-    }
+    play_all(&rt, rt.alloc(), EditMode::Emacs, 0, 500);
 }
 
 #[test]
 fn keep_more_in_emacs(rt: HostRuntime) {
-    for seed in 500..1000 {
-        plays(&rt, rt.alloc(), EditMode::Emacs, seed);
-    }
+    play_all(&rt, rt.alloc(), EditMode::Emacs, 500, 1000);
 }
 
 #[test]
 fn keep_what_is_promised_in_vi(rt: HostRuntime) {
-    for seed in 1000..1500 {
-        plays(&rt, rt.alloc(), EditMode::Vi, seed);
-    }
+    play_all(&rt, rt.alloc(), EditMode::Vi, 1000, 1500);
 }
 
 #[test]
 fn keep_more_in_vi(rt: HostRuntime) {
-    for seed in 1500..2000 {
-        plays(&rt, rt.alloc(), EditMode::Vi, seed);
-    }
+    play_all(&rt, rt.alloc(), EditMode::Vi, 1500, 2000);
 }

@@ -44,6 +44,16 @@ fn shows_item(rt: &impl Abort, out: &mut Vec<u8>, items: &mut Script) {
     written.expect(rt, "no fault");
 }
 
+/// Whether one of the lines of a text is this one.
+fn has_line(text: &str, wanted: &str) -> bool {
+    for line in text.split('\n') {
+        if line == wanted {
+            return true;
+        }
+    }
+    false
+}
+
 /// One of the lines that are written down of a script is this one, or the script is refused by the number of a line.
 fn gives(rt: &impl Abort, alloc: Global, script: &[u8], wanted: &str) {
     let mut out = Vec::new(alloc);
@@ -55,8 +65,7 @@ fn gives(rt: &impl Abort, alloc: Global, script: &[u8], wanted: &str) {
         Err(ScriptError::Fault(_)) => {}
     }
     let text = str::from_utf8(&out).unwrap_or("no text");
-    let is_given = text.split('\n').any(|line| line == wanted);
-    holds(rt, is_given, text, script.len());
+    holds(rt, has_line(text, wanted), text, script.len());
 }
 
 /// A script, and one of the lines that say what it gives.
