@@ -1,9 +1,9 @@
 //! A file of cases, line by line.
 
 use crate::bench::Bench;
-use crate::report::{Row, differs};
+use crate::report::{Row, differs, first_word};
 use crate::setup::{Setup, Target};
-use line_config::Result;
+use line_config::{ReadlineError, Result};
 use line_editor::Bindings;
 use line_editor::binding::EventHandler;
 use line_script::edit;
@@ -48,12 +48,20 @@ enum Ending {
     Help,
 }
 
-/// How a case ends.
-#[derive(Clone, Copy)]
-enum Tried {
-    Same,
-    Differs,
+/// Why no more cases are tried: a bad line, by its number, or a fault of memory or of a stream.
+#[derive(Drop)]
+enum Stop {
     BadLine(usize),
+    Fault(ReadlineError),
+}
+
+/// What is tried until a line is bad or a fault comes.
+type Tried<T> = std::result::Result<T, Stop>;
+
+impl From<ReadlineError> for Stop {
+    fn from(fault: ReadlineError) -> Stop {
+        Stop::Fault(fault)
+    }
 }
 
 /// Reads a file of cases, and prints each that differs and how many there are; or the number of its first bad line.
@@ -73,21 +81,49 @@ pub fn play<R: Read + Drop, O: Write>(alloc: Global, input: R, out: &mut O) -> u
 fn play_file<R: Read + Drop, O: Write>(alloc: Global, mut input: R, out: &mut O) -> Result<Ending> {
     let mut bytes = Vec::new(alloc);
     input.read_to_end(&mut bytes)?;
-    let ending = match str::from_utf8(&bytes) {
-        Ok(text) if text.starts_with("help\n") => Ending::Help,
-        Ok(text) => read_rows(alloc, text, out)?,
-        Err(error) => {
-            let good = bytes.as_slice().get(..error.valid_up_to()).unwrap_or(&[]);
-            Ending::BadLine(good.split(|byte| *byte == b'\n').count())
+    let ending = play_bytes(alloc, bytes.as_slice(), out)?;
+    end(&ending, out)?;
+    Ok(ending)
+}
+
+/// Tries each case of the bytes of a file, where they do not ask for help.
+fn play_bytes<O: Write>(alloc: Global, bytes: &[u8], out: &mut O) -> Result<Ending> {
+    match str::from_utf8(bytes) {
+        Ok(text) if text.starts_with("help\n") => Ok(Ending::Help),
+        Ok(text) => ended(read_rows(alloc, text, out)),
+        Err(error) => Ok(Ending::BadLine(line_at(bytes, error.valid_up_to()))),
+    }
+}
+
+/// How the reading ended, where it is no fault.
+fn ended(tried: Tried<Tally>) -> Result<Ending> {
+    match tried {
+        Ok(tally) => Ok(Ending::Rows(tally.rows, tally.differing)),
+        Err(Stop::BadLine(number)) => Ok(Ending::BadLine(number)),
+        Err(Stop::Fault(fault)) => Err(fault),
+    }
+}
+
+/// The number of the line of the byte at a place.
+fn line_at(bytes: &[u8], place: usize) -> usize {
+    let mut number = 1_usize;
+    for byte in bytes.get(..place).unwrap_or(&[]) {
+        if *byte == b'\n' {
+            number = number.saturating_add(1);
         }
-    };
-    match &ending {
+    }
+    number
+}
+
+/// Prints how the reading of a file ended.
+fn end<O: Write>(ending: &Ending, out: &mut O) -> Result<()> {
+    match ending {
         Ending::Rows(rows, differing) => writeln!(out, "{rows} rows, {differing} differ")?,
         Ending::BadLine(number) => writeln!(out, "bad line {number}")?,
         Ending::Help => out.write_all(HELP.as_bytes())?,
     }
     out.flush()?;
-    Ok(ending)
+    Ok(())
 }
 
 /// What the lines of a file say: the name, the settings and the ways of the cases that follow, and the lines of the case
@@ -110,7 +146,7 @@ struct Tally {
 }
 
 /// Tries each case of a text, up to the first bad line.
-fn read_rows<O: Write>(alloc: Global, text: &str, out: &mut O) -> Result<Ending> {
+fn read_rows<O: Write>(alloc: Global, text: &str, out: &mut O) -> Tried<Tally> {
     let mut begun = Begun {
         name: "",
         settings: Vec::new(alloc),
@@ -125,38 +161,52 @@ fn read_rows<O: Write>(alloc: Global, text: &str, out: &mut O) -> Result<Ending>
     let mut number = 0_usize;
     for line in text.split('\n') {
         number = number.saturating_add(1);
-        if line.starts_with("# ")
-            && let Some(open) = begun.open
-        {
-            return Ok(Ending::BadLine(open));
-        }
-        begun.adds(alloc, number, line)?;
-        if line.starts_with("= ") {
-            if let Some(bad) = tries_ways(alloc, &begun, &mut tally, out)? {
-                return Ok(Ending::BadLine(bad));
-            }
-            begun.lines.clear();
-            begun.open = None;
-        }
+        begun.takes(alloc, number, line, &mut tally, out)?;
     }
-    Ok(match begun.open {
-        Some(open) => Ending::BadLine(open),
-        None => Ending::Rows(tally.rows, tally.differing),
-    })
+    match begun.open {
+        Some(open) => Err(Stop::BadLine(open)),
+        None => Ok(tally),
+    }
 }
 
 impl<'t> Begun<'t> {
-    /// Adds what a line says.
-    fn adds(&mut self, alloc: Global, number: usize, line: &'t str) -> Result<()> {
+    /// Adds what a line says, and tries the case that it ends.
+    fn takes<O: Write>(
+        &mut self,
+        alloc: Global,
+        number: usize,
+        line: &'t str,
+        tally: &mut Tally,
+        out: &mut O,
+    ) -> Tried<()> {
         if line.is_empty() || line.starts_with("## ") {
             return Ok(());
         }
         if let Some(name) = line.strip_prefix("# ") {
-            self.name = name;
-            self.settings.clear();
-            self.ways.clear();
-            return Ok(());
+            return self.begins(name);
         }
+        self.adds(number, line)?;
+        if line.starts_with("= ") {
+            tries_ways(alloc, self, tally, out)?;
+            self.lines.clear();
+            self.open = None;
+        }
+        Ok(())
+    }
+
+    /// Begins the cases of a name. What no case has used yet is a bad line.
+    fn begins(&mut self, name: &'t str) -> Tried<()> {
+        if let Some(open) = self.open {
+            return Err(Stop::BadLine(open));
+        }
+        self.name = name;
+        self.settings.clear();
+        self.ways.clear();
+        Ok(())
+    }
+
+    /// Adds a way, a line of a case, or a setting.
+    fn adds(&mut self, number: usize, line: &'t str) -> Result<()> {
         self.open = Some(number);
         if let Some(way) = line.strip_prefix("with ") {
             self.ways.push(way)?;
@@ -169,80 +219,114 @@ impl<'t> Begun<'t> {
     }
 }
 
-/// The case of this name, of these lines.
-fn row_of<'t>(alloc: Global, name: &'t str, lines: &[(usize, &'t str)]) -> Result<Row<'t>> {
-    let mut row = Row {
-        name,
-        number: 0,
-        items: Vec::new(alloc),
-        phrase: None,
-        is_keys_alone: true,
-        log: Vec::new(alloc),
-        wanted: "",
-    };
-    for (number, line) in lines {
-        if let Some(wanted) = line.strip_prefix("= ") {
-            row.wanted = wanted;
-            row.number = *number;
-        } else if let Some(names) = line.strip_prefix("phrase ") {
-            row.phrase = Some(names);
-        } else if line.starts_with("log ") {
-            row.log.push(*line)?;
-        } else {
-            row.is_keys_alone = row.is_keys_alone && is_typed(line);
-            row.items.push((*number, *line))?;
+/// The kinds of lines that type something.
+const TYPED: &str = "type|key|keys|paste|pasted";
+
+/// The kinds of lines with a text that are no settings.
+const ITEMS: &str = "type|key|keys|paste|pasted|start|do|phrase|log|=";
+
+/// The lines without a text that are no settings.
+const ALONE: &str = "run|turn|next|next abort|read|from here|take pasted";
+
+/// Whether a word is one of these, between which a bar stands.
+pub fn is_among(word: &str, words: &str) -> bool {
+    for other in words.split('|') {
+        if other == word {
+            return true;
         }
     }
-    Ok(row)
+    false
 }
 
-/// Tries a case in each way that it has, and counts it. Returns the number of a bad line.
+/// Whether a line is of one of these kinds.
+fn is_of(line: &str, kinds: &str) -> bool {
+    match line.split_once(' ') {
+        Some((kind, _)) => is_among(kind, kinds),
+        None => false,
+    }
+}
+
+/// Whether a line is no setting.
+fn is_item(line: &str) -> bool {
+    is_of(line, ITEMS) || is_among(line, ALONE)
+}
+
+/// Adds to a case what a line says.
+fn adds_line<'t>(row: &mut Row<'t>, number: usize, line: &'t str) -> Result<()> {
+    if let Some(wanted) = line.strip_prefix("= ") {
+        row.wanted = wanted;
+        row.number = number;
+    } else if let Some(names) = line.strip_prefix("phrase ") {
+        row.phrase = Some(names);
+    } else if line.starts_with("log ") {
+        row.log.push(line)?;
+    } else {
+        row.is_keys_alone = row.is_keys_alone && is_of(line, TYPED);
+        row.items.push((number, line))?;
+    }
+    Ok(())
+}
+
+/// Tries a case in each way that it has, and counts it.
 fn tries_ways<O: Write>(
     alloc: Global,
     begun: &Begun<'_>,
     tally: &mut Tally,
     out: &mut O,
-) -> Result<Option<usize>> {
+) -> Tried<()> {
     if begun.ways.is_empty() {
-        let row = row_of(alloc, begun.name, begun.lines.as_slice())?;
-        return tallies(alloc, begun, &row, tally, out);
+        return tries_plain(alloc, begun, tally, out);
     }
     for way in begun.ways.as_slice() {
-        if let Some(bad) = tries_way(alloc, begun, way, tally, out)? {
-            return Ok(Some(bad));
-        }
+        tries_way(alloc, begun, way, tally, out)?;
     }
-    Ok(None)
+    Ok(())
 }
 
-/// Tries a case in one way, and counts it. Returns the number of a bad line.
+/// Tries a case as its lines are, and counts it.
+fn tries_plain<O: Write>(
+    alloc: Global,
+    begun: &Begun<'_>,
+    tally: &mut Tally,
+    out: &mut O,
+) -> Tried<()> {
+    let mut row = Row::new(alloc, begun.name);
+    for (number, line) in begun.lines.as_slice() {
+        adds_line(&mut row, *number, line)?;
+    }
+    tallies(alloc, begun, &row, tally, out)
+}
+
+/// Tries a case in one way, and counts it.
 fn tries_way<O: Write>(
     alloc: Global,
     begun: &Begun<'_>,
     way: &str,
     tally: &mut Tally,
     out: &mut O,
-) -> Result<Option<usize>> {
-    let text = filled(alloc, begun, way)?;
-    let Some((name, filled)) = text.split_once('\n') else {
-        return Ok(None);
-    };
-    let mut lines = Vec::new(alloc);
-    for ((number, _), line) in begun.lines.as_slice().iter().zip(filled.lines()) {
-        lines.push((*number, line))?;
-    }
-    let row = row_of(alloc, name, lines.as_slice())?;
+) -> Tried<()> {
+    let mut text = String::new(alloc);
+    fill_all(&mut text, begun.lines.as_slice(), way)?;
+    let mut row = Row::new(alloc, begun.name);
+    adds_lines(&mut row, begun.lines.as_slice(), text.as_str())?;
     tallies(alloc, begun, &row, tally, out)
 }
 
-/// The name of a case and, after it, its lines as they are in one way.
-fn filled(alloc: Global, begun: &Begun<'_>, way: &str) -> Result<String> {
-    let mut text = String::from_str(alloc, begun.name)?;
-    text.push('\n')?;
-    for (_, line) in begun.lines.as_slice() {
-        fill(&mut text, line, way)?;
+/// Adds the lines as they are in one way.
+fn fill_all(text: &mut String, lines: &[(usize, &str)], way: &str) -> Result<()> {
+    for (_, line) in lines {
+        fill(text, line, way)?;
     }
-    Ok(text)
+    Ok(())
+}
+
+/// Adds to a case what the lines of a text say, which have the numbers of others.
+fn adds_lines<'t>(row: &mut Row<'t>, lines: &[(usize, &str)], text: &'t str) -> Result<()> {
+    let mut filled = text.lines();
+    for (number, _) in lines {
+        adds_line(row, *number, filled.next().unwrap_or(""))?;
+    }
+    Ok(())
 }
 
 /// Adds a line, in which the keys of the first count of a way stand for `@`, those of the second for `&`, and its number
@@ -276,132 +360,71 @@ fn types_count(text: &mut String, count: &str) -> Result<()> {
 }
 
 /// How the values begin that a case can want.
-const VALUES: &[&str] = &[
-    "all",
-    "at",
-    "behind",
-    "calls",
-    "cursor",
-    "empty",
-    "end",
-    "entries",
-    "eof",
-    "fails",
-    "fault",
-    "flags",
-    "highlighter",
-    "hint",
-    "interrupted",
-    "is",
-    "kinds",
-    "last",
-    "len",
-    "line",
-    "mode",
-    "needs",
-    "own",
-    "place",
-    "proceeds",
-    "prompt",
-    "reads",
-    "recovers",
-    "redraws",
-    "says",
-    "shows",
-    "style",
-    "submitted",
-    "then",
-    "trails",
-];
+const VALUES: &str =
+    "all|at|behind|calls|cursor|empty|end|entries|eof|fails|fault|flags|highlighter|\
+hint|interrupted|is|kinds|last|len|line|mode|needs|own|place|proceeds|prompt|reads|recovers|\
+redraws|says|shows|style|submitted|then|trails";
 
 /// Whether each value that a case wants is one that there is.
 fn are_values(wanted: &str) -> bool {
     for field in wanted.split(" | ") {
-        let kind = field.split(' ').next().unwrap_or("");
-        if !VALUES.iter().any(|value| *value == kind) {
+        if !is_among(first_word(field), VALUES) {
             return false;
         }
     }
     true
 }
 
-/// Tries a case, and counts it. Returns the number of a bad line.
+/// Tries a case, and counts it.
 fn tallies<O: Write>(
     alloc: Global,
     begun: &Begun<'_>,
     row: &Row<'_>,
     tally: &mut Tally,
     out: &mut O,
-) -> Result<Option<usize>> {
+) -> Tried<()> {
     if !are_values(row.wanted) {
-        return Ok(Some(row.number));
+        return Err(Stop::BadLine(row.number));
     }
-    match tries(alloc, begun.settings.as_slice(), row, out)? {
-        Tried::Same => {}
-        Tried::Differs => tally.differing = tally.differing.saturating_add(1),
-        Tried::BadLine(bad) => return Ok(Some(bad)),
+    if tries(alloc, begun.settings.as_slice(), row, out)? {
+        tally.differing = tally.differing.saturating_add(1);
     }
     tally.rows = tally.rows.saturating_add(1);
-    Ok(None)
+    Ok(())
 }
 
-/// Whether a line types something.
-fn is_typed(line: &str) -> bool {
-    match line.split_once(' ') {
-        Some((kind, _)) => matches!(kind, "type" | "key" | "keys" | "paste" | "pasted"),
-        None => false,
-    }
-}
-
-/// Whether a line is no setting.
-fn is_item(line: &str) -> bool {
-    match line {
-        "run" | "turn" | "next" | "next abort" | "read" | "from here" | "take pasted" => true,
-        line => {
-            let (kind, _) = line.split_once(' ').unwrap_or(("", ""));
-            is_typed(line) || matches!(kind, "start" | "do" | "phrase" | "log" | "=")
-        }
-    }
-}
-
-/// Tries a case with these settings.
+/// Tries a case with these settings. Returns whether it differs.
 fn tries<O: Write>(
     alloc: Global,
     settings: &[(usize, &str)],
     row: &Row<'_>,
     out: &mut O,
-) -> Result<Tried> {
+) -> Tried<bool> {
     let mut setup = Setup::new(alloc)?;
-    match sets_up(alloc, &mut setup, settings)? {
-        Some(bad) => Ok(Tried::BadLine(bad)),
-        None => tries_set_up(alloc, &mut setup, row, out),
-    }
+    sets_up(alloc, &mut setup, settings)?;
+    tries_set_up(alloc, &mut setup, row, out)
 }
 
-/// Takes the settings. Returns the number of a bad line.
-fn sets_up<'t>(
-    alloc: Global,
-    setup: &mut Setup<'t>,
-    settings: &[(usize, &'t str)],
-) -> Result<Option<usize>> {
+/// Takes the settings.
+fn sets_up<'t>(alloc: Global, setup: &mut Setup<'t>, settings: &[(usize, &'t str)]) -> Tried<()> {
     for (number, line) in settings {
         if !setup.push(alloc, line)? {
-            return Ok(Some(*number));
+            return Err(Stop::BadLine(*number));
         }
     }
-    Ok(None)
+    Ok(())
 }
 
-/// Tries a case with what its settings say.
+/// Tries a case with what its settings say. Returns whether it differs.
 fn tries_set_up<O: Write>(
     alloc: Global,
     setup: &mut Setup<'_>,
     row: &Row<'_>,
     out: &mut O,
-) -> Result<Tried> {
+) -> Tried<bool> {
     let mut bindings = Bindings::new(alloc);
     for (event, target) in mem::replace(&mut setup.bound, Vec::new(alloc)) {
-        let handler = match target {
+        let handler: EventHandler = match target {
             Target::Does(command) => EventHandler::Simple(command),
             Target::Asks(watcher) => EventHandler::Conditional(watcher),
         };
@@ -420,16 +443,15 @@ fn tries_on_bench<O: Write>(
     bindings: &Bindings,
     row: &Row<'_>,
     out: &mut O,
-) -> Result<Tried> {
+) -> Tried<bool> {
     let both_ways = setup.both_ways;
     setup.both_ways = false;
-    match tries_one_way(alloc, setup, bindings, row, out)? {
-        Tried::Same if both_ways => {
-            setup.both_ways = true;
-            tries_one_way(alloc, setup, bindings, row, out)
-        }
-        first => Ok(first),
+    let differs = tries_one_way(alloc, setup, bindings, row, out)?;
+    if differs || !both_ways {
+        return Ok(differs);
     }
+    setup.both_ways = true;
+    tries_one_way(alloc, setup, bindings, row, out)
 }
 
 /// Tries a case on the bench, in the way that its settings ask for.
@@ -439,26 +461,26 @@ fn tries_one_way<O: Write>(
     bindings: &Bindings,
     row: &Row<'_>,
     out: &mut O,
-) -> Result<Tried> {
+) -> Tried<bool> {
     let mut bench = Bench::new(alloc, setup);
     bench.tries(alloc, setup, bindings, row)?;
     match bench.seen.bad_line {
-        Some(number) => Ok(Tried::BadLine(number)),
+        Some(number) => Err(Stop::BadLine(number)),
         None => compares(row, &bench.seen.lines, out),
     }
 }
 
-/// Tries a case by a script.
+/// Tries a case by a script. Returns whether it differs.
 fn tries_script<O: Write>(
     alloc: Global,
     setup: &mut Setup<'_>,
     bindings: &Bindings,
     row: &Row<'_>,
     out: &mut O,
-) -> Result<Tried> {
+) -> Tried<bool> {
     for (number, line) in row.items.as_slice() {
         if !setup.parsed.push_line(alloc, line)? {
-            return Ok(Tried::BadLine(*number));
+            return Err(Stop::BadLine(*number));
         }
     }
     let mut printed = Vec::new(alloc);
@@ -472,9 +494,7 @@ fn tries_script<O: Write>(
     compares(row, &printed, out)
 }
 
-/// Compares what was seen with what a case wants.
-fn compares<O: Write>(row: &Row<'_>, seen: &[u8], out: &mut O) -> Result<Tried> {
-    let text = str::from_utf8(seen).unwrap_or("");
-    let differs = differs(row, text, out)?;
-    Ok(if differs { Tried::Differs } else { Tried::Same })
+/// Compares what was seen with what a case wants. Returns whether it differs.
+fn compares<O: Write>(row: &Row<'_>, seen: &[u8], out: &mut O) -> Tried<bool> {
+    Ok(differs(row, str::from_utf8(seen).unwrap_or(""), out)?)
 }

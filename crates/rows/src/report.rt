@@ -26,6 +26,19 @@ pub struct Row<'t> {
 }
 
 impl<'t> Row<'t> {
+    /// A case of this name, in which nothing is done and nothing wanted.
+    pub fn new(alloc: Global, name: &'t str) -> Row<'t> {
+        Row {
+            name,
+            number: 0,
+            items: Vec::new(alloc),
+            phrase: None,
+            is_keys_alone: true,
+            log: Vec::new(alloc),
+            wanted: "",
+        }
+    }
+
     /// The line of this place, with its number; after the last one stands `run`.
     pub fn step(&self, place: usize) -> (usize, &'t str) {
         match self.items.get(place) {
@@ -322,13 +335,18 @@ fn is_seen(seen: &str, field: &str) -> bool {
 
 /// The value that was seen, of the kind that a field is of.
 fn came<'s>(seen: &'s str, field: &str) -> &'s str {
-    let kind = field.split(' ').next().unwrap_or("");
+    let kind = first_word(field);
     for line in seen.split('\n') {
-        if line.split(' ').next() == Some(kind) {
+        if first_word(line) == kind {
             return line;
         }
     }
     seen.split('\n').next().unwrap_or("")
+}
+
+/// The first word of a text.
+pub fn first_word(text: &str) -> &str {
+    text.split(' ').next().unwrap_or("")
 }
 
 /// The first call of the renderer that is another than a row names, where it names any: what is wanted, and what was called.

@@ -1,5 +1,6 @@
 //! The settings of rows that scripts lack.
 
+use crate::file::is_among;
 use line_buffer::Unit;
 use line_config::Result;
 use line_editor::binding::Event;
@@ -83,16 +84,16 @@ impl<'t> Setup<'t> {
         let Some((name, text)) = line.split_once(' ') else {
             return self.parsed.push_line(alloc, line);
         };
-        match name {
-            "bind" => self.binds(alloc, text),
-            "screen" | "ring" | "dups" | "lines" => self.set_number(name, text),
-            "hint" => {
-                self.hint = Some(tip(lasting(alloc, text)?));
-                Ok(true)
-            }
-            "verdict" => Ok(self.set_verdict(lasting(alloc, text)?)),
-            "line" | "styled" | "lit" | "fails" | "cut" => Ok(self.set(name, text)),
-            _ => self.parsed.push_line(alloc, line),
+        if name == "bind" {
+            self.binds(alloc, text)
+        } else if is_among(name, "screen|ring|dups|lines") {
+            self.set_number(name, text)
+        } else if is_among(name, "hint|verdict") {
+            Ok(self.set_lasting(name, lasting(alloc, text)?))
+        } else if is_among(name, "line|styled|lit|fails|cut") {
+            Ok(self.set(name, text))
+        } else {
+            self.parsed.push_line(alloc, line)
         }
     }
 
@@ -147,6 +148,15 @@ impl<'t> Setup<'t> {
             _ => return self.set_failing(text, name == "cut"),
         }
         true
+    }
+
+    /// Takes what the helper hints, or else what it says of each line.
+    fn set_lasting(&mut self, name: &str, text: &'static str) -> bool {
+        if name == "hint" {
+            self.hint = Some(tip(text));
+            return true;
+        }
+        self.set_verdict(text)
     }
 
     /// Takes what the helper says of each line.
@@ -206,7 +216,7 @@ pub enum Target {
 /// The command of a text, or the handler after `asks`.
 fn target_named(alloc: Global, text: &str) -> Result<Option<Target>> {
     if let Some(handler) = text.strip_prefix("asks ") {
-        return Ok(match watcher(handler) {
+        return Ok(match watcher(&mut Source::new(handler)) {
             Some(watcher) => Some(Target::Asks(Box::new(alloc, watcher)?)),
             None => None,
         });
@@ -270,25 +280,46 @@ pub fn keys_named(alloc: Global, names: &str) -> Result<Option<Vec<KeyEvent>>> {
     Ok(Some(keys))
 }
 
-/// The handler of this name, with its numbers.
-fn watcher(text: &str) -> Option<Watcher> {
-    let mut source = Source::new(text);
-    let name = source.word()?;
-    let (first, second, third) = (source.word()?, source.word()?, source.word()?);
-    let (n, len) = (first.parse::<u16>().ok(), second.parse::<u16>().ok());
-    let last = third.parse::<u16>().ok();
-    let watcher = match name {
-        "nothing" => Watcher::Nothing,
-        "count" => Watcher::ForCount(n?, second == "forth"),
-        "at" => Watcher::At(
-            usize::from(n?),
-            usize::from(len?),
-            usize::from(last?),
-            source.word()? == "hinted",
+/// The handler of the next word, with its numbers.
+fn watcher(source: &mut Source<'_>) -> Option<Watcher> {
+    let name = source.word().unwrap_or("");
+    let first = source.word().unwrap_or("");
+    let second = source.word().unwrap_or("");
+    let third = source.word().unwrap_or("");
+    match name {
+        "nothing" => Some(Watcher::Nothing),
+        "count" => Some(Watcher::ForCount(number(first)?, second == "forth")),
+        "at" => watcher_at(
+            first,
+            second,
+            third,
+            source.word().unwrap_or("") == "hinted",
         ),
-        "sees" => Watcher::Sees(first == "emacs", second == "inserting", usize::from(last?)),
-        "fails" => Watcher::Fails,
-        _ => return None,
-    };
-    Some(watcher)
+        "sees" => {
+            let len = usize::from(number(third)?);
+            Some(Watcher::Sees(first == "emacs", second == "inserting", len))
+        }
+        "fails" => Some(Watcher::Fails),
+        _ => None,
+    }
+}
+
+/// The handler that is handed so many keys, and shown a line of a length with the cursor at a place.
+fn watcher_at(count: &str, len: &str, pos: &str, is_hinted: bool) -> Option<Watcher> {
+    match (number(count), number(len), number(pos)) {
+        (Some(count), Some(len), Some(pos)) => {
+            Some(Watcher::At(
+                usize::from(count),
+                usize::from(len),
+                usize::from(pos),
+                is_hinted,
+            ))
+        }
+        _ => None,
+    }
+}
+
+/// The number that a text writes.
+fn number(text: &str) -> Option<u16> {
+    text.parse().ok()
 }
