@@ -9,8 +9,8 @@ use std::alloc::Global;
 use std::fs;
 use std::rt::Files;
 
-/// Returns what is answered to a line, or to the lines of the file that it loads; None where all of them are blank. A name that a
-/// line gives a value has it from then on.
+/// Adds what is answered to a line, or to the lines of the file that it loads, a line for each; nothing where all of them are
+/// blank. A name that a line gives a value has it from then on.
 ///
 /// # Errors
 /// `Memory`.
@@ -19,85 +19,115 @@ pub(crate) fn answer_to<R: Files + AllocGlobal>(
     line: &str,
     names: &mut Names,
     vi: bool,
-) -> Result<Option<String>> {
+    answers: &mut String,
+) -> Result<()> {
     match line.trim().strip_prefix(":load ") {
-        Some(name) => answers_to_file(rt, name.trim_start(), names, vi),
-        None => answer_to_line(rt.alloc(), line, names, vi),
+        Some(name) => answer_to_file(rt, name.trim_start(), names, vi, answers),
+        None => answer_to_line(rt.alloc(), line, names, vi, answers),
     }
 }
 
-/// Returns what is answered to the lines of a file, by its name as it was typed, or that it cannot be read.
-fn answers_to_file<R: Files + AllocGlobal>(
+/// Adds what is answered to the lines of a file, by its name as it was typed, or that it cannot be read.
+fn answer_to_file<R: Files + AllocGlobal>(
     rt: &R,
     name: &str,
     names: &mut Names,
     vi: bool,
-) -> Result<Option<String>> {
-    let alloc = rt.alloc();
-    let path = unescape(alloc, name, Some('\\'))?;
-    let Ok(text) = fs::read_to_string(rt, &*path) else {
-        return Ok(Some(format!(in alloc; ":load {name}: cannot be read")?));
-    };
-    let mut answers = String::new(alloc);
-    for line in text.lines() {
-        let Some(answer) = answer_to_line(alloc, line, names, vi)? else {
-            continue;
-        };
-        if !answers.is_empty() {
-            answers.push('\n')?;
-        }
-        answers.push_str(answer.as_str())?;
+    answers: &mut String,
+) -> Result<()> {
+    let path = unescape(rt.alloc(), name, Some('\\'))?;
+    match fs::read_to_string(rt, &*path) {
+        Ok(text) => answer_to_lines(rt.alloc(), text.as_str(), names, vi, answers),
+        Err(_) => add(answers, &[":load ", name, ": cannot be read"]),
     }
-    Ok((!answers.is_empty()).then_some(answers))
 }
 
-/// Returns what is answered to a line that loads no file: the value of its expression, what is wrong with it, or what a word after
+/// Adds what is answered to the lines of a text.
+fn answer_to_lines(
+    alloc: Global,
+    text: &str,
+    names: &mut Names,
+    vi: bool,
+    answers: &mut String,
+) -> Result<()> {
+    for line in text.lines() {
+        answer_to_line(alloc, line, names, vi, answers)?;
+    }
+    Ok(())
+}
+
+/// Adds what is answered to a line that loads no file: the value of its expression, what is wrong with it, or what a word after
 /// a colon asks for.
 fn answer_to_line(
     alloc: Global,
     line: &str,
     names: &mut Names,
     vi: bool,
-) -> Result<Option<String>> {
+    answers: &mut String,
+) -> Result<()> {
     if let Some(word) = line.trim().strip_prefix(':') {
-        return Ok(Some(answer_to_word(alloc, word, vi)?));
+        return answer_to_word(word, vi, answers);
     }
     match evaluate(alloc, line, names) {
-        Ok(Some(value)) => Ok(Some(format!(in alloc; "{value}")?)),
-        Ok(None) => Ok(None),
-        Err(refusal) => Ok(Some(told(alloc, line, &refusal)?)),
+        Ok(Some(value)) => add(answers, &[format!(in alloc; "{value}")?.as_str()]),
+        Ok(None) => Ok(()),
+        Err(refusal) => tell(alloc, line, &refusal, answers),
     }
 }
 
-/// Returns what is answered to a word after a colon.
-fn answer_to_word(alloc: Global, word: &str, vi: bool) -> Result<String> {
+/// Adds an answer, by its parts, on a line of its own.
+fn add(answers: &mut String, parts: &[&str]) -> Result<()> {
+    if !answers.is_empty() {
+        answers.push('\n')?;
+    }
+    for part in parts {
+        answers.push_str(part)?;
+    }
+    Ok(())
+}
+
+/// Adds what is answered to a word after a colon.
+fn answer_to_word(word: &str, vi: bool, answers: &mut String) -> Result<()> {
     match word {
         "keys" => {
             let (common, style) = key_tables(vi);
-            Ok(format!(in alloc; "{common}{style}")?)
+            add(answers, &[common, style])
         }
-        "load" => Ok(String::from_str(alloc, ":load needs the name of a file")?),
-        _ if word.starts_with("load ") => {
-            Ok(format!(in alloc; ":{word}: a file cannot load another")?)
-        }
-        _ => Ok(format!(in alloc; "no command is called :{word}; :keys lists the keys")?),
+        "load" => add(answers, &[":load needs the name of a file"]),
+        _ if word.starts_with("load ") => add(
+            answers,
+            &[":", word, ": a file cannot load another"],
+        ),
+        _ => add(
+            answers,
+            &["no command is called :", word, "; :keys lists the keys"],
+        ),
     }
 }
 
-/// Returns what is wrong with a line, and where: columns are counted from 1, and lines where there is more than one.
-fn told(alloc: Global, line: &str, refusal: &Refusal) -> Result<String>
+/// Adds what is wrong with a line, and where; the line of it too, where there is more than one.
+fn tell(alloc: Global, line: &str, refusal: &Refusal, answers: &mut String) -> Result<()>
     requires { IsCharBoundary line.now refusal.now.at }
 {
-    let before = &line[..refusal.at];
-    let column = before.chars().rev().take_while(|c| *c != '\n').count();
+    let (row, column) = place_behind(&line[..refusal.at]);
     let message = refusal.complaint.message();
-    if !line.contains('\n') {
-        return Ok(format!(in alloc; "column {}: {message}", column.saturating_add(1))?);
+    let told = if line.contains('\n') {
+        format!(in alloc; "line {row}, column {column}: {message}")?
+    } else {
+        format!(in alloc; "column {column}: {message}")?
+    };
+    add(answers, &[told.as_str()])
+}
+
+/// Returns the line and the column that a text ends at, both counted from 1.
+fn place_behind(text: &str) -> (usize, usize) {
+    let (mut row, mut column) = (1_usize, 1_usize);
+    for c in text.chars() {
+        column = column.saturating_add(1);
+        if c == '\n' {
+            row = row.saturating_add(1);
+            column = 1;
+        }
     }
-    let row = before.chars().filter(|c| *c == '\n').count();
-    Ok(format!(in alloc;
-        "line {}, column {}: {message}",
-        row.saturating_add(1),
-        column.saturating_add(1)
-    )?)
+    (row, column)
 }

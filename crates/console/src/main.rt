@@ -87,9 +87,13 @@ fn on_terminal(rt: &HostRuntime, arguments: &Arguments, size: Size) -> Result<Ex
 fn on_text(rt: &HostRuntime, vi: bool) -> Result<ExitCode> {
     let mut names = Names::new(rt.alloc());
     let mut out = io::writer(rt);
+    let mut answer = String::new(rt.alloc());
     for line in rt.lines(rt.alloc()) {
-        if let Some(answer) = answer_to(rt, line?.as_str(), &mut names, vi)? {
-            writeln!(out, "{answer}")?;
+        answer_to(rt, line?.as_str(), &mut names, vi, &mut answer)?;
+        if !answer.is_empty() {
+            answer.push('\n')?;
+            out.write_all(answer.as_bytes())?;
+            answer.clear();
         }
     }
     Ok(ExitCode::SUCCESS)

@@ -68,7 +68,9 @@ fn answer<R: Files + AllocGlobal + Clone + Drop, W: Write, O: Write + Drop, F: W
     if let Some(history) = editor.history_mut() {
         keep(history, file)?;
     }
-    if let Some(answer) = answer_to(rt, line.as_str(), names, vi)? {
+    let mut answer = String::new(rt.alloc());
+    answer_to(rt, line.as_str(), names, vi, &mut answer)?;
+    if !answer.is_empty() {
         write_lines(out, answer.as_str())?;
     }
     if let Some(helper) = editor.helper_mut() {

@@ -3,10 +3,9 @@ ghost use Rattle.std.specs.Prelude.{◌≡◌};
 ghost use Rattle.console.specs.declared.arithmetic.complaint.Complaint.TheVariants.{Memory};
 
 use std::alloc::{AllocError, AllocFailed};
-use std::fmt;
 
 /// Why a line has no value.
-#[derive(Clone, Copy, Debug, PartialEq, Eq)]
+#[derive(Clone, Copy)]
 pub enum Complaint {
     /// A number, a name or `(` should stand there.
     ExpectedOperand,
@@ -45,14 +44,8 @@ impl Complaint {
     }
 }
 
-impl fmt::Display for Complaint {
-    fn fmt<W: fmt::Write>(&self, f: &mut fmt::Formatter<W>) -> fmt::Result {
-        f.write_str(self.message())
-    }
-}
-
 /// A complaint, and the place in the text that it is about.
-#[derive(Clone, Copy, Debug, PartialEq, Eq)]
+#[derive(Clone, Copy)]
 pub struct Refusal {
     /// What is wrong.
     pub complaint: Complaint,

@@ -7,7 +7,7 @@ ghost use Rattle.console.specs.Refusals.{complaint_of};
 use crate::arithmetic::complaint::Complaint;
 
 /// An operator between two expressions.
-#[derive(Clone, Copy, Debug, PartialEq, Eq)]
+#[derive(Clone, Copy)]
 pub enum Operator {
     /// `+`
     Plus,
@@ -22,7 +22,7 @@ pub enum Operator {
 }
 
 /// How tightly a part of an expression holds together.
-#[derive(Clone, Copy, Debug, PartialEq, Eq)]
+#[derive(Clone, Copy, PartialEq, Eq)]
 pub enum Rank {
     /// Products, with `+` and `-` between them.
     Sum,
