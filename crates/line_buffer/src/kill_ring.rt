@@ -22,12 +22,23 @@ enum Action {
 }
 
 /// The last texts that were killed, at most so many as its size, and the one that is yanked.
-#[derive(Debug, Drop)]
+#[derive(Debug)]
 pub struct KillRing {
     size: usize,
     slots: Vec<String>,
     current: usize,
     last: Action,
+}
+
+impl Drop for KillRing {
+    fn drop(self) {
+        let KillRing {
+            size: _,
+            slots: _,
+            current: _,
+            last: _,
+        } = self;
+    }
 }
 
 impl Model for KillRing {

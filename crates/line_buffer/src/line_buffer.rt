@@ -69,12 +69,17 @@ impl<T: Drop> From<AllocFailed<T>> for OutOfMemory {
 }
 
 /// A text with a cursor, which stands on a character boundary. Places are counted in bytes.
-#[derive(Drop)]
 pub struct LineBuffer {
     buf: String,
     pos: usize,
     plain: bool,
     ghost plain_is: { plain ≡ list_all is_plain (string_bytes buf) },
+}
+
+impl Drop for LineBuffer {
+    fn drop(self) {
+        let LineBuffer { buf: _, pos: _, plain: _ } = self;
+    }
 }
 
 impl Model for LineBuffer {

@@ -14,9 +14,15 @@ use std::alloc::Global;
 use std::marker::Model;
 
 /// The changes of a line, by which it can be brought back, and how many groups of them are open.
-#[derive(Debug, Drop)]
+#[derive(Debug)]
 pub struct Changeset {
     list: ChangeList,
+}
+
+impl Drop for Changeset {
+    fn drop(self) {
+        let Changeset { list: _ } = self;
+    }
 }
 
 impl Model for Changeset {

@@ -27,13 +27,24 @@ enum Item {
 ///
 /// At the end of what is there so far a call answers `Eof`, and the program can hand over more. What was read since the
 /// mark stays in the queue, so that it can be read again; a new queue has its mark at the start.
-#[derive(Drop)]
 pub struct KeyQueue {
     alloc: Global,
     items: VecDeque<Item>,
     read: usize,
     failures: u64,
     binds: bool,
+}
+
+impl Drop for KeyQueue {
+    fn drop(self) {
+        let KeyQueue {
+            alloc: _,
+            items: _,
+            read: _,
+            failures: _,
+            binds: _,
+        } = self;
+    }
 }
 
 impl Model for KeyQueue {

@@ -25,7 +25,6 @@ const ORIGIN: Position = Position { row: 0, col: 0 };
 
 /// A screen without colors, for any reader of keys. It writes nothing: it keeps what is shown, and counts its full
 /// redraws, for a program that draws by itself. The memory of its longest line and prompt is kept for the next ones.
-#[derive(Drop)]
 pub struct Plain<R: RawReader> {
     alloc: Global,
     columns: Unit,
@@ -42,6 +41,25 @@ pub struct Plain<R: RawReader> {
     reader: PhantomData<R>,
     ghost some_columns: { 0 < columns },
     ghost ends: { ForSome end (λ e. EndsPlain columns (string_bytes text) origin e) },
+}
+
+impl<R: RawReader> Drop for Plain<R> {
+    fn drop(self) {
+        let Plain {
+            alloc: _,
+            columns: _,
+            rows: _,
+            place: _,
+            text: _,
+            origin: _,
+            end: _,
+            prompt: _,
+            hint: _,
+            redraws: _,
+            failures: _,
+            reader: _,
+        } = self;
+    }
 }
 
 impl<R: RawReader> Plain<R> {

@@ -25,7 +25,6 @@ const COLUMNS: Unit = 80;
 pub type Script = KeyQueue;
 
 /// What the lines of a script set and type.
-#[derive(Drop)]
 pub struct Parsed {
     /// The history that the settings fill.
     pub history: FileHistory,
@@ -42,6 +41,20 @@ pub struct Parsed {
     /// Whether a line of items was read, after which no setting may stand.
     has_item_lines: bool,
     ghost some_columns: { 0 < columns },
+}
+
+impl Drop for Parsed {
+    fn drop(self) {
+        let Parsed {
+            history: _,
+            helper: _,
+            prompt: _,
+            columns: _,
+            edit_mode: _,
+            items: _,
+            has_item_lines: _,
+        } = self;
+    }
 }
 
 impl Parsed {

@@ -24,10 +24,15 @@ use std::marker::Model;
 /// # Errors
 /// Each call that grows the text or the changes may run out of memory. Then there are no changes to undo, and the line may
 /// be any text with its cursor on a boundary.
-#[derive(Drop)]
 pub struct EditedLine {
     line: LineBuffer,
     changes: Changeset,
+}
+
+impl Drop for EditedLine {
+    fn drop(self) {
+        let EditedLine { line: _, changes: _ } = self;
+    }
 }
 
 impl Model for EditedLine {

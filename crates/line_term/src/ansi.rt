@@ -35,7 +35,6 @@ use std::mem;
 /// A terminal that understands the usual control sequences, drawn by writing to `O`. What is to be shown is kept as `Plain`
 /// keeps it, with its measure; each call writes what changes, in one piece, and flushes it. After a text that fills a row
 /// exactly, by a layout of its own, a new row is begun, so that the cursor does not wait at a row's end between two calls.
-#[derive(Drop)]
 pub struct Ansi<O: Write + Drop, R: RawReader> {
     alloc: Global,
     out: O,
@@ -64,6 +63,25 @@ pub struct Ansi<O: Write + Drop, R: RawReader> {
       behind = option_map string_bytes shown.hint;
       known = true;
     }) },
+}
+
+impl<O: Write + Drop, R: RawReader> Drop for Ansi<O, R> {
+    fn drop(self) {
+        let Ansi {
+            alloc: _,
+            out: _,
+            shown: _,
+            bytes: _,
+            colors: _,
+            synchronized: _,
+            held: _,
+            end: _,
+            whole: _,
+            plain: _,
+            redraws: _,
+            failures: _,
+        } = self;
+    }
 }
 
 impl<O: Write + Drop, R: RawReader> ScreenState for Ansi<O, R> {

@@ -143,10 +143,16 @@ impl Taken {
 }
 
 /// The changes of a line and how many groups of them are open, which need not fit inside a call.
-#[derive(Debug, Drop)]
+#[derive(Debug)]
 pub(crate) struct ChangeList {
     changes: Vec<Change>,
     open_groups: usize,
+}
+
+impl Drop for ChangeList {
+    fn drop(self) {
+        let ChangeList { changes: _, open_groups: _ } = self;
+    }
 }
 
 impl Model for ChangeList {

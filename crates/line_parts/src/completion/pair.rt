@@ -6,12 +6,17 @@ use crate::completion::Candidate;
 use line_config::Result;
 
 /// A candidate with a text to show and a text to put into the line.
-#[derive(Drop)]
 pub struct Pair {
     /// The text that is shown in a list of candidates.
     pub display: String,
     /// The text that is put into the line.
     pub replacement: String,
+}
+
+impl Drop for Pair {
+    fn drop(self) {
+        let Pair { display: _, replacement: _ } = self;
+    }
 }
 
 impl Pair {

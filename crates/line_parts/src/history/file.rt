@@ -14,10 +14,15 @@ use std::marker::Model;
 
 /// A history that can be saved and loaded. It counts its new lines, those that were added since the
 /// last save or load that succeeded.
-#[derive(Drop)]
 pub struct FileHistory {
     mem: MemHistory,
     new_entries: usize,
+}
+
+impl Drop for FileHistory {
+    fn drop(self) {
+        let FileHistory { mem: _, new_entries: _ } = self;
+    }
 }
 
 impl Model for FileHistory {

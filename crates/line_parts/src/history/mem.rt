@@ -16,12 +16,22 @@ use std::collections::vec_deque::Iter;
 use std::marker::Model;
 
 /// A history that is kept in memory.
-#[derive(Drop)]
 pub struct MemHistory {
     entries: VecDeque<String>,
     max_len: usize,
     ignore_dups: bool,
     ignore_space: bool,
+}
+
+impl Drop for MemHistory {
+    fn drop(self) {
+        let MemHistory {
+            entries: _,
+            max_len: _,
+            ignore_dups: _,
+            ignore_space: _,
+        } = self;
+    }
 }
 
 impl Model for MemHistory {

@@ -1,3 +1,0 @@
-pub mod Screen
-pub mod ScreenLaws
-pub mod Typist
