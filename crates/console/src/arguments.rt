@@ -8,7 +8,6 @@ pub(crate) const USAGE: &str =
     "usage: console [--vi] [--list] [--history FILE] [--terminal COLUMNS ROWS]";
 
 /// What the arguments say.
-#[derive(Drop)]
 pub(crate) struct Arguments {
     /// Whether keys are those of Vi.
     pub(crate) vi: bool,
@@ -18,6 +17,17 @@ pub(crate) struct Arguments {
     pub(crate) history: Option<String>,
     /// The size of the terminal, where lines are read from one.
     pub(crate) size: Option<Size>,
+}
+
+impl Drop for Arguments {
+    fn drop(self) {
+        let Arguments {
+            vi: _,
+            list: _,
+            history: _,
+            size: _,
+        } = self;
+    }
 }
 
 /// What the next argument is.

@@ -20,20 +20,30 @@ use std::io::Write;
 use tests_parties::advisor::Advisor;
 use tests_parties::fault::{ASLEEP, USUAL};
 use tests_parties::shelf::Shelf;
-use tests_stand_ins::recorder::Recorder;
-use tests_stand_ins::typist::Typist;
 use tests_steps::calls::{Editor, done, executed, proceeds, starts};
+use tests_steps::recorder::Recorder;
+use tests_steps::typist::Typist;
 
 /// The key x.
 const X: &[KeyEvent] = &[KeyEvent(KeyCode::Char('x'), Modifiers::NONE)];
 
 /// What lies on the bench beside the editor: its reader, its kill ring, its settings, and what was seen.
-#[derive(Drop)]
 pub struct Bench {
     typist: Typist,
     kills: KillRing,
     config: Config,
     pub seen: Seen,
+}
+
+impl Drop for Bench {
+    fn drop(self) {
+        let Bench {
+            typist: _,
+            kills: _,
+            config: _,
+            seen: _,
+        } = self;
+    }
 }
 
 impl Bench {

@@ -128,7 +128,6 @@ fn end<O: Write>(ending: &Ending, out: &mut O) -> Result<()> {
 
 /// What the lines of a file say: the name, the settings and the ways of the cases that follow, and the lines of the case
 /// that is begun.
-#[derive(Drop)]
 struct Begun<'t> {
     name: &'t str,
     settings: Vec<(usize, &'t str)>,
@@ -136,6 +135,18 @@ struct Begun<'t> {
     lines: Vec<(usize, &'t str)>,
     /// The number of the last line that no case has used yet.
     open: Option<usize>,
+}
+
+impl Drop for Begun<'_> {
+    fn drop(self) {
+        let Begun {
+            name: _,
+            settings: _,
+            ways: _,
+            lines: _,
+            open: _,
+        } = self;
+    }
 }
 
 /// How many cases there were, and how many differ.

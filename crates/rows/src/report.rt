@@ -8,13 +8,12 @@ use line_keys::refresher::Refresher;
 use line_script::report::write_escaped;
 use std::alloc::Global;
 use std::io::{ErrorKind, Write};
-use tests_stand_ins::typist::Typist;
 use tests_steps::calls::{Editor, letters};
+use tests_steps::typist::Typist;
 
 /// A case: its name and the number of the line that ends it, what is done, each line with its number, the keys that are
 /// read as one phrase, whether the lines type keys and do nothing else, the calls of the renderer that are wanted, and what
 /// else is.
-#[derive(Drop)]
 pub struct Row<'t> {
     pub name: &'t str,
     pub number: usize,
@@ -23,6 +22,20 @@ pub struct Row<'t> {
     pub is_keys_alone: bool,
     pub log: Vec<&'t str>,
     pub wanted: &'t str,
+}
+
+impl Drop for Row<'_> {
+    fn drop(self) {
+        let Row {
+            name: _,
+            number: _,
+            items: _,
+            phrase: _,
+            is_keys_alone: _,
+            log: _,
+            wanted: _,
+        } = self;
+    }
 }
 
 impl<'t> Row<'t> {
@@ -49,7 +62,6 @@ impl<'t> Row<'t> {
 }
 
 /// What was seen of an editor on the bench.
-#[derive(Drop)]
 pub struct Seen {
     /// How the last step ended, in a word.
     pub outcome: &'static str,
@@ -67,6 +79,21 @@ pub struct Seen {
     pub lines: Vec<u8>,
     /// The number of the line that can't be done.
     pub bad_line: Option<usize>,
+}
+
+impl Drop for Seen {
+    fn drop(self) {
+        let Seen {
+            outcome: _,
+            says: _,
+            reads: _,
+            next: _,
+            mode: _,
+            calls_before: _,
+            lines: _,
+            bad_line: _,
+        } = self;
+    }
 }
 
 impl Seen {

@@ -26,7 +26,6 @@ const NEVER: Failing = Failing {
 };
 
 /// What a row's settings say.
-#[derive(Drop)]
 pub struct Setup<'t> {
     /// The settings that scripts have.
     pub parsed: Parsed,
@@ -54,6 +53,26 @@ pub struct Setup<'t> {
     pub line: (&'t str, &'t str),
     /// What keys are bound to.
     pub bound: Vec<(Event, Target)>,
+}
+
+impl Drop for Setup<'_> {
+    fn drop(self) {
+        let Setup {
+            parsed: _,
+            screen: _,
+            styled: _,
+            colors: _,
+            helped: _,
+            hint: _,
+            verdict: _,
+            lit: _,
+            failing: _,
+            kill_ring_size: _,
+            both_ways: _,
+            line: _,
+            bound: _,
+        } = self;
+    }
 }
 
 impl<'t> Setup<'t> {

@@ -16,8 +16,8 @@ use std::fmt::{Debug, Formatter};
 use std::process::Abort;
 use tests_parties::advisor::Advisor;
 use tests_parties::shelf::Shelf;
-use tests_stand_ins::recorder::Recorder;
 use tests_steps::calls::{Editor, executed, letters};
+use tests_steps::recorder::Recorder;
 
 mod large;
 mod refusals;

@@ -17,8 +17,8 @@ use line_parts::{Context, MemHistory};
 use std::alloc::Global;
 use std::process::Abort;
 use tests_parties::advisor::Advisor;
-use tests_stand_ins::recorder::Recorder;
-use tests_stand_ins::typist::Typist;
+use tests_steps::recorder::Recorder;
+use tests_steps::typist::Typist;
 
 /// A line, its cursor, and the hint after it.
 type Line = (&'static str, usize, Option<&'static str>);

@@ -163,12 +163,22 @@ impl Read for Input {
 }
 
 /// The stream of what is printed, of which the write after so many fails.
-#[derive(Drop)]
 struct Output {
     bytes: Vec<u8>,
     streams: Streams,
     writes: usize,
     failing: usize,
+}
+
+impl Drop for Output {
+    fn drop(self) {
+        let Output {
+            bytes: _,
+            streams: _,
+            writes: _,
+            failing: _,
+        } = self;
+    }
 }
 
 impl Write for Output {

@@ -1,1 +1,4 @@
+pub mod Screen
+pub mod ScreenLaws
+pub mod Typist
 pub mod Watcher

@@ -1,6 +1,8 @@
 //! Commands and calls of an edit state, made by their names.
 
+use crate::recorder::Recorder;
 use crate::source::Source;
+use crate::typist::Typist;
 use line_buffer::{KillRing, Movement};
 use line_config::{Config, Result};
 use line_editor::command::{Status, execute};
@@ -13,8 +15,6 @@ use line_state::RefreshKind;
 use std::alloc::Global;
 use tests_parties::advisor::Advisor;
 use tests_parties::shelf::Shelf;
-use tests_stand_ins::recorder::Recorder;
-use tests_stand_ins::typist::Typist;
 
 /// An editor that asks the helper and the history of the bench.
 pub type Editor<'out, 'prompt> = State<'out, 'prompt, Recorder, Advisor, (String, String), Shelf>;

@@ -2,7 +2,7 @@
 ghost use Rattle.std.specs.Prelude.{◌≡◌, ◌≤◌, ◌<◌, true, option_map, string_bytes, IfOk, OnOk};
 ghost use Rattle.line_config.specs.Error.{FaultsOnly, MemoryOnly};
 ghost use Rattle.line_config.specs.Failures.{CountsFailures};
-ghost use Rattle.tests_stand_ins.specs.Screen.{after_byte, measured_by_bytes};
+ghost use Rattle.tests_steps.specs.Screen.{after_byte, measured_by_bytes};
 
 use crate::typist::Typist;
 use line_buffer::{GraphemeClusterMode, Layout, LineBuffer, Position, Unit};
@@ -244,7 +244,7 @@ impl ScreenState for Recorder {
     ghost use Rattle.std.specs.Prelude.{true, option_map, string_bytes};
     ghost use Rattle.line_buffer.specs.declared.layout.GraphemeClusterMode.TheVariants.{Unicode};
     ghost use Rattle.line_keys.specs.Display.{uncounted};
-    ghost use Rattle.tests_stand_ins.specs.Screen.{measured_by_bytes};
+    ghost use Rattle.tests_steps.specs.Screen.{measured_by_bytes};
 
     ghost surface = { λ r. record {
       measure = measured_by_bytes r.columns;
@@ -273,7 +273,7 @@ impl ScreenState for Recorder {
 impl Renderer for Recorder {
     type Reader = Typist;
 
-    ghost use Rattle.tests_stand_ins.specs.ScreenLaws as laws;
+    ghost use Rattle.tests_steps.specs.ScreenLaws as laws;
 
     fn move_cursor(&mut self, old: Position, new: Position) -> Result<()> {
         let (from, to) = ((old.row, old.col), (new.row, new.col));

@@ -117,7 +117,7 @@ impl Typist {
 impl RawReader for Typist {
     ghost use Rattle.std.specs.Prelude.{map, option_map, unwrap_or, string_bytes};
     ghost use Rattle.line_keys.specs.Item.{key, paste};
-    ghost use Rattle.tests_stand_ins.specs.Typist.{typed_binding};
+    ghost use Rattle.tests_steps.specs.Typist.{typed_binding};
 
     ghost rest = { λ t.
         map (λ i. unwrap_or (option_map key i.key) (paste (string_bytes i.pasted))) t.items.items };

@@ -23,10 +23,15 @@ pub(crate) const NOBODY: Failing = ("", 0);
 
 /// A part of a helper: a completer of words, a hinter that knows nothing, a highlighter without colors, or a validator that takes
 /// each line. One of its calls can fail.
-#[derive(Drop)]
 pub(crate) struct Party {
     pub(crate) words: Words,
     pub(crate) calls: Countdown,
+}
+
+impl Drop for Party {
+    fn drop(self) {
+        let Party { words: _, calls: _ } = self;
+    }
 }
 
 impl Party {

@@ -15,7 +15,6 @@ use tests_parties::fault::{Fault, GONE};
 
 /// An output that counts what it is asked for. It takes at most so many bytes at once. Its write of this number, from 1 on, fails; or
 /// each flush, where the number is the greatest.
-#[derive(Drop)]
 pub(crate) struct Counted {
     bytes: Vec<u8>,
     /// How often it was asked to write.
@@ -24,6 +23,19 @@ pub(crate) struct Counted {
     most: usize,
     failing: usize,
     fault: Fault,
+}
+
+impl Drop for Counted {
+    fn drop(self) {
+        let Counted {
+            bytes: _,
+            writes: _,
+            flushes: _,
+            most: _,
+            failing: _,
+            fault: _,
+        } = self;
+    }
 }
 
 impl Counted {

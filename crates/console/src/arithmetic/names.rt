@@ -6,9 +6,14 @@ use std::alloc::{AllocError, Global};
 use std::collections::BTreeMap;
 
 /// Names with their values.
-#[derive(Drop)]
 pub struct Names {
     values: BTreeMap<String, i64>,
+}
+
+impl Drop for Names {
+    fn drop(self) {
+        let Names { values: _ } = self;
+    }
 }
 
 impl Names {

@@ -10,8 +10,8 @@ use std::alloc::Global;
 use std::process::Abort;
 use tests_parties::advisor::Advisor;
 use tests_parties::shelf::Shelf;
-use tests_stand_ins::recorder::Recorder;
 use tests_steps::calls::Editor;
+use tests_steps::recorder::Recorder;
 
 /// How many lines the history holds: each is `line` and a number of four digits, the first 1000. What is done once, what
 /// so many times, and what once after it; and the length of the line, the cursor and the place that are left.

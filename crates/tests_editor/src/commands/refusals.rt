@@ -17,8 +17,8 @@ use std::process::Abort;
 use std::test::Fail;
 use tests_parties::advisor::Advisor;
 use tests_parties::shelf::Shelf;
-use tests_stand_ins::recorder::Recorder;
 use tests_steps::calls::{Editor, starts};
+use tests_steps::recorder::Recorder;
 
 /// What the editor stands on beside its line: nothing, a history of the line `one`, a hint, or a helper that takes no line.
 #[derive(Clone, Copy)]

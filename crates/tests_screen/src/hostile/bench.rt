@@ -238,7 +238,6 @@ pub(crate) enum Work<'w> {
 /// What is left: the line and its cursor, the history index, what a yank would give, where the cursor is drawn, how
 /// often all was drawn, how it ended, how many items were handed over, whether the line is drawn as in a full redraw,
 /// and what was amiss on the way, if anything was.
-#[derive(Drop)]
 pub(crate) struct Left {
     pub(crate) line: String,
     pub(crate) pos: usize,
@@ -250,6 +249,23 @@ pub(crate) struct Left {
     pub(crate) given: usize,
     pub(crate) is_drawn: bool,
     pub(crate) amiss: &'static str,
+}
+
+impl Drop for Left {
+    fn drop(self) {
+        let Left {
+            line: _,
+            pos: _,
+            place: _,
+            yanked: _,
+            at: _,
+            redraws: _,
+            end: _,
+            given: _,
+            is_drawn: _,
+            amiss: _,
+        } = self;
+    }
 }
 
 /// How a turn or a run ended, in a word.
@@ -378,7 +394,6 @@ const UNDRAWN: &str = "what is drawn";
 const UNREAD: &str = "needs more";
 
 /// An editor with all that it needs, how many items it was handed, and what was amiss.
-#[derive(Drop)]
 struct Bench<'b, 'out, 'prompt> {
     alloc: Global,
     desk: Desk,
@@ -389,6 +404,22 @@ struct Bench<'b, 'out, 'prompt> {
     config: Config,
     given: usize,
     amiss: &'static str,
+}
+
+impl Drop for Bench<'_, '_, '_> {
+    fn drop(self) {
+        let Bench {
+            alloc: _,
+            desk: _,
+            state: _,
+            input: _,
+            keys: _,
+            kills: _,
+            config: _,
+            given: _,
+            amiss: _,
+        } = self;
+    }
 }
 
 impl Bench<'_, '_, '_> {

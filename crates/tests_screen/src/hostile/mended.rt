@@ -15,8 +15,8 @@ use std::io::ErrorKind;
 use std::process::Abort;
 use tests_parties::fault::{Fault, USUAL};
 use tests_parties::guide::Guide;
-use tests_stand_ins::recorder::{self, Recorder};
-use tests_stand_ins::typist::{self, Typist};
+use tests_steps::recorder::{self, Recorder};
+use tests_steps::typist::{self, Typist};
 
 type Editor<'out, 'prompt> = bench::Editor<'out, 'prompt, Recorder>;
 

@@ -1,7 +1,7 @@
 use Rattle.std.proofs.Common.{◌≡◌, drop}
 use Rattle.std.specs.List.{fold}
-use Rattle.tests_stand_ins.specs.Screen.{after_byte}
-use Rattle.tests_stand_ins.proofs.recorder.measured.Given as goal
+use Rattle.tests_steps.specs.Screen.{after_byte}
+use Rattle.tests_steps.proofs.recorder.measured.Given as goal
 
 -- the bytes that are left take this place to where the text ends
 abbrev pub invariant-loop-byte : goal.invariant-loop-byte

@@ -1,5 +1,5 @@
-use Rattle.tests_stand_ins.specs.ScreenLaws.{measured_by_bytes-one}
-use Rattle.tests_stand_ins.proofs.recorder.RecorderRenderer.write_and_flush.Goals as goal
+use Rattle.tests_steps.specs.ScreenLaws.{measured_by_bytes-one}
+use Rattle.tests_steps.proofs.recorder.RecorderRenderer.write_and_flush.Goals as goal
 
 pub returns-clause-shown : goal.returns-clause-shown
 returns-clause-shown c = λ ch e print room.
