@@ -78,7 +78,11 @@ pub struct LineBuffer {
 
 impl Drop for LineBuffer {
     fn drop(self) {
-        let LineBuffer { buf: _, pos: _, plain: _ } = self;
+        let LineBuffer {
+            buf: _,
+            pos: _,
+            plain: _,
+        } = self;
     }
 }
 

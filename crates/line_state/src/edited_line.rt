@@ -31,7 +31,10 @@ pub struct EditedLine {
 
 impl Drop for EditedLine {
     fn drop(self) {
-        let EditedLine { line: _, changes: _ } = self;
+        let EditedLine {
+            line: _,
+            changes: _,
+        } = self;
     }
 }
 

@@ -151,7 +151,10 @@ pub(crate) struct ChangeList {
 
 impl Drop for ChangeList {
     fn drop(self) {
-        let ChangeList { changes: _, open_groups: _ } = self;
+        let ChangeList {
+            changes: _,
+            open_groups: _,
+        } = self;
     }
 }
 

@@ -15,7 +15,10 @@ pub struct Pair {
 
 impl Drop for Pair {
     fn drop(self) {
-        let Pair { display: _, replacement: _ } = self;
+        let Pair {
+            display: _,
+            replacement: _,
+        } = self;
     }
 }
 

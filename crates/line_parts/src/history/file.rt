@@ -21,7 +21,10 @@ pub struct FileHistory {
 
 impl Drop for FileHistory {
     fn drop(self) {
-        let FileHistory { mem: _, new_entries: _ } = self;
+        let FileHistory {
+            mem: _,
+            new_entries: _,
+        } = self;
     }
 }
 
