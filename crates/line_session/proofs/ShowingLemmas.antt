@@ -1,5 +1,5 @@
 -- What a terminal shows of a line that is kept.
-use Rattle.std.proofs.Common.{◌≡◌, ◌∙◌, ℕ, true, false, Bool, List, [], Option, Some, None, option_map, refl, sym, ap, ap₂, subst}
+use Rattle.std.proofs.Common.{◌≡◌, ◌∙◌, ℕ, true, Bool, List, Option, Some, None, option_map, sym, ap, ap₂, subst}
 use Rattle.std.specs.Option.{IfSome}
 use Rattle.line_buffer.specs.Line.{Line}
 use Rattle.line_buffer.specs.declared.layout.Position.{Position}

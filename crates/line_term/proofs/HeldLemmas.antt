@@ -1,5 +1,5 @@
 -- What is held back behind ESC P is typed.
-use Rattle.std.proofs.Common.{◌≡◌, refl, sym, ◌∙◌, ap, ap₂, arith, ℕ, Bool, true, false, List, [], ◌∷◌, ◌++◌, map, append_assoc, ◌==◌, ◌||◌, not, if◌then◌else◌}
+use Rattle.std.proofs.Common.{◌≡◌, refl, sym, ◌∙◌, ap, ap₂, arith, ℕ, true, false, List, [], ◌∷◌, ◌++◌, map, append_assoc, ◌==◌, ◌||◌, if◌then◌else◌}
 use Rattle.std.specs.Prelude.{encode_utf8_all}
 use Rattle.std.specs.Char.{encode_utf8}
 use Rattle.std.specs.List.{list_all}

@@ -6,7 +6,7 @@ use Rattle.std.proofs.lemmas.List.{append-nil, map-append}
 use Rattle.line_keys.specs.Item.{Item, key, paste}
 use Rattle.line_keys.specs.declared.keys.KeyEvent.{KeyEvent}
 use Rattle.line_screen.specs.KeyQueue.{paste_start}
-use Rattle.line_term.specs.Begun.{gives, is_next, is_paste, lasts, leads_to, paste_state, paste_step}
+use Rattle.line_term.specs.Begun.{gives, is_next, is_paste, leads_to, paste_state, paste_step}
 use Rattle.line_term.specs.Decoder.{Standing, Turn, begins, begins_no_char, cut_char, flushed, followed_by, given_pasted, given_turn, keeps, kept, leaves, longest_silence, read, read_byte, read_char, read_on, read_piece, settled_all, waited}
 use Rattle.line_term.specs.DecoderLaws.{ComeToTheSame, PausesKeepPastes, all_given, in_bytes, is_start}
 use Rattle.line_term.specs.Paste.{added, pasted_items}

@@ -1,5 +1,5 @@
 -- What pauses settle.
-use Rattle.std.proofs.Common.{◌≡◌, refl, sym, ◌∙◌, ap, ap₂, subst, arith, ℕ, zero, suc, ◌+◌, ◌<◌, ◌≤◌, Bool, true, false, List, [], ◌∷◌, length, map, ◌==◌, ◌||◌, ◌&&◌, not, if◌then◌else◌, nat_lt}
+use Rattle.std.proofs.Common.{◌≡◌, refl, sym, ◌∙◌, ap, ap₂, subst, arith, ℕ, zero, suc, ◌+◌, ◌<◌, ◌≤◌, Bool, true, false, List, [], ◌∷◌, length, map, ◌==◌, ◌||◌, not, if◌then◌else◌, nat_lt}
 use Rattle.std.specs.Prelude.{encode_utf8_all}
 use Rattle.std.specs.Char.{encode_utf8}
 use Rattle.std.specs.Str.{all_scalars}
@@ -19,7 +19,6 @@ use Rattle.line_term.specs.declared.begun.Begun.TheVariants.{Nothing, Escape, Op
 use Rattle.line_term.specs.declared.begun.Begun.TheVariants as begun
 use Rattle.line_term.specs.declared.begun.Step.{Step}
 use Rattle.line_term.specs.declared.sequence.Given.TheVariants.{Key}
-use Rattle.line_term.specs.declared.sequence.Sequence.{Sequence}
 use Rattle.line_term.proofs.BackLemmas.{and_false, begun_next, cut_has_none, next, none_by_length, settled_by}
 use Rattle.line_term.proofs.ReadingLemmas.{pieces, reads_char}
 use Rattle.line_term.proofs.TypingLemmas.{is_false, typed, types_one}

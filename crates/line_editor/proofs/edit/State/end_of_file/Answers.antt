@@ -1,5 +1,5 @@
 use Rattle.std.proofs.lemmas.Result.{err_from_is_err_and}
-use Rattle.std.proofs.Common.{rules, ◌≡◌, ◌∙◌, ◌==◌, false, length, refl, sym, ap}
+use Rattle.std.proofs.Common.{rules, ◌≡◌, ◌∙◌, ◌==◌, length, refl, sym, ap}
 use Rattle.line_config.specs.declared.config.EditMode.TheVariants.{Emacs}
 use Rattle.line_keys.specs.Command.{end_of_file}
 use Rattle.line_keys.specs.Draft.{Draft}
