@@ -51,6 +51,14 @@ pub(crate) const CASES: &[Case] = &[
         "a1  a3  a5\r\na2  a4  a6\r\n",
     ),
     (LIST, "aé a日 ab", "»¦a\t\tz", "az|", "aé   a日  ab\r\n"),
+    // below the last row of the line, wherever the cursor is
+    (
+        LIST,
+        "abc abd",
+        "»a|xxxxxxxxxxxxxxxxxxxxxxxxxxxxxx¦\t\tz",
+        "abz|xxxxxxxxxxxxxxxxxxxxxxxxxxxxxx",
+        "\x1b[1B\r\x1b[14C\r\nabc  abd\r\n",
+    ),
     (LIST, "abc abd", "»¦a\tx\t\t", "abx|", "\x07"),
     (LIST_AT_ONCE, "abc abd", "»¦a\tz", "abz|", "abc  abd\r\n"),
     // past the limit it is asked

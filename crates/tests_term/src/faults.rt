@@ -75,6 +75,8 @@ const CASES: &[Case] = &[
     (LED, SEARCH, LINES, "a\x12o\x16\tb", "a", ""),
     // the program is suspended
     (DRAWN, ROUND, "ab", "ab\x1acd", "ab", ""),
+    // the input ends
+    (DRAWN, ROUND, "ab", "\x04", "", ""),
 ];
 
 /// Types a character into a session. Returns whether it comes in at the cursor, as where commands are read.
@@ -175,7 +177,9 @@ fn typed(
         twin.feed(&[*key], bindings)?;
     }
     if outcome.is_ok() {
-        return Ok(None);
+        let (name, call) = failing;
+        let is_made = name == "output" && call <= twin.out().writes;
+        return Ok(is_made.then_some("no failure"));
     }
     let before = before.as_str();
     Ok(Some(wrong(

@@ -1,11 +1,11 @@
 //! What comes of bytes that are typed.
 
 use crate::parties::NOBODY;
-use crate::sessions::{ADD, ADD_VI, Case, bindings, comes_true};
+use crate::sessions::{ADD, ADD_VI, Case, LIST, MANY, bindings, comes_true, new_session};
 use crate::terminal::Counted;
 use crate::{completions, holds, searches};
 use line_buffer::GraphemeClusterMode;
-use line_config::{Config, ReadlineError};
+use line_config::{ColorMode, Config, ReadlineError};
 use line_parts::MemHistory;
 use line_session::editor::Editor;
 
@@ -37,7 +37,7 @@ const CASES: &[Case] = &[
         "\x1b[1B\r\n",
     ),
     // the program is suspended, and goes on with what was typed after that key
-    (ADD, "old", "»¦ab\x02\x1a", "‖a|b", ""),
+    (ADD, "old", "»¦ab\x02\x1a", "‖a|b", "\r\x1b[4C\r\n"),
     (ADD, "old", "»¦ab\x1a¦c", "abc|", ""),
     (ADD, "old", "»¦ab\x1ac¦…", "abc|", ""),
     (ADD, "old", "»¦ab\x1a¦↔30¦\x1b[200~c\x1b[201~", "abc|", ""),
@@ -118,25 +118,34 @@ fn gives_the_line_in_whatever_pieces(rt: HostRuntime) {
     }
 }
 
-/// What each line comes to that is read of an input: its text, or nothing where the person interrupts. Suspend stops none of them.
-const LINES: &[&str] = &["abc", "de", "hij", ""];
+type Drawing = Editor<Counted, (), MemHistory>;
+
+/// A prompt in bold type.
+const STYLED: &str = "\x1b[1m> ";
+
+/// What each line comes to that is read of an input: `!` where the output fails, its text, or nothing where the person interrupts.
+/// Suspend stops none of them.
+const LINES: &[&str] = &["!", "abc", "de", "hij", ""];
 
 #[test]
 fn reads_lines_of_an_input(rt: HostRuntime) {
     let bindings = bindings(rt.alloc()).expect(&rt, "bindings");
-    let config = Config::new(GraphemeClusterMode::Unicode);
+    let config = Config::builder(GraphemeClusterMode::Unicode)
+        .color_mode(ColorMode::Disabled)
+        .build();
     let history = MemHistory::new(rt.alloc());
-    let out: Vec<u8> = Vec::new(rt.alloc());
-    let mut session = Editor::new(rt.alloc(), config, out, 20, (), history);
+    let out = Counted::failing(rt.alloc(), ("output", 1)).expect(&rt, "room");
+    let mut session: Drawing = Editor::new(rt.alloc(), config, out, 20, (), history);
     let mut input: &[u8] = b"abc\rde\x02\rh\x1ai\x1aj\rf\x03g";
     let mut lines = 0usize;
     for (number, read) in session
-        .iter(&mut input, false, &"> ", &bindings)
+        .iter(&mut input, false, &("> ", STYLED), &bindings)
         .enumerate()
     {
         let is_so = match (LINES.get(number), read) {
             (Some(line), Ok(read)) => !line.is_empty() && *line == read.as_str(),
             (Some(line), Err(ReadlineError::Interrupted)) => line.is_empty(),
+            (Some(line), Err(ReadlineError::Io(_))) => *line == "!",
             _ => false,
         };
         holds(&rt, is_so, "a line", number);
@@ -144,9 +153,10 @@ fn reads_lines_of_an_input(rt: HostRuntime) {
     }
     let has_ended = lines == LINES.len() && session.line().is_none();
     holds(&rt, has_ended, "the end", lines);
+    let written = session.out().written();
+    let is_plain = written.contains("> ") && !written.contains(STYLED);
+    holds(&rt, is_plain, "no colors", lines);
 }
-
-type Drawing = Editor<Counted, (), MemHistory>;
 
 #[test]
 fn draws_anew_on_another_output(rt: HostRuntime) {
@@ -155,40 +165,41 @@ fn draws_anew_on_another_output(rt: HostRuntime) {
     let history = MemHistory::new(rt.alloc());
     let out = Counted::failing(rt.alloc(), NOBODY).expect(&rt, "room");
     let mut session: Drawing = Editor::new(rt.alloc(), config, out, 20, (), history);
-    let has_begun = session.begin(&"> ", &bindings).is_ok();
+    let has_begun = session.begin(&("> ", STYLED), &bindings).is_ok();
     let is_fed = has_begun && session.feed(b"ab", &bindings).is_ok();
-    let is_whole = is_fed && session.out().written().contains("> ");
+    let is_whole = is_fed && session.out().written().contains(STYLED);
     holds(&rt, is_whole, "the first output", 0);
     let emptied = Counted::failing(rt.alloc(), NOBODY).expect(&rt, "room");
     let before = session.exchange_out(emptied);
-    let is_fed = session.feed(b"c", &bindings).is_ok() && before.written().contains("> ");
+    let is_fed = session.feed(b"c", &bindings).is_ok() && before.written().contains(STYLED);
     let written = session.out().written();
-    let is_part = is_fed && written.contains("c") && !written.contains("> ");
+    let is_part = is_fed && written.contains("c") && !written.contains(STYLED);
     holds(&rt, is_part, "an output that was emptied", 1);
     let other = Counted::failing(rt.alloc(), NOBODY).expect(&rt, "room");
     let before = session.replace_out(other);
     let is_fed = session.feed(b"", &bindings).is_ok() && before.written().contains("c");
-    let is_anew = is_fed && session.out().written().contains("> abc");
+    let written = session.out().written();
+    let is_anew = is_fed && written.contains(STYLED) && written.contains("abc");
     holds(&rt, is_anew, "another output", 2);
     let last = Counted::failing(rt.alloc(), NOBODY).expect(&rt, "room");
     let has_left = session.abandon().is_ok();
-    let is_left = has_left && session.replace_out(last).written().contains("> abc");
+    let is_left = has_left && session.replace_out(last).written().contains("abc");
     holds(&rt, is_left, "another output between two lines", 3);
 }
 
-/// A line is begun and resized, where the write of each number fails, and none at first. How many there are is seen
-/// then.
+/// A line is begun, and resized in a list, where the write of each number fails, and none at first. How many there are is
+/// seen then.
 #[test]
 fn hands_on_the_failures_of_a_resize(rt: HostRuntime) {
     let bindings = bindings(rt.alloc()).expect(&rt, "bindings");
     let mut writes = 0;
     for failing in 0..100 {
-        let out = Counted::failing(rt.alloc(), ("output", failing)).expect(&rt, "room");
-        let config = Config::new(GraphemeClusterMode::Unicode);
-        let history = MemHistory::new(rt.alloc());
-        let mut session: Drawing = Editor::new(rt.alloc(), config, out, 20, (), history);
+        let mut session = new_session(rt.alloc(), LIST, MANY, ("output", failing)).expect(
+            &rt, "room",
+        );
         let has_begun = session.begin(&"> ", &bindings).is_ok();
-        let is_well = session.resize(10, 5).is_ok() && has_begun;
+        let is_fed = session.feed(b"a\t\t", &bindings).is_ok();
+        let is_well = session.resize(10, 5).is_ok() && has_begun && is_fed;
         if failing == 0 {
             writes = session.out().writes;
         }
