@@ -112,9 +112,9 @@ enum comvizga_status {
  * nothing else is said, a call sets what they point at where it answers COMVIZGA_OK, and else leaves it.
  *
  * COMVIZGA_NO_MEMORY may come of each call that makes an editor, or begins, reads, draws, drops, adds, loads, saves,
- * sets or binds. The handle stays usable and is to be freed as ever. A line that went on goes on, or the new one where
- * another was to begin, and is drawn anew before the next key is read; how many of the bytes of a comvizga_feed were
- * read is not told. COMVIZGA_FAILED is for errors of input or output. What a handle draws goes into memory, so no call
+ * sets or binds. The handle stays usable and is to be freed as ever. The line that went on goes on, or the new one where
+ * another was to begin, and may be drawn anew before the next key is read; how many of the bytes of a comvizga_feed
+ * were read is not told. COMVIZGA_FAILED is for errors of input or output. What a handle draws goes into memory, so no call
  * is known to answer it; what is said of COMVIZGA_NO_MEMORY would hold of it, too. */
 
 /* Sets so many bytes of settings, sizeof(comvizga_settings), to the usual ones: 80 columns, 24 rows, keys of Emacs, a
@@ -143,7 +143,7 @@ uint32_t comvizga_free(comvizga *handle);
  * on before is dropped. Keys that were typed behind the end of the line before are read, so this may answer all that
  * comvizga_feed does, COMVIZGA_SUSPENDED too. Lengths are bytes. COMVIZGA_NOT_TEXT: the prompt is not UTF-8, and
  * nothing has changed. After COMVIZGA_NO_MEMORY the new line goes on, or the one before goes on unchanged, or there is
- * none where none went on; comvizga_line tells. */
+ * none where none went on: comvizga_cursor tells whether one goes on, and comvizga_line which. */
 uint32_t comvizga_begin(comvizga *handle, const char *prompt, size_t prompt_length);
 
 /* Begins a line as comvizga_begin does, with a prompt that is shown as styled, the same text with escape sequences for

@@ -8,7 +8,7 @@ use Rattle.line_editor.specs.declared.binding.EventHandler.TheVariants.{Conditio
 use Rattle.line_editor.specs.declared.binding.NoHandler.{NoHandler}
 use Rattle.line_editor.specs.declared.bindings.Bindings.{Bindings}
 
--- events with their commands, of which the first one of an event counts; one without a command is what it is unbound
+-- events with their commands, of which the first one of an event counts; for one without a command the reader and the tables are asked
 abbrev pub BoundCommands : Type 0
 BoundCommands = List (Chord × Option Command)
 

@@ -100,7 +100,7 @@ module _ {H : Type 0} where
   TellsCursor session before told came = MatchOption session.editor.line ((came ≡ status.NoLine) × (told ≡ before))
       (λ begun. (came ≡ status.Done) × (told ≡ begun.kept.draft.line.cursor))
 
-  -- keys were bound to a command, in place of the one that they were bound to, by texts that are names; or nothing was
+  -- some keys were bound to some command, in place of what they were bound to, if these are texts; or nothing was
   pub record BindsKeys (keys command : List ℕ) (old new : Hosted H) (came : Status) : Type 0 where
     pub stays : new ≡ record old { commands = new.commands }
     pub no_text : ¬ (IsUtf8 keys × IsUtf8 command) → came ≡ status.NotText
@@ -125,7 +125,7 @@ module _ {H : Type 0} where
     abbrev pub Begins : Bound → List ℕ → List ℕ → List ℕ → Sitting H → Sitting H → Fed → Type 0
     Begins by prompt left right old new fed = CameBegun answers by prompt left right old new fed × Keeps answers (record old { prompt = prompt }) new
 
-    -- a line began after a prompt, unless a text is none. After a fault it has begun, or the line before is there unchanged
+    -- a line began after a prompt, unless a text is none. After a fault some line and the history's lines are there, or those before
     pub record BeginsLine (prompt styled left right : List ℕ) (old new : Hosted H) (came : Status) : Type 0 where
       pub begins : AreTexts prompt styled left right → CameTo (Begins (bound old.commands) prompt left right old.editor new.editor)
           (BeginsOrStays answers prompt left right old.editor new.editor) old new came

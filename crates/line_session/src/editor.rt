@@ -482,7 +482,7 @@ impl<O: Write + Drop, H: Helper + Drop, S: History + Drop> Editor<O, H, S> {
     /// # Errors
     /// `Eof`, where the input ends, or by a command on an empty line; `Interrupted`, where the person interrupts: no line goes on
     /// then. `Io`, where the input, the output, the helper or the history fails, and `Memory`: `line` and `pos` then return the line,
-    /// which can be handed to `begin_with`.
+    /// which can be handed to `begin_with`, or, if it could not begin, the one before, if there was one.
     pub fn readline<R: Read, P: Prompt, C: ConditionalEventHandler>(
         &mut self,
         input: &mut R,
