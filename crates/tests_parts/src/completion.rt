@@ -204,6 +204,10 @@ pub(super) const CASES: &[Case<'_>] = &[
     ),
     (
         "us -l",
+        Asked::Elected(Which::Unit, 2, "usr/bin", ("us -l", 2, 0)),
+    ),
+    (
+        "us -l",
         Asked::Elected(Which::Plain, 2, "usr", ("usr -l", 3, 1)),
     ),
     (
