@@ -168,7 +168,12 @@ static void check_more_lines(void)
     HOLDS(comvizga_begin(&editor, NULL, 0) == COMVIZGA_OK && type("\x04") == COMVIZGA_ENDED);
     HOLDS(comvizga_bind(&editor, "", 0, "undo", 4) == COMVIZGA_NO_KEY
           && comvizga_bind(&editor, "a", 1, "nothing", 7) == COMVIZGA_NO_COMMAND
-          && comvizga_bind(&editor, "\xff", 1, "undo", 4) == COMVIZGA_NOT_TEXT);
+          && comvizga_bind(&editor, "\xff", 1, "undo", 4) == COMVIZGA_NOT_TEXT
+          && comvizga_bind(&editor, "C-x nokey", 9, "undo", 4) == COMVIZGA_NO_KEY);
+    /* A word goes as white space parts it */
+    HOLDS(comvizga_bind(&editor, "F2", 2, "unix-word-rubout", 16) == COMVIZGA_OK
+          && comvizga_begin(&editor, "", 0) == COMVIZGA_OK && type("a b-c\x1bOQ") == COMVIZGA_OK);
+    HOLDS(line() == COMVIZGA_OK && is("a ") && comvizga_abandon(&editor) == COMVIZGA_OK);
     take_all();
 }
 
