@@ -112,10 +112,10 @@ enum comvizga_status {
  * nothing else is said, a call sets what they point at where it answers COMVIZGA_OK, and else leaves it.
  *
  * COMVIZGA_NO_MEMORY may come of each call that makes an editor, or begins, reads, draws, drops, adds, loads, saves,
- * sets or binds. The handle stays usable and is to be freed as ever. The line that went on goes on, or the new one where
- * another was to begin, and may be drawn anew before the next key is read; how many of the bytes of a comvizga_feed
- * were read is not told. COMVIZGA_FAILED is for errors of input or output. What a handle draws goes into memory, so no call
- * is known to answer it; what is said of COMVIZGA_NO_MEMORY would hold of it, too. */
+ * sets or binds. The handle stays usable and is to be freed as ever. The line that went on goes on, or the new one
+ * where another was to begin, and may be drawn anew before the next key is read; how many of the bytes of a
+ * comvizga_feed were read is not told. COMVIZGA_FAILED is for errors of input or output. What a handle draws goes into
+ * memory, so no call is known to answer it; what is said of COMVIZGA_NO_MEMORY would hold of it, too. */
 
 /* Sets so many bytes of settings, sizeof(comvizga_settings), to the usual ones: 80 columns, 24 rows, keys of Emacs, a
  * history of 100 lines, colors. */
