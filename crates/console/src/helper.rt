@@ -3,11 +3,10 @@
 use crate::arithmetic::Names;
 use crate::folder::Folder;
 use line_config::Result;
-use line_parts::{FilenameCompleter, HistoryHinter, MatchingBracketValidator};
-use line_session::arguments::CommandArguments;
-use line_session::dim_hints::DimHints;
-use line_session::parts::Parts;
-use line_session::words::Words;
+use line_parts::{
+    CommandArguments, DimHints, FilenameCompleter, HistoryHinter, MatchingBracketValidator, Parts,
+    Words,
+};
 use std::alloc::Global;
 
 /// The helper of the console.

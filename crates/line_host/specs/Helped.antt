@@ -9,15 +9,15 @@ use Rattle.line_parts.specs.Environment.{Environment}
 use Rattle.line_parts.specs.Hint.{suggested}
 use Rattle.line_parts.specs.HistoryHint.{history_hint}
 use Rattle.line_parts.specs.Verdict.{valid}
+use Rattle.line_parts.specs.WordList.{completed_among}
+use Rattle.line_parts.specs.declared.completion.word_list.Words.{Words}
+use Rattle.line_parts.specs.declared.helper.parts.Parts.{Parts}
+use Rattle.line_parts.specs.declared.highlight.dim_hints.DimHints.{DimHints}
 use Rattle.line_host.specs.Hosted.{Hosted, with_editor}
 use Rattle.line_host.specs.Status.{IsDoneOrMemory}
 use Rattle.line_host.specs.declared.status.Status.{Status}
 use Rattle.line_host.specs.declared.status.Status.TheVariants as status
 use Rattle.line_script.specs.declared.helper.ScriptHelper.{ScriptHelper}
-use Rattle.line_session.specs.Words.{completed_among}
-use Rattle.line_session.specs.declared.dim_hints.DimHints.{DimHints}
-use Rattle.line_session.specs.declared.parts.Parts.{Parts}
-use Rattle.line_session.specs.declared.words.Words.{Words}
 
 -- a completer of words; and switches for hints, for colors and for validation
 abbrev pub Helped : Type 0

@@ -1,3 +1,4 @@
+pub mod ArgumentLemmas
 pub mod BracketLemmas
 pub mod CutLemmas
 pub mod EscapeLemmas
@@ -17,4 +18,5 @@ pub mod QuoteLemmas
 pub mod SaveLemmas
 pub mod TextLawLemmas
 pub mod WordLemmas
+pub mod WordListLemmas
 pub mod WordStartLemmas

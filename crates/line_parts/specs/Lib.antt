@@ -1,3 +1,4 @@
+pub mod Arguments
 pub mod Asks
 pub mod BracketLaws
 pub mod BracketVerdict
@@ -8,6 +9,7 @@ pub mod Completed
 pub mod CompletionLaws
 pub mod Consulted
 pub mod Context
+pub mod Dim
 pub mod Environment
 pub mod Escape
 pub mod EscapedLine
@@ -26,6 +28,7 @@ pub mod Prefix
 pub mod Quoting
 pub mod Shown
 pub mod Verdict
+pub mod WordList
 pub mod Written
 pub use Rattle.line_config.specs.Error
 pub use Rattle.line_config.specs.Settings

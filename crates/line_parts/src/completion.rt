@@ -6,6 +6,7 @@ ghost use Rattle.line_config.specs.Error.{IoOnlyIf, FaultsOnly};
 ghost use Rattle.line_config.specs.Usual.{IsUsualOrOwn};
 ghost use Rattle.line_parts.specs.Written.{PutsToCursor, put_to_cursor, written_as};
 
+mod arguments;
 mod chars;
 mod escapes;
 mod filename;
@@ -13,9 +14,11 @@ mod pair;
 mod paths;
 mod prefix;
 mod quotes;
+mod word_list;
 
 use crate::context::Context;
 use crate::history::History;
+pub use arguments::{ArgumentOrOther, CommandArguments};
 pub use escapes::{Quote, escape, extract_word, unescape};
 pub use filename::{Entry, FilenameCompleter, Lister};
 use line_buffer::{Changeset, LineBuffer};
@@ -23,6 +26,7 @@ use line_config::Result;
 pub use pair::Pair;
 pub use prefix::longest_common_prefix;
 use std::alloc::Global;
+pub use word_list::Words;
 
 /// A text that may complete a part of the line.
 pub trait Candidate {

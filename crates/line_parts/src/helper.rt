@@ -1,10 +1,13 @@
-//! The helper of a line editor.
+//! The helper of a line editor, and a ready one of parts.
 ghost use Rattle.std.specs.Prelude.{◌≡◌, refl};
+
+mod parts;
 
 use crate::completion::Completer;
 use crate::highlight::Highlighter;
 use crate::hint::Hinter;
 use crate::validate::Validator;
+pub use parts::Parts;
 
 /// Completes, hints, highlights and validates. A call of `highlight_char` may change what the
 /// helper remembers, but no hint, no validation result, no completion, nothing that it makes of

@@ -9,11 +9,16 @@ ghost use Rattle.line_parts.specs.Colored.{IsShownAs};
 ghost use Rattle.line_parts.specs.BracketMatch.{lit_at, lit_place, remembered, with_match_lit};
 ghost use Rattle.line_parts.specs.declared.highlight.CmdKind.{CmdKind};
 
+mod dim_hints;
+mod steady;
+
 use crate::brackets::{Seen, find_match, look_at};
+pub use dim_hints::DimHints;
 use line_config::{CompletionType, Result};
 use std::alloc::Global;
 use std::borrow::CowStr;
 use std::marker::Model;
+pub use steady::SteadyHighlighter;
 
 /// Why the line is highlighted again.
 #[derive(Clone, Copy, Debug, PartialEq, Eq)]

@@ -15,14 +15,16 @@ pub mod parties;
 pub mod validate;
 
 pub use completion::{
-    Candidate, Completer, Entry, FilenameCompleter, Lister, Pair, Quote, escape, extract_word,
-    longest_common_prefix, unescape,
+    ArgumentOrOther, Candidate, CommandArguments, Completer, Entry, FilenameCompleter, Lister,
+    Pair, Quote, Words, escape, extract_word, longest_common_prefix, unescape,
 };
 pub use consulted::Consulted;
 pub use context::Context;
 pub use escaped_line::{Escapes, push_escaped_line, unescape_line};
-pub use helper::Helper;
-pub use highlight::{CmdKind, Highlighter, MatchingBracketHighlighter};
+pub use helper::{Helper, Parts};
+pub use highlight::{
+    CmdKind, DimHints, Highlighter, MatchingBracketHighlighter, SteadyHighlighter,
+};
 pub use hint::{Hint, Hinter, HistoryHinter};
 pub use history::{
     DefaultHistory, FileHistory, History, MemHistory, SearchDirection, SearchResult,

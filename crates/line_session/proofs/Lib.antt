@@ -1,4 +1,3 @@
-pub mod ArgumentLemmas
 pub mod CameLemmas
 pub mod CompletingLemmas
 pub mod DrawLemmas
@@ -15,4 +14,3 @@ pub mod ShowingLemmas
 pub mod StepLemmas
 pub mod TurnLemmas
 pub mod WholeLaws
-pub mod WordsLemmas

@@ -1,6 +1,4 @@
-pub mod Arguments
 pub mod Completing
-pub mod Dim
 pub mod Filed
 pub mod Kept
 pub mod OnTerminal
@@ -12,6 +10,5 @@ pub mod Searching
 pub mod Sitting
 pub mod Steps
 pub mod Taken
-pub mod Words
 pub use Rattle.line_editor.specs.Editor
 pub use Rattle.line_editor.specs.Run

@@ -5,11 +5,9 @@ ghost use Rattle.line_parts.specs.Verdict.{valid};
 use line_buffer::{Changeset, LineBuffer};
 use line_config::Result;
 use line_parts::{
-    CmdKind, Completer, Context, Highlighter, Hinter, History, ValidationContext, ValidationResult,
-    Validator,
+    CmdKind, Completer, Context, Highlighter, Hinter, History, SteadyHighlighter,
+    ValidationContext, ValidationResult, Validator, Words,
 };
-use line_session::parts::SteadyHighlighter;
-use line_session::words::Words;
 use std::alloc::Global;
 use std::borrow::CowStr;
 use tests_parties::countdown::Countdown;
@@ -48,7 +46,7 @@ impl Party {
 }
 
 impl Completer for Party {
-    ghost use Rattle.line_session.specs.Words.{completed_among};
+    ghost use Rattle.line_parts.specs.WordList.{completed_among};
 
     type Candidate = String;
 

@@ -6,9 +6,10 @@ ghost use Rattle.line_parts.specs.declared.escaped_line.Escapes.TheVariants.{V3}
 ghost use Rattle.line_session.specs.Filed.{Files, LoadsText};
 
 use crate::editor::Editor;
-use crate::parts::{Parts, SteadyHighlighter};
 use line_config::Result;
-use line_parts::{Completer, FileHistory, Helper, Hinter, History, Validator};
+use line_parts::{
+    Completer, FileHistory, Helper, Hinter, History, Parts, SteadyHighlighter, Validator,
+};
 use std::io::{Read, Write};
 
 impl<O: Write + Drop, H: Helper + Drop> Editor<O, H, FileHistory> {

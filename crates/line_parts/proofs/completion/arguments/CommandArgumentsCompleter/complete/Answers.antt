@@ -1,6 +1,6 @@
 use Rattle.std.proofs.Common.{false, true}
-use Rattle.line_session.proofs.ArgumentLemmas.{asked, named_so, tested}
-use Rattle.line_session.proofs.arguments.CommandArgumentsCompleter.complete.Goals as goal
+use Rattle.line_parts.proofs.ArgumentLemmas.{asked, named_so, tested}
+use Rattle.line_parts.proofs.completion.arguments.CommandArgumentsCompleter.complete.Goals as goal
 
 pub returns-then-is_argument-clause-answer : goal.returns-then-is_argument-clause-answer
 returns-then-is_argument-clause-answer g c =

@@ -1,6 +1,6 @@
-use Rattle.line_session.proofs.WordsLemmas.{none_more, one_more}
-use Rattle.line_session.proofs.words.beginning_with.Goals as goal
-use Rattle.line_session.proofs.words.beginning_with.Goals.{then-starts_with+in_ok-clone+in_ok-push, else-starts_with}
+use Rattle.line_parts.proofs.WordListLemmas.{none_more, one_more}
+use Rattle.line_parts.proofs.completion.word_list.beginning_with.Goals as goal
+use Rattle.line_parts.proofs.completion.word_list.beginning_with.Goals.{then-starts_with+in_ok-clone+in_ok-push, else-starts_with}
 
 pub loop-word-preserved : goal.loop-word-preserved
 loop-word-preserved c = elim c.if-starts_with.branch [

@@ -2,8 +2,8 @@
 use Rattle.std.specs.Prelude.{ℕ, ◌==◌, Bool, List, [], ◌∷◌, ◌++◌}
 use Rattle.std.specs.List.{starts_with}
 use Rattle.std.specs.Str.{trim_start}
-use Rattle.line_session.specs.declared.arguments.ArgumentOrOther.{ArgumentOrOther}
-use Rattle.line_session.specs.declared.arguments.ArgumentOrOther.TheVariants as candidate
+use Rattle.line_parts.specs.declared.completion.arguments.ArgumentOrOther.{ArgumentOrOther}
+use Rattle.line_parts.specs.declared.completion.arguments.ArgumentOrOther.TheVariants as candidate
 
 -- whether the cursor is after a command and a space: the text before it begins with them, but for white space
 abbrev pub is_argument : List ℕ → List ℕ → Bool

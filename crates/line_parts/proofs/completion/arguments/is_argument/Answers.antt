@@ -1,8 +1,8 @@
 use Rattle.std.proofs.Common.{◌∙◌, ◌++◌, ◌∷◌, [], ap, eqb, sym, arith}
 use Rattle.std.proofs.lemmas.Str.Pattern.{starts_char}
 use Rattle.std.specs.List.{starts_with}
-use Rattle.line_session.proofs.ArgumentLemmas.{argument, not_argument}
-use Rattle.line_session.proofs.arguments.is_argument.Goals as goal
+use Rattle.line_parts.proofs.ArgumentLemmas.{argument, not_argument}
+use Rattle.line_parts.proofs.completion.arguments.is_argument.Goals as goal
 
 pub returns-in-Some : goal.returns-in-Some
 returns-in-Some c =

@@ -1,7 +1,7 @@
 use Rattle.std.proofs.Common.{◌∙◌, Some, ap, inr, map, string_bytes}
-use Rattle.line_session.specs.Words.{beginning_with, breaks_words}
-use Rattle.line_session.proofs.WordsLemmas.{completed_so}
-use Rattle.line_session.proofs.words.WordsCompleter.complete.Goals as goal
+use Rattle.line_parts.specs.WordList.{beginning_with, breaks_words}
+use Rattle.line_parts.proofs.WordListLemmas.{completed_so}
+use Rattle.line_parts.proofs.completion.word_list.WordsCompleter.complete.Goals as goal
 
 pub returns-clause-answer : goal.returns-clause-answer
 returns-clause-answer g c = inr (ap Some (completed_so c.args.self.now.words.items _ _ _ _ c.extract_word-start.result.0

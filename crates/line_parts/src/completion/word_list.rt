@@ -1,15 +1,17 @@
-//! A completer of words.
+//! A completer of the words of a list.
 ghost use Rattle.std.specs.Prelude.{◌≡◌, true, Some, map, IfOk, string_bytes};
 ghost use Rattle.line_config.specs.Error.{MemoryOnly};
-ghost use Rattle.line_session.specs.Words.{beginning_with, breaks_words};
+ghost use Rattle.line_parts.specs.WordList.{beginning_with, breaks_words};
 
+use crate::completion::Completer;
+use crate::completion::escapes::extract_word;
+use crate::context::Context;
+use crate::history::History;
 use line_config::Result;
-use line_parts::completion::extract_word;
-use line_parts::{Completer, Context, History};
 use std::alloc::Global;
 
-/// Completes the word before the cursor by those of a list that begin with it, in the list's order. Letters, digits, `_` and all
-/// characters past ASCII make a word.
+/// Completes the word before the cursor by those of a list that begin with it, in the list's order.
+/// Letters, digits, `_` and all characters past ASCII make a word.
 #[derive(Drop)]
 pub struct Words {
     /// The words.
@@ -17,7 +19,7 @@ pub struct Words {
 }
 
 impl Completer for Words {
-    ghost use Rattle.line_session.specs.Words.{completed_among};
+    ghost use Rattle.line_parts.specs.WordList.{completed_among};
 
     type Candidate = String;
 

@@ -9,7 +9,7 @@ use Rattle.std.specs.List.{slice_range, starts_with}
 use Rattle.std.specs.Str.Pattern.{LacksTextAt}
 use Rattle.line_config.specs.Usual.{IsUsualOrOwn}
 use Rattle.line_parts.specs.Candidate.{Completion, Offer, no_completion}
-use Rattle.line_session.specs.Arguments.{is_argument}
+use Rattle.line_parts.specs.Arguments.{is_argument}
 
 -- where the command does not stand first, it does not with the space
 pub not_argument : (command text : List ℕ) → LacksTextAt command text 0 → false ≡ starts_with eqb text (command ++ 32 ∷ [])

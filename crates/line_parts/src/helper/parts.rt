@@ -1,36 +1,19 @@
 //! A helper that is put together from parts.
-ghost use Rattle.std.specs.Prelude.{◌≡◌};
 
+use crate::completion::Completer;
+use crate::context::Context;
+use crate::helper::Helper;
+use crate::highlight::{CmdKind, Highlighter, SteadyHighlighter};
+use crate::hint::Hinter;
+use crate::history::History;
+use crate::validate::{ValidationContext, ValidationResult, Validator};
 use line_buffer::{Changeset, LineBuffer};
 use line_config::{CompletionType, Result};
-use line_parts::{
-    CmdKind, Completer, Context, Helper, Highlighter, Hinter, History, MatchingBracketHighlighter,
-    ValidationContext, ValidationResult, Validator,
-};
 use std::alloc::Global;
 use std::borrow::CowStr;
 
-/// A highlighter whose `highlight_char` answers alike, whatever it remembers.
-pub trait SteadyHighlighter: Highlighter {
-    // Two values that differ only in what `highlight_char` may change answer alike.
-    ghost lights_steady: { (one other : Self) → Self.steady one ≡ Self.steady other
-        → Self.lights one ≡ Self.lights other };
-}
-
-impl SteadyHighlighter for () {
-    ghost use Rattle.std.proofs.Common.{refl};
-
-    ghost lights_steady = { λ _ _ _. refl };
-}
-
-impl SteadyHighlighter for MatchingBracketHighlighter {
-    ghost use Rattle.std.proofs.Common.{refl};
-
-    ghost lights_steady = { λ _ _ _. refl };
-}
-
-/// A helper of four parts, each of which does what it does alone. Where one is `()`, nothing is completed, hinted at, lit or
-/// refused.
+/// A helper of four parts, each of which does what it does alone. Where one is `()`, nothing is
+/// completed, hinted at, lit or refused.
 #[derive(Drop)]
 pub struct Parts<
     C: Completer + Drop,

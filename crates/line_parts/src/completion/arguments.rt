@@ -1,17 +1,18 @@
 //! A completer of what stands after a command.
 ghost use Rattle.std.specs.Prelude.{◌≡◌, ◌&&◌, map, take, if◌then◌else◌, IfOk, string_bytes};
 ghost use Rattle.line_config.specs.Error.{MemoryOnly};
-ghost use Rattle.line_session.specs.Arguments.{is_argument};
+ghost use Rattle.line_parts.specs.Arguments.{is_argument};
 
+use crate::completion::{Candidate, Completer};
+use crate::context::Context;
+use crate::history::History;
 use ArgumentOrOther::{Argument, Other};
 use line_buffer::{Changeset, LineBuffer};
 use line_config::Result;
-use line_parts::completion::Candidate;
-use line_parts::{Completer, Context, History};
 use std::alloc::Global;
 
-/// Completes what stands after a command and a space by one completer, and anything else by another. Only white space may stand
-/// before the command.
+/// Completes what stands after a command and a space by one completer, and anything else by
+/// another. Only white space may stand before the command.
 #[derive(Drop)]
 pub struct CommandArguments<A: Completer + Drop, B: Completer + Drop> {
     /// The command.
@@ -32,7 +33,7 @@ pub enum ArgumentOrOther<X, Y> {
 }
 
 impl<X: Candidate, Y: Candidate> Candidate for ArgumentOrOther<X, Y> {
-    ghost use Rattle.line_session.specs.Arguments.{text_of};
+    ghost use Rattle.line_parts.specs.Arguments.{text_of};
 
     ghost display_text = { text_of X.display_text Y.display_text };
 
@@ -97,7 +98,8 @@ impl<A: Completer + Drop, B: Completer + Drop> Completer for CommandArguments<A,
     }
 }
 
-/// Returns whether the text before the cursor begins, but for white space, with the command and a space.
+/// Returns whether the text before the cursor begins, but for white space, with the command and a
+/// space.
 fn is_argument(command: &str, before: &str) -> bool
     ensures { result ≡ is_argument command.now before.now }
 {

@@ -9,7 +9,7 @@ use Rattle.std.specs.declared.alloc.Global.{Global}
 use Rattle.std.specs.declared.string.String.{String}
 use Rattle.line_parts.specs.Candidate.{Offer}
 use Rattle.line_parts.specs.Escape.{word_offset}
-use Rattle.line_session.specs.Words.{beginning_with, breaks_words, completed_among, word_offer}
+use Rattle.line_parts.specs.WordList.{beginning_with, breaks_words, completed_among, word_offer}
 
 module _ (start : List ℕ) where
   -- the words that begin so up to the next one

@@ -1,9 +1,8 @@
 //! A highlighter for a line with hints.
 ghost use Rattle.std.specs.Prelude.{◌≡◌, Some, None, true, if◌then◌else◌, ◌&&◌};
 
-use crate::parts::SteadyHighlighter;
+use crate::highlight::{CmdKind, Highlighter, MatchingBracketHighlighter, SteadyHighlighter};
 use line_config::Result;
-use line_parts::{CmdKind, Highlighter, MatchingBracketHighlighter};
 use std::alloc::Global;
 use std::borrow::CowStr;
 
@@ -16,7 +15,8 @@ pub struct DimHints {
 }
 
 impl DimHints {
-    /// Returns a highlighter that shows hints dim. `lights_brackets` says whether it lights the match of a bracket.
+    /// Returns a highlighter that shows hints dim. `lights_brackets` says whether it lights the
+    /// match of a bracket.
     pub fn new(lights_brackets: bool) -> DimHints
         ensures { result.lights_brackets ≡ lights_brackets }
     {
@@ -28,7 +28,7 @@ impl DimHints {
 }
 
 impl Highlighter for DimHints {
-    ghost use Rattle.line_session.specs.Dim.{dim};
+    ghost use Rattle.line_parts.specs.Dim.{dim};
 
     ghost sure = { λ _. true };
 
