@@ -11,17 +11,17 @@ use Rattle.line_parts.specs.HistoryHint.{history_hint}
 use Rattle.line_parts.specs.Verdict.{valid}
 use Rattle.line_parts.specs.WordList.{completed_among}
 use Rattle.line_parts.specs.declared.completion.word_list.Words.{Words}
+use Rattle.line_parts.specs.declared.helper.hints_and_brackets.HintsAndBrackets.{HintsAndBrackets}
 use Rattle.line_parts.specs.declared.helper.parts.Parts.{Parts}
 use Rattle.line_parts.specs.declared.highlight.dim_hints.DimHints.{DimHints}
 use Rattle.line_host.specs.Hosted.{Hosted, with_editor}
 use Rattle.line_host.specs.Status.{IsDoneOrMemory}
 use Rattle.line_host.specs.declared.status.Status.{Status}
 use Rattle.line_host.specs.declared.status.Status.TheVariants as status
-use Rattle.line_script.specs.declared.helper.ScriptHelper.{ScriptHelper}
 
 -- a completer of words; and switches for hints, for colors and for validation
 abbrev pub Helped : Type 0
-Helped = Parts Words ScriptHelper DimHints ScriptHelper (String Global) (String Global)
+Helped = Parts Words HintsAndBrackets DimHints HintsAndBrackets (String Global) (String Global)
 
 -- the lines of a text that are not empty
 abbrev pub words_in : List ℕ → List (List ℕ)

@@ -17,8 +17,7 @@ use crate::settings::{Settings, is_yes};
 use crate::status::Status;
 use line_buffer::Unit;
 use line_config::{ReadlineError, Result};
-use line_parts::{DimHints, FileHistory, Parts, Words};
-use line_script::ScriptHelper;
+use line_parts::{DimHints, FileHistory, HintsAndBrackets, Parts, Words};
 use line_session::editor::{Editor, Fed};
 use std::alloc::Global;
 use std::io::ErrorKind;
@@ -26,7 +25,7 @@ use std::marker::Model;
 
 /// What helps a session: words are completed; there are hints from the history, and brackets are checked and lit, each where it is
 /// switched on.
-pub type HostHelper = Parts<Words, ScriptHelper, DimHints, ScriptHelper>;
+pub type HostHelper = Parts<Words, HintsAndBrackets, DimHints, HintsAndBrackets>;
 
 /// A prompt, without styles and with them, and the texts that stand before and after the cursor at first.
 #[derive(Clone, Copy)]
@@ -96,7 +95,7 @@ impl Session {
         }
         let config = settings.config().map_err(Status::of_error)?;
         let history = FileHistory::with_config(alloc, &config);
-        let switches = ScriptHelper {
+        let switches = HintsAndBrackets {
             hints: is_yes(settings.hints),
             brackets: is_yes(settings.brackets),
         };

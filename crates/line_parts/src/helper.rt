@@ -1,12 +1,14 @@
-//! The helper of a line editor, and a ready one of parts.
+//! The helper of a line editor, and ready ones: of parts, and with two switches.
 ghost use Rattle.std.specs.Prelude.{◌≡◌, refl};
 
+mod hints_and_brackets;
 mod parts;
 
 use crate::completion::Completer;
 use crate::highlight::Highlighter;
 use crate::hint::Hinter;
 use crate::validate::Validator;
+pub use hints_and_brackets::HintsAndBrackets;
 pub use parts::Parts;
 
 /// Completes, hints, highlights and validates. A call of `highlight_char` may change what the

@@ -21,7 +21,7 @@ pub use completion::{
 pub use consulted::Consulted;
 pub use context::Context;
 pub use escaped_line::{Escapes, push_escaped_line, unescape_line};
-pub use helper::{Helper, Parts};
+pub use helper::{Helper, HintsAndBrackets, Parts};
 pub use highlight::{
     CmdKind, DimHints, Highlighter, MatchingBracketHighlighter, SteadyHighlighter,
 };

@@ -5,14 +5,12 @@ ghost use Rattle.std.specs.Prelude.{◌≡◌, ◌≤◌};
 ghost use Rattle.line_script.specs.Outcome.{Reports};
 
 pub mod complaint;
-pub mod helper;
 pub mod names;
 pub mod report;
 pub mod script;
 
 pub use complaint::Complaint;
 use complaint::complaint_at;
-pub use helper::ScriptHelper;
 use line_buffer::{GraphemeClusterMode, KillRing};
 use line_config::{Config, Prompt, Result};
 use line_editor::Bindings;

@@ -4,11 +4,10 @@ ghost use Rattle.line_parts.specs.EscapedLine.{Unescapes};
 ghost use Rattle.line_parts.specs.declared.escaped_line.Escapes.TheVariants.{V2};
 ghost use Rattle.line_script.specs.Script.{AddsKey, AddsLine, AddsPasted, AddsTyped, lacks_escapes};
 
-use crate::helper::ScriptHelper;
 use crate::names::key_named;
 use line_buffer::Unit;
 use line_config::{EditMode, ReadlineError};
-use line_parts::{Escapes, FileHistory, History, unescape_line};
+use line_parts::{Escapes, FileHistory, HintsAndBrackets, History, unescape_line};
 use line_screen::KeyQueue;
 use memchr::memchr;
 use std::alloc::Global;
@@ -29,7 +28,7 @@ pub struct Parsed {
     /// The history that the settings fill.
     pub history: FileHistory,
     /// The helper that the settings switch on.
-    pub helper: ScriptHelper,
+    pub helper: HintsAndBrackets,
     /// The prompt.
     pub prompt: String,
     /// The columns of the screen, at least one.
@@ -66,7 +65,7 @@ impl Parsed {
     pub fn new(alloc: Global) -> Result<Parsed, ReadlineError> {
         Ok(Parsed {
             history: FileHistory::new(alloc),
-            helper: ScriptHelper::new(),
+            helper: HintsAndBrackets::new(),
             prompt: String::from_str(alloc, PROMPT)?,
             columns: COLUMNS,
             edit_mode: EditMode::Emacs,
@@ -201,7 +200,7 @@ pub(crate) fn parse_script(alloc: Global, script: &[u8]) -> Result<Parsed, Scrip
 }
 
 /// Switches on what the setting of this name asks for. False where there is no such setting.
-fn switch_on(name: &str, helper: &mut ScriptHelper) -> bool {
+fn switch_on(name: &str, helper: &mut HintsAndBrackets) -> bool {
     match name {
         "hints" => helper.hints = true,
         "brackets" => helper.brackets = true,

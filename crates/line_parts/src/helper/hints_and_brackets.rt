@@ -1,45 +1,48 @@
-//! The helper of a script, whose hints and bracket checks are switched on by its settings.
+//! A helper with two switches: hints from the history, and the check of brackets.
 ghost use Rattle.std.specs.Prelude.{◌≡◌, true, false, None, option_map, if◌then◌else◌};
 ghost use Rattle.line_parts.specs.BracketVerdict.{bracket_verdict};
 ghost use Rattle.line_parts.specs.Hint.{suggested};
 ghost use Rattle.line_parts.specs.HistoryHint.{history_hint};
 ghost use Rattle.line_parts.specs.Verdict.{valid};
 
+use crate::completion::Completer;
+use crate::context::Context;
+use crate::helper::Helper;
+use crate::highlight::{CmdKind, Highlighter};
+use crate::hint::{Hinter, HistoryHinter};
+use crate::history::History;
+use crate::validate::{MatchingBracketValidator, ValidationContext, ValidationResult, Validator};
 use line_config::Result;
-use line_parts::{
-    CmdKind, Completer, Context, Helper, Highlighter, Hinter, History, HistoryHinter,
-    MatchingBracketValidator, ValidationContext, ValidationResult, Validator,
-};
 use std::alloc::Global;
 
 /// Hints from the history and checks the brackets of a line, each where it is switched on.
 #[derive(Clone, Copy)]
-pub struct ScriptHelper {
+pub struct HintsAndBrackets {
     /// Whether there are hints.
     pub hints: bool,
     /// Whether brackets are checked.
     pub brackets: bool,
 }
 
-impl ScriptHelper {
+impl HintsAndBrackets {
     /// A helper with both switches off.
-    pub fn new() -> ScriptHelper
+    pub fn new() -> HintsAndBrackets
         ensures { result ≡ record { hints = false; brackets = false } }
     {
-        ScriptHelper {
+        HintsAndBrackets {
             hints: false,
             brackets: false,
         }
     }
 }
 
-impl Completer for ScriptHelper {
+impl Completer for HintsAndBrackets {
     type Candidate = String;
 
     ghost sure = { λ _. true };
 }
 
-impl Hinter for ScriptHelper {
+impl Hinter for HintsAndBrackets {
     type Hint = String;
 
     ghost sure = { λ _. true };
@@ -62,7 +65,7 @@ impl Hinter for ScriptHelper {
     }
 }
 
-impl Highlighter for ScriptHelper {
+impl Highlighter for HintsAndBrackets {
     ghost sure = { λ _. true };
 
     ghost lights = { λ _ _ _ _. false };
@@ -72,7 +75,7 @@ impl Highlighter for ScriptHelper {
     }
 }
 
-impl Validator for ScriptHelper {
+impl Validator for HintsAndBrackets {
     ghost sure = { λ _. true };
 
     ghost verdict_at = { λ helper text.
@@ -87,7 +90,7 @@ impl Validator for ScriptHelper {
     }
 }
 
-impl Helper for ScriptHelper {
+impl Helper for HintsAndBrackets {
     ghost use Rattle.std.proofs.Common.{ap, refl};
 
     ghost hints_kept = { λ _ _ same. ap Self.hint_at same };
