@@ -5,7 +5,7 @@ use line_buffer::{At, Movement, Word};
 use line_config::Result;
 use line_editor::Event;
 use line_keys::cmd::{Anchor, Cmd};
-use line_script::key_named;
+use line_keys::key_named;
 use std::alloc::Global;
 
 /// Returns the input event of keys by their names, with spaces between them, as in `C-x C-e`. None where

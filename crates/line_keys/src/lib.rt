@@ -7,6 +7,7 @@ pub mod count;
 pub mod editor_state;
 pub mod keys;
 pub mod laws;
+pub mod names;
 pub mod raw_reader;
 pub mod redo;
 pub mod refresher;
@@ -15,6 +16,7 @@ pub mod tables;
 pub use cmd::{Anchor, Cmd};
 pub use count::Count;
 pub use keys::{KeyCode, KeyEvent, Modifiers};
+pub use names::key_named;
 pub use raw_reader::RawReader;
 pub use refresher::{InputMode, Invoke, Refresher};
 pub use tables::{

@@ -5,7 +5,6 @@ ghost use Rattle.std.specs.Prelude.{◌≡◌, ◌≤◌};
 ghost use Rattle.line_script.specs.Outcome.{Reports};
 
 pub mod complaint;
-pub mod names;
 pub mod report;
 pub mod script;
 
@@ -22,7 +21,6 @@ use line_keys::editor_state::EditorState;
 use line_keys::refresher::Refresher;
 use line_parts::{Context, Helper, History};
 use line_screen::Plain;
-pub use names::key_named;
 pub use report::{Ending, Outcome, Report, exit_status};
 use script::parse_script;
 pub use script::{Parsed, Script, ScriptError, read_script};

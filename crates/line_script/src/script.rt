@@ -4,9 +4,9 @@ ghost use Rattle.line_parts.specs.EscapedLine.{Unescapes};
 ghost use Rattle.line_parts.specs.declared.escaped_line.Escapes.TheVariants.{V2};
 ghost use Rattle.line_script.specs.Script.{AddsKey, AddsLine, AddsPasted, AddsTyped, lacks_escapes};
 
-use crate::names::key_named;
 use line_buffer::Unit;
 use line_config::{EditMode, ReadlineError};
+use line_keys::key_named;
 use line_parts::{Escapes, FileHistory, HintsAndBrackets, History, unescape_line};
 use line_screen::KeyQueue;
 use memchr::memchr;

@@ -17,6 +17,8 @@ mod keys;
 #[cfg(test)]
 mod maps;
 #[cfg(test)]
+mod names;
+#[cfg(test)]
 mod phrases;
 #[cfg(test)]
 mod tables;

@@ -1,6 +1,5 @@
 //! Scripts that keys alone can't say: bad ones, statuses, streams that fail, and want of memory.
 
-mod names;
 mod script;
 
 use crate::holds;

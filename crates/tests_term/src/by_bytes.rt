@@ -2,10 +2,10 @@
 //! pause behind which nothing has begun, `⋯` one behind which something goes on, `‖` the longest silence, and `■` the
 //! end of the input.
 
+use line_keys::key_named;
 use line_keys::keys::{KeyCode, KeyEvent, Modifiers};
 use line_keys::raw_reader::RawReader;
 use line_screen::KeyQueue;
-use line_script::key_named;
 use line_term::Decoder;
 use line_term::decoder::LONGEST_SILENCE;
 use std::alloc::Global;

@@ -1,9 +1,10 @@
-//! The names of keys in a script.
+//! Keys by their names, as scripts and hosts write them.
 
-use line_keys::keys::{KeyCode, KeyEvent, Modifiers};
+use crate::keys::{KeyCode, KeyEvent, Modifiers};
 
-/// The key of this name, in normal form: `C-`, `M-` and `S-` in this order, each where something follows it, and
-/// then one character or the name of a key.
+/// Returns the key of this name, in normal form: `C-`, `M-` and `S-` in this order, each where
+/// something follows it, and then one character or the name of a key. None where no key is called
+/// so.
 pub fn key_named(name: &str) -> Option<KeyEvent> {
     let prefixes = [
         ("C-", Modifiers::CTRL),

@@ -1,8 +1,8 @@
 //! The names of keys.
 
 use crate::holds;
+use line_keys::key_named;
 use line_keys::keys::{KeyCode as K, KeyEvent, Modifiers as M};
-use line_script::key_named;
 
 /// A name, and its key, if it has one.
 type Named = (&'static str, Option<KeyEvent>);
