@@ -1,4 +1,4 @@
+pub mod Cleared
 pub mod Measure
 pub mod MeasureLaws
 pub mod KeyQueue
-pub mod Surroundings

@@ -4,9 +4,7 @@
 pub mod key_queue;
 pub mod measure;
 pub mod plain;
-pub mod surroundings;
 
 pub use key_queue::KeyQueue;
 pub use measure::measured;
 pub use plain::Plain;
-pub use surroundings::Surroundings;

@@ -7,10 +7,9 @@ ghost use Rattle.line_buffer.specs.Printable.{is_plain, is_printable};
 ghost use Rattle.line_buffer.specs.declared.layout.GraphemeClusterMode.TheVariants.{Unicode};
 ghost use Rattle.line_state.specs.ScreenState.{EndsBehind, HasRoom, Tries, shown_by, with_shown};
 ghost use Rattle.line_screen.specs.Measure.{EndsPlain, measured};
-ghost use Rattle.line_screen.specs.Surroundings.{Clears, KeepsSurroundings, LosesEnd, blank_screen};
+ghost use Rattle.line_screen.specs.Cleared.{Clears, KeepsCounts, LosesEnd, blank_screen};
 
 use crate::measure::{measured, measured_line};
-use crate::surroundings::Surroundings;
 use line_buffer::{
     GraphemeClusterMode, Layout, LineBuffer, Position, Unit, is_plain_text, is_printable_text,
 };
@@ -76,8 +75,6 @@ impl<R: RawReader> Plain<R> {
               mode = Unicode;
             } }
         ensures screen { ⟦<Self as ScreenState>⟧.screen result ≡ blank_screen }
-        ensures prompt { ⟦<Self as Surroundings>⟧.prompt result ≡ [] }
-        ensures hint { ⟦<Self as Surroundings>⟧.hint result ≡ None }
         ensures redraws { ⟦<Self as ScreenState>⟧.redraws result ≡ 0 }
         ensures failures { ⟦<Self as ScreenState>⟧.failures result ≡ 0 }
     {
@@ -278,12 +275,6 @@ impl<R: RawReader> ScreenState for Plain<R> {
     ghost failures = { λ p. p.failures };
 }
 
-impl<R: RawReader> Surroundings for Plain<R> {
-    ghost prompt = { λ p. string_bytes p.prompt };
-
-    ghost hint = { λ p. option_map string_bytes p.hint };
-}
-
 impl<R: RawReader> Renderer for Plain<R> {
     type Reader = R;
 
@@ -293,8 +284,7 @@ impl<R: RawReader> Renderer for Plain<R> {
         ensures ok { result ≡ Ok tt }
         ensures screen { ⟦<Self as ScreenState>⟧.screen self.new
             ≡ record (⟦<Self as ScreenState>⟧.screen self.old) { position = new } }
-        ensures keeps { KeepsSurroundings ⟦<Self as ScreenState>⟧ ⟦<Self as Surroundings>⟧
-            self.old self.new }
+        ensures keeps { KeepsCounts ⟦<Self as ScreenState>⟧ self.old self.new }
     {
         let _ = old;
         self.place = new;
@@ -317,13 +307,9 @@ impl<R: RawReader> Renderer for Plain<R> {
         ensures redraws { OnOk result (⟦<Self as ScreenState>⟧.redraws self.new
             ≡ min max_count (⟦<Self as ScreenState>⟧.redraws self.old + 1)) }
         ensures tries { Tries ⟦<Self as ScreenState>⟧ result self.old self.new }
-        ensures prompt { OnOk result (⟦<Self as Surroundings>⟧.prompt self.new
-            ≡ P.raw_text prompt.now) }
-        ensures hint { OnOk result (⟦<Self as Surroundings>⟧.hint self.new
-            ≡ option_map (λ s. s.now) hint.entry) }
         ensures refused { OnErr result ((⟦<Self as ScreenState>⟧.screen self.new
-            ≡ ⟦<Self as ScreenState>⟧.screen self.old) × KeepsSurroundings
-            ⟦<Self as ScreenState>⟧ ⟦<Self as Surroundings>⟧ self.old self.new) }
+            ≡ ⟦<Self as ScreenState>⟧.screen self.old)
+            × KeepsCounts ⟦<Self as ScreenState>⟧ self.old self.new) }
         ensures memory { MemoryOnly result }
     {
         let _ = old_layout;
@@ -378,8 +364,7 @@ impl<R: RawReader> Renderer for Plain<R> {
               position = (⟦<Self as ScreenState>⟧.surface self.old).measure buf.now screen.position;
               text = screen.text ++ buf.now;
             }) }
-        ensures keeps { KeepsSurroundings ⟦<Self as ScreenState>⟧ ⟦<Self as Surroundings>⟧
-            self.old self.new }
+        ensures keeps { KeepsCounts ⟦<Self as ScreenState>⟧ self.old self.new }
         ensures memory { MemoryOnly result }
         ensures refused { OnErr result (⟦<Self as ScreenState>⟧.screen self.new
             ≡ ⟦<Self as ScreenState>⟧.screen self.old) }
@@ -401,7 +386,7 @@ impl<R: RawReader> Renderer for Plain<R> {
 
     fn clear_screen(&mut self) -> Result<()>
         ensures ok { result ≡ Ok tt }
-        ensures clears { Clears ⟦<Self as ScreenState>⟧ ⟦<Self as Surroundings>⟧ self.old self.new }
+        ensures clears { Clears ⟦<Self as ScreenState>⟧ self.old self.new }
     {
         self.clear();
         Ok(())
@@ -410,7 +395,7 @@ impl<R: RawReader> Renderer for Plain<R> {
     /// Clears the whole screen, as `clear_screen` does.
     fn clear_rows(&mut self, layout: &Layout) -> Result<()>
         ensures ok { result ≡ Ok tt }
-        ensures clears { Clears ⟦<Self as ScreenState>⟧ ⟦<Self as Surroundings>⟧ self.old self.new }
+        ensures clears { Clears ⟦<Self as ScreenState>⟧ self.old self.new }
     {
         let _ = layout;
         self.clear();
@@ -430,8 +415,7 @@ impl<R: RawReader> Renderer for Plain<R> {
             ≡ record (⟦<Self as ScreenState>⟧.screen self.old) { text = kept }) }
         ensures loses { LosesEnd (⟦<Self as ScreenState>⟧.screen self.old)
             (⟦<Self as ScreenState>⟧.screen self.new) }
-        ensures keeps { KeepsSurroundings ⟦<Self as ScreenState>⟧ ⟦<Self as Surroundings>⟧
-            self.old self.new }
+        ensures keeps { KeepsCounts ⟦<Self as ScreenState>⟧ self.old self.new }
     {
         let end = self.text_end();
         let gone = usize::from(end.col.saturating_sub(self.place.col));
@@ -458,10 +442,6 @@ impl<R: RawReader> Renderer for Plain<R> {
             } }
         ensures screen { ⟦<Self as ScreenState>⟧.screen self.new
             ≡ ⟦<Self as ScreenState>⟧.screen self.old }
-        ensures prompt { ⟦<Self as Surroundings>⟧.prompt self.new
-            ≡ ⟦<Self as Surroundings>⟧.prompt self.old }
-        ensures hint { ⟦<Self as Surroundings>⟧.hint self.new
-            ≡ ⟦<Self as Surroundings>⟧.hint self.old }
         ensures redraws { ⟦<Self as ScreenState>⟧.redraws self.new
             ≡ ⟦<Self as ScreenState>⟧.redraws self.old }
         ensures failures { ⟦<Self as ScreenState>⟧.failures self.new
@@ -494,8 +474,7 @@ impl<R: RawReader> Renderer for Plain<R> {
         ensures screen { let screen = ⟦<Self as ScreenState>⟧.screen self.old in
             ⟦<Self as ScreenState>⟧.screen self.new
             ≡ record screen { position = record screen.position { col = 0 } } }
-        ensures keeps { KeepsSurroundings ⟦<Self as ScreenState>⟧ ⟦<Self as Surroundings>⟧
-            self.old self.new }
+        ensures keeps { KeepsCounts ⟦<Self as ScreenState>⟧ self.old self.new }
         ensures reader { rdr.new ≡ rdr.old }
     {
         let _ = rdr;

@@ -15,7 +15,7 @@ use Rattle.line_buffer.proofs.PlainClusterLemmas.{IsAscii-plain, clusters-plain}
 use Rattle.line_keys.specs.Display.{Screen, Surface, columns_back, corner, next_column, shown_end}
 use Rattle.line_screen.specs.Measure.{columns_after, measured, start_below, wrapped}
 use Rattle.line_screen.specs.MeasureLaws.{EndsPlain-append, columns_after-fitting, graphemes-push, measured-below, measured-nil, measured-one, measured-printable, measured-push}
-use Rattle.line_screen.specs.Surroundings.{LosesEnd}
+use Rattle.line_screen.specs.Cleared.{LosesEnd}
 use Rattle.line_state.proofs.PlainTextLemmas.{all_parts, measured_back}
 use Rattle.line_state.specs.ScreenState.{EndsBehind, HasRoom, with_shown}
 use Rattle.line_term.specs.Drawn.{cleaned}

@@ -2,7 +2,6 @@
 use Rattle.std.specs.Prelude.{◌≡◌, ◌++◌, ℕ, List, true, [], None}
 use Rattle.line_keys.specs.Display.{Screen, corner}
 use Rattle.line_state.specs.declared.screen_state.ScreenState as screens
-use Rattle.line_screen.specs.declared.surroundings.Surroundings as surroundings
 
 -- a screen that is known to show nothing, with the cursor at the first place
 abbrev pub blank_screen : Screen
@@ -21,22 +20,14 @@ pub record LosesEnd (old new : Screen) : Type 0 where
   pub parts : old.text ≡ new.text ++ gone
   pub rest : new ≡ record old { text = new.text }
 
-module _ {X : Type 0} (e : screens.Ghosts X) (s : surroundings.Ghosts X) where
+module _ {X : Type 0} (e : screens.Ghosts X) where
   -- the measure stays, and no full redraw and no failure is counted
   pub record KeepsCounts (old new : X) : Type 0 where
     pub surface : e.surface new ≡ e.surface old
     pub redraws : e.redraws new ≡ e.redraws old
     pub failures : e.failures new ≡ e.failures old
 
-  -- so it is, and the prompt and the text after the line stay
-  pub record KeepsSurroundings (old new : X) : Type 0 where
-    pub counts : KeepsCounts old new
-    pub prompt : s.prompt new ≡ s.prompt old
-    pub hint : s.hint new ≡ s.hint old
-
   -- the screen is blank, without a prompt and a text after the line
   pub record Clears (old new : X) : Type 0 where
     pub counts : KeepsCounts old new
     pub screen : e.screen new ≡ blank_screen
-    pub prompt : s.prompt new ≡ []
-    pub hint : s.hint new ≡ None
