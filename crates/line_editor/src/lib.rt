@@ -22,5 +22,7 @@ pub use line_buffer as buffer;
 pub use line_config as config;
 pub use line_keys as keys;
 pub use line_parts as parts;
-pub use line_state::{Drawn, EditedLine, RefreshKind, Renderer, ScreenState, View, renderer};
+pub use line_state::{
+    Drawn, EditedLine, RefreshKind, Renderer, Resizable, ScreenState, View, renderer,
+};
 pub use run::{Turned, advance, take_turn};

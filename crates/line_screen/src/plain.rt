@@ -16,7 +16,7 @@ use line_buffer::{
 use line_config::{Prompt, Result};
 use line_keys::raw_reader::RawReader;
 use line_parts::Highlighter;
-use line_state::{Renderer, ScreenState};
+use line_state::{Renderer, Resizable, ScreenState};
 use std::alloc::Global;
 use std::marker::PhantomData;
 
@@ -431,27 +431,6 @@ impl<R: RawReader> Renderer for Plain<R> {
         ensures { self.new ≡ self.old }
     {}
 
-    /// What is shown stays, and so do the prompt and the text after the line.
-    fn resize(&mut self, columns: Unit, rows: Unit)
-        requires { 0 < columns }
-        ensures surface { ⟦<Self as ScreenState>⟧.surface self.new
-            ≡ record (⟦<Self as ScreenState>⟧.surface self.old) {
-              measure = measured columns;
-              columns = columns;
-              rows = rows;
-            } }
-        ensures screen { ⟦<Self as ScreenState>⟧.screen self.new
-            ≡ ⟦<Self as ScreenState>⟧.screen self.old }
-        ensures redraws { ⟦<Self as ScreenState>⟧.redraws self.new
-            ≡ ⟦<Self as ScreenState>⟧.redraws self.old }
-        ensures failures { ⟦<Self as ScreenState>⟧.failures self.new
-            ≡ ⟦<Self as ScreenState>⟧.failures self.old }
-    {
-        self.end = None;
-        self.columns = columns;
-        self.rows = rows;
-    }
-
     fn get_columns(&self) -> Unit {
         self.columns
     }
@@ -485,4 +464,27 @@ impl<R: RawReader> Renderer for Plain<R> {
     ghost column_below = { λ p. laws.measured-below p.columns };
 
     ghost one_column = { λ p. laws.measured-push p.columns };
+}
+
+impl<R: RawReader> Resizable for Plain<R> {
+    /// What is shown stays, and so do the prompt and the text after the line.
+    fn resize(&mut self, columns: Unit, rows: Unit)
+        requires { 0 < columns }
+        ensures surface { ⟦<Self as ScreenState>⟧.surface self.new
+            ≡ record (⟦<Self as ScreenState>⟧.surface self.old) {
+              measure = measured columns;
+              columns = columns;
+              rows = rows;
+            } }
+        ensures screen { ⟦<Self as ScreenState>⟧.screen self.new
+            ≡ ⟦<Self as ScreenState>⟧.screen self.old }
+        ensures redraws { ⟦<Self as ScreenState>⟧.redraws self.new
+            ≡ ⟦<Self as ScreenState>⟧.redraws self.old }
+        ensures failures { ⟦<Self as ScreenState>⟧.failures self.new
+            ≡ ⟦<Self as ScreenState>⟧.failures self.old }
+    {
+        self.end = None;
+        self.columns = columns;
+        self.rows = rows;
+    }
 }

@@ -18,7 +18,7 @@ use line_editor::binding::ConditionalEventHandler;
 use line_editor::{Bindings, Turned};
 use line_parts::{Helper, History};
 use line_screen::KeyQueue;
-use line_state::Renderer;
+use line_state::{Renderer, Resizable};
 use line_term::{Ansi, Decoder, Size};
 use std::alloc::Global;
 use std::io::{self, Read, Write};

@@ -4,12 +4,14 @@
 pub mod drawn;
 pub mod edited_line;
 pub mod renderer;
+pub mod resizable;
 pub mod screen_state;
 pub mod view;
 
 pub use drawn::Drawn;
 pub use edited_line::EditedLine;
 pub use renderer::Renderer;
+pub use resizable::Resizable;
 pub use screen_state::ScreenState;
 pub use view::kept::KeptView;
 pub use view::{RefreshKind, View};

@@ -5,7 +5,7 @@ ghost use Rattle.line_config.specs.Error.{IsOneMore};
 ghost use Rattle.line_buffer.specs.Printable.{is_plain, is_printable};
 ghost use Rattle.line_buffer.specs.declared.layout.Position.{Position};
 ghost use Rattle.line_keys.specs.Display.{IsFullRedraw, KeepsShown, next_column};
-ghost use Rattle.line_state.specs.ScreenState.{Agrees, BeepsAtMost, DrawsNoLine, DrawsPart, EndsBehind, HasRoom, HoldsAtMost, ResizesTo, Tries, WritesAtMost, shown_by, with_shown};
+ghost use Rattle.line_state.specs.ScreenState.{Agrees, BeepsAtMost, DrawsNoLine, DrawsPart, EndsBehind, HasRoom, HoldsAtMost, Tries, WritesAtMost, shown_by, with_shown};
 
 use crate::screen_state::ScreenState;
 use line_buffer::{GraphemeClusterMode, Layout, LineBuffer, Position, Unit};
@@ -123,21 +123,10 @@ pub trait Renderer: ScreenState {
             → OnOk result (Self.screen self.new ≡ record (Self.screen self.old) { text = kept }) }
         ensures part { DrawsPart Self.ScreenState result self.old self.new };
 
-    /// Asks the terminal for its size again. Columns and rows stay what they were: `resize` sets others.
+    /// Asks the terminal for its size again. Columns and rows stay what they were: `Resizable` sets others.
     fn update_size(&mut self)
         ensures screen { Self.screen self.new ≡ Self.screen self.old }
         ensures surface { Self.surface self.new ≡ Self.surface self.old }
-        ensures beside { Self.beside self.new ≡ Self.beside self.old }
-        ensures redraws { Self.redraws self.new ≡ Self.redraws self.old }
-        ensures failures { Self.failures self.new ≡ Self.failures self.old };
-
-    /// Gives the screen another number of columns and of rows. Nothing is drawn, and the cursor counts as standing where it
-    /// stood. What is known of it then is not specified: a full redraw is to follow.
-    fn resize(&mut self, columns: Unit, rows: Unit)
-        requires { 0 < columns }
-        ensures surface { ResizesTo columns rows (Self.surface self.old) (Self.surface self.new) }
-        ensures position { (Self.screen self.new).position ≡ (Self.screen self.old).position }
-        ensures shown { KeepsShown (Self.screen self.old) (Self.screen self.new) }
         ensures beside { Self.beside self.new ≡ Self.beside self.old }
         ensures redraws { Self.redraws self.new ≡ Self.redraws self.old }
         ensures failures { Self.failures self.new ≡ Self.failures self.old };

@@ -13,6 +13,7 @@ pub mod kept;
 
 use crate::drawn::Drawn;
 use crate::renderer::Renderer;
+use crate::resizable::Resizable;
 use crate::screen_state::ScreenState;
 use line_buffer::{Layout, LineBuffer, Position, Unit, is_printable_text};
 use line_config::{Prompt, Result};
@@ -186,52 +187,6 @@ impl<'out, 'prompt, W: Renderer, P: Prompt> View<'out, 'prompt, W, P> {
         let corner = Position { row: 0, col: 0 };
         let prompt_size = self.out.calculate_position(prompt, corner);
         self.redraw(&prompt, prompt_size, false, line, info, highlighter)
-    }
-
-    /// Gives the screen another number of columns and of rows, measures the prompt anew, and draws the line in full after it,
-    /// with `info` after the line, if there is one. The rows of the kept layout are cleared. Pass a highlighter only where
-    /// colors are shown.
-    ///
-    /// # Errors
-    /// Those of the renderer. Then the kept layout stays, which is that of the old columns.
-    pub fn resized<H: Highlighter>(
-        &mut self,
-        columns: Unit,
-        rows: Unit,
-        line: &LineBuffer,
-        info: Option<&str>,
-        highlighter: Option<&H>,
-    ) -> Result<()>
-        requires columns { 0 < columns }
-        requires colors { ColorsAreOn ⟦<Self as Drawn>⟧ self.old (is_some highlighter) }
-        ensures { DrawsResized ⟦<Self as Drawn>⟧ result self.old self.new columns rows
-            line.now (option_map (λ s. s.now) info.entry) }
-    {
-        self.resize(columns, rows);
-        self.refresh_line(line, info, highlighter)
-    }
-
-    // Gives the screen another number of columns and of rows, and measures the prompt anew. Nothing is drawn.
-    fn resize(&mut self, columns: Unit, rows: Unit)
-        requires { 0 < columns }
-        ensures surface { let d = ⟦<Self as Drawn>⟧.display in
-            ResizesTo columns rows (d self.old).surface (d self.new).surface }
-        ensures prompt_end { let d = ⟦<Self as Drawn>⟧.display self.new in
-            d.prompt_end ≡ d.surface.measure d.prompt corner }
-        ensures display { let d = ⟦<Self as Drawn>⟧.display in d self.new ≡ record (d self.old) {
-          surface = (d self.new).surface;
-          prompt_end = (d self.new).prompt_end;
-          screen = (d self.new).screen;
-        } }
-        ensures beside { let d = ⟦<Self as Drawn>⟧ in d.beside self.new ≡ d.beside self.old }
-        ensures redraws { let d = ⟦<Self as Drawn>⟧ in d.redraws self.new ≡ d.redraws self.old }
-        ensures failures { let d = ⟦<Self as Drawn>⟧ in d.failures self.new ≡ d.failures self.old }
-        ensures loan { let d = ⟦<Self as Drawn>⟧ in d.loan self.new ≡ d.loan self.old }
-    {
-        self.shows_plain = false;
-        self.out.resize(columns, rows);
-        let corner = Position { row: 0, col: 0 };
-        self.prompt_size = self.out.calculate_position(self.prompt.raw(), corner);
     }
 
     // Draws all again, and keeps the layout that is drawn.
@@ -624,5 +579,53 @@ impl<'out, 'prompt, W: Renderer, P: Prompt> View<'out, 'prompt, W, P> {
         ensures { result.now ≡ (⟦<Self as Drawn>⟧.display self.now).layout }
     {
         &self.layout
+    }
+}
+
+impl<'out, 'prompt, W: Resizable, P: Prompt> View<'out, 'prompt, W, P> {
+    /// Gives the screen another number of columns and of rows, measures the prompt anew, and draws the line in full after it,
+    /// with `info` after the line, if there is one. The rows of the kept layout are cleared. Pass a highlighter only where
+    /// colors are shown.
+    ///
+    /// # Errors
+    /// Those of the renderer. Then the kept layout stays, which is that of the old columns.
+    pub fn resized<H: Highlighter>(
+        &mut self,
+        columns: Unit,
+        rows: Unit,
+        line: &LineBuffer,
+        info: Option<&str>,
+        highlighter: Option<&H>,
+    ) -> Result<()>
+        requires columns { 0 < columns }
+        requires colors { ColorsAreOn ⟦<Self as Drawn>⟧ self.old (is_some highlighter) }
+        ensures { DrawsResized ⟦<Self as Drawn>⟧ result self.old self.new columns rows
+            line.now (option_map (λ s. s.now) info.entry) }
+    {
+        self.resize(columns, rows);
+        self.refresh_line(line, info, highlighter)
+    }
+
+    // Gives the screen another number of columns and of rows, and measures the prompt anew. Nothing is drawn.
+    fn resize(&mut self, columns: Unit, rows: Unit)
+        requires { 0 < columns }
+        ensures surface { let d = ⟦<Self as Drawn>⟧.display in
+            ResizesTo columns rows (d self.old).surface (d self.new).surface }
+        ensures prompt_end { let d = ⟦<Self as Drawn>⟧.display self.new in
+            d.prompt_end ≡ d.surface.measure d.prompt corner }
+        ensures display { let d = ⟦<Self as Drawn>⟧.display in d self.new ≡ record (d self.old) {
+          surface = (d self.new).surface;
+          prompt_end = (d self.new).prompt_end;
+          screen = (d self.new).screen;
+        } }
+        ensures beside { let d = ⟦<Self as Drawn>⟧ in d.beside self.new ≡ d.beside self.old }
+        ensures redraws { let d = ⟦<Self as Drawn>⟧ in d.redraws self.new ≡ d.redraws self.old }
+        ensures failures { let d = ⟦<Self as Drawn>⟧ in d.failures self.new ≡ d.failures self.old }
+        ensures loan { let d = ⟦<Self as Drawn>⟧ in d.loan self.new ≡ d.loan self.old }
+    {
+        self.shows_plain = false;
+        self.out.resize(columns, rows);
+        let corner = Position { row: 0, col: 0 };
+        self.prompt_size = self.out.calculate_position(self.prompt.raw(), corner);
     }
 }

@@ -27,7 +27,7 @@ use line_config::{Prompt, Result};
 use line_keys::raw_reader::RawReader;
 use line_parts::Highlighter;
 use line_screen::Plain;
-use line_state::{Renderer, ScreenState};
+use line_state::{Renderer, Resizable, ScreenState};
 use std::alloc::Global;
 use std::io::Write;
 use std::mem;
@@ -484,15 +484,6 @@ impl<O: Write + Drop, R: RawReader> Renderer for Ansi<O, R> {
         ensures { self.new ≡ self.old }
     {}
 
-    fn resize(&mut self, columns: Unit, rows: Unit)
-        requires { 0 < columns }
-        ensures { Resizes ⟦<Self as ScreenState>⟧ ⟦<Self as Output>⟧ self.old self.new
-            columns rows }
-    {
-        self.whole = false;
-        self.shown.resize(columns, rows);
-    }
-
     fn get_columns(&self) -> Unit {
         self.shown.get_columns()
     }
@@ -579,4 +570,15 @@ impl<O: Write + Drop, R: RawReader> Renderer for Ansi<O, R> {
     ghost column_below = { λ a. laws.measured-below a.shown.columns };
 
     ghost one_column = { λ a. laws.measured-push a.shown.columns };
+}
+
+impl<O: Write + Drop, R: RawReader> Resizable for Ansi<O, R> {
+    fn resize(&mut self, columns: Unit, rows: Unit)
+        requires { 0 < columns }
+        ensures { Resizes ⟦<Self as ScreenState>⟧ ⟦<Self as Output>⟧ self.old self.new
+            columns rows }
+    {
+        self.whole = false;
+        self.shown.resize(columns, rows);
+    }
 }

@@ -17,6 +17,7 @@ use std::process::Abort;
 use tests_parties::advisor::Advisor;
 use tests_parties::shelf::Shelf;
 use tests_steps::calls::{Editor, executed, letters};
+use tests_steps::fixed::Fixed;
 use tests_steps::recorder::Recorder;
 
 mod large;
@@ -57,10 +58,12 @@ fn on_the_last_row(rt: HostRuntime) {
         prompt.push('\n').expect(&rt, "no fault");
     }
     for (columns, typed, calls, column) in ON_THE_LAST_ROW {
-        let mut screen = Recorder::new(alloc, (*columns).max(1), false, 0);
+        let mut screen = Fixed {
+            screen: Recorder::new(alloc, (*columns).max(1), false, 0),
+        };
         let history = Shelf::new(alloc, 0);
         let context = Context::new(&history);
-        let mut state: State<'_, '_, Recorder, Advisor, String, Shelf> = State::new(
+        let mut state: State<'_, '_, Fixed, Advisor, String, Shelf> = State::new(
             alloc,
             &mut screen,
             &prompt,
@@ -72,7 +75,7 @@ fn on_the_last_row(rt: HostRuntime) {
             state.edit_insert(c, 1).expect(&rt, "no fault");
         }
         let cursor = state.layout().cursor;
-        let letters = letters(alloc, state.out().log(), 1).expect(&rt, "no fault");
+        let letters = letters(alloc, state.out().screen.log(), 1).expect(&rt, "no fault");
         let is_so = (cursor.row, cursor.col, letters.as_str()) == (65535, *column, *calls);
         holds(&rt, is_so, typed, usize::from(cursor.col));
     }

@@ -3,6 +3,7 @@
 #![tactic(auto)]
 
 pub mod calls;
+pub mod fixed;
 pub mod recorder;
 pub mod source;
 pub mod typist;

@@ -8,7 +8,7 @@ use crate::typist::Typist;
 use line_buffer::{GraphemeClusterMode, Layout, LineBuffer, Position, Unit};
 use line_config::{Prompt, ReadlineError, Result};
 use line_parts::Highlighter;
-use line_state::{Renderer, ScreenState};
+use line_state::{Renderer, Resizable, ScreenState};
 use std::alloc::Global;
 use std::borrow::CowStr;
 use std::fmt::{Display, Formatter};
@@ -355,11 +355,6 @@ impl Renderer for Recorder {
 
     fn update_size(&mut self) {}
 
-    fn resize(&mut self, columns: Unit, rows: Unit) {
-        self.columns = columns;
-        self.rows = rows;
-    }
-
     fn get_columns(&self) -> Unit {
         self.columns
     }
@@ -396,4 +391,11 @@ impl Renderer for Recorder {
     ghost column_below = { λ r. laws.measured_by_bytes-below r.columns };
 
     ghost one_column = { λ r. laws.measured_by_bytes-push r.columns };
+}
+
+impl Resizable for Recorder {
+    fn resize(&mut self, columns: Unit, rows: Unit) {
+        self.columns = columns;
+        self.rows = rows;
+    }
 }

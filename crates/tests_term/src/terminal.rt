@@ -6,7 +6,7 @@ use line_buffer::{GraphemeClusterMode, Layout, LineBuffer, Position};
 use line_config::{ReadlineError, Result};
 use line_parts::{CmdKind, DimHints, Highlighter};
 use line_screen::KeyQueue;
-use line_state::Renderer;
+use line_state::{Renderer, Resizable};
 use line_term::Ansi;
 use std::alloc::Global;
 use std::io::{self, ErrorKind, Write};

@@ -14,7 +14,7 @@ use line_config::{Prompt, Result};
 use line_keys::editor_state::EditorState;
 use line_keys::refresher::Refresher;
 use line_parts::{Helper, History};
-use line_state::{RefreshKind, Renderer};
+use line_state::{RefreshKind, Renderer, Resizable};
 use std::fmt::{self, Debug, Formatter};
 
 impl<'out, 'prompt, W: Renderer, H: Helper, P: Prompt, S: History> State<
@@ -78,29 +78,6 @@ impl<'out, 'prompt, W: Renderer, H: Helper, P: Prompt, S: History> State<
         )
     }
 
-    /// Gives the screen another number of columns and of rows, measures the prompt anew, and draws the line in full after it,
-    /// with the hint that is there; a message or another prompt that is shown disappears. The line, its changes, the hint and
-    /// the history index stay. The rows that were drawn before are cleared; a terminal that wraps lines anew by itself may keep
-    /// some of them above.
-    ///
-    /// # Errors
-    /// Those of the renderer. Columns and rows are the new ones then, and the kept layout is the old one: another full redraw
-    /// is to follow.
-    #[tactic(auto, using(crate::proofs::EditLemmas::shown_hint))]
-    pub fn resized(&mut self, columns: Unit, rows: Unit) -> Result<()>
-        requires { 0 < columns }
-        ensures { Resizes ⟦<Self as EditorState>⟧ result self.old self.new columns rows }
-    {
-        let colors = self.view.colors_enabled();
-        self.view.resized(
-            columns,
-            rows,
-            self.edited.line(),
-            info_text(Info::Hint, &self.hint),
-            self.parties.highlighter(colors),
-        )
-    }
-
     /// Clears the screen. The kept cursor and end are then in the first column of the first row, and what the screen shows is
     /// not specified: `refresh_line` is to follow.
     ///
@@ -150,6 +127,38 @@ impl<'out, 'prompt, W: Renderer, H: Helper, P: Prompt, S: History> State<
     {
         self.clear_screen()?;
         self.refresh_line()
+    }
+}
+
+impl<'out, 'prompt, W: Resizable, H: Helper, P: Prompt, S: History> State<
+    'out,
+    'prompt,
+    W,
+    H,
+    P,
+    S,
+> {
+    /// Gives the screen another number of columns and of rows, measures the prompt anew, and draws the line in full after it,
+    /// with the hint that is there; a message or another prompt that is shown disappears. The line, its changes, the hint and
+    /// the history index stay. The rows that were drawn before are cleared; a terminal that wraps lines anew by itself may keep
+    /// some of them above.
+    ///
+    /// # Errors
+    /// Those of the renderer. Columns and rows are the new ones then, and the kept layout is the old one: another full redraw
+    /// is to follow.
+    #[tactic(auto, using(crate::proofs::EditLemmas::shown_hint))]
+    pub fn resized(&mut self, columns: Unit, rows: Unit) -> Result<()>
+        requires { 0 < columns }
+        ensures { Resizes ⟦<Self as EditorState>⟧ result self.old self.new columns rows }
+    {
+        let colors = self.view.colors_enabled();
+        self.view.resized(
+            columns,
+            rows,
+            self.edited.line(),
+            info_text(Info::Hint, &self.hint),
+            self.parties.highlighter(colors),
+        )
     }
 }
 
