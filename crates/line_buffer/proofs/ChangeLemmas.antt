@@ -1,7 +1,7 @@
 -- The newest entries of a list of changes.
 use Rattle.std.proofs.Common.{◌+◌, length, slice_index_or, slice_set, take, min, replicate, drop, ap₂, ◌≡◌, ℕ, ◌-◌, ◌<◌, zero, suc, Bool, true, false, List, [], ◌∷◌, ◌++◌, map, reverse, refl, sym, ap, ◌∙◌, arith}
-use Rattle.std.proofs.lemmas.List.{drop_all, reverse-append, map-append, set-get_or, set_split}
-use Rattle.line_buffer.specs.declared.undo.list.Change.{Change}
+use Rattle.std.proofs.lemmas.List.{drop_all, length-map, length-reverse, reverse-append, map-append, set-get_or, set_split}
+use Rattle.line_buffer.specs.declared.undo.change.Change.{Change}
 use Rattle.line_buffer.specs.Changes.{Entry, begins, ends, inserted, deleted, replaced, Changes, newest_begins, begins_in_a_row, closed, without_begins}
 use Rattle.std.proofs.lemmas.Bool.Decides.{nat_tests}
 use Rattle.std.specs.Prelude.{nat_lt, if◌then◌else◌}
@@ -11,14 +11,17 @@ use Rattle.line_buffer.specs.KeptChanges.{entry_of, entries_of}
 pub entries_of-push : (changes : List Change) (c : Change) → entries_of (changes ++ c ∷ []) ≡ entry_of c ∷ entries_of changes
 entries_of-push changes c = ap reverse (map-append entry_of changes (c ∷ [])) ∙ reverse-append (map entry_of changes) (entry_of c ∷ [])
 
+pub entries_of-length : (changes : List Change) → length (entries_of changes) ≡ length changes
+entries_of-length changes = length-reverse (map entry_of changes) ∙ length-map changes entry_of
+
 -- the changes are the older ones and an edited newest one
-edited : (changes : List Change) (n : ℕ) (new : Change) → n + 1 ≡ length changes
+pub edited : (changes : List Change) (n : ℕ) (new : Change) → n + 1 ≡ length changes
     → entries_of (slice_set changes n new) ≡ entry_of new ∷ entries_of (take n changes)
 edited changes n new e =
     let none : drop (suc n) changes ≡ [] = drop_all (suc n) changes (omega arith) in
     ap entries_of (set_split changes n new (omega arith) ∙ ap (λ cs. take n changes ++ new ∷ cs) none) ∙ entries_of-push (take n changes) new
 
-unedited : (changes : List Change) (n : ℕ) (old : Change) → n + 1 ≡ length changes → old ≡ slice_index_or changes n old
+pub unedited : (changes : List Change) (n : ℕ) (old : Change) → n + 1 ≡ length changes → old ≡ slice_index_or changes n old
     → entries_of changes ≡ entry_of old ∷ entries_of (take n changes)
 unedited changes n old e is = ap entries_of (sym (set-get_or changes n old)) ∙ ap (λ c. entries_of (slice_set changes n c)) (sym is) ∙ edited changes n old e
 

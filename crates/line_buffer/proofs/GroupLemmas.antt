@@ -1,17 +1,23 @@
 -- Among any newest entries stand at most so many more begins than ends as groups are open.
 use Rattle.std.proofs.Common.{min, ◌^◌, nat_le, ◌&&◌, length-append, replicate, max, ◌≡◌, ℕ, ◌+◌, ◌-◌, ◌<◌, ◌≤◌, zero, suc, Bool, true, false, cond, ◌==◌, List, [], ◌∷◌, ◌++◌, length, drop, filter, Option, Some, None, Result, Ok, Err, OnOk, OnErr, encode_utf8, take, unwrap_or, ◌⊎◌, inl, inr, refl, sym, ap, ap₂, ◌∙◌, subst, arith}
 use Rattle.std.specs.Fn.{iterate}
-use Rattle.std.specs.List.{range_with_len, slice_get, count_by, list_all}
+use Rattle.std.specs.List.{range_with_len, slice_get, slice_index_or, slice_set, count_by, list_all}
 use Rattle.std.proofs.Math.Seq.{drop-length, take-nil}
 use Rattle.std.proofs.lemmas.Bool.{leb-true}
-use Rattle.std.proofs.lemmas.List.Sums.{sum_by-append}
+use Rattle.std.proofs.lemmas.List.{length-take}
+use Rattle.std.proofs.lemmas.List.Sums.{count_by-le-length, sum_by-append}
 use Rattle.line_buffer.specs.Character.{is_alphanumeric, is_one_alphanumeric}
 use Rattle.line_buffer.specs.Changes.{Changes, Entry, begun, no_changes, ended, closed, begins, ends, inserted, deleted, replaced, with_delete, with_insert, with_joined_delete, with_joined_insert, with_replace, with_typed}
 use Rattle.line_buffer.specs.Edit.{on_entries}
 use Rattle.line_buffer.specs.Line.{Line}
 use Rattle.line_buffer.specs.Undo.{taken_back, GroupsFit, NoGroupOpen, UndoesStepByStep, after_undo, all_taken_back, is_begin, is_change, is_end, is_step, newest_steps, steps_len, without_steps}
-use Rattle.line_buffer.proofs.ChangeLemmas.{closed-singly, closed_singly}
+use Rattle.line_buffer.proofs.ChangeLemmas.{closed-singly, closed_singly, edited, entries_of-length, entries_of-push, unedited}
+use Rattle.line_buffer.specs.KeptChanges.{entries_of, entry_of}
+use Rattle.line_buffer.specs.EntryKind.{closed_by, opened_by, taken_kind}
+use Rattle.line_buffer.specs.declared.undo.change.Change.{Change}
+use Rattle.line_buffer.specs.declared.undo.steps.Taken.TheVariants as Kind
 use Rattle.line_buffer.proofs.StepLemmas.{count_by-front, step_by_step}
+use Rattle.line_buffer.proofs.UndoLemmas.{closed-kind, one_if, opened-kind}
 use Rattle.line_buffer.proofs.WordLemmas.{filter-yes, filter-no}
 
 -- at most n more begins than ends among any newest entries
@@ -21,11 +27,7 @@ Fit entries n = (k : ℕ) → count_by is_begin (take k entries) ≤ count_by is
 nothing_fits : (n : ℕ) → Fit [] n
 nothing_fits n k = rw (take-nil k) (omega arith)
 
--- ---- an entry that is neither a begin nor an end
-
--- the number that a test adds to a count
-abbrev one_if : Bool → ℕ
-one_if b = cond b 1 0
+-- ---- an entry that was added or edited
 
 count_first : (p : Entry → Bool) (e : Entry) (entries : List Entry) (k : ℕ) → count_by p (take (suc k) (e ∷ entries)) ≡ 0 + one_if (p e) + count_by p (take k entries)
 count_first p e entries k = sum_by-append (λ x. cond (p x) 1 0) (e ∷ []) (take k entries)
@@ -36,62 +38,47 @@ count_no p e entries k t = let none : one_if (p e) ≡ 0 = ap one_if t in omega 
 count_yes : (p : Entry → Bool) (e : Entry) (entries : List Entry) (k : ℕ) → p e ≡ true → count_by p (take (suc k) (e ∷ entries)) ≡ 1 + count_by p (take k entries)
 count_yes p e entries k t = let one : one_if (p e) ≡ 1 = ap one_if t in omega (arith, count_first p e entries k)
 
-change_on : (e : Entry) (entries : List Entry) (n : ℕ) → is_begin e ≡ false → is_end e ≡ false → Fit entries n → Fit (e ∷ entries) n
-change_on e entries n b d h zero = omega arith
-change_on e entries n b d h (suc k) = omega (arith, h k, count_no is_begin e entries k b, count_no is_end e entries k d)
+-- an entry of text comes before the others
+text_on : (e : Entry) (entries : List Entry) (n : ℕ) → taken_kind e ≡ Kind.Change → Fit entries n → Fit (e ∷ entries) n
+text_on e entries n t h zero = omega arith
+text_on e entries n t h (suc k) =
+    let opened : one_if (is_begin e) ≡ 0 = sym (opened-kind e) ∙ ap opened_by t in
+    let shut : one_if (is_end e) ≡ 0 = sym (closed-kind e) ∙ ap closed_by t in
+    omega (arith, h k, opened, shut, count_first is_begin e entries k, count_first is_end e entries k)
 
-change_off : (e : Entry) (entries : List Entry) (n : ℕ) → is_begin e ≡ false → is_end e ≡ false → Fit (e ∷ entries) n → Fit entries n
-change_off e entries n b d h k = omega (arith, h (suc k), count_no is_begin e entries k b, count_no is_end e entries k d)
+-- an entry comes in place of one of its kind
+kind_kept : (e e' : Entry) (entries : List Entry) (n : ℕ) → taken_kind e' ≡ taken_kind e → Fit (e ∷ entries) n → Fit (e' ∷ entries) n
+kind_kept e e' entries n t h zero = omega arith
+kind_kept e e' entries n t h (suc k) =
+    let opened : one_if (is_begin e') ≡ one_if (is_begin e) = sym (opened-kind e') ∙ ap opened_by t ∙ opened-kind e in
+    let shut : one_if (is_end e') ≡ one_if (is_end e) = sym (closed-kind e') ∙ ap closed_by t ∙ closed-kind e in
+    omega (
+      arith,
+      h (suc k),
+      opened,
+      shut,
+      count_first is_begin e entries k,
+      count_first is_end e entries k,
+      count_first is_begin e' entries k,
+      count_first is_end e' entries k,
+    )
 
--- one of two lists, both of which fit
-either : (b : Bool) (xs ys : List Entry) (n : ℕ) → Fit xs n → Fit ys n → Fit (cond b xs ys) n
-either true xs ys n x y = x
-either false xs ys n x y = y
+-- the kept changes, and how many groups are open
+abbrev pub kept : List Change → ℕ → Changes
+kept changes n = record { entries = entries_of changes; open_groups = n }
 
-fit_joined_insert : (place : ℕ) (t : List ℕ) (entries : List Entry) (n : ℕ) → Fit entries n → Fit (with_joined_insert place t entries) n
-fit_joined_insert place t [] n h = change_on (inserted place t) [] n refl refl h
-fit_joined_insert place t (begins ∷ es) n h = change_on (inserted place t) (begins ∷ es) n refl refl h
-fit_joined_insert place t (ends ∷ es) n h = change_on (inserted place t) (ends ∷ es) n refl refl h
-fit_joined_insert place t (deleted x y ∷ es) n h = change_on (inserted place t) (deleted x y ∷ es) n refl refl h
-fit_joined_insert place t (replaced x y z ∷ es) n h = change_on (inserted place t) (replaced x y z ∷ es) n refl refl h
-fit_joined_insert place t (inserted at old ∷ es) n h =
-    either (at + length old == place) (inserted at (old ++ t) ∷ es) (inserted place t ∷ inserted at old ∷ es) n
-    (change_on (inserted at (old ++ t)) es n refl refl (change_off (inserted at old) es n refl refl h))
-    (change_on (inserted place t) (inserted at old ∷ es) n refl refl h)
+-- a change of the text was added
+pub added_fits : (changes changes' : List Change) (n : ℕ) (c : Change) → changes' ≡ changes ++ c ∷ [] → taken_kind (entry_of c) ≡ Kind.Change → GroupsFit (kept changes n) → GroupsFit (kept changes' n)
+added_fits changes changes' n c e t h = record {
+  fit = subst (λ es. Fit es n) (sym (ap entries_of e ∙ entries_of-push changes c)) (text_on (entry_of c) (entries_of changes) n t h.fit);
+}
 
-pub fit_insert : (place : ℕ) (t : List ℕ) (entries : List Entry) (n : ℕ) → Fit entries n → Fit (with_insert place t entries) n
-fit_insert place [] entries n h = h
-fit_insert place (b ∷ bs) entries n h = change_on (inserted place (b ∷ bs)) entries n refl refl h
-
-fit_joined_delete : (place : ℕ) (t : List ℕ) (entries : List Entry) (n : ℕ) → Fit entries n → Fit (with_joined_delete place t entries) n
-fit_joined_delete place t [] n h = change_on (deleted place t) [] n refl refl h
-fit_joined_delete place t (begins ∷ es) n h = change_on (deleted place t) (begins ∷ es) n refl refl h
-fit_joined_delete place t (ends ∷ es) n h = change_on (deleted place t) (ends ∷ es) n refl refl h
-fit_joined_delete place t (inserted x y ∷ es) n h = change_on (deleted place t) (inserted x y ∷ es) n refl refl h
-fit_joined_delete place t (replaced x y z ∷ es) n h = change_on (deleted place t) (replaced x y z ∷ es) n refl refl h
-fit_joined_delete place t (deleted at old ∷ es) n h =
-    let rest : Fit es n = change_off (deleted at old) es n refl refl h in
-    either (at == place) (deleted at (old ++ t) ∷ es) (cond (place + length t == at) (deleted place (t ++ old) ∷ es) (deleted place t ∷ deleted at old ∷ es)) n
-    (change_on (deleted at (old ++ t)) es n refl refl rest)
-    (either (place + length t == at) (deleted place (t ++ old) ∷ es) (deleted place t ∷ deleted at old ∷ es) n
-    (change_on (deleted place (t ++ old)) es n refl refl rest) (change_on (deleted place t) (deleted at old ∷ es) n refl refl h))
-
-pub fit_delete : (place : ℕ) (t : List ℕ) (entries : List Entry) (n : ℕ) → Fit entries n → Fit (with_delete place t entries) n
-fit_delete place [] entries n h = h
-fit_delete place (b ∷ bs) entries n h =
-    either (is_one_alphanumeric (b ∷ bs)) (with_joined_delete place (b ∷ bs) entries) (deleted place (b ∷ bs) ∷ entries) n
-    (fit_joined_delete place (b ∷ bs) entries n h) (change_on (deleted place (b ∷ bs)) entries n refl refl h)
-
-pub fit_replace : (place : ℕ) (old new : List ℕ) (entries : List Entry) (n : ℕ) → Fit entries n → Fit (with_replace place old new entries) n
-fit_replace place old new [] n h = change_on (replaced place old new) [] n refl refl h
-fit_replace place old new (begins ∷ es) n h = change_on (replaced place old new) (begins ∷ es) n refl refl h
-fit_replace place old new (ends ∷ es) n h = change_on (replaced place old new) (ends ∷ es) n refl refl h
-fit_replace place old new (inserted x y ∷ es) n h = change_on (replaced place old new) (inserted x y ∷ es) n refl refl h
-fit_replace place old new (deleted x y ∷ es) n h = change_on (replaced place old new) (deleted x y ∷ es) n refl refl h
-fit_replace place old new (replaced at before after ∷ es) n h =
-    either (at + length after == place) (replaced at (before ++ old) (after ++ new) ∷ es) (replaced place old new ∷ replaced at before after ∷ es) n
-    (change_on (replaced at (before ++ old) (after ++ new)) es n refl refl (change_off (replaced at before after) es n refl refl h))
-    (change_on (replaced place old new) (replaced at before after ∷ es) n refl refl h)
+-- the newest change was edited, and is of its kind
+pub edited_fits : (changes : List Change) (i n : ℕ) (old new : Change) → i + 1 ≡ length changes → old ≡ slice_index_or changes i old → taken_kind (entry_of new) ≡ taken_kind (entry_of old)
+    → GroupsFit (kept changes n) → GroupsFit (kept (slice_set changes i new) n)
+edited_fits changes i n old new e is t h =
+    let before = subst (λ es. Fit es n) (unedited changes i old e is) h.fit in
+    record { fit = subst (λ es. Fit es n) (sym (edited changes i new e)) (kind_kept (entry_of old) (entry_of new) (entries_of (take i changes)) n t before) }
 
 -- ---- groups that are closed or begun
 
@@ -99,28 +86,8 @@ end_on : (entries : List Entry) (n : ℕ) → Fit entries (suc n) → Fit (ends 
 end_on entries n h zero = omega arith
 end_on entries n h (suc k) = omega (arith, h k, count_no is_begin ends entries k refl, count_yes is_end ends entries k refl)
 
-fit_ends : (n m : ℕ) (entries : List Entry) → Fit entries (n + m) → Fit (replicate n ends ++ entries) m
-fit_ends zero m entries h = λ k. omega (arith, h k)
-fit_ends (suc n) m entries h =
-    end_on (replicate n ends ++ entries) m (fit_ends n (suc m) entries (λ k. omega (arith, h k)))
-
 begin_off : (entries : List Entry) (n : ℕ) → Fit (begins ∷ entries) (suc n) → Fit entries n
 begin_off entries n h k = omega (arith, h (suc k), count_yes is_begin begins entries k refl, count_no is_end begins entries k refl)
-
-fit_as_many : (n : ℕ) (entries : List Entry) → Fit entries n → Fit (replicate n ends ++ entries) 0
-fit_as_many n entries h = fit_ends n 0 entries (λ k. omega (arith, h k))
-
-fit_singly : (n : ℕ) (entries : List Entry) → Fit entries n → Fit (closed_singly n entries) 0
-fit_singly zero entries h = h
-fit_singly (suc n) [] h = fit_as_many (suc n) [] h
-fit_singly (suc n) (begins ∷ es) h = fit_singly n es (begin_off es n h)
-fit_singly (suc n) (ends ∷ es) h = fit_as_many (suc n) (ends ∷ es) h
-fit_singly (suc n) (inserted x y ∷ es) h = fit_as_many (suc n) (inserted x y ∷ es) h
-fit_singly (suc n) (deleted x y ∷ es) h = fit_as_many (suc n) (deleted x y ∷ es) h
-fit_singly (suc n) (replaced x y z ∷ es) h = fit_as_many (suc n) (replaced x y z ∷ es) h
-
-fit_closed : (n : ℕ) (entries : List Entry) → Fit entries n → Fit (closed n entries) 0
-fit_closed n entries h = subst (λ es. Fit es 0) (sym (closed-singly n entries)) (fit_singly n entries h)
 
 -- ---- steps that are taken back
 
@@ -153,42 +120,76 @@ fit_undone entries n m h =
 
 -- ---- for calls: what they leave fits, since a success fits and an error leaves nothing
 
-pub added_fits : (old : Changes) (add : List Entry → List Entry) → ((entries : List Entry) (n : ℕ) → Fit entries n → Fit (add entries) n) → GroupsFit old → GroupsFit (on_entries add old)
-added_fits old add step h = record { fit = step old.entries old.open_groups h.fit }
+-- an end was added for an open group
+pub end_fits : (changes changes' : List Change) (n : ℕ) (c : Change) → changes' ≡ changes ++ c ∷ [] → entry_of c ≡ ends → 0 < n → GroupsFit (kept changes n) → GroupsFit (kept changes' (n - 1))
+end_fits changes changes' n c e is some h =
+    let one : n ≡ suc (n - 1) = omega arith in
+    record {
+      fit =
+          subst (λ es. Fit es (n - 1)) (sym (ap entries_of e ∙ entries_of-push changes c ∙ ap (λ x. x ∷ entries_of changes) is))
+          (end_on (entries_of changes) (n - 1) (subst (λ m. Fit (entries_of changes) m) one h.fit));
+    }
 
-pub settled_fits : {T E : Type 0} (r s : Result T E) (old mid new : Changes) (add : List Entry → List Entry) → ((entries : List Entry) (n : ℕ) → Fit entries n → Fit (add entries) n)
-    → GroupsFit old → OnOk r (mid ≡ on_entries add old) → s ≡ r → OnOk s (new ≡ mid) → OnErr s (new ≡ no_changes) → GroupsFit new
-settled_fits (Ok x) s old mid new add step h made same ok err =
-    let now : new ≡ mid = subst (λ q. OnOk q (new ≡ mid)) same ok in
-    subst GroupsFit (sym (now ∙ made)) (added_fits old add step h)
-settled_fits (Err e) s old mid new add step h made same ok err =
-    let now : new ≡ no_changes = subst (λ q. OnErr q (new ≡ no_changes)) same err in
-    subst GroupsFit (sym now) (record { fit = nothing_fits 0 })
+ends_shift : (n : ℕ) (entries : List Entry) → replicate n ends ++ ends ∷ entries ≡ ends ∷ (replicate n ends ++ entries)
+ends_shift zero entries = refl
+ends_shift (suc n) entries = ap (λ es. ends ∷ es) (ends_shift n entries)
 
-pub fit_typed : (place c : ℕ) (entries : List Entry) (n : ℕ) → Fit entries n → Fit (with_typed place c 1 entries) n
-fit_typed place c entries n h =
-    either (is_alphanumeric c) (with_joined_insert place (encode_utf8 c) entries) (with_insert place (encode_utf8 c ++ []) entries) n
-    (fit_joined_insert place (encode_utf8 c) entries n h) (fit_insert place (encode_utf8 c ++ []) entries n h)
+-- an end was added, and with the ends that are still to come there are as many
+pub end_added : (changes changes' : List Change) (n : ℕ) (c : Change) → changes' ≡ changes ++ c ∷ [] → entry_of c ≡ ends → 0 < n
+    → replicate (n - 1) ends ++ entries_of changes' ≡ replicate n ends ++ entries_of changes
+end_added changes changes' n c e is some =
+    let one : n ≡ suc (n - 1) = omega arith in
+    ap (λ es. replicate (n - 1) ends ++ es) (ap entries_of e ∙ entries_of-push changes c ∙ ap (λ x. x ∷ entries_of changes) is)
+    ∙ ends_shift (n - 1) (entries_of changes) ∙ sym (ap (λ k. replicate k ends ++ entries_of changes) one)
 
--- all groups were closed
-pub ended_fits : {T E : Type 0} (r : Result T E) (old new : Changes) → GroupsFit old → OnOk r (new ≡ ended old) → OnErr r (new ≡ no_changes) → GroupsFit new
-ended_fits (Ok x) old new h ok err = subst GroupsFit (sym ok) (record { fit = fit_closed old.open_groups old.entries h.fit })
-ended_fits (Err e) old new h ok err = subst GroupsFit (sym err) (record { fit = nothing_fits 0 })
+begin_on : (entries : List Entry) (n m : ℕ) → min (n + 1) (length entries + 1) ≤ m → Fit entries n → Fit (begins ∷ entries) m
+begin_on entries n m le h zero = omega arith
+begin_on entries n m le h (suc k) =
+    let within : count_by is_begin (take k entries) ≤ length entries = omega (arith, count_by-le-length is_begin (take k entries), length-take k entries) in
+    omega (arith, h k, within, le, count_yes is_begin begins entries k refl, count_no is_end begins entries k refl)
+
+-- a begin was added, and the count of open groups stays where it is past the number of changes
+pub begun_fits : (changes changes' : List Change) (n m : ℕ) (c : Change) → changes' ≡ changes ++ c ∷ [] → entry_of c ≡ begins → min (n + 1) (length changes + 1) ≤ m
+    → GroupsFit (kept changes n) → GroupsFit (kept changes' m)
+begun_fits changes changes' n m c e is le h =
+    let long : min (n + 1) (length (entries_of changes) + 1) ≤ m = omega (arith, le, entries_of-length changes) in
+    record {
+      fit =
+          subst (λ es. Fit es m) (sym (ap entries_of e ∙ entries_of-push changes c ∙ ap (λ x. x ∷ entries_of changes) is))
+          (begin_on (entries_of changes) n m long h.fit);
+    }
+
+-- a begin of an open group was taken away
+pub begin_fits : (entries : List Entry) (changes : List Change) (n : ℕ) → entries ≡ begins ∷ entries_of changes → 0 < n → Fit entries n → GroupsFit (kept changes (n - 1))
+begin_fits entries changes n e some h =
+    let one : n ≡ suc (n - 1) = omega arith in
+    record { fit = begin_off (entries_of changes) (n - 1) (subst (λ m. Fit (begins ∷ entries_of changes) m) one (subst (λ es. Fit es n) e h)) }
 
 -- steps were taken back
-pub undone_fits : {T E : Type 0} (r : Result T E) (old new : Changes) (m : ℕ) → GroupsFit old → OnOk r (new ≡ without_steps m old) → OnErr r (new ≡ no_changes) → GroupsFit new
-undone_fits (Ok x) old new m h ok err = subst GroupsFit (sym ok) (record { fit = fit_undone old.entries old.open_groups m h.fit })
-undone_fits (Err e) old new m h ok err = subst GroupsFit (sym err) (record { fit = nothing_fits 0 })
+pub undone_fits : (entries : List Entry) (changes : List Change) (n m : ℕ) → entries_of changes ≡ drop (steps_len entries m) entries → Fit entries n → GroupsFit (kept changes n)
+undone_fits entries changes n m e h = record { fit = subst (λ es. Fit es n) (sym e) (fit_undone entries n m h) }
+
+steps_len-max : (entries : List Entry) (n : ℕ) → steps_len entries n ≡ steps_len entries (max n 1)
+steps_len-max entries n =
+    let same : max (max n 1) 1 ≡ max n 1 = omega arith in
+    sym (ap (λ m. unwrap_or (slice_get (filter (is_step entries) (range_with_len 1 (length entries))) (m - 1)) (length entries)) same)
+
+-- the line and the changes once m steps were taken back, one for n = 0
+pub undone_parts : (entries : List Entry) (changes : List Change) (n m g : ℕ) (old new : Line) → m ≡ max n 1 → new ≡ all_taken_back (newest_steps m entries) old
+    → entries_of changes ≡ drop (steps_len entries m) entries
+    → (new ≡ all_taken_back (newest_steps n entries) old) × (kept changes g ≡ without_steps n (record { entries = entries; open_groups = g }))
+undone_parts entries changes n m g old new e l d =
+    let same : steps_len entries m ≡ steps_len entries n = ap (steps_len entries) e ∙ sym (steps_len-max entries n) in (
+      l ∙ ap (λ k. all_taken_back (take k entries) old) same,
+      ap (λ es. let c : Changes = record { entries = es; open_groups = g } in c) (d ∙ ap (λ k. drop k entries) same),
+    )
 
 -- where the count of open groups is 0 no group is open
 pub none_open : (c : Changes) → GroupsFit c → c.open_groups ≡ 0 → NoGroupOpen c.entries
 none_open c h zero_open k = omega (arith, h.fit k)
 
 steps_same : (entries : List Entry) (l : Line) (n : ℕ) → after_undo n (entries, l) ≡ after_undo (max n 1) (entries, l)
-steps_same entries l n =
-    let same : max (max n 1) 1 ≡ max n 1 = omega arith in
-    let len : steps_len entries n ≡ steps_len entries (max n 1) = sym (ap (λ m. unwrap_or (slice_get (filter (is_step entries) (range_with_len 1 (length entries))) (m - 1)) (length entries)) same) in
-    ap (λ k. let left : List Entry × Line = (drop k entries, all_taken_back (take k entries) l) in left) len
+steps_same entries l n = ap (λ k. let left : List Entry × Line = (drop k entries, all_taken_back (take k entries) l) in left) (steps_len-max entries n)
 
 many_steps : (m : ℕ) (entries : List Entry) (l : Line) → 0 < m → NoGroupOpen entries → after_undo m (entries, l) ≡ iterate (after_undo 1) m (entries, l)
 many_steps zero entries l some h = absurd (omega arith)

@@ -3,14 +3,14 @@ use Rattle.std.proofs.Common.{replicate, nat_le, max, ◌≡◌, ℕ, ◌+◌, �
 use Rattle.std.specs.List.{range_with_len, slice_get, list_any, count_by}
 use Rattle.std.proofs.lemmas.List.Folds.{list_any-append}
 use Rattle.std.proofs.lemmas.List.Sums.{sum_by_push}
-use Rattle.line_buffer.specs.declared.undo.list.Change.{Change}
+use Rattle.line_buffer.specs.declared.undo.change.Change.{Change}
 use Rattle.line_buffer.specs.Changes.{Entry, Changes, with_entries, closed, ended, begins, ends, inserted, deleted, replaced}
 use Rattle.line_buffer.specs.Line.{Line}
 use Rattle.line_buffer.specs.KeptChanges.{entry_of, entries_of}
 use Rattle.line_buffer.specs.Undo.{StillTells, Tells, TellsOf, taken_back, all_taken_back, is_begin, is_end, is_change, is_step, steps_len}
 use Rattle.line_buffer.specs.EntryKind.{closed_by, is_text, newest_kind, opened_by, taken_kind}
 use Rattle.line_buffer.specs.Word.{nth}
-use Rattle.line_buffer.specs.declared.undo.list.Taken.{Taken}
+use Rattle.line_buffer.specs.declared.undo.steps.Taken.{Taken}
 use Rattle.line_buffer.proofs.WordPlaces.{some_same}
 use Rattle.line_buffer.proofs.ListLemmas.{drop_one_more}
 use Rattle.line_buffer.proofs.WordLemmas.{drop_within, drop_end, filter-yes, filter-no}
@@ -114,14 +114,14 @@ steps-found all n k left h l target t =
 
 -- ---- one entry more
 
-opened-kind : (e : Entry) → opened_by (taken_kind e) ≡ one_if (is_begin e)
+pub opened-kind : (e : Entry) → opened_by (taken_kind e) ≡ one_if (is_begin e)
 opened-kind begins = refl
 opened-kind ends = refl
 opened-kind (inserted _ _) = refl
 opened-kind (deleted _ _) = refl
 opened-kind (replaced _ _ _) = refl
 
-closed-kind : (e : Entry) → closed_by (taken_kind e) ≡ one_if (is_end e)
+pub closed-kind : (e : Entry) → closed_by (taken_kind e) ≡ one_if (is_end e)
 closed-kind begins = refl
 closed-kind ends = refl
 closed-kind (inserted _ _) = refl
@@ -168,12 +168,6 @@ steps_len-is all n v h e =
     let whole : length all - 0 ≡ length all = omega arith in
     ap (λ m. unwrap_or (nth (filter (is_step all) (range_with_len 1 (length all))) m) (length all)) more
     ∙ sym (ap (λ k. unwrap_or (nth (filter (is_step all) (range_with_len 1 k)) n) (length all)) whole) ∙ e
-
--- the changes that are left
-pub changes-left : (old mid new : Changes) (k : ℕ) → new ≡ with_entries mid (drop 1 mid.entries) → mid.open_groups ≡ old.open_groups → drop 1 mid.entries ≡ drop k old.entries
-    → new ≡ with_entries old (drop k old.entries)
-changes-left old mid new k e g d =
-    e ∙ ap₂ (λ es gs. let c : Changes = record { entries = es; open_groups = gs } in c) d g
 
 -- ---- what is left still tells
 

@@ -1,8 +1,8 @@
 -- What the newest entry is.
 use Rattle.std.specs.Prelude.{ℕ, Bool, true, false, List, [], ◌∷◌, Option, Some, None}
 use Rattle.line_buffer.specs.Changes.{Entry, begins, ends, inserted, deleted, replaced}
-use Rattle.line_buffer.specs.declared.undo.list.Taken.{Taken}
-use Rattle.line_buffer.specs.declared.undo.list.Taken.TheVariants as Kind
+use Rattle.line_buffer.specs.declared.undo.steps.Taken.{Taken}
+use Rattle.line_buffer.specs.declared.undo.steps.Taken.TheVariants as Kind
 
 -- a begin, an end, or a change of the text
 abbrev pub taken_kind : Entry → Taken

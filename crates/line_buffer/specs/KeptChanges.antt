@@ -2,8 +2,8 @@
 use Rattle.std.specs.Prelude.{List, map, reverse}
 use Rattle.std.specs.String.{string_bytes}
 use Rattle.line_buffer.specs.Changes.{Entry, begins, ends, inserted, deleted, replaced}
-use Rattle.line_buffer.specs.declared.undo.list.Change.{Change}
-use Rattle.line_buffer.specs.declared.undo.list.Change.TheVariants as Kept
+use Rattle.line_buffer.specs.declared.undo.change.Change.{Change}
+use Rattle.line_buffer.specs.declared.undo.change.Change.TheVariants as Kept
 
 -- the entry of a kept change
 abbrev pub entry_of : Change → Entry

@@ -1,7 +1,7 @@
 use Rattle.std.proofs.Common.{◌≡◌, ◌≤◌, length}
 use Rattle.line_buffer.specs.Changes.{last_insert_of}
 use Rattle.line_buffer.specs.KeptChanges.{entries_of}
-use Rattle.line_buffer.proofs.undo.list.ChangeList.inserted_text.Given as goal
+use Rattle.line_buffer.proofs.undo.change.Change.inserted_text.Given as goal
 
 abbrev pub invariant-loop-left : goal.invariant-loop-left
 invariant-loop-left l = record {
