@@ -67,8 +67,9 @@ pub fn feeds(
     is_well && decoder.feed(&piece, keys).is_ok()
 }
 
-/// The first place where bytes, cut there and followed by a pause, do not come to these names and nothing else; or where
-/// what is typed behind the longest silence is not typed.
+/// The first place where bytes, cut there and followed by a pause, do not come to these names and
+/// nothing else, or something is left waiting; or where what is typed behind the longest silence is
+/// not typed. Bytes that go on behind a pause end with it, and no other follows them.
 pub fn first_wrong(alloc: Global, way: Way, bytes: &str, names: &str) -> Option<usize> {
     let (bound, front, modifiers) = way;
     for cut in 0..=bytes.len() {
@@ -77,7 +78,7 @@ pub fn first_wrong(alloc: Global, way: Way, bytes: &str, names: &str) -> Option<
         decoder.set_paste_bound(bound);
         let is_fed = feeds(alloc, &mut decoder, &mut keys, front, 0)
             && feeds(alloc, &mut decoder, &mut keys, bytes, cut)
-            && decoder.flush(&mut keys).is_ok();
+            && (bytes.ends_with(SHORT_PAUSE) || pauses(&mut decoder, &mut keys, 1, false));
         let is_so = is_fed
             && are(&mut keys, names, modifiers)
             && feeds(alloc, &mut decoder, &mut keys, "‖x", 0)

@@ -127,84 +127,109 @@ const STYLED: &str = "\x1b[1m> ";
 /// Suspend stops none of them.
 const LINES: &[&str] = &["!", "abc", "de", "hij", ""];
 
+/// They are read after a plain prompt where no write fails, and after a styled one where the first
+/// write fails and no colors are shown.
 #[test]
 fn reads_lines_of_an_input(rt: HostRuntime) {
     let bindings = bindings(rt.alloc()).expect(&rt, "bindings");
-    let config = Config::builder(GraphemeClusterMode::Unicode)
-        .color_mode(ColorMode::Disabled)
-        .build();
-    let history = MemHistory::new(rt.alloc());
-    let out = Counted::failing(rt.alloc(), ("output", 1)).expect(&rt, "room");
-    let mut session: Drawing = Editor::new(rt.alloc(), config, out, 20, (), history);
-    let mut input: &[u8] = b"abc\rde\x02\rh\x1ai\x1aj\rf\x03g";
-    let mut lines = 0usize;
-    for (number, read) in session
-        .iter(&mut input, false, &("> ", STYLED), &bindings)
-        .enumerate()
-    {
-        let is_so = match (LINES.get(number), read) {
-            (Some(line), Ok(read)) => !line.is_empty() && *line == read.as_str(),
-            (Some(line), Err(ReadlineError::Interrupted)) => line.is_empty(),
-            (Some(line), Err(ReadlineError::Io(_))) => *line == "!",
-            _ => false,
-        };
-        holds(&rt, is_so, "a line", number);
-        lines = number.saturating_add(1);
+    for (styled, colors, failing) in [
+        ("> ", ColorMode::Enabled, 0),
+        (STYLED, ColorMode::Disabled, 1),
+    ] {
+        let config = Config::builder(GraphemeClusterMode::Unicode)
+            .color_mode(colors)
+            .build();
+        let history = MemHistory::new(rt.alloc());
+        let out = Counted::failing(rt.alloc(), ("output", failing)).expect(&rt, "room");
+        let mut session: Drawing = Editor::new(rt.alloc(), config, out, 20, (), history);
+        let mut input: &[u8] = b"abc\rde\x02\rh\x1ai\x1aj\rf\x03g";
+        let mut lines = usize::from(failing == 0);
+        for read in session.iter(&mut input, false, &("> ", styled), &bindings) {
+            let is_so = match (LINES.get(lines), read) {
+                (Some(line), Ok(read)) => !line.is_empty() && *line == read.as_str(),
+                (Some(line), Err(ReadlineError::Interrupted)) => line.is_empty(),
+                (Some(line), Err(ReadlineError::Io(_))) => *line == "!",
+                _ => false,
+            };
+            holds(&rt, is_so, styled, lines);
+            lines = lines.saturating_add(1);
+        }
+        let has_ended = lines == LINES.len() && session.line().is_none();
+        holds(&rt, has_ended, "the end", failing);
+        let written = session.out().written();
+        let is_plain = written.contains("> ") && !written.contains(STYLED);
+        holds(&rt, is_plain, "no colors", failing);
     }
-    let has_ended = lines == LINES.len() && session.line().is_none();
-    holds(&rt, has_ended, "the end", lines);
-    let written = session.out().written();
-    let is_plain = written.contains("> ") && !written.contains(STYLED);
-    holds(&rt, is_plain, "no colors", lines);
 }
+
+/// Prompts, plain and styled, and how the line `abc` is shown after each.
+const PROMPTS: &[(&str, &str)] = &[("> ", "> abc"), (STYLED, "\x1b[1m> \x1b[0m\x0fabc")];
 
 #[test]
 fn draws_anew_on_another_output(rt: HostRuntime) {
     let bindings = bindings(rt.alloc()).expect(&rt, "bindings");
-    let config = Config::new(GraphemeClusterMode::Unicode);
-    let history = MemHistory::new(rt.alloc());
-    let out = Counted::failing(rt.alloc(), NOBODY).expect(&rt, "room");
-    let mut session: Drawing = Editor::new(rt.alloc(), config, out, 20, (), history);
-    let has_begun = session.begin(&("> ", STYLED), &bindings).is_ok();
-    let is_fed = has_begun && session.feed(b"ab", &bindings).is_ok();
-    let is_whole = is_fed && session.out().written().contains(STYLED);
-    holds(&rt, is_whole, "the first output", 0);
-    let emptied = Counted::failing(rt.alloc(), NOBODY).expect(&rt, "room");
-    let before = session.exchange_out(emptied);
-    let is_fed = session.feed(b"c", &bindings).is_ok() && before.written().contains(STYLED);
-    let written = session.out().written();
-    let is_part = is_fed && written.contains("c") && !written.contains(STYLED);
-    holds(&rt, is_part, "an output that was emptied", 1);
-    let other = Counted::failing(rt.alloc(), NOBODY).expect(&rt, "room");
-    let before = session.replace_out(other);
-    let is_fed = session.feed(b"", &bindings).is_ok() && before.written().contains("c");
-    let written = session.out().written();
-    let is_anew = is_fed && written.contains(STYLED) && written.contains("abc");
-    holds(&rt, is_anew, "another output", 2);
-    let last = Counted::failing(rt.alloc(), NOBODY).expect(&rt, "room");
-    let has_left = session.abandon().is_ok();
-    let is_left = has_left && session.replace_out(last).written().contains("abc");
-    holds(&rt, is_left, "another output between two lines", 3);
+    for (number, (prompt, line)) in PROMPTS.iter().enumerate() {
+        let config = Config::new(GraphemeClusterMode::Unicode);
+        let history = MemHistory::new(rt.alloc());
+        let out = Counted::failing(rt.alloc(), NOBODY).expect(&rt, "room");
+        let mut session: Drawing = Editor::new(rt.alloc(), config, out, 20, (), history);
+        let has_begun = if *prompt == STYLED {
+            session.begin(&("> ", STYLED), &bindings).is_ok()
+        } else {
+            session.begin(&"> ", &bindings).is_ok()
+        };
+        let is_fed = has_begun && session.feed(b"ab", &bindings).is_ok();
+        let is_whole = is_fed && session.out().written().contains(*prompt);
+        holds(&rt, is_whole, "the first output", number);
+        let emptied = Counted::failing(rt.alloc(), NOBODY).expect(&rt, "room");
+        let before = session.exchange_out(emptied);
+        let is_fed = session.feed(b"c", &bindings).is_ok() && before.written().contains(*prompt);
+        let written = session.out().written();
+        let is_part = is_fed && written.contains("c") && !written.contains(*prompt);
+        holds(&rt, is_part, "an output that was emptied", number);
+        let other = Counted::failing(rt.alloc(), NOBODY).expect(&rt, "room");
+        let before = session.replace_out(other);
+        let is_fed = session.feed(b"", &bindings).is_ok() && before.written().contains("c");
+        let is_anew = is_fed && session.out().written().contains(*line);
+        holds(&rt, is_anew, "another output", number);
+        let last = Counted::failing(rt.alloc(), NOBODY).expect(&rt, "room");
+        let has_left = session.abandon().is_ok();
+        let is_left = has_left && session.replace_out(last).written().contains(*line);
+        holds(&rt, is_left, "another output between two lines", number);
+    }
 }
 
-/// A line is begun, and resized in a list, where the write of each number fails, and none at first. How many there are is
-/// seen then.
+/// A line is begun and resized, empty and in a list, where the write of each number fails, and none
+/// at first. How many there are is seen then.
 #[test]
 fn hands_on_the_failures_of_a_resize(rt: HostRuntime) {
     let bindings = bindings(rt.alloc()).expect(&rt, "bindings");
-    let mut writes = 0;
-    for failing in 0..100 {
-        let mut session = new_session(rt.alloc(), LIST, MANY, ("output", failing)).expect(
-            &rt, "room",
-        );
-        let has_begun = session.begin(&"> ", &bindings).is_ok();
-        let is_fed = session.feed(b"a\t\t", &bindings).is_ok();
-        let is_well = session.resize(10, 5).is_ok() && has_begun && is_fed;
-        if failing == 0 {
-            writes = session.out().writes;
+    for lists in [false, true] {
+        let name = if lists { "in a list" } else { "an empty line" };
+        let mut writes = 0;
+        for failing in 0..100 {
+            let write = ("output", failing);
+            let (is_well, made) = if lists {
+                let mut session = new_session(rt.alloc(), LIST, MANY, write).expect(&rt, "room");
+                let has_begun = session.begin(&"> ", &bindings).is_ok();
+                let is_fed = session.feed(b"a\t\t", &bindings).is_ok();
+                let is_resized = session.resize(10, 5).is_ok();
+                (has_begun && is_fed && is_resized, session.out().writes)
+            } else {
+                let config = Config::new(GraphemeClusterMode::Unicode);
+                let history = MemHistory::new(rt.alloc());
+                let out = Counted::failing(rt.alloc(), write).expect(&rt, "room");
+                let mut session: Drawing = Editor::new(rt.alloc(), config, out, 20, (), history);
+                let has_begun = session.begin(&"> ", &bindings).is_ok();
+                let is_resized = session.resize(10, 5).is_ok();
+                (has_begun && is_resized, session.out().writes)
+            };
+            if failing == 0 {
+                writes = made;
+            }
+            let fails = 0 < failing && failing <= writes;
+            holds(&rt, is_well != fails, name, failing);
         }
-        let fails = 0 < failing && failing <= writes;
-        holds(&rt, is_well != fails, "a write that fails", failing);
+        holds(&rt, writes > 0, name, writes);
     }
-    holds(&rt, writes > 0, "some writes", writes);
 }

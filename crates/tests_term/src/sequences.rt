@@ -311,8 +311,8 @@ const OTHERS: Rows = &[
     ("\x1b[1;\rx", "Unknown x"),
     ("\x1b[1\u{c3}\u{a9}x", "Unknown x"),
     ("\x1b[1\x7fx", "Unknown x"),
-    ("\x1b[1;5", ""),
-    ("\x1b[200~", ""),
+    ("\x1b[1;5⋯", ""),
+    ("\x1b[200~⋯", ""),
     ("\x1b[201~x", "x"),
     // an empty pasted text is none
     ("\x1b[200~\x1b[201~x", "x"),
@@ -364,7 +364,7 @@ const PAUSED: Rows = &[
     ("\x1b[200~a\r⋯\nb\x1b[201~", "“a\n “b"),
     ("\x1b[200~a\u{e6}⋯\u{97}⋯\u{a5}\x1b[201~", "“a “日"),
     ("\x1b[200~a⋯⋯⋯⋯⋯⋯⋯⋯⋯⋯⋯⋯⋯⋯⋯⋯⋯⋯⋯b\x1b[201~x", "“a “b x"),
-    ("\x1b[200~a\r\x03\x1b⋯\x04\x1bOM\r", "“a\n “OM\n"),
+    ("\x1b[200~a\r\x03\x1b⋯\x04\x1bOM\r⋯", "“a\n “OM\n"),
     // where it never comes, silence does
     ("\x1b[200~abc‖def\r", "“abc d e f Enter"),
     ("\x1b[200~‖\x03", "C-C"),

@@ -94,16 +94,16 @@ fn redraw(alloc: Global, terminal: &mut Terminal, failing: Failing) -> Result<()
     )
 }
 
-/// Draws a line in full with a styled prompt, a bracket whose match is lit, and a hint that has colors.
-fn redraw_with_colors(alloc: Global, terminal: &mut Terminal) -> Result<()> {
-    let line = LineBuffer::init(alloc, "()", 0)?;
+/// Draws a line in full with a styled prompt and a hint that has colors. The match of its bracket
+/// is lit where that is wanted.
+fn redraw_with_colors(terminal: &mut Terminal, line: &LineBuffer, is_lit: bool) -> Result<()> {
     let begin = terminal.calculate_position("> ", Position { row: 0, col: 0 });
-    let layout = terminal.compute_layout(begin, true, &line, Some("c"));
-    let mut highlighter = DimHints::new(true);
-    let _ = highlighter.highlight_char("()", 0, CmdKind::Other);
+    let layout = terminal.compute_layout(begin, true, line, Some("c"));
+    let mut highlighter = DimHints::new(is_lit);
+    let _ = highlighter.highlight_char(line.as_str(), line.pos(), CmdKind::Other);
     terminal.refresh_line(
         &("> ", "\x1b[1m> "),
-        &line,
+        line,
         Some("c"),
         None,
         &layout,
@@ -133,6 +133,10 @@ const CALLS: &[(&str, &str)] = &[
     ),
     (
         "colors",
+        "\x1b[?2026h\r\x1b[J\x0f\x1b[1m> \x1b[0m\x0fab\x0f\x1b[2mc\x1b[0m\x1b[0m\x0f\r\x1b[4C\x1b[?2026l",
+    ),
+    (
+        "colors of a bracket",
         "\x1b[?2026h\r\x1b[J\x0f\x1b[1m> \x1b[0m\x0f\x0f(\x1b[1;34m)\x1b[0m\x1b[0m\x0f\x0f\x1b[2mc\x1b[0m\x1b[0m\x0f\r\x1b[2C\x1b[?2026l",
     ),
     ("a long text", LONG),
@@ -150,7 +154,14 @@ fn call(alloc: Global, terminal: &mut Terminal, name: &str, failing: Failing) ->
             terminal.move_cursor(Position { row: 0, col: 0 }, Position { row: 1, col: 2 })
         }
         "write_and_flush" => terminal.write_and_flush("xyz"),
-        "colors" => redraw_with_colors(alloc, terminal),
+        "colors" => {
+            let line = LineBuffer::init(alloc, "ab", 2)?;
+            redraw_with_colors(terminal, &line, false)
+        }
+        "colors of a bracket" => {
+            let line = LineBuffer::init(alloc, "()", 0)?;
+            redraw_with_colors(terminal, &line, true)
+        }
         "a long text" => terminal.write_and_flush(LONG),
         "a text of more than ASCII" => terminal.write_and_flush("e\u{301}日\t\u{85}\r\n"),
         "clear_to_eol" => terminal.clear_to_eol(),

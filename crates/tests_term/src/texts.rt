@@ -84,7 +84,7 @@ pub(crate) const PASTED: Rows = &[
 pub(crate) const BY_FOUR: Rows = &[
     ("\x1b[200~abcdefgh\x1b[201~", "“abcd “efgh"),
     ("\x1b[200~abcdefgh\x1b[201~…■", "“abcd “efgh"),
-    ("\x1b[200~abcdefghi", "“abcd “efgh “i"),
+    ("\x1b[200~abcdefghi⋯", "“abcd “efgh “i"),
     ("\x1b[200~abcdefghi■", "“abcd “efgh “i"),
     ("\x1b[200~abc⋯defghi■", "“abc “defg “hi"),
 ];
@@ -95,7 +95,7 @@ pub(crate) const BY_THREE: Rows = &[
 ];
 
 pub(crate) const BY_A_HUNDRED: Rows = &[
-    ("\x1b[200~abc\x1b[20", "“abc"),
+    ("\x1b[200~abc\x1b[20⋯", "“abc"),
     ("\x1b[200~abc\x1b[20■", "“abc"),
 ];
 
