@@ -13,5 +13,5 @@ pub use edited_line::EditedLine;
 pub use renderer::Renderer;
 pub use resizable::Resizable;
 pub use screen_state::ScreenState;
-pub use view::kept::KeptView;
+pub use view::drawn_line::DrawnLine;
 pub use view::{RefreshKind, View};

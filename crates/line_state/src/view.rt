@@ -9,12 +9,13 @@ ghost use Rattle.line_state.specs.Drawn.{ColorsAreOn, DrawsInFull, DrawsNoneInFu
 ghost use Rattle.line_state.specs.ScreenState.{BeepsAtMost, ResizesTo, WritesAtMost};
 ghost use Rattle.line_state.specs.Shown.{IsShownPlain, KnowsEnd, StandsAtEnd};
 
-pub mod kept;
+pub mod drawn_line;
 
 use crate::drawn::Drawn;
 use crate::renderer::Renderer;
 use crate::resizable::Resizable;
 use crate::screen_state::ScreenState;
+use drawn_line::DrawnLine;
 use line_buffer::{Layout, LineBuffer, Position, Unit, is_printable_text};
 use line_config::{Prompt, Result};
 use line_parts::Highlighter;
@@ -28,26 +29,18 @@ pub enum RefreshKind {
     All,
 }
 
-/// The drawn line: the renderer and the prompt, the layout of what is drawn, and whether characters are highlighted that
-/// the next drawing has to show without their colors.
+/// The view of a line: the renderer, the prompt, and the line as it is drawn.
 pub struct View<'out, 'prompt, W: Renderer, P: Prompt> {
     out: &'out mut W,
     prompt: &'prompt P,
-    prompt_size: Position,
-    layout: Layout,
-    // Whether the renderer is known to stand at the kept cursor, with the line drawn.
-    in_place: bool,
-    // Whether the kept cursor was last drawn as that of a line after the own prompt.
-    at_cursor: bool,
-    // Whether what is shown of the line is known to be printable ASCII and newlines, and how many characters at its
-    // end are known to be printable then.
-    shows_plain: bool,
-    printable_at_end: usize,
-    highlight_char: bool,
-    ghost measured: { (W.surface out.now).measure (P.raw_text prompt.now) corner ≡ prompt_size },
-    ghost placed: { in_place ≡ true → (W.screen out.now).position ≡ layout.cursor },
-    ghost known: { shows_plain ≡ true
-        → IsShownPlain (W.surface out.now) (W.screen out.now) layout printable_at_end },
+    drawn: DrawnLine,
+    ghost measured: { (W.surface out.now).measure (P.raw_text prompt.now) corner
+        ≡ drawn.prompt_size },
+    ghost placed: { drawn.in_place ≡ true
+        → (W.screen out.now).position ≡ drawn.layout.cursor },
+    ghost known: { drawn.shows_plain ≡ true
+        → IsShownPlain (W.surface out.now) (W.screen out.now) drawn.layout
+        drawn.printable_at_end },
 }
 
 impl<W: Renderer, P: Prompt> Drop for View<'_, '_, W, P> {
@@ -55,13 +48,7 @@ impl<W: Renderer, P: Prompt> Drop for View<'_, '_, W, P> {
         let View {
             out: _,
             prompt: _,
-            prompt_size: _,
-            layout: _,
-            in_place: _,
-            at_cursor: _,
-            shows_plain: _,
-            printable_at_end: _,
-            highlight_char: _,
+            drawn: _,
         } = self;
     }
 }
@@ -70,10 +57,10 @@ impl<'out, 'prompt, W: Renderer, P: Prompt> Drawn for View<'out, 'prompt, W, P> 
     ghost display = { λ v. record {
       surface = W.surface v.out.now;
       prompt = P.raw_text v.prompt.now;
-      prompt_end = v.prompt_size;
-      layout = v.layout;
+      prompt_end = v.drawn.prompt_size;
+      layout = v.drawn.layout;
       screen = W.screen v.out.now;
-      lit = v.highlight_char;
+      lit = v.drawn.highlight_char;
     } };
 
     ghost beside = { λ v. W.beside v.out.now };
@@ -135,9 +122,7 @@ impl<'out, 'prompt, W: Renderer, P: Prompt> View<'out, 'prompt, W, P> {
         let prompt_size = out.calculate_position(prompt.raw(), Position { row: 0, col: 0 });
         let mut layout = Layout::new(out.grapheme_cluster_mode());
         layout.prompt_size = prompt_size;
-        View {
-            out,
-            prompt,
+        let drawn = DrawnLine {
             prompt_size,
             layout,
             in_place: false,
@@ -145,7 +130,8 @@ impl<'out, 'prompt, W: Renderer, P: Prompt> View<'out, 'prompt, W, P> {
             shows_plain: false,
             printable_at_end: 0,
             highlight_char: false,
-        }
+        };
+        View { out, prompt, drawn }
     }
 
     /// Draws the line in full after the prompt, with `info` after it, if there is one. Pass a highlighter only where colors
@@ -164,7 +150,14 @@ impl<'out, 'prompt, W: Renderer, P: Prompt> View<'out, 'prompt, W, P> {
             (d.display self.old).prompt (d.display self.old).prompt_end true line.now
             (option_map (λ s. s.now) info.entry) }
     {
-        self.redraw(self.prompt, self.prompt_size, true, line, info, highlighter)
+        self.redraw(
+            self.prompt,
+            self.drawn.prompt_size,
+            true,
+            line,
+            info,
+            highlighter,
+        )
     }
 
     /// Draws the line in full after another prompt, with `info` after it, if there is one. Pass a highlighter only where
@@ -209,16 +202,16 @@ impl<'out, 'prompt, W: Renderer, P: Prompt> View<'out, 'prompt, W, P> {
         let new_layout = self
             .out
             .compute_layout(prompt_size, default_prompt, line, info);
-        let old_layout = if_drawn(self.in_place, &self.layout);
-        self.in_place = false;
-        self.shows_plain = false;
+        let old_layout = if_drawn(self.drawn.in_place, &self.drawn.layout);
+        self.drawn.in_place = false;
+        self.drawn.shows_plain = false;
         self.out
             .refresh_line(prompt, line, info, old_layout, &new_layout, highlighter)?;
-        self.layout = new_layout;
-        self.in_place = true;
-        self.at_cursor = default_prompt;
-        self.shows_plain = line.is_plain();
-        self.printable_at_end = if self.shows_plain {
+        self.drawn.layout = new_layout;
+        self.drawn.in_place = true;
+        self.drawn.at_cursor = default_prompt;
+        self.drawn.shows_plain = line.is_plain();
+        self.drawn.printable_at_end = if self.drawn.shows_plain {
             printable_at_end(line.as_str())
         } else {
             0
@@ -241,18 +234,24 @@ impl<'out, 'prompt, W: Renderer, P: Prompt> View<'out, 'prompt, W, P> {
         ensures { let d = ⟦<Self as Drawn>⟧ in
             RedrawsKept d result self.old self.new line.now (option_map (λ s. s.now) info.entry) }
     {
-        let own_prompt = self.layout.default_prompt;
+        let own_prompt = self.drawn.layout.default_prompt;
         let measured = self
             .out
-            .compute_layout(self.prompt_size, own_prompt, line, info);
-        self.in_place = false;
-        self.shows_plain = false;
-        self.out
-            .refresh_line(self.prompt, line, info, None, &self.layout, highlighter)?;
-        self.in_place = has_places_of(&self.layout, &measured);
-        self.at_cursor = self.in_place;
-        self.shows_plain = self.in_place && line.is_plain();
-        self.printable_at_end = printable_at_end(line.as_str());
+            .compute_layout(self.drawn.prompt_size, own_prompt, line, info);
+        self.drawn.in_place = false;
+        self.drawn.shows_plain = false;
+        self.out.refresh_line(
+            self.prompt,
+            line,
+            info,
+            None,
+            &self.drawn.layout,
+            highlighter,
+        )?;
+        self.drawn.in_place = has_places_of(&self.drawn.layout, &measured);
+        self.drawn.at_cursor = self.drawn.in_place;
+        self.drawn.shows_plain = self.drawn.in_place && line.is_plain();
+        self.drawn.printable_at_end = printable_at_end(line.as_str());
         Ok(())
     }
 
@@ -262,7 +261,7 @@ impl<'out, 'prompt, W: Renderer, P: Prompt> View<'out, 'prompt, W, P> {
             result ≡ cursor_position d.surface.measure d.prompt_end line.now }
     {
         let before = &line.as_str()[..line.pos()];
-        self.out.calculate_position(before, self.prompt_size)
+        self.out.calculate_position(before, self.drawn.prompt_size)
     }
 
     /// Returns where the cursor of the line is in a full redraw after the own prompt, if the kept cursor is where that of
@@ -287,7 +286,7 @@ impl<'out, 'prompt, W: Renderer, P: Prompt> View<'out, 'prompt, W, P> {
             IfSome result (λ position. HasCursorAt d (with_cursor line.now from)
             → position ≡ cursor_position d.surface.measure d.prompt_end line.now) }
     {
-        if !self.in_place || !self.at_cursor || !line.is_plain() {
+        if !self.drawn.in_place || !self.drawn.at_cursor || !line.is_plain() {
             return None;
         }
         if line.pos() < from {
@@ -307,12 +306,12 @@ impl<'out, 'prompt, W: Renderer, P: Prompt> View<'out, 'prompt, W, P> {
         let _columns = self.out.get_columns();
         let between = line.as_str().get(line.pos()..from)?;
         let columns = Unit::try_from(between.len()).ok()?;
-        if !is_printable_text(between) || self.layout.cursor.col < columns {
+        if !is_printable_text(between) || self.drawn.layout.cursor.col < columns {
             return None;
         }
         Some(Position {
-            row: self.layout.cursor.row,
-            col: self.layout.cursor.col - columns,
+            row: self.drawn.layout.cursor.row,
+            col: self.drawn.layout.cursor.col - columns,
         })
     }
 
@@ -325,12 +324,12 @@ impl<'out, 'prompt, W: Renderer, P: Prompt> View<'out, 'prompt, W, P> {
     {
         let between = line.as_str().get(from..line.pos())?;
         let columns = Unit::try_from(between.len()).ok()?;
-        let col = self.layout.cursor.col.checked_add(columns)?;
+        let col = self.drawn.layout.cursor.col.checked_add(columns)?;
         if !is_printable_text(between) || self.out.get_columns() <= col {
             return None;
         }
         Some(Position {
-            row: self.layout.cursor.row,
+            row: self.drawn.layout.cursor.row,
             col,
         })
     }
@@ -340,7 +339,7 @@ impl<'out, 'prompt, W: Renderer, P: Prompt> View<'out, 'prompt, W, P> {
         ensures { let d = ⟦<Self as Drawn>⟧.display self.now in
             result ≡ nat_lt (d.layout.cursor.col + 1) d.surface.columns }
     {
-        self.layout.cursor.col < self.out.get_columns() - 1
+        self.drawn.layout.cursor.col < self.out.get_columns() - 1
     }
 
     /// Moves the kept cursor to a position, and the screen cursor with it. Nothing is drawn where it is there already.
@@ -355,14 +354,14 @@ impl<'out, 'prompt, W: Renderer, P: Prompt> View<'out, 'prompt, W, P> {
         ensures beside { let d = ⟦<Self as Drawn>⟧ in d.beside self.new ≡ d.beside self.old }
         ensures part { DrawsNoneInFull ⟦<Self as Drawn>⟧ result self.old self.new }
     {
-        if self.layout.cursor == position {
+        if self.drawn.layout.cursor == position {
             return Ok(());
         }
-        let in_place = self.in_place;
-        self.in_place = false;
-        self.out.move_cursor(self.layout.cursor, position)?;
-        self.layout.cursor = position;
-        self.in_place = in_place;
+        let in_place = self.drawn.in_place;
+        self.drawn.in_place = false;
+        self.out.move_cursor(self.drawn.layout.cursor, position)?;
+        self.drawn.layout.cursor = position;
+        self.drawn.in_place = in_place;
         Ok(())
     }
 
@@ -378,25 +377,28 @@ impl<'out, 'prompt, W: Renderer, P: Prompt> View<'out, 'prompt, W, P> {
         ensures beside { let d = ⟦<Self as Drawn>⟧ in d.beside self.new ≡ d.beside self.old }
         ensures part { DrawsNoneInFull ⟦<Self as Drawn>⟧ result self.old self.new }
     {
-        self.at_cursor = false;
-        self.move_cursor(self.layout.end)
+        self.drawn.at_cursor = false;
+        self.move_cursor(self.drawn.layout.end)
     }
 
     // Returns whether the renderer is known to stand at the end of what is shown, printable ASCII and newlines.
     fn stands_at_end(&self) -> bool
         ensures { result ≡ true → StandsAtEnd (W.surface self.now.out.now)
-            (W.screen self.now.out.now) self.now.layout self.now.printable_at_end }
+            (W.screen self.now.out.now) self.now.drawn.layout self.now.drawn.printable_at_end }
     {
-        self.knows_end(0) && self.layout.cursor == self.layout.end
+        self.knows_end(0) && self.drawn.layout.cursor == self.drawn.layout.end
     }
 
     // Returns whether the renderer is known to stand at the kept cursor, and what is shown to be printable ASCII and
     // newlines with nothing after it, of which at least `count` characters at the end are printable.
     fn knows_end(&self, count: usize) -> bool
         ensures { result ≡ true → KnowsEnd (W.surface self.now.out.now)
-            (W.screen self.now.out.now) self.now.layout self.now.printable_at_end count }
+            (W.screen self.now.out.now) self.now.drawn.layout self.now.drawn.printable_at_end count }
     {
-        self.in_place && self.shows_plain && !self.layout.has_info && count <= self.printable_at_end
+        self.drawn.in_place
+            && self.drawn.shows_plain
+            && !self.drawn.layout.has_info
+            && count <= self.drawn.printable_at_end
     }
 
     /// Writes one printable ASCII character where the kept cursor is, at the line's end, with a column left after it.
@@ -412,14 +414,14 @@ impl<'out, 'prompt, W: Renderer, P: Prompt> View<'out, 'prompt, W, P> {
     {
         let _columns = self.out.get_columns();
         let known = self.stands_at_end();
-        self.in_place = false;
-        self.shows_plain = false;
+        self.drawn.in_place = false;
+        self.drawn.shows_plain = false;
         self.out.write_and_flush(c.encode_utf8(&mut [0; 4]))?;
-        self.layout.cursor.col += 1;
-        self.layout.end = self.layout.cursor;
-        self.printable_at_end = self.printable_at_end.saturating_add(1);
-        self.in_place = known;
-        self.shows_plain = known;
+        self.drawn.layout.cursor.col += 1;
+        self.drawn.layout.end = self.drawn.layout.cursor;
+        self.drawn.printable_at_end = self.drawn.printable_at_end.saturating_add(1);
+        self.drawn.in_place = known;
+        self.drawn.shows_plain = known;
         Ok(())
     }
 
@@ -434,7 +436,7 @@ impl<'out, 'prompt, W: Renderer, P: Prompt> View<'out, 'prompt, W, P> {
     {
         let columns = self.end_column();
         self.move_cursor(Position {
-            row: self.layout.end.row,
+            row: self.drawn.layout.end.row,
             col: columns - count as Unit,
         })?;
         self.clear_behind(count)
@@ -442,9 +444,9 @@ impl<'out, 'prompt, W: Renderer, P: Prompt> View<'out, 'prompt, W, P> {
 
     // Returns the column of the kept end.
     fn end_column(&self) -> Unit
-        ensures { result ≡ self.now.layout.end.col }
+        ensures { result ≡ self.now.drawn.layout.end.col }
     {
-        self.layout.end.col
+        self.drawn.layout.end.col
     }
 
     // Takes away the last `count` characters of what is shown, which stand after the kept cursor. The kept end moves there.
@@ -456,14 +458,14 @@ impl<'out, 'prompt, W: Renderer, P: Prompt> View<'out, 'prompt, W, P> {
     {
         let _columns = self.out.get_columns();
         let known = self.knows_end(count);
-        let in_place = self.in_place;
-        self.in_place = false;
-        self.shows_plain = false;
+        let in_place = self.drawn.in_place;
+        self.drawn.in_place = false;
+        self.drawn.shows_plain = false;
         self.out.clear_to_eol()?;
-        self.layout.end = self.layout.cursor;
-        self.printable_at_end = self.printable_at_end.saturating_sub(count);
-        self.in_place = in_place;
-        self.shows_plain = known;
+        self.drawn.layout.end = self.drawn.layout.cursor;
+        self.drawn.printable_at_end = self.drawn.printable_at_end.saturating_sub(count);
+        self.drawn.in_place = in_place;
+        self.drawn.shows_plain = known;
         Ok(())
     }
 
@@ -493,11 +495,11 @@ impl<'out, 'prompt, W: Renderer, P: Prompt> View<'out, 'prompt, W, P> {
         ensures beside { let d = ⟦<Self as Drawn>⟧ in d.beside self.new ≡ d.beside self.old }
         ensures part { DrawsNoneInFull ⟦<Self as Drawn>⟧ result self.old self.new }
     {
-        self.in_place = false;
-        self.shows_plain = false;
+        self.drawn.in_place = false;
+        self.drawn.shows_plain = false;
         self.out.clear_screen()?;
-        self.layout.cursor = Position { row: 0, col: 0 };
-        self.layout.end = Position { row: 0, col: 0 };
+        self.drawn.layout.cursor = Position { row: 0, col: 0 };
+        self.drawn.layout.end = Position { row: 0, col: 0 };
         Ok(())
     }
 
@@ -512,8 +514,8 @@ impl<'out, 'prompt, W: Renderer, P: Prompt> View<'out, 'prompt, W, P> {
         ensures beside { let d = ⟦<Self as Drawn>⟧ in d.beside self.new ≡ d.beside self.old }
         ensures part { DrawsNoneInFull ⟦<Self as Drawn>⟧ result self.old self.new }
     {
-        self.in_place = false;
-        self.shows_plain = false;
+        self.drawn.in_place = false;
+        self.drawn.shows_plain = false;
         self.out.move_cursor_at_leftmost(rdr)
     }
 
@@ -529,11 +531,12 @@ impl<'out, 'prompt, W: Renderer, P: Prompt> View<'out, 'prompt, W, P> {
             WritesAtMost (d.beside self.old) (d.beside self.new) }
         ensures part { DrawsNoneInFull ⟦<Self as Drawn>⟧ result self.old self.new }
     {
-        let in_place = self.in_place;
-        self.in_place = false;
-        self.shows_plain = false;
+        let in_place = self.drawn.in_place;
+        self.drawn.in_place = false;
+        self.drawn.shows_plain = false;
         if in_place {
-            self.out.move_cursor(self.layout.cursor, self.layout.end)?;
+            self.out
+                .move_cursor(self.drawn.layout.cursor, self.drawn.layout.end)?;
         }
         self.out.move_cursor_at_leftmost(rdr)?;
         self.out.write_and_flush(text)
@@ -550,7 +553,7 @@ impl<'out, 'prompt, W: Renderer, P: Prompt> View<'out, 'prompt, W, P> {
     pub fn highlight_char(&self) -> bool
         ensures { result ≡ (⟦<Self as Drawn>⟧.display self.now).lit }
     {
-        self.highlight_char
+        self.drawn.highlight_char
     }
 
     /// Keeps whether characters are highlighted.
@@ -561,7 +564,7 @@ impl<'out, 'prompt, W: Renderer, P: Prompt> View<'out, 'prompt, W, P> {
             × (d.failures self.new ≡ d.failures self.old) × (d.loan self.new ≡ d.loan self.old)
             × (d.beside self.new ≡ d.beside self.old) }
     {
-        self.highlight_char = lit;
+        self.drawn.highlight_char = lit;
     }
 
     /// Returns the renderer, as the last drawing left it.
@@ -578,7 +581,7 @@ impl<'out, 'prompt, W: Renderer, P: Prompt> View<'out, 'prompt, W, P> {
     pub fn layout(&self) -> &Layout
         ensures { result.now ≡ (⟦<Self as Drawn>⟧.display self.now).layout }
     {
-        &self.layout
+        &self.drawn.layout
     }
 }
 
@@ -623,9 +626,9 @@ impl<'out, 'prompt, W: Resizable, P: Prompt> View<'out, 'prompt, W, P> {
         ensures failures { let d = ⟦<Self as Drawn>⟧ in d.failures self.new ≡ d.failures self.old }
         ensures loan { let d = ⟦<Self as Drawn>⟧ in d.loan self.new ≡ d.loan self.old }
     {
-        self.shows_plain = false;
+        self.drawn.shows_plain = false;
         self.out.resize(columns, rows);
         let corner = Position { row: 0, col: 0 };
-        self.prompt_size = self.out.calculate_position(self.prompt.raw(), corner);
+        self.drawn.prompt_size = self.out.calculate_position(self.prompt.raw(), corner);
     }
 }

@@ -15,7 +15,7 @@ invariant_of-self-2 g c =
       placed = λ at. cleared.position ∙ self.placed at;
       known = λ k.
           rw (cleared.part.tries.surface, c.saturating_sub-self.ensures)
-          (cleared_shown (g.W.ScreenState.surface out) (g.W.ScreenState.screen out) (g.W.ScreenState.screen c.clear_to_eol.new.self) self.layout self.printable_at_end
+          (cleared_shown (g.W.ScreenState.surface out) (g.W.ScreenState.screen out) (g.W.ScreenState.screen c.clear_to_eol.new.self) self.drawn.layout self.drawn.printable_at_end
           c.args.count (g.met.W.Renderer.one_column out) some (c.knows_end-known.ensures k) c.requires.fits c.requires.placed (λ kept gone text print behind. cleared.cleared kept gone text print behind));
     }
 

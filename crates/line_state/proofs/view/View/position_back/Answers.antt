@@ -18,8 +18,8 @@ returns g c =
     let fits = c.try_from.ensures in
     let is = c.in_ok-columns.ensures in
     let columns : length c.in_ok-between.between.now ≡ c.in_ok-columns.columns = converted _ c.try_from.result _ _ fits is.value in
-    let within : length c.in_ok-between.between.now ≤ self.layout.cursor.col = omega (arith, columns, c.if-self-columns.false) in
+    let within : length c.in_ok-between.between.now ≤ self.drawn.layout.cursor.col = omega (arith, columns, c.if-self-columns.false) in
     λ there.
-    ap (λ (n : ℕ). columns_back n self.layout.cursor) (sym columns)
-    ∙ back_between (g.W.ScreenState.surface out) self.prompt_size c.args.line.now.text c.in_ok-between.between.now c.args.line.now.cursor c.args.from (g.met.W.Renderer.one_column out) below (omega (arith, between.1, pos))
-    (between.0 ∙ ap₂ (λ (s : List ℕ) (n : ℕ). slice_range s n c.args.from) text pos) (omega (arith, between.1, pos)) c.requires (sym c.if-not-is_printable_text.ensures) self.layout.cursor there within
+    ap (λ (n : ℕ). columns_back n self.drawn.layout.cursor) (sym columns)
+    ∙ back_between (g.W.ScreenState.surface out) self.drawn.prompt_size c.args.line.now.text c.in_ok-between.between.now c.args.line.now.cursor c.args.from (g.met.W.Renderer.one_column out) below (omega (arith, between.1, pos))
+    (between.0 ∙ ap₂ (λ (s : List ℕ) (n : ℕ). slice_range s n c.args.from) text pos) (omega (arith, between.1, pos)) c.requires (sym c.if-not-is_printable_text.ensures) self.drawn.layout.cursor there within

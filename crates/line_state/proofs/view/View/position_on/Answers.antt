@@ -21,9 +21,9 @@ returns g c =
     let fits = c.try_from.ensures in
     let is = c.in_ok-columns.ensures in
     let columns : length c.in_ok-between.between.now ≡ c.in_ok-columns.columns = converted _ c.try_from.result _ _ fits is.value in
-    let col : self.layout.cursor.col + length c.in_ok-between.between.now ≡ c.in_ok-col.col = omega (arith, columns, c.in_ok-col.ensures.1) in
-    let within : self.layout.cursor.col + length c.in_ok-between.between.now < (g.W.ScreenState.surface out).columns = omega (arith, col, c.if-get_columns-col.false, c.get_columns.ensures.value) in
+    let col : self.drawn.layout.cursor.col + length c.in_ok-between.between.now ≡ c.in_ok-col.col = omega (arith, columns, c.in_ok-col.ensures.1) in
+    let within : self.drawn.layout.cursor.col + length c.in_ok-between.between.now < (g.W.ScreenState.surface out).columns = omega (arith, col, c.if-get_columns-col.false, c.get_columns.ensures.value) in
     λ there.
-    ap (λ (n : ℕ). at_column n self.layout.cursor) (sym col)
-    ∙ on_between (g.W.ScreenState.surface out) self.prompt_size c.args.line.now.text c.in_ok-between.between.now c.args.from c.args.line.now.cursor (g.met.W.Renderer.one_column out) below (omega (arith, between.1, pos))
-    (between.0 ∙ ap₂ (λ (s : List ℕ) (n : ℕ). slice_range s c.args.from n) text pos) (omega (arith, between.1, pos)) c.requires (sym c.if-not-is_printable_text.ensures) self.layout.cursor there within
+    ap (λ (n : ℕ). at_column n self.drawn.layout.cursor) (sym col)
+    ∙ on_between (g.W.ScreenState.surface out) self.drawn.prompt_size c.args.line.now.text c.in_ok-between.between.now c.args.from c.args.line.now.cursor (g.met.W.Renderer.one_column out) below (omega (arith, between.1, pos))
+    (between.0 ∙ ap₂ (λ (s : List ℕ) (n : ℕ). slice_range s c.args.from n) text pos) (omega (arith, between.1, pos)) c.requires (sym c.if-not-is_printable_text.ensures) self.drawn.layout.cursor there within

@@ -15,16 +15,16 @@ invariant_of-self-2 g c =
     let print : is_printable c.args.c ≡ true = c.requires.printable in
     let below : c.args.c < 128 = grind (arith, nat_tests, print) in
     let text : c.encode_utf8.result.now ≡ c.args.c ∷ [] = c.encode_utf8.ensures.value ∙ encode_ascii c.args.c below in
-    let free : self.layout.cursor.col + 1 < (g.W.ScreenState.surface out).columns = grind (arith, nat_tests, c.requires.free) in
+    let free : self.drawn.layout.cursor.col + 1 < (g.W.ScreenState.surface out).columns = grind (arith, nat_tests, c.requires.free) in
     let some : 0 < (g.W.ScreenState.surface out).columns = omega (arith, free) in
-    let more : c.saturating_add-self.result ≤ self.printable_at_end + 1 = omega (arith, c.saturating_add-self.ensures) in
+    let more : c.saturating_add-self.result ≤ self.drawn.printable_at_end + 1 = omega (arith, c.saturating_add-self.ensures) in
     record {
       measured = rw written.part.tries.surface self.measured;
-      placed = λ k. written_place (g.W.ScreenState.surface out) (g.W.ScreenState.screen out) (g.W.ScreenState.screen c.write_and_flush.new.self) self.layout self.printable_at_end
+      placed = λ k. written_place (g.W.ScreenState.surface out) (g.W.ScreenState.screen out) (g.W.ScreenState.screen c.write_and_flush.new.self) self.drawn.layout self.drawn.printable_at_end
           c.saturating_add-self.result c.args.c (g.met.W.Renderer.one_column out) (c.stands_at_end-known.ensures k) some print free (written.shown c.args.c text print) more;
       known = λ k.
           rw written.part.tries.surface
-          (written_shown (g.W.ScreenState.surface out) (g.W.ScreenState.screen out) (g.W.ScreenState.screen c.write_and_flush.new.self) self.layout self.printable_at_end
+          (written_shown (g.W.ScreenState.surface out) (g.W.ScreenState.screen out) (g.W.ScreenState.screen c.write_and_flush.new.self) self.drawn.layout self.drawn.printable_at_end
           c.saturating_add-self.result c.args.c (g.met.W.Renderer.one_column out) (c.stands_at_end-known.ensures k) some print free (written.shown c.args.c text print) more);
     }
 
@@ -36,7 +36,7 @@ returns g c =
     let print : is_printable c.args.c ≡ true = c.requires.printable in
     let below : c.args.c < 128 = grind (arith, nat_tests, print) in
     let text : c.encode_utf8.result.now ≡ c.args.c ∷ [] = c.encode_utf8.ensures.value ∙ encode_ascii c.args.c below in
-    let free : self.layout.cursor.col + 1 < (g.W.ScreenState.surface out).columns = grind (arith, nat_tests, c.requires.free) in
+    let free : self.drawn.layout.cursor.col + 1 < (g.W.ScreenState.surface out).columns = grind (arith, nat_tests, c.requires.free) in
     let some : 0 < (g.W.ScreenState.surface out).columns = omega (arith, free) in
     let below_there = subst (λ (p : Position). p.col < (g.W.ScreenState.surface out).columns) self.measured (g.met.W.Renderer.column_below out (g.P.Prompt.raw_text self.prompt.now) corner some) in
     record {
