@@ -23,9 +23,9 @@ mod drawing;
 mod hints;
 mod history_moves;
 mod inserts;
-pub mod kept;
 mod kills;
 mod moves;
+pub mod open_line;
 mod reading;
 mod validation;
 mod words;
@@ -38,28 +38,24 @@ use line_parts::consulted::Consulted;
 use line_parts::parties::Parties;
 use line_parts::{CmdKind, Context, Helper, Hint, History};
 use line_state::{Drawn, EditedLine, Renderer, ScreenState, View};
+use open_line::OpenLine;
 use std::alloc::Global;
 
-/// The line while it is edited: the line with its changes, the line that was left for the history, what is drawn, those
-/// who are asked, and the hint.
+/// The line while it is edited: the open line, what is drawn, and those who are asked.
 pub struct State<'out, 'prompt, W: Renderer, H: Helper, P: Prompt, S: History> {
     alloc: Global,
-    edited: EditedLine,
-    saved_line_for_history: LineBuffer,
+    line: OpenLine<H>,
     view: View<'out, 'prompt, W, P>,
     parties: Parties<'out, H, S>,
-    hint: Option<H::Hint>,
 }
 
 impl<W: Renderer, H: Helper, P: Prompt, S: History> Drop for State<'_, '_, W, H, P, S> {
     fn drop(self) {
         let State {
             alloc: _,
-            edited: _,
-            saved_line_for_history: _,
+            line: _,
             view: _,
             parties: _,
-            hint: _,
         } = self;
     }
 }
@@ -69,11 +65,11 @@ impl<'out, 'prompt, W: Renderer, H: Helper, P: Prompt, S: History> EditorState
     ghost Loan = { GName × Option GName };
 
     ghost draft = { λ s. record {
-      line = s.edited.line;
-      saved = s.saved_line_for_history;
+      line = s.line.edited.line;
+      saved = s.line.saved_line_for_history;
       index = ⟦<Parties<'out, H, S> as Consulted>⟧.index s.parties;
-      hint = option_map (suggestion_of H.Hint.Hint) s.hint;
-      changes = s.edited.changes;
+      hint = option_map (suggestion_of H.Hint.Hint) s.line.hint;
+      changes = s.line.edited.changes;
     } };
 
     ghost environment = { λ s. ⟦<Parties<'out, H, S> as Consulted>⟧.environment s.parties };
@@ -143,14 +139,8 @@ impl<'out, 'prompt, W: Renderer, H: Helper, P: Prompt, S: History> State<
             (W.failures out.old) (W.redraws out.old)
             (out.entry.ghost_name, option_map (λ h. h.ghost_name) helper.entry)) }
     {
-        Ok(State {
-            alloc,
-            edited: EditedLine::new(alloc),
-            saved_line_for_history: LineBuffer::new(alloc),
-            view: View::new(out, prompt),
-            parties: Parties::new(helper, ctx),
-            hint: None,
-        })
+        let edited = EditedLine::new(alloc);
+        Ok(State::with_edited(alloc, out, prompt, helper, ctx, edited))
     }
 
     /// Returns the edit state of a line after the prompt, with the cursor at byte `cursor` of it, with no changes and with
@@ -202,13 +192,16 @@ impl<'out, 'prompt, W: Renderer, H: Helper, P: Prompt, S: History> State<
             (W.failures out.old) (W.redraws out.old)
             (out.entry.ghost_name, option_map (λ h. h.ghost_name) helper.entry) }
     {
-        State {
-            alloc,
+        let line = OpenLine {
             edited,
             saved_line_for_history: LineBuffer::new(alloc),
+            hint: None,
+        };
+        State {
+            alloc,
+            line,
             view: View::new(out, prompt),
             parties: Parties::new(helper, ctx),
-            hint: None,
         }
     }
 
@@ -216,14 +209,14 @@ impl<'out, 'prompt, W: Renderer, H: Helper, P: Prompt, S: History> State<
     pub fn line(&self) -> &str
         ensures { result.now ≡ (⟦<Self as EditorState>⟧.draft self.now).line.text }
     {
-        self.edited.line().as_str()
+        self.line.edited.line().as_str()
     }
 
     /// Returns the cursor's byte offset, which is on a character boundary.
     pub fn pos(&self) -> usize
         ensures { result ≡ (⟦<Self as EditorState>⟧.draft self.now).line.cursor }
     {
-        self.edited.line().pos()
+        self.line.edited.line().pos()
     }
 
     /// Returns the kept layout: where the prompt ends, and where the cursor and the end of what is shown are.
@@ -294,7 +287,7 @@ impl<'out, 'prompt, W: Renderer, H: Helper, P: Prompt, S: History> State<
             (is_sure (e.sure self.old) for_hint ≡ true → ⊥)
             (e.failures self.old) (e.failures self.new) }
     {
-        self.hint = self.parties.hint(self.alloc, self.edited.line())?;
+        self.line.hint = self.parties.hint(self.alloc, self.line.edited.line())?;
         Ok(())
     }
 
@@ -307,11 +300,11 @@ impl<'out, 'prompt, W: Renderer, H: Helper, P: Prompt, S: History> State<
         ensures stays { let e = ⟦<Self as EditorState>⟧ in (e.draft self.new ≡ e.draft self.old)
             × (e.redraws self.new ≡ e.redraws self.old)
             × (e.failures self.new ≡ e.failures self.old) }
-        ensures hint { self.new.hint ≡ self.old.hint }
+        ensures hint { self.new.line.hint ≡ self.old.line.hint }
         ensures frame { Frame ⟦<Self as EditorState>⟧ self.old self.new }
     {
         if self.view.colors_enabled() {
-            let lit = self.parties.highlight_char(self.edited.line(), kind);
+            let lit = self.parties.highlight_char(self.line.edited.line(), kind);
             self.view.set_highlight_char(lit);
         }
     }
@@ -327,7 +320,7 @@ impl<'out, 'prompt, W: Renderer, H: Helper, P: Prompt, S: History> State<
         ensures stays { let e = ⟦<Self as EditorState>⟧ in (e.draft self.new ≡ e.draft self.old)
             × (e.redraws self.new ≡ e.redraws self.old)
             × (e.failures self.new ≡ e.failures self.old) }
-        ensures hint { self.new.hint ≡ self.old.hint }
+        ensures hint { self.new.line.hint ≡ self.old.line.hint }
         ensures frame { Frame ⟦<Self as EditorState>⟧ self.old self.new }
     {
         let was_lit = self.view.highlight_char();
@@ -363,7 +356,7 @@ impl<'out, 'prompt, W: Renderer, H: Helper, P: Prompt, S: History> State<
     {
         self.hint()?;
         let lit = self.has_highlighting(CmdKind::Other);
-        Ok(self.hint.is_none() && !lit)
+        Ok(self.line.hint.is_none() && !lit)
     }
 
     // Asks for the hint of a line that got a character at its end, and draws that character, or all again.
@@ -419,13 +412,13 @@ impl<'out, 'prompt, W: Renderer, H: Helper, P: Prompt, S: History> State<
     // Draws all again after the own prompt, with an info after the line.
     fn draw(&mut self, info: Info<'_>) -> Result<()>
         ensures shown { OnOk result (Shows ⟦<Self as EditorState>⟧ self.new
-            (shown_info info.entry (option_map H.Hint.display_text self.old.hint))) }
+            (shown_info info.entry (option_map H.Hint.display_text self.old.line.hint))) }
         ensures paints { Paints ⟦<Self as EditorState>⟧ true result self.old self.new }
     {
         let colors = self.view.colors_enabled();
         self.view.refresh_line(
-            self.edited.line(),
-            info_text(info, &self.hint),
+            self.line.edited.line(),
+            info_text(info, &self.line.hint),
             self.parties.highlighter(colors),
         )
     }
@@ -441,7 +434,7 @@ impl<'out, 'prompt, W: Renderer, H: Helper, P: Prompt, S: History> Refresher
     }
 
     fn refresh_line_with_msg(&mut self, msg: Option<&str>, kind: CmdKind) -> Result<()> {
-        self.hint = None;
+        self.line.hint = None;
         self.ask_highlight(kind);
         self.draw(Info::Message(msg))
     }
@@ -453,54 +446,54 @@ impl<'out, 'prompt, W: Renderer, H: Helper, P: Prompt, S: History> Refresher
         let colors = self.view.colors_enabled();
         self.view.refresh_prompt_and_line(
             prompt,
-            self.edited.line(),
-            info_text(Info::Hint, &self.hint),
+            self.line.edited.line(),
+            info_text(Info::Hint, &self.line.hint),
             self.parties.highlighter(colors),
         )
     }
 
     fn doing_insert(&mut self) -> Result<()> {
-        Ok(self.edited.begin_group()?)
+        Ok(self.line.edited.begin_group()?)
     }
 
     fn done_inserting(&mut self) -> Result<()> {
-        let _ = self.edited.end_groups()?;
+        let _ = self.line.edited.end_groups()?;
         Ok(())
     }
 
     fn last_insert(&self) -> Result<Option<String>> {
-        Ok(self.edited.last_insert()?)
+        Ok(self.line.edited.last_insert()?)
     }
 
     fn is_cursor_at_end(&self) -> bool {
-        self.edited.line().is_cursor_at_end()
+        self.line.edited.line().is_cursor_at_end()
     }
 
     fn hint_text(&self) -> Option<&str> {
-        match &self.hint {
+        match &self.line.hint {
             Some(hint) => hint.completion(),
             None => None,
         }
     }
 
     fn has_hint(&self) -> bool {
-        self.hint.is_some()
+        self.line.hint.is_some()
     }
 
     fn line(&self) -> &str {
-        self.edited.line().as_str()
+        self.line.edited.line().as_str()
     }
 
     fn pos(&self) -> usize {
-        self.edited.line().pos()
+        self.line.edited.line().pos()
     }
 }
 
 impl<'out, 'prompt, W: Renderer, H: Helper, P: Prompt, S: History> Invoke
     for State<'out, 'prompt, W, H, P, S> {
-    ghost input_text = { λ s. s.edited.line.text };
+    ghost input_text = { λ s. s.line.edited.line.text };
 
     fn input(&self) -> &str {
-        self.edited.line().as_str()
+        self.line.edited.line().as_str()
     }
 }

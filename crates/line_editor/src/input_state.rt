@@ -9,41 +9,35 @@ ghost use Rattle.line_keys.specs.Command.{command_of};
 
 mod bound_keys;
 mod counts;
-pub mod kept;
 mod motions;
 mod phrases;
+pub mod remembered;
 mod sequences;
 mod tails;
 mod typed;
 
 use crate::binding::ConditionalEventHandler;
 use crate::bindings::Bindings;
-use line_buffer::CharSearch;
 use line_config::{Config, EditMode, Result};
 use line_keys::cmd::Cmd;
 use line_keys::editor_state::EditorState;
 use line_keys::raw_reader::RawReader;
 use line_keys::refresher::{InputMode, Refresher};
 use phrases::Read;
+use remembered::Remembered;
 
 /// Reads keys as commands, by the program's bindings, the reader's own and the tables, and remembers what the next
 /// commands depend on.
 pub struct InputState<'b, C = Box<dyn ConditionalEventHandler>> {
-    mode: EditMode,
     bindings: &'b Bindings<C>,
-    input_mode: InputMode,
-    last_cmd: Option<Cmd>,
-    last_char_search: Option<CharSearch>,
+    remembered: Remembered,
 }
 
 impl<C> Drop for InputState<'_, C> {
     fn drop(self) {
         let InputState {
-            mode: _,
             bindings: _,
-            input_mode: _,
-            last_cmd: _,
-            last_char_search: _,
+            remembered: _,
         } = self;
     }
 }
@@ -56,11 +50,8 @@ impl<'b, C: ConditionalEventHandler> InputState<'b, C> {
             (keys_of g result).bound ≡ bound_of g bindings.now }
     {
         InputState {
-            mode: config.edit_mode(),
             bindings,
-            input_mode: InputMode::Insert,
-            last_cmd: None,
-            last_char_search: None,
+            remembered: Remembered::new(config),
         }
     }
 
@@ -68,14 +59,14 @@ impl<'b, C: ConditionalEventHandler> InputState<'b, C> {
     pub fn is_emacs_mode(&self) -> bool
         ensures { IsTrue result ↔ ((input_of self.now).style ≡ EditMode.Emacs) }
     {
-        self.mode == EditMode::Emacs
+        self.remembered.mode == EditMode::Emacs
     }
 
     /// Returns whether the edit mode is Vi, in command mode.
     pub fn is_vi_cmd_mode(&self) -> bool
         ensures { result ≡ is_vi_command (input_of self.now) }
     {
-        match (self.mode, self.input_mode) {
+        match (self.remembered.mode, self.remembered.input_mode) {
             (EditMode::Vi, InputMode::Command) => true,
             _ => false,
         }
@@ -121,10 +112,10 @@ impl<'b, C: ConditionalEventHandler> InputState<'b, C> {
         ensures memory { MemoryOnly result }
     {
         if read.is_change {
-            self.last_cmd = Some(read.command.clone(self.bindings.alloc())?);
+            self.remembered.last_cmd = Some(read.command.clone(self.bindings.alloc())?);
         }
-        self.input_mode = read.input_mode;
-        self.last_char_search = read.last_char_search;
+        self.remembered.input_mode = read.input_mode;
+        self.remembered.last_char_search = read.last_char_search;
         Ok(read.command)
     }
 }

@@ -14,9 +14,9 @@ pub use binding::{ConditionalEventHandler, Event, EventContext, EventHandler, No
 pub use bindings::Bindings;
 pub use command::{Status, execute};
 pub use edit::State;
-pub use edit::kept::KeptLine;
+pub use edit::open_line::KeptLine;
 pub use input_state::InputState;
-pub use input_state::kept::KeptInput;
+pub use input_state::remembered::Remembered;
 pub use left::Left;
 pub use line_buffer as buffer;
 pub use line_config as config;
@@ -25,4 +25,4 @@ pub use line_parts as parts;
 pub use line_state::{
     Drawn, EditedLine, RefreshKind, Renderer, Resizable, ScreenState, View, renderer,
 };
-pub use run::{Turned, advance, take_turn};
+pub use run::{Turned, advance, do_turn, read_turn, take_turn};

@@ -1,9 +1,9 @@
 //! Reads commands and executes them, until the line is submitted or the input ends.
-ghost use Rattle.std.specs.Prelude.{◌≡◌};
-ghost use Rattle.line_editor.specs.InputState.{keys_of};
+ghost use Rattle.std.specs.Prelude.{◌≡◌, false, IfErr};
+ghost use Rattle.line_config.specs.Error.{FaultsOnly, is_fault};
+ghost use Rattle.line_editor.specs.InputState.{input_of, keys_of};
 ghost use Rattle.line_editor.specs.Reading.{BeforeKey};
-ghost use Rattle.line_editor.specs.Run.{kills_before};
-ghost use Rattle.line_editor.specs.Outcomes.{Advances, Runs, TellsLeft, ended_so, session};
+ghost use Rattle.line_editor.specs.Outcomes.{Advances, DoesTurn, ReadsTurn, Runs, TellsLeft, command_read, ended_so, kills_read, session};
 ghost use Rattle.line_keys.specs.Command.{command_of};
 
 use crate::binding::ConditionalEventHandler;
@@ -37,13 +37,92 @@ pub enum Turned {
     NeedsMore,
 }
 
-// Resets the kill ring where the command says so.
-fn reset_kills(command: &Cmd, kill_ring: &mut KillRing)
-    ensures reset { kill_ring.new ≡ kills_before (command_of command.now) kill_ring.old }
+/// Reads the keys of one command, as `next_cmd` of the state does, and resets the kill ring where the command says so. Returns
+/// None where the items ran out before a phrase or inside of one: its items are to be read again, with more after them.
+///
+/// # Errors
+/// An error of input or output, where the reader or the renderer has failed, or where the helper or a handler may fail; or that
+/// memory ran out. Then the line and its cursor, what is remembered of the keys and the kill ring are as they were, and no item
+/// past the phrase that was begun is read.
+pub fn read_turn<
+    'out,
+    'prompt,
+    W: Renderer,
+    H: Helper,
+    P: Prompt,
+    S: History,
+    C: ConditionalEventHandler,
+>(
+    state: &mut State<'out, 'prompt, W, H, P, S>,
+    input_state: &mut InputState<'_, C>,
+    rdr: &mut W::Reader,
+    kill_ring: &mut KillRing,
+    single_esc_abort: bool,
+) -> Result<Option<Cmd>>
+    ensures reads { let k = keys_of C.ConditionalEventHandler in
+        ReadsTurn ⟦<State<'out, 'prompt, W, H, P, S> as EditorState>⟧ W.Reader.RawReader result
+        (session state.old (k input_state.old) rdr.old kill_ring.old)
+        (session state.new (k input_state.new) rdr.new kill_ring.new) }
     ensures ring { kill_ring.new.size ≡ kill_ring.old.size }
 {
-    if command.should_reset_kill_ring() {
-        kill_ring.reset();
+    as_turn(
+        state.next_cmd(input_state, rdr, single_esc_abort),
+        kill_ring,
+    )
+}
+
+// Returns the command that was read, and resets the kill ring where it says so; or None, where the items ran out.
+fn as_turn(read: Result<Cmd>, kill_ring: &mut KillRing) -> Result<Option<Cmd>>
+    ensures read { command_read result ≡ read }
+    ensures reset { kill_ring.new ≡ kills_read result kill_ring.old }
+    ensures faults { IfErr read (λ error. is_fault error ≡ false → error ≡ ReadlineError.Eof)
+        → FaultsOnly result }
+    ensures ring { kill_ring.new.size ≡ kill_ring.old.size }
+{
+    match read {
+        Ok(command) => {
+            if command.should_reset_kill_ring() {
+                kill_ring.reset();
+            }
+            Ok(Some(command))
+        }
+        Err(ReadlineError::Eof) => Ok(None),
+        Err(error) => Err(error),
+    }
+}
+
+/// Executes a command that was read for a turn. Returns how the turn ended, and, where it proceeds, what the command leaves to
+/// the program.
+///
+/// # Errors
+/// Those of `execute` but for `Eof` and `Interrupted`, which are ways for a turn to end.
+pub fn do_turn<
+    'out,
+    'prompt,
+    W: Renderer,
+    H: Helper,
+    P: Prompt,
+    S: History,
+    C: ConditionalEventHandler,
+>(
+    command: Cmd,
+    state: &mut State<'out, 'prompt, W, H, P, S>,
+    input_state: &InputState<'_, C>,
+    kill_ring: &mut KillRing,
+    config: &Config,
+) -> Result<(Turned, Option<Left>)>
+    ensures does { DoesTurn ⟦<State<'out, 'prompt, W, H, P, S> as EditorState>⟧ result state.old
+        (input_of input_state.now) config.now.indent_size kill_ring.old (command_of command)
+        state.new kill_ring.new }
+    ensures ring { kill_ring.new.size ≡ kill_ring.old.size }
+{
+    let left = Left::by(&command);
+    match execute(command, state, input_state, kill_ring, config) {
+        Ok(Status::Proceed) => Ok((Turned::Proceeds, left)),
+        Ok(Status::Submit) => Ok((Turned::Submitted, None)),
+        Err(ReadlineError::Eof) => Ok((Turned::Ended, None)),
+        Err(ReadlineError::Interrupted) => Ok((Turned::Interrupted, None)),
+        Err(error) => Err(error),
     }
 }
 
@@ -158,18 +237,10 @@ fn take_turn_from<
         (session state.new (k input_state.new) rdr.new kill_ring.new)) }
     ensures ring { kill_ring.new.size ≡ kill_ring.old.size }
 {
-    let command = match state.cmd_from(input_state, rdr, first) {
-        Ok(command) => command,
-        Err(ReadlineError::Eof) => return Ok((Turned::NeedsMore, None)),
-        Err(error) => return Err(error),
-    };
-    reset_kills(&command, kill_ring);
-    let left = Left::by(&command);
-    match execute(command, state, input_state, kill_ring, config) {
-        Ok(Status::Proceed) => Ok((Turned::Proceeds, left)),
-        Ok(Status::Submit) => Ok((Turned::Submitted, None)),
-        Err(ReadlineError::Eof) => Ok((Turned::Ended, None)),
-        Err(ReadlineError::Interrupted) => Ok((Turned::Interrupted, None)),
+    let read = state.cmd_from(input_state, rdr, first);
+    match as_turn(read, kill_ring) {
+        Ok(Some(command)) => do_turn(command, state, input_state, kill_ring, config),
+        Ok(None) => Ok((Turned::NeedsMore, None)),
         Err(error) => Err(error),
     }
 }

@@ -35,7 +35,7 @@ impl<'out, 'prompt, W: Renderer, H: Helper, P: Prompt, S: History> State<
             (record { start = r.0; offers = map (offer_of H.Candidate.Candidate) r.1.items })) }
         ensures faults { FaultsOnly result }
     {
-        self.parties.complete(self.alloc, self.edited.line())
+        self.parties.complete(self.alloc, self.line.edited.line())
     }
 
     /// Puts the text of an elected candidate in place of what stands from byte `start` to the cursor, or does with it what the
@@ -59,17 +59,17 @@ impl<'out, 'prompt, W: Renderer, H: Helper, P: Prompt, S: History> State<
         ensures undrawn { Undrawn ⟦<Self as EditorState>⟧ self.old self.new }
         ensures faults { FaultsOnly result }
     {
-        let line = self.edited.line();
+        let line = self.line.edited.line();
         if line.pos() < start || !line.as_str().is_char_boundary(start) {
             return Ok(false);
         }
-        let _ = self.edited.end_groups()?;
-        self.edited.begin_group()?;
+        let _ = self.line.edited.end_groups()?;
+        self.line.edited.begin_group()?;
         let elects = match self.parties.helper() {
-            Some(helper) => self.edited.elect(helper, start, elected),
-            None => self.edited.elect(&(), start, elected),
+            Some(helper) => self.line.edited.elect(helper, start, elected),
+            None => self.line.edited.elect(&(), start, elected),
         };
-        let grown = self.edited.end_groups()?;
+        let grown = self.line.edited.end_groups()?;
         elects?;
         Ok(grown)
     }
@@ -90,7 +90,7 @@ impl<'out, 'prompt, W: Renderer, H: Helper, P: Prompt, S: History> State<
         ensures undrawn { Undrawn ⟦<Self as EditorState>⟧ self.old self.new }
         ensures memory { MemoryOnly result }
     {
-        let _ = self.edited.undo(1)?;
+        let _ = self.line.edited.undo(1)?;
         Ok(())
     }
 }

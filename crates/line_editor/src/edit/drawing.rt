@@ -72,8 +72,8 @@ impl<'out, 'prompt, W: Renderer, H: Helper, P: Prompt, S: History> State<
             Info::Nothing
         };
         self.view.repaint_kept(
-            self.edited.line(),
-            info_text(info, &self.hint),
+            self.line.edited.line(),
+            info_text(info, &self.line.hint),
             self.parties.highlighter(colors),
         )
     }
@@ -155,8 +155,8 @@ impl<'out, 'prompt, W: Resizable, H: Helper, P: Prompt, S: History> State<
         self.view.resized(
             columns,
             rows,
-            self.edited.line(),
-            info_text(Info::Hint, &self.hint),
+            self.line.edited.line(),
+            info_text(Info::Hint, &self.line.hint),
             self.parties.highlighter(colors),
         )
     }

@@ -42,7 +42,7 @@ impl<'out, 'prompt, W: Renderer, H: Helper, P: Prompt, S: History> State<
         ensures { DoesCommand ⟦<Self as EditorState>⟧ result self.old self.new
             commands.complete_hint }
     {
-        if self.hint.is_none() {
+        if self.line.hint.is_none() {
             return Ok(());
         }
         self.yank_hint()?;
@@ -64,11 +64,11 @@ impl<'out, 'prompt, W: Renderer, H: Helper, P: Prompt, S: History> State<
         ensures frame { Frame ⟦<Self as EditorState>⟧ self.old self.new }
         ensures fails { FailsByRenderer ⟦<Self as EditorState>⟧ result self.old self.new }
     {
-        self.edited.move_end();
-        let Some(text) = completion_of(&self.hint) else {
+        self.line.edited.move_end();
+        let Some(text) = completion_of(&self.line.hint) else {
             return self.beep();
         };
-        if !self.edited.yank(text, 1)? {
+        if !self.line.edited.yank(text, 1)? {
             return self.beep();
         }
         Ok(())

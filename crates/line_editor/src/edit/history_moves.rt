@@ -53,8 +53,8 @@ impl<'out, 'prompt, W: Renderer, H: Helper, P: Prompt, S: History> State<
         ensures undrawn { Undrawn ⟦<Self as EditorState>⟧ self.old self.new }
         ensures memory { MemoryOnly result }
     {
-        let line = self.edited.line();
-        self.saved_line_for_history = LineBuffer::init(self.alloc, line.as_str(), line.pos())?;
+        let line = self.line.edited.line();
+        self.line.saved_line_for_history = LineBuffer::init(self.alloc, line.as_str(), line.pos())?;
         Ok(())
     }
 
@@ -74,8 +74,8 @@ impl<'out, 'prompt, W: Renderer, H: Helper, P: Prompt, S: History> State<
         ensures undrawn { Undrawn ⟦<Self as EditorState>⟧ self.old self.new }
         ensures memory { MemoryOnly result }
     {
-        let saved = &self.saved_line_for_history;
-        Ok(self.edited.update(saved.as_str(), saved.pos())?)
+        let saved = &self.line.saved_line_for_history;
+        Ok(self.line.edited.update(saved.as_str(), saved.pos())?)
     }
 
     /// Puts the line of the history at an index in the line's place as one group of changes, with the cursor at byte `pos` of it,
@@ -104,10 +104,11 @@ impl<'out, 'prompt, W: Renderer, H: Helper, P: Prompt, S: History> State<
             return Ok(false);
         };
         let text = found.entry.as_str();
-        let grown = !(text.is_empty() && self.edited.line().is_empty());
+        let grown = !(text.is_empty() && self.line.edited.line().is_empty());
         self.save_at_end()?;
-        let _ = self.edited.end_groups()?;
-        self.edited
+        let _ = self.line.edited.end_groups()?;
+        self.line
+            .edited
             .update_in_group(text, boundary_or_end(text, pos))?;
         self.parties.set_history_index(index);
         Ok(grown)
@@ -120,8 +121,8 @@ impl<'out, 'prompt, W: Renderer, H: Helper, P: Prompt, S: History> State<
             e.draft self.new ≡ returned_to (e.environment self.old) pos index (e.draft self.old) }
         ensures undrawn { Undrawn ⟦<Self as EditorState>⟧ self.old self.new }
     {
-        if self.edited.line().as_str().is_char_boundary(pos) {
-            self.edited.set_pos(pos);
+        if self.line.edited.line().as_str().is_char_boundary(pos) {
+            self.line.edited.set_pos(pos);
         }
         let end = self.parties.history().len();
         self.parties.set_history_index(index.min(end));
@@ -312,7 +313,7 @@ impl<'out, 'prompt, W: Renderer, H: Helper, P: Prompt, S: History> State<
             Does e result self.old self.new
             (showing (e.environment self.old) text.now pos d) with_hint 1 }
     {
-        self.edited.update_in_group(text, pos)?;
+        self.line.edited.update_in_group(text, pos)?;
         self.parties.set_history_index(index);
         self.refresh_line()
     }
@@ -338,7 +339,7 @@ impl<'out, 'prompt, W: Renderer, H: Helper, P: Prompt, S: History> State<
             (found_shown (e.environment self.old) found (at_index index d))
             (drawn_if (is_some found)) 1 }
     {
-        let line = self.edited.line();
+        let line = self.line.edited.line();
         let before = &line.as_str()[..line.pos()];
         let Some(found) = self.parties.history().starts_with(before, index, dir)? else {
             self.parties.set_history_index(index);

@@ -38,7 +38,7 @@ impl<'out, 'prompt, W: Renderer, H: Helper, P: Prompt, S: History> State<
             (commands.self_insert n c) }
     {
         let plainly = self.takes_chars(c, n);
-        self.edited.insert(c, n)?;
+        self.line.edited.insert(c, n)?;
         if !plainly {
             return self.refresh_line();
         }
@@ -52,7 +52,7 @@ impl<'out, 'prompt, W: Renderer, H: Helper, P: Prompt, S: History> State<
     {
         n == 1
             && is_printable(c)
-            && self.edited.line().is_cursor_at_end()
+            && self.line.edited.line().is_cursor_at_end()
             && self.view.has_free_column()
             && self.is_bare()
     }
@@ -62,7 +62,9 @@ impl<'out, 'prompt, W: Renderer, H: Helper, P: Prompt, S: History> State<
         ensures { let e = ⟦<Self as EditorState>⟧ in
             result ≡ is_bare (e.display self.now) (e.draft self.now) }
     {
-        self.edited.line().is_plain() && self.hint.is_none() && !self.view.layout().has_info
+        self.line.edited.line().is_plain()
+            && self.line.hint.is_none()
+            && !self.view.layout().has_info
     }
 
     /// Inserts a text at the cursor, which stays before it. The empty text changes nothing.
@@ -78,7 +80,7 @@ impl<'out, 'prompt, W: Renderer, H: Helper, P: Prompt, S: History> State<
         if text.is_empty() {
             return Ok(());
         }
-        self.edited.insert_text(text)?;
+        self.line.edited.insert_text(text)?;
         self.refresh_line()
     }
 
@@ -91,7 +93,7 @@ impl<'out, 'prompt, W: Renderer, H: Helper, P: Prompt, S: History> State<
         ensures { DoesCommand ⟦<Self as EditorState>⟧ result self.old self.new
             (commands.replace_char n c) }
     {
-        let replaced = self.edited.replace_char(c, n)?;
+        let replaced = self.line.edited.replace_char(c, n)?;
         self.show_edit(replaced)
     }
 
@@ -104,7 +106,7 @@ impl<'out, 'prompt, W: Renderer, H: Helper, P: Prompt, S: History> State<
         ensures { DoesCommand ⟦<Self as EditorState>⟧ result self.old self.new
             (commands.overwrite c) }
     {
-        let replaced = self.edited.overwrite(c)?;
+        let replaced = self.line.edited.overwrite(c)?;
         self.show_edit(replaced)
     }
 
@@ -127,7 +129,7 @@ impl<'out, 'prompt, W: Renderer, H: Helper, P: Prompt, S: History> State<
             (e.draft self.old)) (edit_drawn (not (length text.now == 0))) 1 }
     {
         let step_back = input_state.is_vi_cmd_mode();
-        let yanked = self.edited.yank_at(anchor, text, n, step_back)?;
+        let yanked = self.line.edited.yank_at(anchor, text, n, step_back)?;
         self.show_edit(yanked)
     }
 
@@ -142,7 +144,7 @@ impl<'out, 'prompt, W: Renderer, H: Helper, P: Prompt, S: History> State<
             (popped_in (e.environment self.old) yank_size text.now (e.draft self.old))
             (edit_drawn (pops_text (e.draft self.old).line yank_size text.now)) 1 }
     {
-        let popped = self.edited.yank_pop(yank_size, text)?;
+        let popped = self.line.edited.yank_pop(yank_size, text)?;
         self.show_edit(popped)
     }
 }

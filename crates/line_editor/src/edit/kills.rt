@@ -45,12 +45,12 @@ impl<'out, 'prompt, W: Renderer, H: Helper, P: Prompt, S: History> State<
             self.new kill_ring.new (commands.kill movement.now) }
         ensures ring { kill_ring.new.size ≡ kill_ring.old.size }
     {
-        let Some((from, to)) = self.edited.killed_range(movement) else {
+        let Some((from, to)) = self.line.edited.killed_range(movement) else {
             return Ok(());
         };
-        let len = self.edited.line().len();
+        let len = self.line.edited.line().len();
         let plainly = self.gives_range(from, to);
-        self.edited.kill(movement, kill_ring)?;
+        self.line.edited.kill(movement, kill_ring)?;
         if !plainly {
             return self.refresh_line();
         }
@@ -65,7 +65,7 @@ impl<'out, 'prompt, W: Renderer, H: Helper, P: Prompt, S: History> State<
         ensures fits { let e = ⟦<Self as EditorState>⟧ in result ≡ true
             → length (e.draft self.now).line.text - from ≤ (e.display self.now).layout.end.col }
     {
-        let line = self.edited.line();
+        let line = self.line.edited.line();
         let layout = self.view.layout();
         let gone = &line.as_str()[from..];
         to == line.len()
@@ -83,7 +83,7 @@ impl<'out, 'prompt, W: Renderer, H: Helper, P: Prompt, S: History> State<
         ensures memory { MemoryOnly result }
         ensures ring { kill_ring.new.size ≡ kill_ring.old.size }
     {
-        if let Some(text) = self.edited.copy(movement)? {
+        if let Some(text) = self.line.edited.copy(movement)? {
             kill_ring.kill(&text, Mode::Append)?;
         }
         Ok(())
@@ -148,8 +148,8 @@ impl<'out, 'prompt, W: Renderer, H: Helper, P: Prompt, S: History> State<
         ensures memory { MemoryOnly result }
         ensures ring { kill_ring.new.size ≡ kill_ring.old.size }
     {
-        if let Some((from, to)) = self.edited.bracket_range() {
-            kill_ring.kill(&self.edited.line().as_str()[from..to], Mode::Append)?;
+        if let Some((from, to)) = self.line.edited.bracket_range() {
+            kill_ring.kill(&self.line.edited.line().as_str()[from..to], Mode::Append)?;
         }
         Ok(())
     }
@@ -161,7 +161,7 @@ impl<'out, 'prompt, W: Renderer, H: Helper, P: Prompt, S: History> State<
             (range_emptied (e.environment self.old) (bracket_range d.line) d)
             (bracket_drawn d.line) 1 }
     {
-        if !self.edited.remove_to_bracket()? {
+        if !self.line.edited.remove_to_bracket()? {
             return Ok(());
         }
         self.refresh_line()

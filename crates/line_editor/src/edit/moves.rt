@@ -39,7 +39,7 @@ impl<'out, 'prompt, W: Renderer, H: Helper, P: Prompt, S: History> State<
     pub fn move_cursor(&mut self, kind: CmdKind) -> Result<()>
         ensures { DrawsCursor ⟦<Self as EditorState>⟧ result self.old self.new kind }
     {
-        let position = self.view.cursor_position(self.edited.line());
+        let position = self.view.cursor_position(self.line.edited.line());
         self.put_cursor(position, kind)
     }
 
@@ -174,7 +174,7 @@ impl<'out, 'prompt, W: Renderer, H: Helper, P: Prompt, S: History> State<
             MovesTo e result self.old self.new MoveCursor
             (moved_to line (up_by (e.display self.old).layout line n)) }
     {
-        if !self.edited.move_to_line_up(n, self.view.layout()) {
+        if !self.line.edited.move_to_line_up(n, self.view.layout()) {
             return Ok(false);
         }
         self.move_cursor(CmdKind::MoveCursor)?;
@@ -196,7 +196,7 @@ impl<'out, 'prompt, W: Renderer, H: Helper, P: Prompt, S: History> State<
             MovesTo e result self.old self.new MoveCursor
             (moved_to line (down_by (e.display self.old).layout line n)) }
     {
-        if !self.edited.move_to_line_down(n, self.view.layout()) {
+        if !self.line.edited.move_to_line_down(n, self.view.layout()) {
             return Ok(false);
         }
         self.move_cursor(CmdKind::MoveCursor)?;
@@ -215,7 +215,7 @@ impl<'out, 'prompt, W: Renderer, H: Helper, P: Prompt, S: History> State<
         match movement {
             Movement::ViFirstPrint => {
                 self.edit_move_home()?;
-                if self.edited.begins_blank() {
+                if self.line.edited.begins_blank() {
                     self.edit_move_to_next_word(At::Start, Word::Big, 1)?;
                 }
                 Ok(())
@@ -230,7 +230,7 @@ impl<'out, 'prompt, W: Renderer, H: Helper, P: Prompt, S: History> State<
         ensures { let e = ⟦<Self as EditorState>⟧ in let line = (e.draft self.old).line in
             MovesTo e result self.old self.new MoveCursor (moved_to line (bracket_place line)) }
     {
-        if !self.edited.move_to_bracket() {
+        if !self.line.edited.move_to_bracket() {
             return Ok(());
         }
         self.move_cursor(CmdKind::MoveCursor)?;
@@ -265,11 +265,13 @@ impl<'out, 'prompt, W: Renderer, H: Helper, P: Prompt, S: History> State<
             MovesTo e result self.old self.new kind
             (moved (e.display self.old).layout movement.now (e.draft self.old).line) }
     {
-        let from = self.edited.line().pos();
-        if !self.edited.move_by(movement, self.view.layout()) {
+        let from = self.line.edited.line().pos();
+        if !self.line.edited.move_by(movement, self.view.layout()) {
             return Ok(());
         }
-        let position = self.view.cursor_position_from(self.edited.line(), from);
+        let position = self
+            .view
+            .cursor_position_from(self.line.edited.line(), from);
         self.put_cursor(position, kind)
     }
 

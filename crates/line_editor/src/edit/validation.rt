@@ -66,9 +66,9 @@ impl<'out, 'prompt, W: Renderer, H: Helper, P: Prompt, S: History> State<
         ensures no_hint { let e = ⟦<Self as EditorState>⟧ in
             OnOk result (ShowsNoHint e self.old → ShowsNoHint e self.new) }
     {
-        self.edited.begin_group()?;
-        let verdict = self.parties.validate(self.alloc, self.edited.line());
-        let corrected = self.edited.end_groups()?;
+        self.line.edited.begin_group()?;
+        let verdict = self.parties.validate(self.alloc, self.line.edited.line());
+        let corrected = self.line.edited.end_groups()?;
         Ok((verdict?, corrected))
     }
 
@@ -114,6 +114,6 @@ impl<'out, 'prompt, W: Renderer, H: Helper, P: Prompt, S: History> State<
     pub(crate) fn is_end_of_input(&self) -> bool
         ensures { result ≡ ends_in_white_space (⟦<Self as EditorState>⟧.draft self.now).line }
     {
-        self.edited.line().is_end_of_input()
+        self.line.edited.line().is_end_of_input()
     }
 }

@@ -32,7 +32,7 @@ impl<'out, 'prompt, W: Renderer, H: Helper, P: Prompt, S: History> State<
         ensures { DoesCommand ⟦<Self as EditorState>⟧ result self.old self.new
             commands.transpose_chars }
     {
-        let exchanged = self.edited.transpose_chars()?;
+        let exchanged = self.line.edited.transpose_chars()?;
         self.show_edit(exchanged)
     }
 
@@ -45,7 +45,7 @@ impl<'out, 'prompt, W: Renderer, H: Helper, P: Prompt, S: History> State<
         ensures { DoesCommand ⟦<Self as EditorState>⟧ result self.old self.new
             (commands.transpose_words n) }
     {
-        let exchanged = self.edited.transpose_words(n)?;
+        let exchanged = self.line.edited.transpose_words(n)?;
         self.show_edit(exchanged)
     }
 
@@ -60,7 +60,7 @@ impl<'out, 'prompt, W: Renderer, H: Helper, P: Prompt, S: History> State<
             (word_changed (e.environment self.old) action (e.draft self.old))
             (edit_drawn (is_some (next_alphanumeric (e.draft self.old).line))) 1 }
     {
-        let changed = self.edited.edit_word(action)?;
+        let changed = self.line.edited.edit_word(action)?;
         self.show_edit(changed)
     }
 
@@ -74,7 +74,7 @@ impl<'out, 'prompt, W: Renderer, H: Helper, P: Prompt, S: History> State<
             (lines_shifted (e.environment self.old) dedent amount mvt.now (e.draft self.old))
             with_hint 1 }
     {
-        self.edited.indent(mvt, usize::from(amount), dedent)?;
+        self.line.edited.indent(mvt, usize::from(amount), dedent)?;
         self.refresh_line()
     }
 
@@ -82,7 +82,7 @@ impl<'out, 'prompt, W: Renderer, H: Helper, P: Prompt, S: History> State<
     pub(crate) fn undo(&mut self, n: RepeatCount) -> Result<()>
         ensures { DoesCommand ⟦<Self as EditorState>⟧ result self.old self.new (commands.undo n) }
     {
-        let undone = self.edited.undo(n)?;
+        let undone = self.line.edited.undo(n)?;
         self.show_edit(undone)
     }
 }

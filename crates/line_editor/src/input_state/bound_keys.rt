@@ -97,7 +97,7 @@ impl<C: ConditionalEventHandler> InputState<'_, C> {
             EventHandler::Simple(command) => Ok(Some(command.clone(alloc)?)),
             EventHandler::Conditional(handler) => {
                 let event = Event::of_keys(alloc, sequence)?;
-                let context = EventContext::new(self.mode, mode, wrt);
+                let context = EventContext::new(self.remembered.mode, mode, wrt);
                 handler.handle(alloc, &event, count.n, count.positive, &context)
             }
         }

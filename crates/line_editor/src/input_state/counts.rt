@@ -58,7 +58,7 @@ impl<C: ConditionalEventHandler> InputState<'_, C> {
     pub(crate) fn handed(&self, mode: InputMode, typed: Option<Count>) -> Count
         ensures { result ≡ handed (input_of self.now).style mode typed }
     {
-        match (self.mode, mode) {
+        match (self.remembered.mode, mode) {
             (EditMode::Vi, InputMode::Insert | InputMode::Replace) => Count {
                 n: 0,
                 positive: true,
@@ -71,7 +71,7 @@ impl<C: ConditionalEventHandler> InputState<'_, C> {
     pub(crate) fn new_count(&self, typed: Option<Count>) -> Option<RepeatCount>
         ensures { result ≡ new_count (input_of self.now).style typed }
     {
-        match (self.mode, typed) {
+        match (self.remembered.mode, typed) {
             (_, Some(count)) => Some(count.n),
             (EditMode::Emacs, None) => Some(1),
             (EditMode::Vi, None) => None,

@@ -76,7 +76,7 @@ impl<C: ConditionalEventHandler> InputState<'_, C> {
             (keys_of C.ConditionalEventHandler self.now).bound
             result rdr.old rdr.new }
     {
-        let last = self.last_char_search;
+        let last = self.remembered.last_char_search;
         match motion {
             Motion::Covers(movement) => Ok(self.behind(operator.over(movement))),
             Motion::Search(n, kind) => {

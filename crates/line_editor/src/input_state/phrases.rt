@@ -50,9 +50,9 @@ impl<C: ConditionalEventHandler> InputState<'_, C> {
             wrt.old rdr.old wrt.new rdr.new
             (keys_of C.ConditionalEventHandler self.now) }
     {
-        match stands_for(self.mode, self.input_mode, first) {
+        match stands_for(self.remembered.mode, self.remembered.input_mode, first) {
             Some(plain) => self.read_alt(rdr, wrt, first, plain),
-            None => self.read_spelled(rdr, wrt, self.input_mode, first),
+            None => self.read_spelled(rdr, wrt, self.remembered.input_mode, first),
         }
     }
 
@@ -71,11 +71,11 @@ impl<C: ConditionalEventHandler> InputState<'_, C> {
             wrt.old rdr.old wrt.new rdr.new
             (keys_of C.ConditionalEventHandler self.now) }
     {
-        if let Some(command) = self.custom_binding(wrt, self.input_mode, first, None)? {
-            return Ok(self.at_once(self.input_mode, command));
+        if let Some(command) = self.custom_binding(wrt, self.remembered.input_mode, first, None)? {
+            return Ok(self.at_once(self.remembered.input_mode, command));
         }
         if let Some(command) = own_command(rdr, wrt, &first) {
-            return Ok(self.at_once(self.input_mode, command));
+            return Ok(self.at_once(self.remembered.input_mode, command));
         }
         wrt.done_inserting()?;
         let read = self.read_spelled(rdr, wrt, InputMode::Command, plain)?;
@@ -97,7 +97,7 @@ impl<C: ConditionalEventHandler> InputState<'_, C> {
             wrt.old rdr.old wrt.new rdr.new
             (keys_of C.ConditionalEventHandler self.now) }
     {
-        if begins_count(self.mode, mode, first) {
+        if begins_count(self.remembered.mode, mode, first) {
             return self.read_counted(rdr, wrt, mode, first);
         }
         self.read_behind(rdr, wrt, mode, first, None)
@@ -117,7 +117,7 @@ impl<C: ConditionalEventHandler> InputState<'_, C> {
             wrt.old rdr.old wrt.new rdr.new
             (keys_of C.ConditionalEventHandler self.now) }
     {
-        let (count, key) = self.read_count(rdr, wrt, self.mode, first)?;
+        let (count, key) = self.read_count(rdr, wrt, self.remembered.mode, first)?;
         self.read_behind(rdr, wrt, mode, key, Some(count))
     }
 
@@ -150,7 +150,7 @@ impl<C: ConditionalEventHandler> InputState<'_, C> {
             meaning,
             enters,
             group,
-        } = entry_of_key(self.mode, mode, key, typed, wrt);
+        } = entry_of_key(self.remembered.mode, mode, key, typed, wrt);
         let count = typed.unwrap_or(Count::one());
         let mut read = self.read_tail(rdr, wrt, mode, key, count, meaning)?;
         change_group(wrt, group)?;
@@ -168,7 +168,7 @@ impl<C: ConditionalEventHandler> InputState<'_, C> {
             command,
             input_mode: mode,
             is_change: false,
-            last_char_search: self.last_char_search,
+            last_char_search: self.remembered.last_char_search,
         }
     }
 
@@ -181,15 +181,15 @@ impl<C: ConditionalEventHandler> InputState<'_, C> {
             read_input read.new i ≡ remembered_behind i.style enters (in_mode mode i) command
             read.old.last_char_search }
     {
-        match self.mode {
+        match self.remembered.mode {
             EditMode::Emacs => {
                 read.input_mode = mode;
                 read.is_change = false;
-                read.last_char_search = self.last_char_search;
+                read.last_char_search = self.remembered.last_char_search;
             }
             EditMode::Vi => {
                 read.input_mode = enters.unwrap_or(mode);
-                read.is_change = read.command.becomes_change(mode, &self.last_cmd);
+                read.is_change = read.command.becomes_change(mode, &self.remembered.last_cmd);
             }
         }
     }
@@ -201,7 +201,9 @@ impl<C: ConditionalEventHandler> InputState<'_, C> {
             let change = changed_by i.mode within.last_change (command_of read.command) in
             read_input result i ≡ record within { last_change = change } }
     {
-        let is_change = read.command.becomes_change(self.input_mode, &self.last_cmd);
+        let is_change = read
+            .command
+            .becomes_change(self.remembered.input_mode, &self.remembered.last_cmd);
         Read {
             is_change: read.is_change | is_change,
             ..read

@@ -74,7 +74,7 @@ impl<C: ConditionalEventHandler> InputState<'_, C> {
             (keys_of C.ConditionalEventHandler self.now).bound
             result rdr.old rdr.new }
     {
-        let last = self.last_char_search;
+        let last = self.remembered.last_char_search;
         match meaning {
             Meaning::Command(command) => Ok(self.behind(command)),
             Meaning::Search(n, kind) => {
@@ -160,9 +160,9 @@ impl<C: ConditionalEventHandler> InputState<'_, C> {
     {
         Read {
             command,
-            input_mode: self.input_mode,
+            input_mode: self.remembered.input_mode,
             is_change: false,
-            last_char_search: self.last_char_search,
+            last_char_search: self.remembered.last_char_search,
         }
     }
 
@@ -173,7 +173,7 @@ impl<C: ConditionalEventHandler> InputState<'_, C> {
             ≡ changed_again new last (input_of self.now).last_change) }
         ensures memory { MemoryOnly result }
     {
-        match &self.last_cmd {
+        match &self.remembered.last_cmd {
             Some(change) => change.clone(self.bindings.alloc())?.repeat(new, wrt),
             None => Ok(Cmd::Noop),
         }

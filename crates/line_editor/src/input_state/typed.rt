@@ -39,10 +39,10 @@ impl<C: ConditionalEventHandler> InputState<'_, C> {
     fn types(&self, c: char) -> bool
         ensures { result ≡ types_chars (input_of self.now) }
     {
-        match (self.mode, self.input_mode) {
+        match (self.remembered.mode, self.remembered.input_mode) {
             (EditMode::Emacs, _) => true,
             (EditMode::Vi, InputMode::Insert) => {
-                !Cmd::SelfInsert(1, c).becomes_change(InputMode::Insert, &self.last_cmd)
+                !Cmd::SelfInsert(1, c).becomes_change(InputMode::Insert, &self.remembered.last_cmd)
             }
             (EditMode::Vi, _) => false,
         }

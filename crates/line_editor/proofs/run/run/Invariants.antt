@@ -14,11 +14,11 @@ abbrev pub editor_state : (g : goal.Over) → Ghosts (State g.row.W.Denot g.row.
 editor_state g = record {
   Loan = GName × Option GName;
   draft = λ s. record {
-    line = s.edited.line;
-    saved = s.saved_line_for_history;
+    line = s.line.edited.line;
+    saved = s.line.saved_line_for_history;
     index = s.parties.ctx.index;
-    hint = option_map (suggestion_of g.H.Hint.Hint) s.hint;
-    changes = s.edited.changes;
+    hint = option_map (suggestion_of g.H.Hint.Hint) s.line.hint;
+    changes = s.line.edited.changes;
   };
   environment = λ s. record {
     hint_at = hint_by g.H.Hinter.hint_at s.parties.helper;
@@ -31,10 +31,10 @@ editor_state g = record {
   display = λ s. record {
     surface = g.W.ScreenState.surface s.view.out.now;
     prompt = g.P.Prompt.raw_text s.view.prompt.now;
-    prompt_end = s.view.prompt_size;
-    layout = s.view.layout;
+    prompt_end = s.view.drawn.prompt_size;
+    layout = s.view.drawn.layout;
     screen = g.W.ScreenState.screen s.view.out.now;
-    lit = s.view.highlight_char;
+    lit = s.view.drawn.highlight_char;
   };
   loan = λ s. (s.view.out.ghost_name, option_map (λ h. h.ghost_name) s.parties.helper);
   sure = λ s. sure_by g.H.Hinter.sure g.H.Validator.sure (g.S.History.sure s.parties.ctx.history) s.parties.helper;

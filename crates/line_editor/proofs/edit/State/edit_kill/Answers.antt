@@ -10,7 +10,7 @@ returns-then-not-plainly-clause-does g c =
     let kill = c.in_ok-kill.ensures in
     killed_full _ _ c.args.self.now _ _ _ _ c.args.movement.now c.in-Some.from c.in-Some.to _ (nothing_drawn _ _ _ refl refl refl refl refl refl) refl
     (rw (← c.in-Some.ensures.range) at kill.edit.edited) kill.edit.first
-    (killed_range c.args.self.now.edited.line c.args.movement.now) c.in-Some.ensures.range kill.ring (sym c.if-not-plainly.ensures.answer) c.refresh_line.ensures
+    (killed_range c.args.self.now.line.edited.line c.args.movement.now) c.in-Some.ensures.range kill.ring (sym c.if-not-plainly.ensures.answer) c.refresh_line.ensures
 
 pub returns-clause-does : goal.returns-clause-does
 returns-clause-does g c =
@@ -18,5 +18,5 @@ returns-clause-does g c =
     let counted = ap (λ n. n - c.in-Some.from) (c.len-len.ensures.value ∙ ap (λ (l : Line). length l.text) c.line.ensures) in
     killed_plainly _ _ c.args.self.now _ _ _ _ c.args.movement.now c.in-Some.from c.in-Some.to _ (nothing_drawn _ _ _ refl refl refl refl refl refl) refl
     (rw (← c.in-Some.ensures.range) at kill.edit.edited) kill.edit.first
-    (killed_range c.args.self.now.edited.line c.args.movement.now) c.in-Some.ensures.range kill.ring c.in-Some.ensures.ordered (sym c.if-not-plainly.ensures.answer) _ counted
+    (killed_range c.args.self.now.line.edited.line c.args.movement.now) c.in-Some.ensures.range kill.ring c.in-Some.ensures.ordered (sym c.if-not-plainly.ensures.answer) _ counted
     c.show_killed.ensures.shows c.show_killed.ensures.right

@@ -1,4 +1,5 @@
-//! A line that is kept while nothing is lent to it: what a program with a loop of its own holds between two reads.
+//! A line that is open for editing, and how it is kept while nothing is lent to it: what a program with a loop of its own
+//! holds between two reads.
 ghost use Rattle.std.specs.Prelude.{◌≡◌, ◌≤◌, length, option_map};
 ghost use Rattle.line_editor.specs.Editor.{Begins};
 ghost use Rattle.line_parts.specs.Helped.{environment_by, sure_by};
@@ -10,37 +11,52 @@ use line_config::Prompt;
 use line_keys::editor_state::EditorState;
 use line_parts::parties::Parties;
 use line_parts::{Context, Helper, History};
-use line_state::{EditedLine, KeptView, Renderer, ScreenState, View};
+use line_state::{DrawnLine, EditedLine, Renderer, ScreenState, View};
 use std::alloc::Global;
 use std::marker::Model;
 
-/// A line while nothing is lent to it: the line with its changes, the line that was left for the history, the history index,
-/// the hint, and what is kept of the drawing.
+/// A line that is open for editing: the line with its changes, the line that was left for the history, and the hint.
+pub(crate) struct OpenLine<H: Helper> {
+    pub(crate) edited: EditedLine,
+    pub(crate) saved_line_for_history: LineBuffer,
+    pub(crate) hint: Option<H::Hint>,
+}
+
+impl<H: Helper> Drop for OpenLine<H> {
+    fn drop(self) {
+        let OpenLine {
+            edited: _,
+            saved_line_for_history: _,
+            hint: _,
+        } = self;
+    }
+}
+
+/// A line while nothing is lent to it: the open line, its history index, and how it is drawn.
 #[derive(Drop)]
 pub struct KeptLine<H: Helper> {
-    edited: EditedLine,
-    saved_line_for_history: LineBuffer,
+    line: OpenLine<H>,
     history_index: usize,
-    hint: Option<H::Hint>,
-    view: KeptView,
+    drawn: DrawnLine,
 }
 
 impl<H: Helper> Model for KeptLine<H> {
     ghost use Rattle.std.specs.Prelude.{option_map};
     ghost use Rattle.line_editor.specs.Released.{KeptDraft};
     ghost use Rattle.line_parts.specs.Hint.{suggestion_of};
+    ghost use Rattle.line_state.specs.Kept.{kept_of};
 
     ghost Value = { KeptDraft };
 
     ghost view = { λ k. record {
       draft = record {
-        line = k.edited.line;
-        saved = k.saved_line_for_history;
+        line = k.line.edited.line;
+        saved = k.line.saved_line_for_history;
         index = k.history_index;
-        hint = option_map (suggestion_of H.Hint.Hint) k.hint;
-        changes = k.edited.changes;
+        hint = option_map (suggestion_of H.Hint.Hint) k.line.hint;
+        changes = k.line.edited.changes;
       };
-      drawing = k.view;
+      drawing = kept_of k.drawn;
     } };
 }
 
@@ -49,14 +65,14 @@ impl<H: Helper> KeptLine<H> {
     pub fn line(&self) -> &str
         ensures { result.now ≡ self.now.draft.line.text }
     {
-        self.edited.line().as_str()
+        self.line.edited.line().as_str()
     }
 
     /// Returns the cursor's byte offset, which is on a character boundary.
     pub fn pos(&self) -> usize
         ensures { result ≡ self.now.draft.line.cursor }
     {
-        self.edited.line().pos()
+        self.line.edited.line().pos()
     }
 }
 
@@ -89,21 +105,17 @@ impl<'out, 'prompt, W: Renderer, H: Helper, P: Prompt, S: History> State<
     {
         let State {
             alloc: _,
-            edited,
-            saved_line_for_history,
+            line,
             view,
             parties,
-            hint,
         } = self;
-        let (view, out, _) = view.release();
+        let (drawn, out, _) = view.release();
         let (helper, ctx) = parties.release();
         let history_index = ctx.history_index();
         let kept = KeptLine {
-            edited,
-            saved_line_for_history,
+            line,
             history_index,
-            hint,
-            view,
+            drawn,
         };
         (kept, out, helper)
     }
@@ -131,21 +143,17 @@ impl<'out, 'prompt, W: Renderer, H: Helper, P: Prompt, S: History> State<
             (out.entry.ghost_name, option_map (λ h. h.ghost_name) helper.entry) }
     {
         let KeptLine {
-            edited,
-            saved_line_for_history,
+            line,
             history_index,
-            hint,
-            view,
+            drawn,
         } = kept;
         let mut ctx = Context::new(history);
         ctx.set_history_index(history_index);
         State {
             alloc,
-            edited,
-            saved_line_for_history,
-            view: View::resume(view, out, prompt),
+            line,
+            view: View::resume(drawn, out, prompt),
             parties: Parties::new(helper, ctx),
-            hint,
         }
     }
 }
