@@ -15,4 +15,4 @@ invariant_of-self-2-clause-told g c =
     let to : IsPlace c.args.new = search rules in
     let stands : c.eq.result ≡ true → c.args.self.now.shown.place ≡ c.args.old = search rules in
     moved g.O.Write.contents _ _ c.args.self.now.whole c.eq.result _ _ c.args.old c.args.new _ _ _ _ c.args.self.now.shown.some_columns from to
-    (ap (λ (s : Surface). s.columns) went.keeps.counts.surface) went.screen sent.whole stands (rw bytes at sent.sends.written) c.args.self.now.told
+    (ap (λ (s : Surface). s.columns) went.keeps.surface) went.screen sent.whole stands (rw bytes at sent.sends.written) c.args.self.now.told

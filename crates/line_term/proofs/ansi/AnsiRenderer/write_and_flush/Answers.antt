@@ -21,7 +21,7 @@ invariant_of-self-2-clause-told g c =
     (ap₂ (λ p e. wrap_ending measure buf p e) c.cursor-place.ensures ends) in
     when-sent g.O.Write _ _ _ _ c.args.self.now.out _ _ _ _ _ _ sent.sends sent.whole sent.part
     (λ whole grows. rw ends (wrote g.O.Write.contents _ _ c.args.self.now.whole c.args.self.now.plain c.follows.result _ c.args.self.now.end c.args.self.now.out _ _ _ buf _
-    shown.some_columns (ap (λ (s : Surface). s.columns) went.keeps.counts.surface) c.args.self.now.text_is_plain c.follows.ensures whole went.written
+    shown.some_columns (ap (λ (s : Surface). s.columns) went.keeps.surface) c.args.self.now.text_is_plain c.follows.ensures whole went.written
     grows bytes c.args.self.now.told))
 
 pub returns-clause-shown : goal.returns-clause-shown
@@ -30,5 +30,5 @@ returns-clause-shown g c = λ char buf_is print room.
     let buf = c.args.buf.now in
     let went = c.in_ok-write_and_flush.ensures in
     room-shown shown.columns _ char c.args.self.now.whole c.args.self.now.plain c.follows.result _ c.args.self.now.end _ _ _ _ buf refl refl shown.some_columns
-    (ap (λ (s : Surface). s.columns) went.keeps.counts.surface) buf_is print room c.args.self.now.text_is_plain c.follows.ensures c.in_ok-send.ensures.whole
+    (ap (λ (s : Surface). s.columns) went.keeps.surface) buf_is print room c.args.self.now.text_is_plain c.follows.ensures c.in_ok-send.ensures.whole
     (c.calculate_position-end.ensures ∙ ap (measured shown.columns buf) c.cursor-place.ensures) went.written
